@@ -1,0 +1,15 @@
+pub mod World
+pub mod Names
+pub mod Target
+pub mod Memory
+pub mod Field
+pub mod Relink
+pub mod Outcome
+pub mod Place
+pub mod Gather
+pub mod Fit
+pub mod Answer
+pub mod LoadCommand
+pub mod DumpCommand
+pub mod Next
+pub mod Later

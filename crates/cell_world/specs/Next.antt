@@ -1,0 +1,30 @@
+-- What one command makes of the machine, and what it answers. The step only dispatches.
+--     next sources w command      the answer to the command in w, and the world after it. A refusal leaves w
+use Rattle.std.specs.Prelude.{List, Result, Ok, Err}
+use Rattle.cell_world.specs.declared.refusal.Refusal.{Refusal}
+use Rattle.cell_world.specs.declared.command.Command.{Command}
+use Rattle.cell_world.specs.declared.command.Command.TheVariants.{Load, Dump}
+use Rattle.cell_world.specs.declared.reply.Reply.{Reply}
+use Rattle.cell_world.specs.World.{World}
+use Rattle.cell_world.specs.Gather.{Source}
+use Rattle.cell_world.specs.Outcome.{Outcome}
+use Rattle.cell_world.specs.Answer.{Done}
+use Rattle.cell_world.specs.LoadCommand.{next_load}
+use Rattle.cell_world.specs.DumpCommand.{next_dump}
+
+-- the command's reply and the world after it, or its first refusal
+abbrev pub outcome_of : List Source → World → Command → Outcome Done
+outcome_of sources w (Load ns stem) = next_load sources w ns stem
+outcome_of sources w (Dump cell section) = next_dump w cell section
+
+pub record Answered : Type 0 where
+  pub answer : Result Reply Refusal
+  pub world : World
+
+-- a refusal leaves the world
+abbrev pub answered_by : World → Outcome Done → Answered
+answered_by w (Ok done) = record { answer = Ok done.reply; world = done.world }
+answered_by w (Err refusal) = record { answer = Err refusal; world = w }
+
+abbrev pub next : List Source → World → Command → Answered
+next sources w command = answered_by w (outcome_of sources w command)

@@ -1,0 +1,122 @@
+-- The machine with all code and all links made anew from the objects: no history is in it.
+--     Class, class_of s          text, read-only and writable sections
+--     image_of sections          the sections' own bytes, each at the next multiple of its alignment, up to whole pages
+--     patches_of w c             what linking writes for the cell, field by field
+--     remade w r                 the region with its own bytes again, where it isn't writable, and with all fields
+--     links_of w                 one link for each entry whose target is a section
+--     relink w                   w with each region and the links made anew
+use Rattle.std.specs.Prelude.{ℕ, ◌-◌, ◌%◌, ◌==◌, Bool, true, false, not, ◌&&◌, List, [], ◌∷◌, ◌++◌, Option, Some, None, length, replicate, map, filter, filter_map, flat_map, fold, option_map, max}
+use Rattle.cell_object.specs.declared.object.Object.{Object}
+use Rattle.cell_object.specs.declared.object.Section.{Section as ObjectSection}
+use Rattle.cell_object.specs.declared.object.Entry.{Entry}
+use Rattle.cell_object.specs.declared.object.Fill.{Fill}
+use Rattle.cell_object.specs.declared.object.Fill.TheVariants.{Prog, Note, Zero}
+use Rattle.cell_world.specs.declared.state.LinkRow.{LinkRow}
+use Rattle.cell_world.specs.declared.state.Target.{Target}
+use Rattle.cell_world.specs.declared.state.Target.TheVariants.{Section, Number}
+use Rattle.cell_world.specs.World.{World, Cell, Region, Permission, key_of}
+use Rattle.cell_num.specs.Lists.{numbered, first}
+use Rattle.cell_num.specs.Bits.{bytes_of}
+use Rattle.cell_num.specs.Kinds.{width_of}
+use Rattle.cell_world.specs.Target.{target_of, targets_of, start_of}
+use Rattle.cell_world.specs.Memory.{written}
+use Rattle.cell_world.specs.Field.{Bound, bound_by, fields_of, field_value_of, place_of}
+
+pub data Class : Type 0 where
+  Text : Class
+  ReadOnly : Class
+  Writable : Class
+
+abbrev pub is_in_class : Class → ObjectSection → Bool
+is_in_class Text s = s.exec
+is_in_class ReadOnly s = not s.exec && not s.write
+is_in_class Writable s = s.write && not s.exec
+
+-- the sections of the class, in the order of their numbers
+abbrev pub sections_in : Class → Object → List ObjectSection
+sections_in class object = filter (is_in_class class) object.sections
+
+abbrev pub permission_of : Class → Permission
+permission_of Text = record { read = true; write = false; exec = true }
+permission_of ReadOnly = record { read = true; write = false; exec = false }
+permission_of Writable = record { read = true; write = true; exec = false }
+
+-- the section's bytes in the object; a Zero section has zeros
+abbrev pub own_bytes : ObjectSection → Fill → List ℕ
+own_bytes s Prog = s.bytes
+own_bytes s Note = s.bytes
+own_bytes s Zero = replicate s.size 0
+
+-- how many bytes are missing from n to the next multiple of the alignment
+abbrev pub gap : ℕ → ℕ → ℕ
+gap n align = (align - n % max 1 align) % max 1 align
+
+-- the bytes so far and then each section at the next multiple of its alignment
+abbrev pub laid_out : List ℕ → List ObjectSection → List ℕ
+laid_out bytes [] = bytes
+laid_out bytes (s ∷ sections) =
+    laid_out (bytes ++ replicate (gap (length bytes) s.align) 0 ++ own_bytes s s.fill) sections
+
+-- up to whole pages, at least one
+abbrev pub to_pages : List ℕ → List ℕ
+to_pages [] = replicate 4096 0
+to_pages bytes = bytes ++ replicate (gap (length bytes) 4096) 0
+
+abbrev pub image_of : List ObjectSection → List ℕ
+image_of sections = to_pages (laid_out [] sections)
+
+-- the first section of a class stands at the start of the class's region
+abbrev pub class_start : Cell → Class → Option ℕ
+class_start c class = option_map (λ s. start_of c.placed s.number) (first (sections_in class c.object))
+
+-- the region is the cell's region of that class
+abbrev pub is_region_of : Class → Region → Cell → Bool
+is_region_of class r c = elim (class_start c class) [ None ↦ false | Some start ↦ start == r.start ]
+
+-- the cells' own bytes for the region, where it is the region of that class of one of them
+abbrev pub images_for : List Cell → Region → Class → List (List ℕ)
+images_for cells r class =
+    map (λ c. image_of (sections_in class c.object)) (filter (is_region_of class r) cells)
+
+-- a region of a cell that isn't writable holds the object's own bytes again
+abbrev pub restored : World → Region → Region
+restored w r =
+    elim (first (images_for w.cells r Text ++ images_for w.cells r ReadOnly)) [
+      | None ↦ r
+      | Some bytes ↦ record r { bytes = bytes }
+    ]
+
+abbrev pub bound_entries : World → Cell → List Bound
+bound_entries w c = bound_by c.object.entries (targets_of w c)
+
+-- an address, and the bytes from there on
+pub record Patch : Type 0 where
+  pub addr : ℕ
+  pub bytes : List ℕ
+
+abbrev pub patch_of : Cell → List Bound → Entry → Patch
+patch_of c bound f =
+    record { addr = place_of c.placed f; bytes = bytes_of (width_of f.kind) (field_value_of c.placed bound f) }
+
+abbrev pub patches_of : World → Cell → List Patch
+patches_of w c = map (patch_of c (bound_entries w c)) (fields_of c.object)
+
+abbrev pub patched : Region → Patch → Region
+patched r p = written r p.addr p.bytes
+
+-- the region with each field of each cell written
+abbrev pub remade : World → Region → Region
+remade w r = fold patched (restored w r) (flat_map (patches_of w) w.cells)
+
+abbrev pub link_to : Cell → ℕ → Entry → Target → Option LinkRow
+link_to c i e (Section key offset addr) = Some (record { user = key_of c.id.0 e.section; entry = i; target = key })
+link_to c i e (Number value) = None
+
+abbrev pub link_of : World → Cell → ℕ × Entry → Option LinkRow
+link_of w c p = elim (target_of w c p.1) [ None ↦ None | Some target ↦ link_to c p.0 p.1 target ]
+
+abbrev pub links_of : World → List LinkRow
+links_of w = flat_map (λ c. filter_map (link_of w c) (numbered c.object.entries)) w.cells
+
+abbrev pub relink : World → World
+relink w = record w { regions = map (remade w) w.regions; links = links_of w }

@@ -1,0 +1,15 @@
+//! The machine: commands, replies, refusals and the shared parts of its state, and in `specs/` what
+//! each command makes of it.
+#![tactic(auto)]
+
+mod command;
+mod file;
+mod refusal;
+mod reply;
+mod state;
+
+pub use command::Command;
+pub use file::File;
+pub use refusal::{Many, Refusal};
+pub use reply::Reply;
+pub use state::{LinkRow, Namespace, NewCell, SecPlace, Target};
