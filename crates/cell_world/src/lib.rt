@@ -12,4 +12,4 @@ pub use command::Command;
 pub use file::File;
 pub use refusal::{Many, Refusal};
 pub use reply::Reply;
-pub use state::{LinkRow, Namespace, NewCell, SecPlace, Target};
+pub use state::{LinkRow, Namespace, NewCell, Permission, Region, SecPlace, Target};
