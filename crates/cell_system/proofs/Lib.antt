@@ -1,0 +1,5 @@
+pub mod NameMaps
+pub mod Definitions
+pub mod Pasting
+pub mod Shapes
+pub mod Layouts

@@ -1,0 +1,131 @@
+-- The lowest free run above stacked regions starts at their top.
+use Rattle.std.proofs.Common.{◌≡◌, refl, sym, ap, subst, arith, ℕ, zero, suc, ◌+◌, ◌-◌, ◌*◌, ◌≤◌, ◌<◌, ◌⊎◌, inl, inr, Bool, true, false, cond, not, ◌&&◌, ◌||◌, List, [], ◌∷◌, map, length, true≢false, Option, Some, None, Ok, Err}
+use Rattle.std.specs.Prelude.{◌/◌, ◌%◌, nat_lt, nat_le, find}
+use Rattle.std.specs.List.{list_all, list_any}
+use Rattle.std.proofs.lemmas.Bool.{and_from, cases_lt, lt-ltb, le-leb, le-ltb}
+use Rattle.cell_num.specs.Lists.{from_on}
+use Rattle.cell_world.specs.World.{World, Region}
+use Rattle.cell_world.specs.Place.{Run, runs_of, is_free, is_free_run, lowest_run, longest_run, start_of_run}
+use Rattle.cell_world.specs.Outcome.{Outcome}
+use Rattle.cell_world.specs.declared.refusal.Refusal.TheVariants.{Exhausted}
+use Rattle.cell_law.specs.Settled.{In, Stacked, top_of}
+use Rattle.cell_law.proofs.Elements.{In-all}
+use Rattle.cell_law.proofs.Stacks.{top_above, top_pages}
+
+abbrev run_in : ℕ → Region → Run
+run_in base r = record { page = (r.start - base) / 4096; count = length r.bytes / 4096 }
+
+abbrev takes : ℕ → Run → Bool
+takes page r = nat_le r.page page && nat_lt page (r.page + r.count)
+
+and_false : (a b : Bool) → b ≡ false → (a && b) ≡ false
+and_false true b h = h
+and_false false b h = refl
+
+none_cons : (a b : Bool) → a ≡ false → b ≡ false → (a || b) ≡ false
+none_cons true b h k = h
+none_cons false b h k = k
+
+any_cons : (a b : Bool) → b ≡ true → (a || b) ≡ true
+any_cons true b h = refl
+any_cons false b h = h
+
+any_head : (a b : Bool) → a ≡ true → (a || b) ≡ true
+any_head true b h = refl
+any_head false b h = absurd (true≢false (sym h))
+
+module _ (base page : ℕ) where
+  -- no region takes a page above the top
+  untaken : (a : ℕ) (rs : List Region) → base ≤ a → (a - base) % 4096 ≡ 0 → Stacked a rs → top_of a rs ≤ base + 4096 * page → list_any (takes page) (map (run_in base) rs) ≡ false
+  untaken a [] l m h t = refl
+  untaken a (r ∷ rs) l m h t =
+      let s : r.start ≡ a = h.0 in
+      let n : length r.bytes % 4096 ≡ 0 = h.2 in
+      let k : a + length r.bytes ≤ top_of (a + length r.bytes) rs = top_above (a + length r.bytes) rs in
+      none_cons (takes page (run_in base r)) (list_any (takes page) (map (run_in base) rs))
+      (and_false (nat_le ((r.start - base) / 4096) page) (nat_lt page ((r.start - base) / 4096 + length r.bytes / 4096)) (le-ltb page _ (omega arith)))
+      (untaken (a + length r.bytes) rs (omega arith) (omega arith) h.3 t)
+
+  -- each page below the top is some region's
+  taken : (a : ℕ) (rs : List Region) → base ≤ a → (a - base) % 4096 ≡ 0 → Stacked a rs → a ≤ base + 4096 * page → base + 4096 * page < top_of a rs → list_any (takes page) (map (run_in base) rs) ≡ true
+  taken a [] l m h t u = absurd (omega (arith, t, u))
+  taken a (r ∷ rs) l m h t u = go (cases_lt (base + 4096 * page) (a + length r.bytes)) (taken (a + length r.bytes) rs (omega arith) (omega arith) h.3)
+    where
+      s : r.start ≡ a
+      s = h.0
+
+      n : length r.bytes % 4096 ≡ 0
+      n = h.2
+
+      go : (base + 4096 * page < a + length r.bytes) ⊎ (a + length r.bytes ≤ base + 4096 * page)
+          → (a + length r.bytes ≤ base + 4096 * page → base + 4096 * page < top_of (a + length r.bytes) rs → list_any (takes page) (map (run_in base) rs) ≡ true)
+          → (takes page (run_in base r) || list_any (takes page) (map (run_in base) rs)) ≡ true
+      go (inl k) f =
+          any_head _ _ (and_from (nat_le ((r.start - base) / 4096) page) (nat_lt page ((r.start - base) / 4096 + length r.bytes / 4096)) (le-leb _ page (omega (arith, s, n))) (lt-ltb page _ (omega (arith, s, n))))
+      go (inr k) f = any_cons _ _ (f k u)
+
+-- the first that passes, where none before it does
+find_at : (p : ℕ → Bool) (m a k : ℕ) → a ≤ k → k < a + m → ((q : ℕ) → a ≤ q → q < k → p q ≡ false) → p k ≡ true → find p (from_on a m) ≡ Some k
+find_at p zero a k l n f t = absurd (omega (arith, l, n))
+find_at p (suc m) a k l n f t = go (cases_lt a k) (find_at p m (suc a) k)
+  where
+    goal : Bool → Option ℕ
+    goal b = cond b (Some a) (find p (from_on (suc a) m))
+
+    go : (a < k) ⊎ (k ≤ a) → (suc a ≤ k → k < suc a + m → ((q : ℕ) → suc a ≤ q → q < k → p q ≡ false) → p k ≡ true → find p (from_on (suc a) m) ≡ Some k) → cond (p a) (Some a) (find p (from_on (suc a) m)) ≡ Some k
+    go (inl i) g = subst (λ b. cond b (Some a) (find p (from_on (suc a) m)) ≡ Some k) (sym (f a (omega arith) i)) (g (omega (arith, i)) (omega (arith, n)) (λ q x y. f q (omega (arith, x)) y) t)
+    go (inr i) g =
+        let e : k ≡ a = omega (arith, i, l) in
+        subst (λ b. cond b (Some a) (find p (from_on (suc a) m)) ≡ Some k) (sym (subst (λ (x : ℕ). p x ≡ true) e t)) (ap (λ (x : ℕ). Some x) (sym e))
+
+find_not : (p : ℕ → Bool) (m a : ℕ) → ((q : ℕ) → a ≤ q → q < a + m → p q ≡ false) → find p (from_on a m) ≡ None
+find_not p zero a f = refl
+find_not p (suc m) a f =
+    subst (λ b. cond b (Some a) (find p (from_on (suc a) m)) ≡ None) (sym (f a (omega arith) (omega arith)))
+    (find_not p m (suc a) (λ q x y. f q (omega (arith, x)) (omega (arith, y))))
+
+from-In : (n a q : ℕ) → In q (from_on a n) → (a ≤ q) × (q < a + n)
+from-In zero a q h = absurd h
+from-In (suc n) a q (inl e) = (omega (arith, e), omega (arith, e))
+from-In (suc n) a q (inr h) = let r : (suc a ≤ q) × (q < suc a + n) = from-In n (suc a) q h in (omega arith, omega arith)
+
+-- how many pages are taken, where regions are stacked from the base on
+abbrev pub used : World → ℕ
+used w = (top_of w.base w.regions - w.base) / 4096
+
+module _ (w : World) (aligned : w.base % 4096 ≡ 0) (stacked : Stacked w.base w.regions) where
+  pub used_is : w.base + 4096 * used w ≡ top_of w.base w.regions
+  used_is =
+      let a : w.base ≤ top_of w.base w.regions = top_above w.base w.regions in
+      let b : top_of w.base w.regions % 4096 ≡ 0 = top_pages w.base w.regions aligned stacked in
+      omega (arith, a, b)
+
+  free_above : (page : ℕ) → used w ≤ page → is_free (runs_of w) page ≡ true
+  free_above page h = ap not (untaken w.base page w.base w.regions (omega arith) (omega arith) stacked (omega (arith, used_is, h)))
+
+  not_below : (page n : ℕ) → 0 < n → page < used w → is_free_run (runs_of w) page n ≡ false
+  not_below page zero l h = absurd (omega (arith, l))
+  not_below page (suc n) l h =
+      let t : list_any (takes page) (map (run_in w.base) w.regions) ≡ true = taken w.base page w.base w.regions (omega arith) (omega arith) stacked (omega arith) (omega (arith, used_is, h)) in
+      subst (λ b. (not b && list_all (is_free (runs_of w)) (from_on (suc page) n)) ≡ false) (sym t) refl
+
+  run_above : (page n : ℕ) → used w ≤ page → is_free_run (runs_of w) page n ≡ true
+  run_above page n h = In-all (is_free (runs_of w)) (from_on page n) (λ q k. free_above q (omega (arith, (from-In n page q k).0, h)))
+
+  -- where there is room, the lowest run is the one above all regions
+  pub lowest_some : (n : ℕ) → 0 < n → used w + n ≤ w.pages → lowest_run w.pages (runs_of w) n ≡ Some (used w)
+  lowest_some n l h =
+      find_at (λ page. is_free_run (runs_of w) page n) (w.pages + 1 - n) 0 (used w) (omega arith) (omega (arith, h)) (λ q x y. not_below q n l y) (run_above (used w) n (omega arith))
+
+  pub lowest_none : (n : ℕ) → 0 < n → w.pages < used w + n → lowest_run w.pages (runs_of w) n ≡ None
+  lowest_none n l h = find_not (λ page. is_free_run (runs_of w) page n) (w.pages + 1 - n) 0 (λ q x y. not_below q n l (omega (arith, y, h)))
+
+  pub start_some : (n : ℕ) → 0 < n → used w + n ≤ w.pages → start_of_run w n ≡ Ok (top_of w.base w.regions)
+  start_some n l h =
+      subst (λ (o : Option ℕ). elim o as (λ _. Outcome ℕ) [ None ↦ Err (Exhausted n (longest_run w.pages (runs_of w))) | Some page ↦ Ok (w.base + 4096 * page) ] ≡ Ok (top_of w.base w.regions))
+      (sym (lowest_some n l h)) (ap (λ (x : ℕ). Ok x) used_is)
+
+  pub start_none : (n : ℕ) → 0 < n → w.pages < used w + n → start_of_run w n ≡ Err (Exhausted n (longest_run w.pages (runs_of w)))
+  start_none n l h =
+      subst (λ (o : Option ℕ). elim o as (λ _. Outcome ℕ) [ None ↦ Err (Exhausted n (longest_run w.pages (runs_of w))) | Some page ↦ Ok (w.base + 4096 * page) ] ≡ Err (Exhausted n (longest_run w.pages (runs_of w))))
+      (sym (lowest_none n l h)) refl

@@ -1,0 +1,10 @@
+use Rattle.std.proofs.Common.{◌≡◌, map, take}
+use Rattle.cell_system.specs.Layout.{AreEnds, offset_among}
+use Rattle.cell_system.proofs.layout.lay_out.Given as goal
+
+-- the sections so far are laid out
+abbrev pub invariant-loop-section : goal.invariant-loop-section
+invariant-loop-section l = record {
+  offsets : l.offsets.items ≡ map (offset_among l.sections) (take l.section-index l.sections);
+  ends : AreEnds l.ends (take l.section-index l.sections);
+}
