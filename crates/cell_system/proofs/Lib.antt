@@ -3,3 +3,4 @@ pub mod Definitions
 pub mod Pasting
 pub mod Shapes
 pub mod Layouts
+pub mod Choosing

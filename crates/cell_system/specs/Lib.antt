@@ -4,3 +4,7 @@ pub mod Names
 pub mod Memory
 pub mod Classes
 pub mod Layout
+pub mod Files
+pub mod View
+pub mod Providers
+pub mod Gathered

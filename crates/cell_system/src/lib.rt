@@ -3,10 +3,14 @@
 
 mod class;
 mod fail;
+mod files;
+mod gather;
 mod image;
 mod layout;
+mod loaded;
 mod memory;
 mod names;
+mod providers;
 mod system;
 
 pub use cell_world::{Command, File, Refusal, Reply};
