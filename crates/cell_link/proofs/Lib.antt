@@ -1,0 +1,9 @@
+pub mod FirstLemmas
+pub mod LittleLemmas
+pub mod BoundLemmas
+pub mod NumberLemmas
+pub mod AppliedLemmas
+pub mod TableLemmas
+pub mod FirstFieldLemmas
+pub mod ValueLemmas
+pub mod ScanLemmas

@@ -1,1 +1,3 @@
 pub mod Linked
+pub mod Tables
+pub mod Applied

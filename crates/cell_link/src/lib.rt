@@ -1,11 +1,23 @@
 //! What the fields of a cell hold.
 #![tactic(auto)]
 
+mod contents;
 mod fail;
+mod fields;
 mod link;
+mod maps;
+mod numbers;
+mod one_field;
+mod places;
 mod value;
 
 pub use cell_world::{NewCell, SecPlace, Target};
-pub use fail::LinkFail;
+pub use fail::{LinkFail, Overflow};
 pub use link::link_cell;
+pub use maps::insert_first;
+pub use numbers::{label_of, spot};
+pub use one_field::field_value;
 pub use value::FieldValue;
+
+#[cfg(test)]
+mod tests;

@@ -3,6 +3,7 @@
 ghost use Rattle.std.specs.Prelude.{◌≡◌, ◌<◌, ◌^◌, All, length};
 ghost use Rattle.cell_link.specs.Linked.{IsLinked};
 
+use crate::fields::{Linker, apply_entries};
 use crate::{FieldValue, LinkFail};
 use cell_num::Listed;
 use cell_world::{NewCell, Target};
@@ -20,8 +21,8 @@ pub fn link_cell(
     requires low { All (λ p. p.start < 2 ^ 63) cell.now.places }
     ensures { IsLinked cell.now targets.now result }
 {
-    let _ = alloc;
-    let _ = cell;
-    let _ = targets;
-    Err(LinkFail::OutOfMemory)
+    let linker = Linker::of(alloc, cell, targets)?;
+    let fields = apply_entries(alloc, &linker)?;
+    let values = fields.values(alloc, &linker.numbers.places)?;
+    Ok(Listed::from_vec(values))
 }

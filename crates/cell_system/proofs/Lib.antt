@@ -4,3 +4,13 @@ pub mod Pasting
 pub mod Shapes
 pub mod Layouts
 pub mod Choosing
+pub mod HighEntries
+pub mod Lookups
+pub mod Plans
+pub mod Matching
+pub mod Singles
+pub mod Needing
+pub mod Crates
+pub mod Appending
+pub mod Supplying
+pub mod Gatherings

@@ -8,3 +8,7 @@ pub mod Files
 pub mod View
 pub mod Providers
 pub mod Gathered
+pub mod Targets
+pub mod Highs
+pub mod Plan
+pub mod Gathering

@@ -14,14 +14,14 @@ use std::alloc::{AllocError, Global};
 /// Where the last section of each class ends; a class without a section has no end.
 #[derive(Clone, Copy, Debug, PartialEq, Eq)]
 pub struct Ends {
-    pub text: Option<u64>,
-    pub read_only: Option<u64>,
-    pub writable: Option<u64>,
+    pub text: Option<u32>,
+    pub read_only: Option<u32>,
+    pub writable: Option<u32>,
 }
 
 impl Ends {
     /// Where the last section of a class ends.
-    pub fn get(&self, class: Class) -> Option<u64>
+    pub fn get(&self, class: Class) -> Option<u32>
         ensures { result ≡ end_for self.now (class_as class) }
     {
         match class {
@@ -31,7 +31,7 @@ impl Ends {
         }
     }
 
-    fn set(&mut self, class: Class, end: u64)
+    fn set(&mut self, class: Class, end: u32)
         ensures { self.new ≡ with_end self.old (class_as class) end }
     {
         match class {
@@ -43,32 +43,28 @@ impl Ends {
 
     /// Puts a section behind the others of its class, where it ends within the room, and tells where
     /// it begins.
-    fn add(&mut self, section: &Section, room: u64) -> Option<u64>
-        requires { room < 2 ^ 32 }
+    fn add(&mut self, section: &Section, room: u32) -> Option<u32>
         ensures placed { IfSome result (λ at. (at ≡ next_in self.old section.now) × (self.new ≡ with_end self.old (class section.now) (at + section.now.size))) }
         ensures full { IfNone result (room < next_in self.old section.now + section.now.size) }
     {
         let class = class_of(section);
-        let end = self.get(class).unwrap_or(0);
-        if end > room {
-            return None;
-        }
+        let before = u64::from(self.get(class).unwrap_or(0));
         let align = section.align;
         let size = section.size;
-        let at = end + gap(end, align);
+        let at = before + gap(before, align);
         let end = at + u64::from(size);
-        if end > room {
+        if end > u64::from(room) {
             return None;
         }
-        self.set(class, end);
-        Some(at)
+        self.set(class, end as u32);
+        Some(at as u32)
     }
 }
 
 /// Where each section stands in its class, and where the classes end.
 #[derive(Drop)]
 pub struct Layout {
-    pub offsets: Vec<u64>,
+    pub offsets: Vec<u32>,
     pub ends: Ends,
 }
 
@@ -76,10 +72,9 @@ pub struct Layout {
 pub fn lay_out(
     alloc: Global,
     sections: &[Section],
-    room: u64,
+    room: u32,
 ) -> Result<Option<Layout>, AllocError>
-    requires room { room < 2 ^ 32 }
-    requires rising { IsTrue (each_pair (λ a b. nat_lt a.number b.number) sections.now) }
+    requires { IsTrue (each_pair (λ a b. nat_lt a.number b.number) sections.now) }
     ensures offsets { IfOk result (λ layout. IfSome layout (λ l. l.offsets.items ≡ offsets_of sections.now)) }
     ensures ends { IfOk result (λ layout. IfSome layout (λ l. AreEnds l.ends sections.now)) }
     ensures full { IfOk result (λ layout. IfNone layout (IsTooLarge room sections.now)) }

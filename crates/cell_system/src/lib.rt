@@ -1,17 +1,23 @@
 //! The machine that runs: cells in memory, placed, linked and shown.
 #![tactic(auto)]
 
+mod append;
+mod bring;
 mod class;
 mod fail;
 mod files;
 mod gather;
+mod highs;
 mod image;
 mod layout;
 mod loaded;
 mod memory;
 mod names;
+mod needs;
+mod plan;
 mod providers;
 mod system;
+mod targets;
 
 pub use cell_world::{Command, File, Refusal, Reply};
 pub use fail::Fail;

@@ -13,7 +13,7 @@ loop-section-preserved c =
     let placed = c.in-Some.ensures.placed in
     record {
       offsets = c.in_ok-push.ensures.items
-          ∙ offsets_here c.args.sections.now c.loop-section.section-index c.section-item.result (omega arith) c.section-item.is c.loop-section.ends _ c.in-Some.at c.requires.rising placed.0 c.loop-section.invariant.ends c.loop-section.invariant.offsets;
+          ∙ offsets_here c.args.sections.now c.loop-section.section-index c.section-item.result (omega arith) c.section-item.is c.loop-section.ends _ c.in-Some.at c.requires placed.0 c.loop-section.invariant.ends c.loop-section.invariant.offsets;
       ends = subst (λ ends. AreEnds ends (take (c.loop-section.section-index + 1) c.args.sections.now)) (sym placed.1)
           (ends_here c.args.sections.now c.loop-section.section-index c.section-item.result (omega arith) c.section-item.is c.loop-section.ends c.in-Some.at placed.0 c.loop-section.invariant.ends);
     }
