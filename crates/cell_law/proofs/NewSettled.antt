@@ -97,7 +97,7 @@ lies_map f rs s g a n l =
     let k : length (f l.0).bytes ≡ length l.0.bytes = g l.0 l.1 in
     (f l.0, map-In f rs l.0 l.1, omega (arith, e, l.2), omega (arith, e, k, l.3))
 
-flat_In : {X A : Type 0} (f : X → List A) (xs : List X) (x : X) → In x xs → (a : A) → In a (f x) → In a (flat_map f xs)
+pub flat_In : {X A : Type 0} (f : X → List A) (xs : List X) (x : X) → In x xs → (a : A) → In a (f x) → In a (flat_map f xs)
 flat_In f [] x h a k = absurd h
 flat_In f (y ∷ ys) x (inl e) a k = In-left (f y) (flat_map f ys) a (subst (λ v. In a (f v)) e k)
 flat_In f (y ∷ ys) x (inr h) a k = In-right (f y) (flat_map f ys) a (flat_In f ys x h a k)
@@ -151,10 +151,10 @@ module _ (w : World) (c : Cell) (settled : IsSettled w) (new : IsNewCell w c) wh
           new_patch : (p : Patch) → In p (patches_of placed (placed_cell w c)) → In p (patches placed)
           new_patch p k = flat_In (patches_of placed) placed.cells (placed_cell w c) (In-right w.cells (placed_cell w c ∷ []) (placed_cell w c) (inl refl)) p k
 
-  module _ (room : HasRoom w c.object) (lack : first_lack (appended_with w c) (c ∷ []) ≡ None) where
-    final_top : top_of w.base (map (remade placed) placed.regions) ≡ top + object_size c.object
-    final_top = top_map (remade placed) w.base placed.regions remade_long ∙ placed_top
+  pub final_top : top_of w.base (map (remade placed) placed.regions) ≡ top + object_size c.object
+  final_top = top_map (remade placed) w.base placed.regions remade_long ∙ placed_top
 
+  module _ (room : HasRoom w c.object) (lack : first_lack (appended_with w c) (c ∷ []) ≡ None) where
     final_fields : (d : Cell) → In d placed.cells → (e : Entry) → In e d.object.entries → LiesIn (map (remade placed) placed.regions) (place_of d.placed e) (width_of e.kind)
     final_fields d i e k = lies_map (remade placed) placed.regions remade_start remade_long (place_of d.placed e) (width_of e.kind) (lies_placed d i e k)
 

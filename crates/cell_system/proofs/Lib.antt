@@ -14,3 +14,10 @@ pub mod Crates
 pub mod Appending
 pub mod Supplying
 pub mod Gatherings
+pub mod Links
+pub mod NewCells
+pub mod Placed
+pub mod Runs
+pub mod Machines
+pub mod Showing
+pub mod Grown

@@ -1,19 +1,15 @@
 -- The plan of a new cell, from where its sections end.
-use Rattle.std.proofs.Common.{◌≡◌, ℕ, ◌+◌, ◌<◌, ◌≤◌, Bool, true, List, [], ◌∷◌, Some, None, refl, sym, ap, ◌∙◌, subst, arith}
-use Rattle.std.specs.Prelude.{Option, filter, max}
+use Rattle.std.proofs.Common.{◌≡◌, ℕ, ◌+◌, ◌<◌, ◌≤◌, true, List, [], ◌∷◌, refl, sym, ap, ◌∙◌, arith}
 use Rattle.std.specs.List.{list_all}
-use Rattle.cell_num.specs.Pages.{rounded_to_page}
 use Rattle.cell_object.specs.declared.object.Object.{Object}
 use Rattle.cell_object.specs.declared.object.Section.{Section as ObjectSection}
 use Rattle.cell_object.specs.Sound.{IsSoundObject, is_sound_section}
 use Rattle.cell_world.specs.Relink.{Class, Text, ReadOnly, Writable, is_in_class, sections_in}
 use Rattle.cell_world.specs.Place as place
 use Rattle.cell_world.specs.Place.{place_in}
-use Rattle.cell_law.specs.Settled.{In}
 use Rattle.cell_law.specs.Loading.{laid_end, run_size, run_start, class_size, object_size, starts_from, read_only_from, writable_from}
 use Rattle.cell_law.proofs.Elements.{all-filter}
 use Rattle.cell_law.proofs.Offsets.{run_rounded}
-use Rattle.cell_law.proofs.Inside.{section_stands}
 use Rattle.cell_system.specs.declared.layout.Ends.{Ends}
 use Rattle.cell_system.specs.Layout.{in_class, end_for, end_of, AreEnds, IsTooLarge}
 use Rattle.cell_system.specs.Plan.{size_by, start_by}

@@ -12,3 +12,7 @@ pub mod Targets
 pub mod Highs
 pub mod Plan
 pub mod Gathering
+pub mod Linking
+pub mod Machine
+pub mod Loads
+pub mod Dumps

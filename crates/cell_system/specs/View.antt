@@ -12,14 +12,13 @@ attached c = record { placed = c; aliases = []; standing = Attached }
 abbrev pub cells_of : List Loaded → List Cell
 cells_of cells = map (λ l. attached l.cell) cells
 
--- the machine with these cells and regions, and exactly the links of its entries
-abbrev pub unlinked : ℕ → ℕ → ℕ → List Loaded → List Region → World
+abbrev pub unlinked : ℕ → ℕ → ℕ → List Cell → List Region → World
 unlinked base pages next cells regions =
     record {
       base = base;
       pages = pages;
       namespaces = (empty_world base pages).namespaces;
-      cells = cells_of cells;
+      cells = cells;
       links = [];
       regions = regions;
       tasks = [];
@@ -28,6 +27,7 @@ unlinked base pages next cells regions =
       swaps = 0;
     }
 
-abbrev pub machine_of : ℕ → ℕ → ℕ → List Loaded → List Region → World
-machine_of base pages next cells regions =
+-- the machine with these cells and regions, and exactly the links of its entries
+abbrev pub linked : ℕ → ℕ → ℕ → List Cell → List Region → World
+linked base pages next cells regions =
     let w : World = unlinked base pages next cells regions in record w { links = links_of w }

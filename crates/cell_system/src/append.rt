@@ -111,6 +111,7 @@ pub fn append(alloc: Global, cells: &[Loaded], next: u32, file: &File) -> Result
     ensures cell { Follows (λ loaded. loaded.cell) result (append_now (cells_of cells.now) next file.now) }
     ensures sound { IfOk result (λ loaded. IsSoundObject loaded.cell.object) }
     ensures few { IfOk result (λ loaded. length loaded.cell.object.entries < 2 ^ 32) }
+    ensures room { IfOk result (λ _. next ≤ 65535) }
 {
     later_where(!has_room(cells, next))?;
     let object = read(alloc, file)?;

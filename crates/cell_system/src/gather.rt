@@ -48,6 +48,7 @@ fn gather_among(
     requires { All (λ f. length f.bytes ≤ 1048576) files.now }
     ensures cell { Follows (λ loaded. loaded.cell) result (gather_now files.now (cells_of cells.now) next ns.now stem.now) }
     ensures few { IfOk result (λ loaded. length loaded.cell.object.entries < 2 ^ 32) }
+    ensures room { IfOk result (λ _. next ≤ 65535) }
 {
     let file = one_file(alloc, files, ns, stem)?;
     let loaded = append(alloc, cells, next, file)?;
@@ -68,6 +69,7 @@ pub fn gather(
     requires { All (λ f. length f.bytes ≤ 1048576) files.now }
     ensures gathered { Gathers files.now cells.now next ns.now stem.now result }
     ensures few { IfOk result (λ loaded. length loaded.cell.object.entries < 2 ^ 32) }
+    ensures room { IfOk result (λ _. next ≤ 65535) }
 {
     gather_among(alloc, files, cells, next, ns, stem)
 }

@@ -22,10 +22,7 @@ pub struct Highs<'a> {
 }
 
 /// Keeps an entry, where it is a PCREL_HI20 entry and no earlier one is at its place.
-fn insert_high(
-    highs: &mut BTreeMap<(u16, u64), Entry>,
-    entry: &Entry,
-) -> Result<(), LinkFail>
+fn insert_high(highs: &mut BTreeMap<(u16, u64), Entry>, entry: &Entry) -> Result<(), LinkFail>
     ensures { OnOk result ((q : ℕ × ℕ) → get spot_cmp highs.new q ≡ option_or (get spot_cmp highs.old q) (cond (is_high_at q entry.now) (Some entry.now) None)) }
 {
     if !is_pcrel_hi20(entry.kind) {
@@ -34,10 +31,7 @@ fn insert_high(
     insert_first(highs, spot(entry), *entry)
 }
 
-fn highs_of(
-    alloc: Global,
-    entries: &[Entry],
-) -> Result<BTreeMap<(u16, u64), Entry>, LinkFail>
+fn highs_of(alloc: Global, entries: &[Entry]) -> Result<BTreeMap<(u16, u64), Entry>, LinkFail>
     ensures { IfOk result (λ highs. IsHighs entries.now highs) }
 {
     let mut highs = BTreeMap::new(alloc);

@@ -69,11 +69,7 @@ pub struct Layout {
 }
 
 /// Lays the sections out, where each class ends within the room.
-pub fn lay_out(
-    alloc: Global,
-    sections: &[Section],
-    room: u32,
-) -> Result<Option<Layout>, AllocError>
+pub fn lay_out(alloc: Global, sections: &[Section], room: u32) -> Result<Option<Layout>, AllocError>
     requires { IsTrue (each_pair (λ a b. nat_lt a.number b.number) sections.now) }
     ensures offsets { IfOk result (λ layout. IfSome layout (λ l. l.offsets.items ≡ offsets_of sections.now)) }
     ensures ends { IfOk result (λ layout. IfSome layout (λ l. AreEnds l.ends sections.now)) }

@@ -4,18 +4,23 @@
 mod append;
 mod bring;
 mod class;
+mod dump;
 mod fail;
 mod files;
 mod gather;
 mod highs;
 mod image;
 mod layout;
+mod link;
 mod loaded;
+mod machine;
 mod memory;
 mod names;
 mod needs;
+mod place;
 mod plan;
 mod providers;
+mod regions;
 mod system;
 mod targets;
 

@@ -25,14 +25,19 @@ pub struct Starts {
     pub writable: u64,
 }
 
-/// Where the sections of a new cell stand, the classes behind the text, and the end of the last one.
-#[derive(Drop)]
-pub struct Plan {
-    pub starts: Starts,
-    pub places: Listed<SecPlace>,
+/// Where the classes behind the text are, and the end of the last one.
+#[derive(Clone, Copy, Debug, PartialEq, Eq)]
+pub struct Runs {
     pub read_only_from: u64,
     pub writable_from: u64,
     pub top: u64,
+}
+
+/// Where a new cell's classes and sections stand.
+#[derive(Drop)]
+pub struct Plan {
+    pub runs: Runs,
+    pub places: Listed<SecPlace>,
 }
 
 /// The bytes of a run whose sections end there: whole pages, at least one.
@@ -124,11 +129,12 @@ pub fn plan_above(
     let starts = starts_of(addr, read_only_from, writable_from, &ends);
     let places = places(alloc, &starts, object, &layout.offsets)?;
     Ok(Some(Plan {
-        starts,
+        runs: Runs {
+            read_only_from,
+            writable_from,
+            top,
+        },
         places: Listed::from_vec(places),
-        read_only_from,
-        writable_from,
-        top,
     }))
 }
 

@@ -1,11 +1,16 @@
 //! The system.
 
-ghost use Rattle.std.specs.Prelude.{◌≡◌, ◌≤◌, ◌%◌, ◌*◌, ◌+◌, IfOk, All, length};
+ghost use Rattle.std.specs.Prelude.{◌≡◌, ◌≤◌, ◌%◌, ◌*◌, ◌+◌, IfOk, All, length, [], ◌∷◌};
+ghost use Rattle.cell_world.specs.declared.command.Command.TheVariants.{Dump, Load};
 ghost use Rattle.cell_world.specs.World.{empty_world};
 ghost use Rattle.cell_system.specs.Step.{IsStep};
 
 use crate::Fail;
-use cell_num::Listed;
+use crate::dump::dump;
+use crate::gather::gather;
+use crate::machine::Machine;
+use crate::place::place;
+use cell_num::{CellId, Listed};
 use cell_world::{Command, File, Reply};
 use std::alloc::{AllocError, Global};
 use std::marker::Model;
@@ -14,28 +19,34 @@ use std::marker::Model;
 #[derive(Drop)]
 pub struct System {
     alloc: Global,
-    base: u64,
-    pages: u32,
-    files: Listed<File>,
+    files: Vec<File>,
+    machine: Machine,
 }
 
 impl Model for System {
-    ghost use Rattle.cell_world.specs.World.{empty_world};
+    ghost use Rattle.std.specs.Prelude.{All, ◌≤◌, length};
+    ghost use Rattle.cell_system.specs.Machine.{IsSound, world_of};
     ghost use Rattle.cell_system.specs.State.{State};
 
     ghost Value = { State };
 
-    ghost view = { λ s. record { files = s.files; world = empty_world s.base s.pages } };
+    ghost view = { λ s. record { files = s.files.items; world = world_of s.machine } };
+
+    ghost invariant = { λ s. IsSound s.machine × All (λ f. length f.bytes ≤ 1048576) s.files.items };
+}
+
+/// A list of one cell's number.
+fn one(alloc: Global, id: CellId) -> Result<Listed<CellId>, AllocError>
+    ensures { IfOk result (λ ids. ids ≡ id ∷ []) }
+{
+    let mut ids = Vec::new(alloc);
+    ids.push(id)?;
+    Ok(Listed::from_vec(ids))
 }
 
 impl System {
     /// A machine without a cell, whose memory is `pages` pages of 4096 bytes from `base` on.
-    pub fn new(
-        alloc: Global,
-        base: u64,
-        pages: u32,
-        files: Vec<File>,
-    ) -> Result<System, AllocError>
+    pub fn new(alloc: Global, base: u64, pages: u32, files: Vec<File>) -> Result<System, AllocError>
         requires aligned { base % 4096 ≡ 0 }
         requires low { 0x1000 ≤ base }
         requires high { base ≤ 0x7ff_ffff_f000 }
@@ -45,17 +56,53 @@ impl System {
     {
         Ok(System {
             alloc,
-            base,
-            pages,
-            files: Listed::from_vec(files),
+            files,
+            machine: Machine {
+                base,
+                pages,
+                next: 1,
+                top: base,
+                cells: Vec::new(alloc),
+                regions: Vec::new(alloc),
+            },
         })
+    }
+
+    /// Loads the one file of a stem in a namespace.
+    fn load(&mut self, ns: &[u8], stem: &[u8]) -> Result<Reply, Fail>
+        ensures { IsStep self.old (Load ns.now stem.now) result self.new }
+    {
+        let machine = &self.machine;
+        let loaded = gather(
+            self.alloc,
+            &self.files,
+            &machine.cells,
+            machine.next,
+            ns,
+            stem,
+        )?;
+        let id = loaded.cell.id;
+        let placed = place(self.alloc, machine, loaded)?;
+        let patched = placed.patched;
+        let fresh = one(self.alloc, id)?;
+        self.machine.add(placed)?;
+        Ok(Reply::Load { fresh, patched })
+    }
+
+    /// Shows a section.
+    fn dump(&mut self, cell: u32, section: u32) -> Result<Reply, Fail>
+        ensures { IsStep self.old (Dump cell section) result self.new }
+    {
+        dump(self.alloc, &self.machine, cell, section)
     }
 
     /// Does a command.
     pub fn do_command(&mut self, command: &Command) -> Result<Reply, Fail>
         ensures { IsStep self.old command.now result self.new }
     {
-        let _ = command;
-        Err(Fail::OutOfMemory)
+        match command {
+            Command::Load { ns, stem } => self.load(ns.bytes(), stem.bytes()),
+            Command::Dump { cell, section } => self.dump(*cell, *section),
+        }
     }
 }

@@ -15,21 +15,44 @@ pub enum Refusal {
     /// What the command asks for is not built yet.
     Later,
     /// The word names nothing.
-    Unknown { word: Name },
+    Unknown {
+        word: Name,
+    },
     /// One more of the kind would pass its limit.
-    TooMany { kind: Many, limit: u32 },
+    TooMany {
+        kind: Many,
+        limit: u32,
+    },
     /// The namespace has no file of the stem.
-    NoObject { stem: Name },
+    NoObject {
+        stem: Name,
+    },
     /// The namespace has two or more files of the stem, the first two of them by name.
-    Ambiguous { one: Name, two: Name },
+    Ambiguous {
+        one: Name,
+        two: Name,
+    },
     /// The first rule that the object file breaks, and the file offset that shows it.
-    BadObject { file: Name, rule: u8, at: u64 },
+    BadObject {
+        file: Name,
+        rule: u8,
+        at: u64,
+    },
     /// The lowest cell that has the stem or the name already.
-    Duplicate { name: Name, holder: CellId },
+    Duplicate {
+        name: Name,
+        holder: CellId,
+    },
     /// The cell needs a name that nobody provides and no file brings.
-    Missing { name: Name, needed_by: CellId },
+    Missing {
+        name: Name,
+        needed_by: CellId,
+    },
     /// So many pages in a row are wanted, and that many are free in the longest row.
-    Exhausted { wanted: u32, largest: u32 },
+    Exhausted {
+        wanted: u32,
+        largest: u32,
+    },
     /// The number of the entry at that place is outside its kind's range.
     Overflow {
         cell: CellId,

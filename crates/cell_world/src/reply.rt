@@ -6,7 +6,10 @@ use cell_num::{Bytes, CellId, Listed, SecKey};
 #[derive(Drop)]
 pub enum Reply {
     /// The new cells, and how many fields were patched.
-    Load { fresh: Listed<CellId>, patched: u32 },
+    Load {
+        fresh: Listed<CellId>,
+        patched: u32,
+    },
     /// The section's start and its bytes.
     Dump {
         key: SecKey,

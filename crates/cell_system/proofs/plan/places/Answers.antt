@@ -9,4 +9,4 @@ place-requires-clause-low c =
     let sections = c.args.object.now.sections in
     let item = c.index-sections-index.is ∙ ap (λ xs. get_or xs c.loop-index.index c.index-sections-index.result) c.as_slice-sections.ensures in
     c.requires.low c.index-sections-index.result
-        (subst (λ (s : Section). In s sections) (sym item) (in_get sections c.loop-index.index c.index-sections-index.result (omega (arith, ap length c.as_slice-sections.ensures))))
+    (subst (λ (s : Section). In s sections) (sym item) (in_get sections c.loop-index.index c.index-sections-index.result (omega (arith, ap length c.as_slice-sections.ensures))))

@@ -1,4 +1,4 @@
-use Rattle.std.proofs.Common.{sym, ◌∙◌, refl, rules}
+use Rattle.std.proofs.Common.{sym, refl, rules}
 use Rattle.cell_system.specs.Providers.{provider_as}
 use Rattle.cell_system.proofs.Lookups.{provided_old, provided_new, provided_none, numbered_low}
 use Rattle.cell_system.proofs.targets.Scope.provided_target.Goals as goal

@@ -1,6 +1,5 @@
-use Rattle.std.proofs.Common.{◌≡◌, None, Some, sym, ap, ◌∙◌, refl, rules}
-use Rattle.std.specs.Prelude.{Option, option_map}
-use Rattle.cell_world.specs.Names as names
+use Rattle.std.proofs.Common.{None, Some, sym, ap, ◌∙◌}
+use Rattle.std.specs.Prelude.{option_map}
 use Rattle.cell_system.specs.Providers.{provider_as}
 use Rattle.cell_system.proofs.Lookups.{provider_old, provider_new}
 use Rattle.cell_system.proofs.targets.Scope.provider.Goals as goal

@@ -1,0 +1,13 @@
+//! The lines of a transcript.
+#![tactic(auto)]
+
+mod line;
+mod refusal;
+mod reply;
+
+pub use line::put_line;
+pub use refusal::put_refusal;
+pub use reply::put_reply;
+
+#[cfg(test)]
+mod tests;

@@ -1,0 +1,165 @@
+//! Lines of refusals.
+
+ghost use Rattle.std.specs.Prelude.{◌≡◌, ◌++◌, Err, OnOk};
+ghost use Rattle.cell_world.specs.declared.refusal.Refusal.TheVariants.{Overflow};
+ghost use Rattle.cell_print.specs.Lines.{many_word, kind_word, refusal_line, lines_of, Extends};
+
+use crate::put_line;
+use cell_num::{CellId, RelKind};
+use cell_text::put_hex;
+use cell_world::{Many, Refusal};
+use itoa::Buffer;
+use std::alloc::AllocError;
+
+/// Appends the line of a refusal to a command of that line.
+pub fn put_refusal(line: u32, refusal: &Refusal, into: &mut Vec<u8>) -> Result<(), AllocError>
+    ensures ok { OnOk result (into.new.items ≡ into.old.items ++ lines_of line (Err refusal.now)) }
+    ensures extends { Extends into.old.items into.new.items }
+{
+    let mut number = Buffer::new();
+    let number = number.format(line).as_bytes();
+    match refusal {
+        Refusal::Later => put_line(&[number, b" E0 later"], into),
+        Refusal::Unknown { word } => put_line(&[number, b" E1 unknown ", word.bytes()], into),
+        Refusal::TooMany { kind, limit } => {
+            let mut most = Buffer::new();
+            let most = most.format(*limit).as_bytes();
+            put_line(
+                &[number, b" E4 too-many ", many_word(*kind), b" ", most],
+                into,
+            )
+        }
+        Refusal::NoObject { stem } => put_line(&[number, b" E5 no-object ", stem.bytes()], into),
+        Refusal::Ambiguous { one, two } => {
+            put_line(
+                &[number, b" E6 ambiguous ", one.bytes(), b" ", two.bytes()],
+                into,
+            )
+        }
+        Refusal::BadObject { file, rule, at } => {
+            let mut which = Buffer::new();
+            let which = which.format(*rule).as_bytes();
+            let mut place = Buffer::new();
+            let place = place.format(*at).as_bytes();
+            put_line(
+                &[
+                    number,
+                    b" E7 object ",
+                    file.bytes(),
+                    b" rule ",
+                    which,
+                    b" at ",
+                    place,
+                ],
+                into,
+            )
+        }
+        Refusal::Duplicate { name, holder } => {
+            let mut cell = Buffer::new();
+            let cell = cell.format(holder.0).as_bytes();
+            put_line(
+                &[number, b" E8 duplicate ", name.bytes(), b" #", cell],
+                into,
+            )
+        }
+        Refusal::Missing { name, needed_by } => {
+            let mut cell = Buffer::new();
+            let cell = cell.format(needed_by.0).as_bytes();
+            put_line(&[number, b" E9 missing ", name.bytes(), b" #", cell], into)
+        }
+        Refusal::Exhausted { wanted, largest } => {
+            let mut pages = Buffer::new();
+            let pages = pages.format(*wanted).as_bytes();
+            let mut free = Buffer::new();
+            let free = free.format(*largest).as_bytes();
+            put_line(&[number, b" E11 exhausted ", pages, b" ", free], into)
+        }
+        Refusal::Overflow {
+            cell,
+            section,
+            offset,
+            kind,
+        } => put_overflow(line, *cell, *section, *offset, *kind, into),
+    }
+}
+
+/// Appends the line of a refusal for an entry that doesn't fit.
+fn put_overflow(
+    line: u32,
+    cell: CellId,
+    section: u16,
+    offset: u32,
+    kind: RelKind,
+    into: &mut Vec<u8>,
+) -> Result<(), AllocError>
+    ensures ok { OnOk result (into.new.items ≡ into.old.items ++ refusal_line line (Overflow cell section offset kind)) }
+    ensures extends { Extends into.old.items into.new.items }
+{
+    let mut number = Buffer::new();
+    let number = number.format(line).as_bytes();
+    let mut of_cell = Buffer::new();
+    let of_cell = of_cell.format(cell.0).as_bytes();
+    let mut of_section = Buffer::new();
+    let of_section = of_section.format(section).as_bytes();
+    let mut place = Vec::new(*into.allocator());
+    put_hex(u64::from(offset), &mut place)?;
+    let place = place.as_slice();
+    put_line(
+        &[
+            number,
+            b" E12 overflow #",
+            of_cell,
+            b".",
+            of_section,
+            b"+",
+            place,
+            b" ",
+            kind_word(kind),
+        ],
+        into,
+    )
+}
+
+fn many_word(kind: Many) -> &'static [u8]
+    ensures { result.now ≡ many_word kind }
+{
+    match kind {
+        Many::Cells => b"cells",
+        Many::CellNumbers => b"cell-numbers",
+    }
+}
+
+/// The name of a kind of relocation, without its first `R_RISCV_`.
+fn kind_word(kind: RelKind) -> &'static [u8]
+    ensures { result.now ≡ kind_word kind }
+{
+    match kind {
+        RelKind::Abs32 => b"32",
+        RelKind::Abs64 => b"64",
+        RelKind::Branch => b"BRANCH",
+        RelKind::Jal => b"JAL",
+        RelKind::Call => b"CALL",
+        RelKind::CallPlt => b"CALL_PLT",
+        RelKind::GotHi20 => b"GOT_HI20",
+        RelKind::PcrelHi20 => b"PCREL_HI20",
+        RelKind::PcrelLo12I => b"PCREL_LO12_I",
+        RelKind::PcrelLo12S => b"PCREL_LO12_S",
+        RelKind::Hi20 => b"HI20",
+        RelKind::Lo12I => b"LO12_I",
+        RelKind::Lo12S => b"LO12_S",
+        RelKind::Add8 => b"ADD8",
+        RelKind::Add16 => b"ADD16",
+        RelKind::Add32 => b"ADD32",
+        RelKind::Add64 => b"ADD64",
+        RelKind::Sub8 => b"SUB8",
+        RelKind::Sub16 => b"SUB16",
+        RelKind::Sub32 => b"SUB32",
+        RelKind::Sub64 => b"SUB64",
+        RelKind::Sub6 => b"SUB6",
+        RelKind::Set6 => b"SET6",
+        RelKind::Set8 => b"SET8",
+        RelKind::Set16 => b"SET16",
+        RelKind::Set32 => b"SET32",
+        RelKind::Pcrel32 => b"32_PCREL",
+    }
+}

@@ -1,0 +1,95 @@
+-- A whole run: its text and its status.
+--     run_of words files              the run of a program that is given these words and meets these files
+--     WritesRun run status old new    how an answer and what was written stand to a run
+use Rattle.std.specs.Prelude.{◌≡◌, ◌⊎◌, ℕ, Bool, true, false, ◌||◌, List, [], ◌∷◌, ◌++◌, if◌then◌else◌, Option, Result, Ok, Err}
+use Rattle.std.specs.Io.KnownBytes.{Appends}
+use Rattle.cell_io.specs.Files.{File as HostFile}
+use Rattle.cell_io.specs.Written.{AppendsPartOf}
+use Rattle.cell_world.specs.declared.command.Command.{Command}
+use Rattle.cell_world.specs.declared.reply.Reply.{Reply}
+use Rattle.cell_world.specs.declared.refusal.Refusal.{Refusal}
+use Rattle.cell_world.specs.World.{empty_world}
+use Rattle.cell_world.specs.Next.{Answered}
+use Rattle.cell_script.specs.declared.line.Line.{Line}
+use Rattle.cell_print.specs.Lines.{lines_of}
+use Rattle.cell_system.specs.State.{State}
+use Rattle.cell_system.specs.Step.{next_of}
+use Rattle.cell_run.specs.declared.status.Status.{Status}
+use Rattle.cell_run.specs.declared.status.Status.TheVariants.{Done, SomeRefused, Usage as UsageStatus, NoScript as NoScriptStatus, BadScript as BadScriptStatus, TooLarge as TooLargeStatus, ReadFault, WriteFault, OutOfMemory}
+use Rattle.cell_run.specs.declared.status.Reason.{Reason}
+use Rattle.cell_run.specs.declared.status.Reason.TheVariants.{Usage, NoScript, BadScript, TooLarge}
+use Rattle.cell_run.specs.declared.take.Input.{Input}
+use Rattle.cell_run.specs.Taking.{input_of}
+use Rattle.cell_run.specs.StatusLine.{reason_line}
+
+pub record Run : Type 0 where
+  pub text : List ℕ
+  pub status : Status
+
+-- the plain machine's answer to a command, and its state after it
+unfoldable pub answered : State → Command → Answered
+answered s command = next_of s command
+
+abbrev pub after : State → Command → State
+after s command = record { files = s.files; world = (answered s command).world }
+
+abbrev pub is_refusal : Result Reply Refusal → Bool
+is_refusal (Ok reply) = false
+is_refusal (Err refusal) = true
+
+-- the lines of the answers to these commands, from a state on
+abbrev pub text_from : State → List Line → List ℕ
+text_from s [] = []
+text_from s (line ∷ lines) = lines_of line.number (answered s line.command).answer ++ text_from (after s line.command) lines
+
+-- whether one of them is refused
+abbrev pub any_refused : State → List Line → Bool
+any_refused s [] = false
+any_refused s (line ∷ lines) = is_refusal (answered s line.command).answer || any_refused (after s line.command) lines
+
+abbrev pub run_from : State → List Line → Run
+run_from s lines = record { text = text_from s lines; status = if any_refused s lines then SomeRefused else Done }
+
+-- the machine before the first command: 1024 pages from 0x10000000 on
+abbrev pub first_state : Input → State
+first_state input = record { files = input.files; world = empty_world 0x1000_0000 1024 }
+
+abbrev pub status_of : Reason → Status
+status_of Usage = UsageStatus
+status_of NoScript = NoScriptStatus
+status_of (BadScript n) = BadScriptStatus n
+status_of (TooLarge what limit) = TooLargeStatus what limit
+
+-- a run that is refused before its first command
+abbrev pub refused_run : List (List ℕ) → Reason → Run
+refused_run words reason = record { text = reason_line words reason; status = status_of reason }
+
+abbrev pub run_after : List (List ℕ) → Result Input Reason → Run
+run_after words (Ok input) = run_from (first_state input) input.script
+run_after words (Err reason) = refused_run words reason
+
+abbrev pub run_of : List (List ℕ) → List HostFile → Run
+run_of words files = run_after words (input_of words files)
+
+-- the run was cut off by a fault or by want of memory
+abbrev pub IsCut : Status → Type 0
+IsCut ReadFault = Unit {0}
+IsCut WriteFault = Unit {0}
+IsCut OutOfMemory = Unit {0}
+IsCut _ = ⊥
+
+-- status and bytes are those of the run; or the run was cut off, and the bytes are a front of its text
+abbrev pub WritesRun : Run → Status → Option (List ℕ) → Option (List ℕ) → Type 0
+WritesRun run status old new = ((status ≡ run.status) × Appends old new run.text) ⊎ (IsCut status × AppendsPartOf old new run.text)
+
+-- the plain machine's answer to a line's command: its text, whether it is a refusal, and the state after it
+pub record Answers (s : State) (line : Line) (said : List ℕ) (refused : Bool) (new : State) : Type 0 where
+  pub text : said ≡ lines_of line.number (answered s line.command).answer
+  pub verdict : refused ≡ is_refusal (answered s line.command).answer
+  pub state : new ≡ after s line.command
+
+-- the command of a line was done, and the lines of its answer written
+pub record DoesLine (s : State) (line : Line) (refused : Bool) (new : State) (before after_it : Option (List ℕ)) : Type 0 where
+  pub state : new ≡ after s line.command
+  pub verdict : refused ≡ is_refusal (answered s line.command).answer
+  pub written : Appends before after_it (lines_of line.number (answered s line.command).answer)

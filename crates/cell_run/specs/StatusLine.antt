@@ -1,0 +1,26 @@
+-- The line of a run that ends before its first command.
+use Rattle.std.specs.Prelude.{ℕ, List, [], ◌∷◌, codes}
+use Rattle.std.specs.Fmt.{decimal}
+use Rattle.cell_print.specs.Lines.{line}
+use Rattle.cell_run.specs.declared.status.What.{What}
+use Rattle.cell_run.specs.declared.status.What.TheVariants.{Names, Files, FileBytes, AllBytes, ScriptBytes}
+use Rattle.cell_run.specs.declared.status.Reason.{Reason}
+use Rattle.cell_run.specs.declared.status.Reason.TheVariants.{Usage, NoScript, BadScript, TooLarge}
+
+abbrev pub second : List (List ℕ) → List ℕ
+second [] = []
+second (a ∷ []) = []
+second (a ∷ b ∷ words) = b
+
+abbrev pub what_word : What → List ℕ
+what_word Names = codes "names"
+what_word Files = codes "files"
+what_word FileBytes = codes "file-bytes"
+what_word AllBytes = codes "all-bytes"
+what_word ScriptBytes = codes "script-bytes"
+
+abbrev pub reason_line : List (List ℕ) → Reason → List ℕ
+reason_line words Usage = line (codes "usage: cells DIR SCRIPT [--base HEX] [--pages N] | --generate N --seed S" ∷ [])
+reason_line words NoScript = line (codes "no script " ∷ second words ∷ [])
+reason_line words (BadScript n) = line (codes "bad script line " ∷ decimal n ∷ [])
+reason_line words (TooLarge what limit) = line (codes "too large: " ∷ what_word what ∷ codes " limit " ∷ decimal limit ∷ [])

@@ -1,0 +1,50 @@
+-- The reading of a script.
+--     reading_of line      what a line says
+--     script_of text       the commands of a script, or the number of the first line without a reading
+use Rattle.std.specs.Prelude.{◌≡◌, ℕ, ◌+◌, Bool, false, ◌==◌, List, [], ◌∷◌, Option, Some, None, if◌then◌else◌, Ok, Err}
+use Rattle.std.specs.declared.result.Result.{Result}
+use Rattle.cell_text.specs.Text.{lines_in, words_of}
+use Rattle.cell_world.specs.declared.command.Command.{Command}
+use Rattle.cell_script.specs.Grammar.{forms, command_in}
+use Rattle.cell_script.specs.declared.line.Line.{Line}
+use Rattle.cell_script.specs.declared.command.Reading.{Reading}
+use Rattle.cell_script.specs.declared.command.Reading.TheVariants.{Nothing, Does, Bad}
+use Rattle.cell_script.specs.declared.read.ScriptFail.{ScriptFail}
+use Rattle.cell_script.specs.declared.read.ScriptFail.TheVariants.{Bad as BadLine, OutOfMemory}
+
+abbrev pub is_comment : List ℕ → Bool
+is_comment [] = false
+is_comment (b ∷ bs) = b == 35
+
+abbrev pub does : Option Command → Reading
+does None = Bad
+does (Some command) = Does command
+
+-- what the words of a line say: nothing where there are none, and in a comment
+abbrev pub reading_in : List (List ℕ) → Reading
+reading_in [] = Nothing
+reading_in (word ∷ arguments) = if is_comment word then Nothing else does (command_in forms word arguments)
+
+abbrev pub reading_of : List ℕ → Reading
+reading_of line = reading_in (words_of line)
+
+-- a line before the commands of the later lines
+abbrev pub add_line : ℕ → Reading → Result (List Line) ℕ → Result (List Line) ℕ
+add_line n Nothing later = later
+add_line n Bad later = Err n
+add_line n (Does command) (Ok lines) = Ok (record { number = n; command = command } ∷ lines)
+add_line n (Does command) (Err m) = Err m
+
+-- the commands of the lines from number n on, or the first line without a reading
+abbrev pub script_from : ℕ → List (List ℕ) → Result (List Line) ℕ
+script_from n [] = Ok []
+script_from n (line ∷ lines) = add_line n (reading_of line) (script_from (n + 1) lines)
+
+abbrev pub script_of : List ℕ → Result (List Line) ℕ
+script_of text = script_from 1 (lines_in text)
+
+-- the answer is what the script says, or want of memory
+abbrev pub Reads : Result (List Line) ScriptFail → Result (List Line) ℕ → Type 0
+Reads (Ok lines) script = script ≡ Ok lines
+Reads (Err (BadLine n)) script = script ≡ Err n
+Reads (Err OutOfMemory) script = Unit {0}

@@ -1,0 +1,119 @@
+//! The bytes of a section as they are now.
+
+ghost use Rattle.std.specs.Prelude.{◌≡◌, ◌==◌, true, IfOk, find, option_map, unwrap_or, [], decimal};
+ghost use Rattle.cell_object.specs.Parts.{section_of as section_with};
+ghost use Rattle.cell_world.specs.Memory.{covers as region_covers};
+ghost use Rattle.cell_system.specs.Dumps.{Dumps, IsUnknown, part_of, read_from};
+ghost use Rattle.cell_system.specs.Machine.{world_of};
+
+use crate::Fail;
+use crate::machine::Machine;
+use crate::memory::covers;
+use crate::providers::cell_numbered;
+use crate::targets::start_of;
+use cell_num::{Bytes, CellId, Name, SecKey};
+use cell_object::{Object, Section};
+use cell_text::put_dec;
+use cell_world::{Refusal, Region, Reply};
+use std::alloc::{AllocError, Global};
+
+fn is_numbered(section: &Section, number: u32) -> bool
+    ensures { result ≡ (section.now.number == number) }
+{
+    let own = section.number;
+    u32::from(own) == number
+}
+
+/// The loaded section of that number.
+fn section_of(object: &Object, number: u32) -> Option<&Section>
+    ensures { option_map (λ s. s.now) result ≡ section_with object.now number }
+{
+    for section in object.sections.as_slice() {
+        if is_numbered(section, number) {
+            return Some(section);
+        }
+    }
+    None
+}
+
+/// The region that covers an address.
+fn region_at(regions: &[Region], addr: u64) -> Option<&Region>
+    ensures { option_map (λ r. r.now) result ≡ find (λ r. region_covers r addr) regions.now }
+{
+    for region in regions {
+        if covers(region, addr) {
+            return Some(region);
+        }
+    }
+    None
+}
+
+/// So many bytes of a region from an address on, where they are in it.
+fn part(region: &Region, addr: u64, size: u32) -> Option<&[u8]>
+    requires { region_covers region.now addr ≡ true }
+    ensures { option_map (λ bytes. bytes.now) result ≡ part_of region.now addr size }
+{
+    let bytes = region.bytes.as_slice();
+    let from = (addr - region.start) as usize;
+    let to = from + size as usize;
+    if to > bytes.len() {
+        return None;
+    }
+    Some(&bytes[from..to])
+}
+
+/// So many bytes from an address on; none where they are not in one region.
+fn read(alloc: Global, regions: &[Region], addr: u64, size: u32) -> Result<Bytes, AllocError>
+    ensures { IfOk result (λ bytes. bytes ≡ unwrap_or (read_from regions.now addr size) []) }
+{
+    let found = region_at(regions, addr);
+    let bytes = match found {
+        Some(region) => part(region, addr, size),
+        None => None,
+    };
+    match bytes {
+        Some(bytes) => Ok(Bytes::from_vec(bytes.to_vec(alloc)?)),
+        None => Ok(Bytes::from_vec(Vec::new(alloc))),
+    }
+}
+
+fn decimal_name(alloc: Global, number: u32) -> Result<Name, AllocError>
+    ensures { IfOk result (λ name. name ≡ decimal number) }
+{
+    let mut text = Vec::new(alloc);
+    put_dec(u64::from(number), &mut text)?;
+    Name::of(alloc, &text)
+}
+
+/// A number names nothing.
+fn unknown(alloc: Global, number: u32) -> Fail
+    ensures { IsUnknown number result }
+{
+    match decimal_name(alloc, number) {
+        Ok(word) => Fail::Refused(Refusal::Unknown { word }),
+        Err(_) => Fail::OutOfMemory,
+    }
+}
+
+/// Shows a section of a cell.
+pub fn dump(alloc: Global, machine: &Machine, cell: u32, section: u32) -> Result<Reply, Fail>
+    ensures { Dumps (world_of machine.now) cell section result }
+{
+    let Some(loaded) = cell_numbered(&machine.cells, cell) else {
+        return Err(unknown(alloc, cell));
+    };
+    let Some(found) = section_of(&loaded.cell.object, section) else {
+        return Err(unknown(alloc, section));
+    };
+    let number = found.number;
+    let start = start_of(&loaded.cell, number);
+    let bytes = read(alloc, &machine.regions, start, found.size)?;
+    Ok(Reply::Dump {
+        key: SecKey {
+            cell: CellId(cell),
+            section: number,
+        },
+        start,
+        bytes,
+    })
+}

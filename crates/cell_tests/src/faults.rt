@@ -1,0 +1,101 @@
+//! Streams and folders that fail.
+
+ghost use Rattle.std.specs.Prelude.{◌≡◌, [], ◌∷◌, IfOk};
+ghost use Rattle.cell_io.specs.Files.{names_differ};
+ghost use Rattle.cell_io.specs.MemoryHost.{file_of};
+
+use crate::folder::{Folder, words_of};
+use crate::images::{POINTER, SEVEN};
+use cell_io::{MemFile, MemHost, MemSink};
+use cell_run::{Status, cells};
+use std::alloc::{AllocError, Global};
+use std::test::Fail;
+
+const SCRIPT: &str = "load k a\nload k b\ndump 2 1\n";
+
+const TEXT: &[u8] = b"1 ok load #1 patched 0\n\
+    2 ok load #2 patched 1\n\
+    3 ok dump #2.1\n  \
+    10001000 04 00 00 10 00 00 00 00 01 00 00 00 00 00 00 00\n";
+
+/// Runs the first example over this stream.
+fn write_to(alloc: Global, sink: &mut MemSink) -> Result<Status, AllocError> {
+    let words = words_of(alloc, &["d", "s"])?;
+    let files = [("k#a.o", SEVEN.as_slice()), ("k#b.o", POINTER.as_slice())];
+    let mut folder = Folder {
+        script: SCRIPT,
+        files: &files,
+    };
+    Ok(cells(alloc, &words, &mut folder, sink))
+}
+
+#[test]
+fn a_full_stream(rt: HostRuntime) -> Result<(), Fail> {
+    for room in 0..TEXT.len() {
+        let mut sink = MemSink::new(rt.alloc(), room, Vec::new(rt.alloc()))?;
+        let status = write_to(rt.alloc(), &mut sink)?;
+        assert!(rt; status == Status::WriteFault, "room {room}");
+        assert!(rt; sink.written() == &TEXT[..room], "room {room}");
+    }
+    Ok(())
+}
+
+#[test]
+fn a_put_that_fails(rt: HostRuntime) -> Result<(), Fail> {
+    // Each answer is one put.
+    for (put, written) in [(0, 0), (1, 23), (2, 46)] {
+        let failing = Vec::from_slice(rt.alloc(), &[put])?;
+        let mut sink = MemSink::new(rt.alloc(), 1000, failing)?;
+        let status = write_to(rt.alloc(), &mut sink)?;
+        assert!(rt; status == Status::WriteFault, "put {put}");
+        assert!(rt; sink.written() == &TEXT[..written], "put {put}");
+    }
+    Ok(())
+}
+
+/// A file of the folder `d`.
+fn file(alloc: Global, name: &str, bytes: &[u8]) -> Result<MemFile, AllocError>
+    ensures { IfOk result (λ f. file_of f ≡ record { dir = 100 ∷ []; name = name.now; bytes = bytes.now }) }
+{
+    Ok(MemFile {
+        dir: String::from_str(alloc, "d")?,
+        name: String::from_str(alloc, name)?,
+        bytes: Vec::from_slice(alloc, bytes)?,
+    })
+}
+
+/// The first example in a folder of which the call with this number fails.
+fn failing_at(alloc: Global, call: u32) -> Result<MemHost, AllocError> {
+    let mut files = Vec::new(alloc);
+    files.push(file(alloc, "s", SCRIPT.as_bytes())?)?;
+    files.push(file(alloc, "k#b.o", &POINTER)?)?;
+    files.push(file(alloc, "k#a.o", &SEVEN)?)?;
+    let failing = Vec::from_slice(alloc, &[call])?;
+    Ok(MemHost::new(files, failing))
+}
+
+#[test]
+fn a_folder_that_fails(rt: HostRuntime) -> Result<(), Fail> {
+    // One call lists the folder, and three read its files.
+    for call in 0..4 {
+        let mut host = failing_at(rt.alloc(), call)?;
+        let mut sink = MemSink::new(rt.alloc(), 1000, Vec::new(rt.alloc()))?;
+        let words = words_of(rt.alloc(), &["d", "s"])?;
+        let status = cells(rt.alloc(), &words, &mut host, &mut sink);
+        assert!(rt; status == Status::ReadFault, "call {call}");
+        assert!(rt; sink.written().is_empty(), "call {call}");
+    }
+    Ok(())
+}
+
+#[test]
+fn a_folder_in_any_order(rt: HostRuntime) -> Result<(), Fail> {
+    // No fifth call comes.
+    let mut host = failing_at(rt.alloc(), 4)?;
+    let mut sink = MemSink::new(rt.alloc(), 1000, Vec::new(rt.alloc()))?;
+    let words = words_of(rt.alloc(), &["d", "s"])?;
+    let status = cells(rt.alloc(), &words, &mut host, &mut sink);
+    assert!(rt; status == Status::Done);
+    assert!(rt; sink.written() == TEXT);
+    Ok(())
+}

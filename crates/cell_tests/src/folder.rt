@@ -1,0 +1,90 @@
+//! A folder of files for the program to run in.
+
+ghost use Rattle.std.specs.declared.option.Option.TheVariants.{None};
+
+use cell_io::{Host, HostFault, MemSink};
+use cell_run::{Status, cells};
+use std::alloc::{AllocError, Global};
+
+/// A file's name and bytes.
+pub type Content<'a> = (&'a str, &'a [u8]);
+
+/// A folder, of which contracts know nothing.
+#[derive(Drop)]
+pub struct Folder<'a> {
+    pub script: &'a str,
+    pub files: &'a [Content<'a>],
+}
+
+impl<'a> Folder<'a> {
+    fn bytes_of(&self, name: &str) -> &[u8] {
+        for file in self.files {
+            if file.0 == name {
+                return file.1;
+            }
+        }
+        self.script.as_bytes()
+    }
+
+    fn add_names(&self, into: &mut Vec<String>) -> Result<(), AllocError> {
+        let alloc = *into.allocator();
+        into.push(String::from_str(alloc, "s")?)?;
+        for file in self.files {
+            into.push(String::from_str(alloc, file.0)?)?;
+        }
+        Ok(())
+    }
+}
+
+impl<'a> Host for Folder<'a> {
+    ghost files = { λ _. None };
+
+    ghost faults = { λ _. 0 };
+
+    fn list(&mut self, _dir: &str, _limit: u32, into: &mut Vec<String>) -> Result<(), HostFault> {
+        into.clear();
+        if self.add_names(into).is_err() {
+            into.clear();
+            return Err(HostFault::OutOfMemory);
+        }
+        Ok(())
+    }
+
+    fn read(
+        &mut self,
+        _dir: &str,
+        name: &str,
+        _limit: u32,
+        into: &mut Vec<u8>,
+    ) -> Result<(), HostFault> {
+        into.clear();
+        if into.extend_from_slice(self.bytes_of(name)).is_err() {
+            into.clear();
+            return Err(HostFault::OutOfMemory);
+        }
+        Ok(())
+    }
+}
+
+/// These words, as the program gets them.
+pub fn words_of(alloc: Global, words: &[&str]) -> Result<Vec<String>, AllocError> {
+    let mut all = Vec::new(alloc);
+    for word in words {
+        all.push(String::from_str(alloc, *word)?)?;
+    }
+    Ok(all)
+}
+
+/// What the program answers and writes. Its words are these, and its script is `s`.
+pub fn outcome(
+    alloc: Global,
+    words: &[&str],
+    script: &str,
+    files: &[Content],
+) -> Result<(Status, MemSink), AllocError> {
+    let words = words_of(alloc, words)?;
+    let mut folder = Folder { script, files };
+    let mut sink = MemSink::new(alloc, 10000, Vec::new(alloc))?;
+    let status = cells(alloc, &words, &mut folder, &mut sink);
+    Ok((status, sink))
+}
