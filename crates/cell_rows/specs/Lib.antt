@@ -1,0 +1,5 @@
+pub mod Answers
+pub mod Pieces
+pub mod Loads
+pub mod Refusals
+pub mod Reach

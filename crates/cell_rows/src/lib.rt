@@ -1,0 +1,25 @@
+//! Examples of what the machine answers, computed by its definitions. Each is the contract of a
+//! function with an empty body.
+#![tactic(auto)]
+
+ghost use Rattle.std.specs.Prelude.{◌≡◌};
+ghost use Rattle.cell_world.specs.World.{empty_world};
+ghost use Rattle.cell_rows.specs.Answers.{answers};
+ghost use Rattle.cell_rows.specs.Loads as loads;
+ghost use Rattle.cell_rows.specs.Refusals as refusals;
+ghost use Rattle.cell_rows.specs.Reach as reach;
+
+/// A load links a field to a cell that was loaded before it, and a dump shows the address.
+pub fn loads_and_dumps()
+    ensures { answers loads.files (empty_world 0x1000_0000 1024) loads.script ≡ loads.answered }
+{}
+
+/// Words that name nothing, a name without a provider, and what is not built yet are refused.
+pub fn refusals()
+    ensures { answers refusals.files (empty_world 0x1000_0000 1024) refusals.script ≡ refusals.answered }
+{}
+
+/// An upper part reaches as far as the last address that rounds into 31 bits.
+pub fn reach()
+    ensures { answers reach.files (empty_world 0x7fff_e000 16) reach.script ≡ reach.answered }
+{}
