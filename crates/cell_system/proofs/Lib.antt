@@ -21,3 +21,4 @@ pub mod Runs
 pub mod Machines
 pub mod Showing
 pub mod Grown
+pub mod PlaceOf

@@ -1,6 +1,8 @@
 -- A new cell above the others: its addresses are low, its fields end in its regions, and the load comes to the machine with it.
-use Rattle.std.proofs.Common.{◌≡◌, refl, sym, ◌∙◌, ap, arith, ℕ, ◌≤◌, ◌<◌, ◌^◌, Bool, true, false, true≢false}
-use Rattle.std.specs.Prelude.{Option, Some, None, All, find, option_map, unwrap_or, nat_le, ◌&&◌, ◌==◌}
+use Rattle.std.proofs.Common.{◌≡◌, refl, sym, ◌∙◌, ap, arith, ℕ, ◌≤◌, ◌<◌, ◌^◌, Bool, true, false, true≢false, map, List, [], ◌∷◌}
+use Rattle.std.specs.Prelude.{Option, Some, None, All, find, option_map, unwrap_or, nat_le, nat_lt, ◌&&◌, ◌==◌}
+use Rattle.std.specs.List.{list_all}
+use Rattle.std.proofs.lemmas.Bool.{and_parts, and_from}
 use Rattle.std.proofs.lemmas.Bool.Decides.{nat_tests}
 use Rattle.cell_object.specs.declared.object.Home.{Home}
 use Rattle.cell_object.specs.declared.object.Home.TheVariants.{Undef, Abs, Inside, Elsewhere}
@@ -12,9 +14,11 @@ use Rattle.cell_object.specs.Sound.{IsSoundObject, is_known_bind, is_sound_home,
 use Rattle.cell_world.specs.declared.state.NewCell.{NewCell}
 use Rattle.cell_world.specs.declared.state.SecPlace.{SecPlace}
 use Rattle.cell_world.specs.World.{World}
+use Rattle.cell_num.specs.Lists.{each_pair}
+use Rattle.cell_world.specs.Place.{Starts, place_in}
 use Rattle.cell_world.specs.Target.{start_of}
 use Rattle.cell_law.specs.Settled.{In, top_of}
-use Rattle.cell_law.specs.Loading.{HasRoom, IsNewCell}
+use Rattle.cell_law.specs.Loading.{HasRoom, IsNewCell, starts_from}
 use Rattle.cell_law.proofs.Bounds.{places_bounded}
 use Rattle.cell_law.proofs.Elements.{all-In, found-In}
 use Rattle.cell_system.proofs.Shapes.{in_get}
@@ -50,6 +54,22 @@ value_low o sound s i = go s.home refl
     go (Inside n) e h = inside n (section_of o n) refl (ap (is_sound_home o s) (sym e) ∙ sound_home)
     go Elsewhere e h = absurd (true≢false (sym h))
 
+all-places : (starts : Starts) (o : Object) (a : ObjectSection) (ss : List ObjectSection) → list_all (λ (b : ObjectSection). nat_lt a.number b.number) ss ≡ true
+    → list_all (λ (q : SecPlace). nat_lt a.number q.section) (map (place_in starts o) ss) ≡ true
+all-places starts o a [] all = refl
+all-places starts o a (b ∷ ss) all =
+    let parts = and_parts (nat_lt a.number b.number) (list_all (λ (b : ObjectSection). nat_lt a.number b.number) ss) all in
+    and_from (nat_lt a.number b.number) (list_all (λ (q : SecPlace). nat_lt a.number q.section) (map (place_in starts o) ss)) parts.0 (all-places starts o a ss parts.1)
+
+-- places are in the order of the sections
+places_ordered : (starts : Starts) (o : Object) (ss : List ObjectSection) → each_pair (λ (a b : ObjectSection). nat_lt a.number b.number) ss ≡ true
+    → each_pair (λ (a b : SecPlace). nat_lt a.section b.section) (map (place_in starts o) ss) ≡ true
+places_ordered starts o [] rise = refl
+places_ordered starts o (a ∷ ss) rise =
+    let parts = and_parts (list_all (λ (b : ObjectSection). nat_lt a.number b.number) ss) (each_pair (λ (a b : ObjectSection). nat_lt a.number b.number) ss) rise in
+    and_from (list_all (λ (q : SecPlace). nat_lt a.number q.section) (map (place_in starts o) ss)) (each_pair (λ (a b : SecPlace). nat_lt a.section b.section) (map (place_in starts o) ss))
+    (all-places starts o a ss parts.0) (places_ordered starts o ss parts.1)
+
 module _ (w : World) (new : NewCell) (isnew : IsNewCell w (attached new)) (room : HasRoom w new.object) (base : w.base ≤ 8796093018112) (pages : w.pages ≤ 4096) where
   abbrev p : NewCell
   p = placed_new (top_of w.base w.regions) new
@@ -68,4 +88,4 @@ module _ (w : World) (new : NewCell) (isnew : IsNewCell w (attached new)) (room 
       go (Some q) e = place_low q (found-In _ p.places q e).0
 
   pub new_low : IsLow p
-  new_low = record { starts = start_low; values = value_low new.object isnew.object }
+  new_low = record { ordered = places_ordered (starts_from (top_of w.base w.regions) new.object) new.object new.object.sections isnew.object.numbers; starts = start_low; values = value_low new.object isnew.object }

@@ -1,5 +1,6 @@
 -- What the entries of a cell name, where all cells are attached in one namespace.
-use Rattle.std.specs.Prelude.{◌≡◌, ◌<◌, ◌^◌, ◌==◌, true, ℕ, zero, suc, List, [], ◌∷◌, ◌++◌, Option, Some, None, find, map, option_and_then, slice_get, unwrap_or, if◌then◌else◌}
+use Rattle.std.specs.Prelude.{slice_index_or, length, false, ◌≤◌, IsTrue, nat_lt, ◌≡◌, ◌<◌, ◌^◌, ◌==◌, true, ℕ, zero, suc, List, [], ◌∷◌, ◌++◌, Option, Some, None, find, map, option_and_then, slice_get, unwrap_or, if◌then◌else◌}
+use Rattle.cell_num.specs.Lists.{each_pair}
 use Rattle.cell_object.specs.declared.object.Entry.{Entry}
 use Rattle.cell_object.specs.declared.object.Object.{Object}
 use Rattle.cell_object.specs.declared.object.Symbol.{Symbol}
@@ -7,6 +8,7 @@ use Rattle.cell_object.specs.declared.object.Home.{Home}
 use Rattle.cell_object.specs.declared.object.Home.TheVariants.{Undef}
 use Rattle.cell_object.specs.Parts.{is_global, is_defined, symbol_at}
 use Rattle.cell_world.specs.declared.state.NewCell.{NewCell}
+use Rattle.cell_world.specs.declared.state.SecPlace.{SecPlace}
 use Rattle.cell_world.specs.declared.state.Target.{Target}
 use Rattle.cell_world.specs.declared.state.Target.TheVariants.{Number}
 use Rattle.cell_world.specs.World.{Cell}
@@ -17,8 +19,15 @@ use Rattle.cell_system.specs.declared.loaded.Loaded.{Loaded}
 use Rattle.cell_system.specs.Providers.{provider_among}
 use Rattle.cell_system.specs.View.{attached, cells_of}
 
--- addresses of the cell's symbols are numbers of 64 bits
+-- so many places are of sections before number n, and the others are not
+abbrev pub AreBefore : ℕ → List SecPlace → ℕ → Type 0
+AreBefore n places count =
+    ((k : ℕ) (d : SecPlace) → 0 ≤ k → k < count → nat_lt (slice_index_or places k d).section n ≡ true)
+    × ((k : ℕ) (d : SecPlace) → count ≤ k → k < length places → nat_lt (slice_index_or places k d).section n ≡ false)
+
+-- the cell's places are in the order of its sections, and the addresses of its symbols are numbers of 64 bits
 pub record IsLow (c : NewCell) : Type 0 where
+  pub ordered : IsTrue (each_pair (λ a b. nat_lt a.section b.section) c.places)
   pub starts : (section : ℕ) → start_of c section < 2 ^ 63
   pub values : (s : Symbol) → In s c.object.symbols → is_defined s.home ≡ true → s.value < 2 ^ 63
 

@@ -4,7 +4,7 @@ ghost use Rattle.std.specs.Prelude.{◌≡◌, ◌==◌, true, IfOk, find, optio
 ghost use Rattle.cell_object.specs.Parts.{section_of as section_with};
 ghost use Rattle.cell_world.specs.Memory.{covers as region_covers};
 ghost use Rattle.cell_system.specs.Dumps.{Dumps, IsUnknown, part_of, read_from};
-ghost use Rattle.cell_system.specs.Machine.{world_of};
+ghost use Rattle.cell_system.specs.Machine.{IsSound, world_of};
 
 use crate::Fail;
 use crate::machine::Machine;
@@ -97,6 +97,7 @@ fn unknown(alloc: Global, number: u32) -> Fail
 
 /// Shows a section of a cell.
 pub fn dump(alloc: Global, machine: &Machine, cell: u32, section: u32) -> Result<Reply, Fail>
+    requires { IsSound machine.now }
     ensures { Dumps (world_of machine.now) cell section result }
 {
     let Some(loaded) = cell_numbered(&machine.cells, cell) else {

@@ -1,6 +1,7 @@
 //! What the entries of a new cell name.
 
-ghost use Rattle.std.specs.Prelude.{◌≡◌, ◌==◌, ◌<◌, ◌^◌, ◌+◌, ◌++◌, ◌∷◌, [], true, ℕ, List, IfOk, Some, find, map, length, option_map, option_and_then, unwrap_or};
+ghost use Rattle.std.specs.Prelude.{IsTrue, nat_lt, ◌≡◌, ◌==◌, ◌<◌, ◌^◌, ◌+◌, ◌++◌, ◌∷◌, [], true, ℕ, List, IfOk, Some, find, map, length, option_map, option_and_then, unwrap_or};
+ghost use Rattle.cell_num.specs.Lists.{each_pair};
 ghost use Rattle.cell_object.specs.Parts.{is_defined, symbol_at as symbol_with};
 ghost use Rattle.cell_world.specs.Target.{start_of as start_in, own_target as own, naming_entry as naming};
 ghost use Rattle.cell_world.specs.declared.state.Target.TheVariants.{Number as SomeNumber};
@@ -8,7 +9,7 @@ ghost use Rattle.cell_law.specs.Settled.{In};
 ghost use Rattle.cell_system.specs.Names.{symbol_in, object_symbol};
 ghost use Rattle.cell_system.specs.View.{attached, cells_of};
 ghost use Rattle.cell_system.specs.Providers.{provider_as, provider_among};
-ghost use Rattle.cell_system.specs.Targets.{IsLow, AreLow, all_cells, provided_among, symbol_target_among, symbol_targets, target_numbered, entry_target, entry_targets};
+ghost use Rattle.cell_system.specs.Targets.{AreBefore, IsLow, AreLow, all_cells, provided_among, symbol_target_among, symbol_targets, target_numbered, entry_target, entry_targets};
 
 use crate::highs::Highs;
 use crate::loaded::Loaded;
@@ -20,22 +21,39 @@ use cell_object::{Bind, Entry, Home, Object, Symbol};
 use cell_world::{NewCell, SecPlace, Target};
 use std::alloc::{AllocError, Global};
 
-fn is_place_of(place: &SecPlace, section: u16) -> bool
-    ensures { result ≡ (place.now.section == section) }
+/// How many of the places, which are in the order of their sections, are of an earlier section.
+fn places_before(places: &[SecPlace], section: u16) -> usize
+    requires { IsTrue (each_pair (λ a b. nat_lt a.section b.section) places.now) }
+    ensures { AreBefore section places.now result }
 {
-    place.section == section
+    places.partition_point(
+        |place: &SecPlace| -> bool
+            ensures { result ≡ nat_lt place.now.section section }
+        { place.section < section },
+    )
+}
+
+/// The place of a section, among places in the order of their sections.
+fn place_of(places: &[SecPlace], section: u16) -> Option<&SecPlace>
+    requires { IsTrue (each_pair (λ a b. nat_lt a.section b.section) places.now) }
+    ensures { option_map (λ place. place.now) result ≡ find (λ place. place.section == section) places.now }
+{
+    let place = places.get(places_before(places, section))?;
+    if place.section != section {
+        return None;
+    }
+    Some(place)
 }
 
 /// The start of a section of the cell; 0 where it has no such section.
 pub fn start_of(cell: &NewCell, section: u16) -> u64
+    requires { IsLow cell.now }
     ensures { result ≡ start_in cell.now section }
 {
-    for place in cell.places.as_slice() {
-        if is_place_of(place, section) {
-            return place.start;
-        }
+    match place_of(cell.places.as_slice(), section) {
+        Some(place) => place.start,
+        None => 0,
     }
-    0
 }
 
 /// The symbol with a number, from 1.

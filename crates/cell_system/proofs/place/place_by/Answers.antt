@@ -10,7 +10,7 @@ use Rattle.cell_link.specs.declared.value.FieldValue.{FieldValue}
 use Rattle.cell_system.specs.declared.loaded.Loaded.{Loaded}
 use Rattle.cell_system.specs.Memory.{AllEndIn, with_fields}
 use Rattle.cell_system.specs.Linking.{Links}
-use Rattle.cell_system.specs.Targets.{IsLow, all_cells}
+use Rattle.cell_system.specs.Targets.{AreLow, IsLow, all_cells}
 use Rattle.cell_system.proofs.Machines.{cell_is, low, all_places_low, link_refused, few_fields, fields_in, is_placed}
 use Rattle.cell_system.proofs.place.place_by.Goals as goal
 
@@ -58,3 +58,6 @@ returns c =
     let links = subst (λ (cells : List Loaded). Links (all_cells cells c.with_places-placed.result.cell) c.with_places-placed.result.cell (Ok c.in_ok-fields.fields)) c.as_slice.ensures.value c.in_ok-fields.ensures in
     let regions = c.in_ok-regions.ensures ∙ ap (λ fields. map (with_fields fields) (regions_from m.top c.with_places-placed.result.cell.object)) c.as_slice-2.ensures in
     is_placed m c.requires.sound c.args.loaded c.requires.new c.requires.room c.with_places-placed.result.cell cell c.in_ok-fields.fields links _ refl regions c.requires.plan.runs.top (ap length c.as_slice-3.ensures)
+
+pub link-requires-clause-all_low : goal.link-requires-clause-all_low
+link-requires-clause-all_low c = subst AreLow (sym c.as_slice.ensures.value) c.requires.sound.low
