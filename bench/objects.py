@@ -441,6 +441,12 @@ def sections_many(count):
     return image([Section("", WRITE, align=1) for _ in range(count)], [])
 
 
+def sections_defined(count):
+    """As many empty sections, and twice as many definitions in the last of them."""
+    parts = [Section("", WRITE, align=1) for _ in range(count)]
+    return image(parts, [Symbol(short_name(n), count) for n in shuffled(2 * count)])
+
+
 def sections_related(count):
     """As many sections of one byte, each with one entry."""
     rows = [(0, R_ADD8, 1, 0)]
@@ -492,6 +498,7 @@ def large(folder):
             ("symbols-short", symbols_short, 18000),
             ("symbols-long", symbols_long, 20500),
             ("sections-many", sections_many, 8000),
+            ("sections-defined", sections_defined, 3300),
             ("sections-related", sections_related, 3100),
             ("sections-shared", sections_shared, 200),
         ]:
