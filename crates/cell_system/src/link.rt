@@ -51,9 +51,7 @@ pub fn link(alloc: Global, cells: &[Loaded], new: &Loaded) -> Result<Listed<Fiel
         new: cell,
         names: &new.names,
     };
-    let Ok(targets) = scope.entry_targets(alloc) else {
-        return Err(Fail::OutOfMemory);
-    };
+    let targets = scope.entry_targets(alloc)?;
     match link_cell(alloc, cell, &targets) {
         Ok(fields) => Ok(fields),
         Err(fail) => Err(link_failed(cell, fail)),

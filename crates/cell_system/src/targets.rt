@@ -15,7 +15,6 @@ use crate::highs::Highs;
 use crate::loaded::Loaded;
 use crate::names::CellNames;
 use crate::providers::{Provider, cell_numbered, first_provider};
-use cell_link::LinkFail;
 use cell_num::{SecKey, is_pcrel_lo12};
 use cell_object::{Bind, Entry, Home, Object, Symbol};
 use cell_world::{NewCell, SecPlace, Target};
@@ -146,7 +145,7 @@ impl<'a> Scope<'a> {
     }
 
     /// The target of each symbol of the new cell.
-    fn symbol_targets(&self, alloc: Global) -> Result<Vec<Option<Target>>, LinkFail>
+    fn symbol_targets(&self, alloc: Global) -> Result<Vec<Option<Target>>, AllocError>
         ensures { IfOk result (λ targets. targets.items ≡ symbol_targets (all_cells self.now.cells.now self.now.new.now) self.now.new.now) }
     {
         let mut targets = Vec::new(alloc);
@@ -158,7 +157,7 @@ impl<'a> Scope<'a> {
     }
 
     /// The target of each entry of the new cell, in table order.
-    pub fn entry_targets(&self, alloc: Global) -> Result<Vec<Target>, LinkFail>
+    pub fn entry_targets(&self, alloc: Global) -> Result<Vec<Target>, AllocError>
         ensures { IfOk result (λ targets. targets.items ≡ entry_targets (symbol_targets (all_cells self.now.cells.now self.now.new.now) self.now.new.now) self.now.new.now.object) }
     {
         let symbols = self.symbol_targets(alloc)?;
@@ -215,7 +214,7 @@ fn targets_by(
     alloc: Global,
     symbols: &[Option<Target>],
     highs: &Highs,
-) -> Result<Vec<Target>, LinkFail>
+) -> Result<Vec<Target>, AllocError>
     ensures { IfOk result (λ targets. targets.items ≡ entry_targets symbols.now highs.now.object.now) }
 {
     let mut targets = Vec::new(alloc);
