@@ -1,12 +1,14 @@
 //! Instructions and their words: RV64I with M.
 #![tactic(auto)]
 
+mod agreement;
 mod decoding;
 mod format;
 mod insn;
 mod operations;
 mod row;
 
+pub use agreement::decode_and_encode_agree;
 pub use decoding::decode;
 pub use insn::{Insn, Op};
 
