@@ -7,7 +7,8 @@ use Rattle.cell_num.specs.Bits.{bits_at, modulo_2}
 use Rattle.cell_isa.specs.declared.insn.Insn.{Insn}
 use Rattle.cell_isa.specs.declared.format.Format.{Format}
 use Rattle.cell_isa.specs.declared.format.Format.TheVariants.{Upper, Jump, Immediate, Branch, Store, Register, Shift, ShiftWord}
-use Rattle.cell_isa.specs.Instruction.{fields_at, have_room, is_register, has_rd, has_rs1, has_rs2, has_functions, word_with, does_fit, immediate, signed_bits}
+use Rattle.cell_isa.specs.Table.{has_functions}
+use Rattle.cell_isa.specs.Instruction.{fields_at, have_room, is_register, has_rd, has_rs1, has_rs2, word_with, does_fit, immediate, signed_bits}
 use Rattle.cell_isa.proofs.Signs.{range_12, range_13, range_21, even_low, natural, eq_true, both}
 
 pub record Room (insn : Insn) (format : Format) : Type 0 where

@@ -8,13 +8,14 @@ use Rattle.cell_isa.specs.declared.insn.Insn.{Insn}
 use Rattle.cell_isa.specs.declared.insn.Op.{Op}
 use Rattle.cell_isa.specs.declared.format.Format.{Format}
 use Rattle.cell_isa.specs.declared.format.Format.TheVariants.{Upper, Jump, Immediate, Branch, Store, Register, Shift, ShiftWord}
-use Rattle.cell_isa.specs.declared.row.Row.{Row}
-use Rattle.cell_isa.specs.declared.row.Row.TheVariants.{Word, Fields}
-use Rattle.cell_isa.specs.Instruction.{row_of, ops, is_of_row, instruction, fields_at, decode, are_unused, is_within, have_room, word_with, word_by_row, encode}
+use Rattle.cell_isa.specs.declared.table.Row.{Row}
+use Rattle.cell_isa.specs.declared.table.Row.TheVariants.{Word, Fields}
+use Rattle.cell_isa.specs.Table.{row_of, ops, is_of_row, operation_of}
+use Rattle.cell_isa.specs.Instruction.{instruction, fields_at, decode, are_unused, is_within, have_room, word_with, word_by_row, encode}
 use Rattle.cell_isa.proofs.Signs.{eq_true, both, natural, lt_of}
 use Rattle.cell_isa.proofs.Formats.{again_Upper, again_Jump, again_Immediate, again_Branch, again_Store, again_Register, again_Shift, again_ShiftWord, has_room}
 use Rattle.cell_isa.proofs.Fields.{Gives, gives_Upper, gives_Jump, gives_Immediate, gives_Branch, gives_Store, gives_Register, gives_Shift, gives_ShiftWord, made}
-use Rattle.cell_isa.proofs.Table.{is_clean, is_sound, sound, first}
+use Rattle.cell_isa.proofs.Rows.{is_clean, is_sound, sound, first}
 
 -- what a sound row says of its numbers
 record Numbers (format : Format) (o n3 n7 : ℕ) : Type 0 where
@@ -135,7 +136,7 @@ mapped f (Some op) i h = (op, refl, (cond_some true (f op) i h).1)
 
 pub encode_decoded : (w : ℕ) (insn : Insn) → w < 2 ^ 32 → decode w ≡ Some insn → encode insn ≡ Some w
 encode_decoded w insn h e =
-    let m = mapped (λ op. instruction w op (row_of op)) (find (λ op. is_of_row w (row_of op)) ops) insn e in
+    let m = mapped (λ op. instruction w op (row_of op)) (operation_of w) insn e in
     let t = find_passes (λ op. is_of_row w (row_of op)) ops m.0 m.1 in
     subst (λ i. encode i ≡ Some w) m.2 (there_again w m.0 h t)
 

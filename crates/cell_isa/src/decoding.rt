@@ -1,32 +1,19 @@
 //! Words as instructions.
 
 ghost use Rattle.std.specs.Prelude.{◌≡◌, ◌<◌, ◌≤◌, ◌*◌, ◌-ℤ◌, pos, nat_lt, if◌then◌else◌};
-ghost use Rattle.cell_isa.specs.Instruction.{decode as decoded, instruction as instruction_of, fields_at, immediate as immediate_of, alone as alone_of, row_of};
+ghost use Rattle.cell_isa.specs.Instruction.{decode as decoded, instruction as instruction_of, fields_at, immediate as immediate_of, alone as alone_of};
+ghost use Rattle.cell_isa.specs.Table.{row_of};
 
 use crate::format::Format;
 use crate::insn::{Insn, Op};
-use crate::operations::operation;
-use crate::row::{Row, row_of_op};
+use crate::table::{Row, operation, row_of_op};
 use cell_num::Field;
 
-const ECALL: u32 = 0x0000_0073;
-
-const EBREAK: u32 = 0x0010_0073;
-
-/// The instruction that a word is.
+/// The instruction that a word is: `None` where the table has no row for it.
 pub fn decode(word: u32) -> Option<Insn>
     ensures { result ≡ decoded word }
 {
-    let op = match word {
-        ECALL => Op::Ecall,
-        EBREAK => Op::Ebreak,
-        _ => {
-            let opcode = Field::<6, 0>::get(word);
-            let funct3 = Field::<14, 12>::get(word);
-            let funct7 = Field::<31, 25>::get(word);
-            operation(opcode, funct3, funct7)?
-        }
-    };
+    let op = operation(word)?;
     Some(instruction(word, op))
 }
 

@@ -5,8 +5,7 @@ mod agreement;
 mod decoding;
 mod format;
 mod insn;
-mod operations;
-mod row;
+mod table;
 
 pub use agreement::decode_and_encode_agree;
 pub use decoding::decode;
