@@ -15,7 +15,8 @@ use Rattle.cell_isa.specs.Instruction.{instruction, fields_at, decode, are_unuse
 use Rattle.cell_isa.proofs.Signs.{eq_true, both, natural, lt_of}
 use Rattle.cell_isa.proofs.Formats.{again_Upper, again_Jump, again_Immediate, again_Branch, again_Store, again_Register, again_Shift, again_ShiftWord, has_room}
 use Rattle.cell_isa.proofs.Fields.{Gives, gives_Upper, gives_Jump, gives_Immediate, gives_Branch, gives_Store, gives_Register, gives_Shift, gives_ShiftWord, made}
-use Rattle.cell_isa.proofs.Rows.{is_clean, is_sound, sound, first}
+use Rattle.cell_isa.specs.Sound.{is_clean, is_sound}
+use Rattle.cell_isa.proofs.Rows.{sound, first}
 
 -- what a sound row says of its numbers
 record Numbers (format : Format) (o n3 n7 : ℕ) : Type 0 where

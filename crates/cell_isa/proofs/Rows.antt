@@ -9,23 +9,8 @@ use Rattle.cell_isa.specs.declared.format.Format.{Format}
 use Rattle.cell_isa.specs.declared.format.Format.TheVariants.{Upper, Jump, Immediate, Branch, Store, Register, Shift, ShiftWord}
 use Rattle.cell_isa.specs.declared.table.Row.{Row}
 use Rattle.cell_isa.specs.declared.table.Row.TheVariants.{Word, Fields}
+use Rattle.cell_isa.specs.Sound.{is_sound}
 use Rattle.cell_isa.specs.Table.{row_of, ops, is_of_row, operation_of}
-
--- a number without a place in the words is 0
-abbrev pub is_clean : Format → ℕ → ℕ → Bool
-is_clean Upper n3 n7 = n3 == 0 && n7 == 0
-is_clean Jump n3 n7 = n3 == 0 && n7 == 0
-is_clean Immediate n3 n7 = n7 == 0
-is_clean Branch n3 n7 = n7 == 0
-is_clean Store n3 n7 = n7 == 0
-is_clean Register n3 n7 = true
-is_clean Shift n3 n7 = n7 % 2 == 0
-is_clean ShiftWord n3 n7 = true
-
--- the numbers of a row are in range
-abbrev pub is_sound : Row → Bool
-is_sound (Word own) = true
-is_sound (Fields format o n3 n7) = nat_lt o 128 && nat_lt n3 8 && nat_lt n7 128 && is_clean format n3 n7
 
 pub sound : (op : Op) → is_sound (row_of op) ≡ true
 sound Lui = refl

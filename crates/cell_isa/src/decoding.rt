@@ -4,7 +4,7 @@ ghost use Rattle.std.specs.Prelude.{◌≡◌, ◌<◌, ◌≤◌, ◌*◌, ◌-
 ghost use Rattle.cell_isa.specs.Instruction.{decode as decoded, instruction as instruction_of, fields_at, immediate as immediate_of, alone as alone_of};
 ghost use Rattle.cell_isa.specs.Table.{row_of};
 
-use crate::format::Format;
+use crate::format::{Format, has_rd, has_rs1, has_rs2};
 use crate::insn::{Insn, Op};
 use crate::table::{Row, operation, row_of_op};
 use cell_num::Field;
@@ -44,40 +44,21 @@ fn instruction(word: u32, op: Op) -> Insn
 fn fields(word: u32, op: Op, format: Format) -> Insn
     ensures { result ≡ fields_at op format word }
 {
-    let rd = Field::<11, 7>::get(word) as u8;
-    let rs1 = Field::<19, 15>::get(word) as u8;
-    let rs2 = Field::<24, 20>::get(word) as u8;
-    let imm = immediate(word, format);
-    match format {
-        Format::Upper | Format::Jump => Insn {
-            op,
-            rd,
-            rs1: 0,
-            rs2: 0,
-            imm,
-        },
-        Format::Immediate | Format::Shift | Format::ShiftWord => Insn {
-            op,
-            rd,
-            rs1,
-            rs2: 0,
-            imm,
-        },
-        Format::Branch | Format::Store => Insn {
-            op,
-            rd: 0,
-            rs1,
-            rs2,
-            imm,
-        },
-        Format::Register => Insn {
-            op,
-            rd,
-            rs1,
-            rs2,
-            imm,
-        },
+    Insn {
+        op,
+        rd: register(has_rd(format), Field::<11, 7>::get(word)),
+        rs1: register(has_rs1(format), Field::<19, 15>::get(word)),
+        rs2: register(has_rs2(format), Field::<24, 20>::get(word)),
+        imm: immediate(word, format),
     }
+}
+
+/// A register where it is used, and else 0.
+fn register(used: bool, number: u32) -> u8
+    requires { number < 32 }
+    ensures { result ≡ (if used then number else 0) }
+{
+    if used { number as u8 } else { 0 }
 }
 
 /// A number below twice `limit` as a signed one, whose highest bit is the sign.

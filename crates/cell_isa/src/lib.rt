@@ -3,12 +3,14 @@
 
 mod agreement;
 mod decoding;
+mod encoding;
 mod format;
 mod insn;
 mod table;
 
 pub use agreement::decode_and_encode_agree;
 pub use decoding::decode;
+pub use encoding::encode;
 pub use insn::{Insn, Op};
 
 #[cfg(test)]
