@@ -1,5 +1,5 @@
 -- Worked rows, through both definitions.
-use Rattle.std.specs.Prelude.{◌≡◌, ℕ, ℤ, pos, negsuc, Option, Some, None, refl}
+use Rattle.std.specs.Prelude.{◌≡◌, ℕ, ℤ, pos, negsuc, Some, None, refl}
 use Rattle.cell_isa.specs.declared.insn.Insn.{Insn}
 use Rattle.cell_isa.specs.declared.insn.Op.{Op}
 use Rattle.cell_isa.specs.declared.insn.Op.TheVariants.{Lui, Addi, Slli, Srai, Mul, Jal, Beq, Sd, Fence, Ecall, Ebreak}

@@ -1,7 +1,7 @@
 -- Each format: the word of an instruction has its row's numbers, and gives the instruction again.
-use Rattle.std.proofs.Common.{◌≡◌, ℕ, ◌+◌, ◌-◌, ◌*◌, ◌/◌, ◌%◌, ◌^◌, ◌<◌, ◌≤◌, Bool, true, false, ap, sym, ◌∙◌, refl, subst, arith}
-use Rattle.std.specs.Prelude.{nat_lt, ◌==◌, ℤ, pos, negsuc, ◌&&◌, Option, Some, None}
-use Rattle.std.proofs.lemmas.Bool.{and_parts, and_from, eqb-true}
+use Rattle.std.proofs.Common.{◌≡◌, ℕ, ◌+◌, ◌*◌, ◌/◌, ◌%◌, ◌^◌, ◌<◌, ◌≤◌, true, false, ap, sym, ◌∙◌, refl, arith}
+use Rattle.std.specs.Prelude.{ℤ, pos}
+use Rattle.std.proofs.lemmas.Bool.{and_parts, eqb-true}
 use Rattle.std.proofs.lemmas.Bool.Decides.{nat_tests}
 use Rattle.cell_num.specs.Bits.{bits_at, modulo_2}
 use Rattle.cell_isa.specs.declared.insn.Insn.{Insn}
@@ -69,7 +69,7 @@ gives_Jump insn w o n3 n7 ho h3 h7 h e =
     let k : bits_at 20 20 w ≡ bits_at 11 11 m = omega arith in
     let l : bits_at 30 21 w ≡ bits_at 10 1 m = omega arith in
     let n : bits_at 31 31 w * 2 ^ 20 + bits_at 19 12 w * 2 ^ 12 + bits_at 20 20 w * 2 ^ 11 + bits_at 30 21 w * 2 ≡ m % 2097152 =
-        rw (i, j, k, l) (omega arith) in
+    rw (i, j, k, l) (omega arith) in
     record { opcode = omega arith; functions = refl; fields = made insn (bits_at 11 7 w) 0 0 (immediate Jump w) rd (sym b) (sym c) (ap (signed_bits 21) n ∙ range_21 insn.imm z.1) }
 
 pub gives_Immediate : (insn : Insn) (w o n3 n7 : ℕ) → o < 128 → n3 < 8 → n7 ≡ 0 → have_room insn Immediate ≡ true
@@ -104,7 +104,7 @@ gives_Branch insn w o n3 n7 ho h3 h7 h e =
     let k : bits_at 30 25 w ≡ bits_at 10 5 m = omega arith in
     let l : bits_at 11 8 w ≡ bits_at 4 1 m = omega arith in
     let n : bits_at 31 31 w * 2 ^ 12 + bits_at 7 7 w * 2 ^ 11 + bits_at 30 25 w * 2 ^ 5 + bits_at 11 8 w * 2 ≡ m % 8192 =
-        rw (i, j, k, l) (omega arith) in
+    rw (i, j, k, l) (omega arith) in
     record { opcode = omega arith; functions = eq_true _ _ f; fields = rw (rs1, rs2, n, sym a, range_13 insn.imm z.1) refl }
 
 pub gives_Store : (insn : Insn) (w o n3 n7 : ℕ) → o < 128 → n3 < 8 → n7 ≡ 0 → have_room insn Store ≡ true

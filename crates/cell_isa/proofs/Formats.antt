@@ -1,10 +1,8 @@
 -- Each format: what stands in a word has room, and gives the word again.
-use Rattle.std.proofs.Common.{◌≡◌, ℕ, ◌+◌, ◌-◌, ◌*◌, ◌/◌, ◌%◌, ◌^◌, ◌<◌, ◌≤◌, Bool, true, false, ap, sym, ◌∙◌, refl, subst, arith}
-use Rattle.std.specs.Prelude.{nat_lt, if◌then◌else◌, ◌==◌, ℤ, pos, negsuc, ◌&&◌, Option, Some, None}
-use Rattle.std.proofs.lemmas.Bool.{and_parts, and_from, eqb-true}
+use Rattle.std.proofs.Common.{◌≡◌, ℕ, ◌+◌, ◌*◌, ◌/◌, ◌%◌, ◌^◌, ◌<◌, ◌≤◌, Bool, true, false, refl, arith}
+use Rattle.std.specs.Prelude.{if◌then◌else◌, pos}
 use Rattle.std.proofs.lemmas.Bool.Decides.{nat_tests}
 use Rattle.cell_num.specs.Bits.{bits_at, modulo_2}
-use Rattle.cell_isa.specs.declared.insn.Insn.{Insn}
 use Rattle.cell_isa.specs.declared.insn.Op.{Op}
 use Rattle.cell_isa.specs.declared.format.Format.{Format}
 use Rattle.cell_isa.specs.declared.format.Format.TheVariants.{Upper, Jump, Immediate, Branch, Store, Register, Shift, ShiftWord}
@@ -47,7 +45,7 @@ again_Jump w o n3 n7 op h h0 h1 h2 =
     let n : ℕ = bits_at 31 31 w * 2 ^ 20 + bits_at 19 12 w * 2 ^ 12 + bits_at 20 20 w * 2 ^ 11 + bits_at 30 21 w * 2 in
     let e : modulo_2 32 (signed_bits 21 n) % 2097152 ≡ n = low_21 n (omega arith) in
     rw (jump_bits (modulo_2 32 (signed_bits 21 n)) (bits_at 31 31 w) (bits_at 19 12 w) (bits_at 20 20 w) (bits_at 30 21 w)
-        (omega arith) (omega arith) (omega arith) (omega arith) e) (omega arith)
+    (omega arith) (omega arith) (omega arith) (omega arith) e) (omega arith)
 
 pub again_Immediate : (w o n3 n7 : ℕ) (op : Op) → w < 2 ^ 32 → bits_at 6 0 w ≡ o → bits_at 14 12 w ≡ n3 → n7 ≡ 0
     → word_with (fields_at op Immediate w) Immediate o n3 n7 ≡ w
@@ -63,7 +61,7 @@ again_Branch w o n3 n7 op h h0 h1 h2 =
     let n : ℕ = bits_at 31 31 w * 2 ^ 12 + bits_at 7 7 w * 2 ^ 11 + bits_at 30 25 w * 2 ^ 5 + bits_at 11 8 w * 2 in
     let e : modulo_2 32 (signed_bits 13 n) % 8192 ≡ n = low_13 n (omega arith) in
     rw (branch_bits (modulo_2 32 (signed_bits 13 n)) (bits_at 31 31 w) (bits_at 7 7 w) (bits_at 30 25 w) (bits_at 11 8 w)
-        (omega arith) (omega arith) (omega arith) (omega arith) e) (omega arith)
+    (omega arith) (omega arith) (omega arith) (omega arith) e) (omega arith)
 
 pub again_Store : (w o n3 n7 : ℕ) (op : Op) → w < 2 ^ 32 → bits_at 6 0 w ≡ o → bits_at 14 12 w ≡ n3 → n7 ≡ 0
     → word_with (fields_at op Store w) Store o n3 n7 ≡ w
@@ -105,7 +103,7 @@ fits ShiftWord w = within (bits_at 24 20 w) 31 (omega arith)
 pub has_room : (op : Op) (format : Format) (w : ℕ) → have_room (fields_at op format w) format ≡ true
 has_room op format w =
     both _ _
-      (both _ _
-        (both _ _ (register (has_rd format) (bits_at 11 7 w) (omega arith)) (register (has_rs1 format) (bits_at 19 15 w) (omega arith)))
-        (register (has_rs2 format) (bits_at 24 20 w) (omega arith)))
-      (fits format w)
+    (both _ _
+    (both _ _ (register (has_rd format) (bits_at 11 7 w) (omega arith)) (register (has_rs1 format) (bits_at 19 15 w) (omega arith)))
+    (register (has_rs2 format) (bits_at 24 20 w) (omega arith)))
+    (fits format w)

@@ -1,9 +1,9 @@
 -- `decode` and `encode` turn each other round.
-use Rattle.std.proofs.Common.{◌≡◌, ℕ, ◌%◌, ◌^◌, ◌<◌, Bool, true, false, ap, sym, ◌∙◌, refl, subst, arith}
-use Rattle.std.specs.Prelude.{nat_lt, ◌==◌, ◌&&◌, ℤ, pos, Option, Some, None, find, option_map, List, [], ◌∷◌, cond}
+use Rattle.std.proofs.Common.{◌≡◌, ℕ, ◌^◌, ◌<◌, Bool, true, false, ap, sym, ◌∙◌, refl, subst, arith}
+use Rattle.std.specs.Prelude.{ℤ, pos, Option, Some, None, find, option_map, List, [], ◌∷◌, cond}
 use Rattle.std.proofs.lemmas.Bool.{and_parts, eqb-true}
 use Rattle.std.proofs.lemmas.Option.{cond_some, none-some}
-use Rattle.cell_num.specs.Bits.{bits_at, modulo_2}
+use Rattle.cell_num.specs.Bits.{modulo_2}
 use Rattle.cell_isa.specs.declared.insn.Insn.{Insn}
 use Rattle.cell_isa.specs.declared.insn.Op.{Op}
 use Rattle.cell_isa.specs.declared.format.Format.{Format}
@@ -72,7 +72,7 @@ there : (w : ℕ) (op : Op) (r : Row) → w < 2 ^ 32 → is_sound r ≡ true →
 there w op (Word own) h s t = ap Some (sym (eqb-true w own t))
 there w op (Fields format o n3 n7) h s t =
     some_if (have_room (fields_at op format w) format) (word_with (fields_at op format w) format o n3 n7) w
-      (has_room op format w) (again w op format o n3 n7 h (numbers format o n3 n7 s) t)
+    (has_room op format w) (again w op format o n3 n7 h (numbers format o n3 n7 s) t)
 
 op_of : (w : ℕ) (op : Op) (r : Row) → (instruction w op r).op ≡ op
 op_of w op (Word own) = refl
@@ -81,7 +81,7 @@ op_of w op (Fields format o n3 n7) = refl
 there_again : (w : ℕ) (op : Op) → w < 2 ^ 32 → is_of_row w (row_of op) ≡ true → encode (instruction w op (row_of op)) ≡ Some w
 there_again w op h t =
     subst (λ o. word_by_row (instruction w op (row_of op)) (row_of o) ≡ Some w) (sym (op_of w op (row_of op)))
-      (there w op (row_of op) h (sound op) t)
+    (there w op (row_of op) h (sound op) t)
 
 -- the word of an instruction gives the instruction
 gives : (insn : Insn) (w : ℕ) (format : Format) (o n3 n7 : ℕ) → Numbers format o n3 n7 → have_room insn format ≡ true

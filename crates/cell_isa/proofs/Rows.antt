@@ -1,6 +1,6 @@
 -- The rows: their numbers are in range, and each is the first of its words.
-use Rattle.std.proofs.Common.{◌≡◌, ℕ, ◌-◌, ◌*◌, ◌/◌, ◌%◌, ◌^◌, Bool, true, false, sym, refl, subst}
-use Rattle.std.specs.Prelude.{nat_lt, ◌==◌, ◌&&◌, Option, Some, find}
+use Rattle.std.proofs.Common.{◌≡◌, ℕ, ◌/◌, Bool, true, sym, refl, subst}
+use Rattle.std.specs.Prelude.{◌==◌, ◌&&◌, Option, Some, find}
 use Rattle.std.proofs.lemmas.Bool.{and_parts, eqb-true}
 use Rattle.cell_num.specs.Bits.{bits_at}
 use Rattle.cell_isa.specs.declared.insn.Op.{Op}
@@ -50,7 +50,7 @@ by_funct3 op w o n3 h f =
     let a = eqb-true (bits_at 6 0 w) o p.0 in
     let b = eqb-true (bits_at 14 12 w) n3 p.1 in
     subst (λ x. first_at w x (bits_at 14 12 w) (bits_at 31 25 w) (bits_at 31 25 w / 2) ≡ Some op) (sym a)
-      (subst (λ x. first_at w o x (bits_at 31 25 w) (bits_at 31 25 w / 2) ≡ Some op) (sym b) f)
+    (subst (λ x. first_at w o x (bits_at 31 25 w) (bits_at 31 25 w / 2) ≡ Some op) (sym b) f)
 
 by_funct7 : (op : Op) (w o n3 n7 : ℕ) → (bits_at 6 0 w == o && (bits_at 14 12 w == n3 && bits_at 31 25 w == n7)) ≡ true
     → first_at w o n3 n7 (bits_at 31 25 w / 2) ≡ Some op → first_of w ≡ Some op
@@ -61,8 +61,8 @@ by_funct7 op w o n3 n7 h f =
     let b = eqb-true (bits_at 14 12 w) n3 q.0 in
     let c = eqb-true (bits_at 31 25 w) n7 q.1 in
     subst (λ x. first_at w x (bits_at 14 12 w) (bits_at 31 25 w) (bits_at 31 25 w / 2) ≡ Some op) (sym a)
-      (subst (λ x. first_at w o x (bits_at 31 25 w) (bits_at 31 25 w / 2) ≡ Some op) (sym b)
-        (subst (λ x. first_at w o n3 x (bits_at 31 25 w / 2) ≡ Some op) (sym c) f))
+    (subst (λ x. first_at w o x (bits_at 31 25 w) (bits_at 31 25 w / 2) ≡ Some op) (sym b)
+    (subst (λ x. first_at w o n3 x (bits_at 31 25 w / 2) ≡ Some op) (sym c) f))
 
 by_half : (op : Op) (w o n3 half : ℕ) → (bits_at 6 0 w == o && (bits_at 14 12 w == n3 && bits_at 31 25 w / 2 == half)) ≡ true
     → first_at w o n3 (bits_at 31 25 w) half ≡ Some op → first_of w ≡ Some op
@@ -73,8 +73,8 @@ by_half op w o n3 half h f =
     let b = eqb-true (bits_at 14 12 w) n3 q.0 in
     let c = eqb-true (bits_at 31 25 w / 2) half q.1 in
     subst (λ x. first_at w x (bits_at 14 12 w) (bits_at 31 25 w) (bits_at 31 25 w / 2) ≡ Some op) (sym a)
-      (subst (λ x. first_at w o x (bits_at 31 25 w) (bits_at 31 25 w / 2) ≡ Some op) (sym b)
-        (subst (λ x. first_at w o n3 (bits_at 31 25 w) x ≡ Some op) (sym c) f))
+    (subst (λ x. first_at w o x (bits_at 31 25 w) (bits_at 31 25 w / 2) ≡ Some op) (sym b)
+    (subst (λ x. first_at w o n3 (bits_at 31 25 w) x ≡ Some op) (sym c) f))
 
 by_word : (op : Op) (w own : ℕ) → (w == own) ≡ true → first_of own ≡ Some op → first_of w ≡ Some op
 by_word op w own h f = subst (λ x. first_of x ≡ Some op) (sym (eqb-true w own h)) f

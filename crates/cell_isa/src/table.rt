@@ -144,7 +144,7 @@ pub fn operation(word: u32) -> Option<Op>
             }
         };
     }
-    instructions!(by_words (word, opcode, funct3, funct7))
+    instructions!(by_words(word, opcode, funct3, funct7))
 }
 
 /// The row of an operation.
@@ -158,5 +158,5 @@ pub fn row_of_op(op: Op) -> Row
             }
         };
     }
-    instructions!(by_operation (op))
+    instructions!(by_operation(op))
 }
