@@ -10,26 +10,32 @@ insn op rd rs1 rs2 imm = record { op = op; rd = rd; rs1 = rs1; rs2 = rs2; imm = 
 
 -- mul a0, a1, a2
 mul : (decode 0x02c58533 ≡ Some (insn Mul 10 11 12 (pos 0))) × (encode (insn Mul 10 11 12 (pos 0)) ≡ Some 0x02c58533)
+unfolding decode
 mul = (refl, refl)
 
 -- slli zero, zero, 32
 slli : (decode 0x02001013 ≡ Some (insn Slli 0 0 0 (pos 32))) × (encode (insn Slli 0 0 0 (pos 32)) ≡ Some 0x02001013)
+unfolding decode
 slli = (refl, refl)
 
 -- lui a0, 0x10001
 lui : (decode 0x10001537 ≡ Some (insn Lui 10 0 0 (pos 0x10001))) × (encode (insn Lui 10 0 0 (pos 0x10001)) ≡ Some 0x10001537)
+unfolding decode
 lui = (refl, refl)
 
 -- addi a0, a0, -2048
 addi : (decode 0x80050513 ≡ Some (insn Addi 10 10 0 (negsuc 2047))) × (encode (insn Addi 10 10 0 (negsuc 2047)) ≡ Some 0x80050513)
+unfolding decode
 addi = (refl, refl)
 
 -- fence
 fence : (decode 0x0ff0000f ≡ Some (insn Fence 0 0 0 (pos 255))) × (encode (insn Fence 0 0 0 (pos 255)) ≡ Some 0x0ff0000f)
+unfolding decode
 fence = (refl, refl)
 
 -- ecall and ebreak
 calls : (decode 0x73 ≡ Some (insn Ecall 0 0 0 (pos 0))) × (encode (insn Ebreak 0 0 0 (pos 0)) ≡ Some 0x00100073)
+unfolding decode
 calls = (refl, refl)
 
 -- beq zero, zero and jal zero, both four bytes back
@@ -38,6 +44,7 @@ back = (refl, refl)
 
 -- words without a row: two shifts that are too far, no opcode, an ecall with a register
 no_row : (decode 0x04001013 ≡ None) × (decode 0x0200101b ≡ None) × (decode 0 ≡ None) × (decode 0x000000f3 ≡ None)
+unfolding decode
 no_row = (refl, refl, refl, refl)
 
 -- instructions without a word: register 32, immediates too large or odd, an unused register that isn't 0

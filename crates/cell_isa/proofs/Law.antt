@@ -136,12 +136,14 @@ mapped f None i h = absurd (none-some i h)
 mapped f (Some op) i h = (op, refl, (cond_some true (f op) i h).1)
 
 pub encode_decoded : (w : ℕ) (insn : Insn) → w < 2 ^ 32 → decode w ≡ Some insn → encode insn ≡ Some w
+unfolding decode
 encode_decoded w insn h e =
     let m = mapped (λ op. instruction w op (row_of op)) (operation_of w) insn e in
     let t = find_passes (λ op. is_of_row w (row_of op)) ops m.0 m.1 in
     subst (λ i. encode i ≡ Some w) m.2 (there_again w m.0 h t)
 
 pub decode_encoded : (w : ℕ) (insn : Insn) → encode insn ≡ Some w → decode w ≡ Some insn
+unfolding decode
 decode_encoded w insn e =
     let b = back insn w (row_of insn.op) (sound insn.op) e in
     let f = first insn.op w b.0 in

@@ -46,10 +46,11 @@ has_rs2 Store = true
 has_rs2 Register = true
 has_rs2 _ = false
 
--- an unused field is 0
+-- an instruction that uses no field: each is 0
 abbrev pub alone : Op → Insn
 alone op = record { op = op; rd = 0; rs1 = 0; rs2 = 0; imm = pos 0 }
 
+-- the fields of a format that stand in a word; one without a place is 0
 abbrev pub fields_at : Op → Format → ℕ → Insn
 fields_at op format word =
     record {
@@ -66,7 +67,7 @@ instruction word op (Word own) = alone op
 instruction word op (Fields format own own3 own7) = fields_at op format word
 
 -- the instruction that a word is
-abbrev pub decode : ℕ → Option Insn
+unfoldable pub decode : ℕ → Option Insn
 decode word = option_map (λ op. instruction word op (row_of op)) (operation_of word)
 
 -- a register where the format has a place, and else 0
@@ -93,10 +94,12 @@ does_fit Register z = is_within (pos 0) (pos 0) z
 does_fit Shift z = is_within (pos 0) (pos 63) z
 does_fit ShiftWord z = is_within (pos 0) (pos 31) z
 
+-- the format has room for each field
 abbrev pub have_room : Insn → Format → Bool
 have_room insn format =
     is_register (has_rd format) insn.rd && is_register (has_rs1 format) insn.rs1 && is_register (has_rs2 format) insn.rs2 && does_fit format insn.imm
 
+-- each field is 0
 abbrev pub are_unused : Insn → Bool
 are_unused insn = insn.rd == 0 && insn.rs1 == 0 && insn.rs2 == 0 && is_within (pos 0) (pos 0) insn.imm
 
@@ -116,6 +119,7 @@ abbrev pub word_with : Insn → Format → ℕ → ℕ → ℕ → ℕ
 word_with insn format opcode funct3 funct7 =
     opcode + funct3 * 2 ^ 12 + funct7 * 2 ^ 25 + insn.rd * 2 ^ 7 + insn.rs1 * 2 ^ 15 + insn.rs2 * 2 ^ 20 + immediate_bits format (modulo_2 32 insn.imm)
 
+-- the word of a row with these fields, where each has room
 abbrev pub word_by_row : Insn → Row → Option ℕ
 word_by_row insn (Word own) = if are_unused insn then Some own else None
 word_by_row insn (Fields format opcode funct3 funct7) =

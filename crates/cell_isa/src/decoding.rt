@@ -9,7 +9,8 @@ use crate::insn::{Insn, Op};
 use crate::table::{Row, operation, row_of_op};
 use cell_num::Field;
 
-/// The instruction that a word is: `None` where the table has no row for it.
+/// The instruction that a word is: `None` where no row of the table has it.
+#[tactic(auto, unfolding(crate::specs::Instruction::decode))]
 pub fn decode(word: u32) -> Option<Insn>
     ensures { result ≡ decoded word }
 {

@@ -1,4 +1,4 @@
-//! Instructions and their words: RV64I with M.
+//! Instructions and their words, both ways by one table: RV64I with M.
 #![tactic(auto)]
 
 mod agreement;
