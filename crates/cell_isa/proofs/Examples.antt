@@ -52,5 +52,6 @@ no_word : (encode (insn Addi 32 0 0 (pos 0)) ≡ None) × (encode (insn Addi 1 0
     × (encode (insn Lui 1 1 0 (pos 0)) ≡ None) × (encode (insn Srai 1 1 0 (pos 64)) ≡ None) × (encode (insn Ecall 1 0 0 (pos 0)) ≡ None)
 no_word = (refl, refl, refl, refl, refl, refl)
 
+-- sd t1, -1(t0)
 sd : encode (insn Sd 0 5 6 (negsuc 0)) ≡ Some 0xfe62bfa3
 sd = refl

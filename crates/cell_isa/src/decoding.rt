@@ -85,7 +85,7 @@ fn immediate_s(word: u32) -> i32
     ensures { result ≡ immediate_of Format.Store word }
 {
     signed(
-        Field::<31, 25>::get(word) * 32 + Field::<11, 7>::get(word),
+        (Field::<31, 25>::get(word) << 5) + Field::<11, 7>::get(word),
         0x800,
     )
 }
@@ -94,10 +94,10 @@ fn immediate_b(word: u32) -> i32
     ensures { result ≡ immediate_of Format.Branch word }
 {
     signed(
-        Field::<31, 31>::get(word) * 0x1000
-            + Field::<7, 7>::get(word) * 0x800
-            + Field::<30, 25>::get(word) * 32
-            + Field::<11, 8>::get(word) * 2,
+        (Field::<31, 31>::get(word) << 12)
+            + (Field::<7, 7>::get(word) << 11)
+            + (Field::<30, 25>::get(word) << 5)
+            + (Field::<11, 8>::get(word) << 1),
         0x1000,
     )
 }
@@ -106,10 +106,10 @@ fn immediate_j(word: u32) -> i32
     ensures { result ≡ immediate_of Format.Jump word }
 {
     signed(
-        Field::<31, 31>::get(word) * 0x10_0000
-            + Field::<19, 12>::get(word) * 0x1000
-            + Field::<20, 20>::get(word) * 0x800
-            + Field::<30, 21>::get(word) * 2,
+        (Field::<31, 31>::get(word) << 20)
+            + (Field::<19, 12>::get(word) << 12)
+            + (Field::<20, 20>::get(word) << 11)
+            + (Field::<30, 21>::get(word) << 1),
         0x10_0000,
     )
 }

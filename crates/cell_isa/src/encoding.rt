@@ -1,6 +1,6 @@
 //! Instructions as words.
 
-ghost use Rattle.std.specs.Prelude.{◌≡◌, ◌<◌, true};
+ghost use Rattle.std.specs.Prelude.{◌≡◌, ◌<◌, ◌+◌, ◌*◌, ◌^◌, true};
 ghost use Rattle.cell_isa.specs.declared.table.Row.TheVariants.{Fields as FieldsOf};
 ghost use Rattle.cell_isa.specs.Instruction.{encode as encoded, have_room as room_for, are_unused as unused, is_register as register_of, does_fit as fits_in, is_even as even, immediate_bits as bits_of, word_with as word_of};
 ghost use Rattle.cell_isa.specs.Sound.{is_sound};
@@ -55,7 +55,7 @@ fn does_fit(format: Format, number: i32) -> bool
         Format::Jump => is_even(number) && -0x10_0000 <= number && number <= 0xf_fffe,
         Format::Branch => is_even(number) && -0x1000 <= number && number <= 0xffe,
         Format::Immediate | Format::Store => -0x800 <= number && number <= 0x7ff,
-        Format::Register => 0 <= number && number <= 0,
+        Format::Register => number == 0,
         Format::Shift => 0 <= number && number <= 63,
         Format::ShiftWord => 0 <= number && number <= 31,
     }
@@ -76,35 +76,33 @@ fn immediate_bits(format: Format, number: u32) -> u32
     ensures { result ≡ bits_of format number }
 {
     match format {
-        Format::Upper => Field::<19, 0>::get(number) * 0x1000,
+        Format::Upper => Field::<19, 0>::get(number) << 12,
         Format::Jump => immediate_bits_j(number),
-        Format::Immediate => Field::<11, 0>::get(number) * 0x10_0000,
+        Format::Immediate => Field::<11, 0>::get(number) << 20,
         Format::Branch => immediate_bits_b(number),
-        Format::Store => {
-            Field::<11, 5>::get(number) * 0x200_0000 + Field::<4, 0>::get(number) * 0x80
-        }
+        Format::Store => { (Field::<11, 5>::get(number) << 25) + (Field::<4, 0>::get(number) << 7) }
         Format::Register => 0,
-        Format::Shift => Field::<5, 0>::get(number) * 0x10_0000,
-        Format::ShiftWord => Field::<4, 0>::get(number) * 0x10_0000,
+        Format::Shift => Field::<5, 0>::get(number) << 20,
+        Format::ShiftWord => Field::<4, 0>::get(number) << 20,
     }
 }
 
 fn immediate_bits_j(number: u32) -> u32
     ensures { result ≡ bits_of Format.Jump number }
 {
-    Field::<20, 20>::get(number) * 0x8000_0000
-        + Field::<10, 1>::get(number) * 0x20_0000
-        + Field::<11, 11>::get(number) * 0x10_0000
-        + Field::<19, 12>::get(number) * 0x1000
+    (Field::<20, 20>::get(number) << 31)
+        + (Field::<10, 1>::get(number) << 21)
+        + (Field::<11, 11>::get(number) << 20)
+        + (Field::<19, 12>::get(number) << 12)
 }
 
 fn immediate_bits_b(number: u32) -> u32
     ensures { result ≡ bits_of Format.Branch number }
 {
-    Field::<12, 12>::get(number) * 0x8000_0000
-        + Field::<10, 5>::get(number) * 0x200_0000
-        + Field::<4, 1>::get(number) * 0x100
-        + Field::<11, 11>::get(number) * 0x80
+    (Field::<12, 12>::get(number) << 31)
+        + (Field::<10, 5>::get(number) << 25)
+        + (Field::<4, 1>::get(number) << 8)
+        + (Field::<11, 11>::get(number) << 7)
 }
 
 /// A signed number modulo 2^32.
@@ -114,15 +112,30 @@ fn modulo(number: i32) -> u32
     i64::from(number).rem_euclid(1 << 32) as u32
 }
 
+/// The numbers of a row, each in its place.
+fn number_bits(opcode: u32, funct3: u32, funct7: u32) -> u32
+    requires opcode { opcode < 128 }
+    requires funct3 { funct3 < 8 }
+    requires funct7 { funct7 < 128 }
+    ensures { result ≡ opcode + funct3 * 2 ^ 12 + funct7 * 2 ^ 25 }
+{
+    opcode + (funct3 << 12) + (funct7 << 25)
+}
+
+/// Registers, each in its place.
+fn register_bits(rd: u8, rs1: u8, rs2: u8) -> u32
+    ensures { result ≡ rd * 2 ^ 7 + rs1 * 2 ^ 15 + rs2 * 2 ^ 20 }
+{
+    (u32::from(rd) << 7) + (u32::from(rs1) << 15) + (u32::from(rs2) << 20)
+}
+
 /// The numbers of the row, the registers and the immediate, each in its place.
 fn word_with(insn: &Insn, format: Format, opcode: u32, funct3: u32, funct7: u32) -> u32
     requires numbers { is_sound (FieldsOf format opcode funct3 funct7) ≡ true }
     requires room { room_for insn.now format ≡ true }
     ensures { result ≡ word_of insn.now format opcode funct3 funct7 }
 {
-    let numbers = opcode + funct3 * 0x1000 + funct7 * 0x200_0000;
-    let rd = u32::from(insn.rd) * 0x80;
-    let rs1 = u32::from(insn.rs1) * 0x8000;
-    let rs2 = u32::from(insn.rs2) * 0x10_0000;
-    numbers + rd + rs1 + rs2 + immediate_bits(format, modulo(insn.imm))
+    number_bits(opcode, funct3, funct7)
+        + register_bits(insn.rd, insn.rs1, insn.rs2)
+        + immediate_bits(format, modulo(insn.imm))
 }
