@@ -1,0 +1,5 @@
+pub mod NameParts
+pub mod NameChanges
+pub mod Located
+pub mod Depots
+pub mod MorePlaces

@@ -1,0 +1,14 @@
+//! The object files of a folder, found by namespace and stem and by name.
+#![tactic(auto)]
+
+mod depot;
+mod file_name;
+mod names;
+mod shelves;
+
+pub use cell_world::File;
+pub use depot::{Depot, DepotFault};
+pub use file_name::{namespace_of, stem_of};
+
+#[cfg(test)]
+mod tests;
