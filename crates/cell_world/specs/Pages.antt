@@ -5,7 +5,7 @@
 --     lowest_run table n           the least page from which n pages are free
 --     longest_run table            the length of the longest free run
 --     is_taken_run table page n    all n pages from that page on are in the table and taken
---     filled table page n value    the table with n pages from that page on set
+--     filled xs from n x           the list with n places from that one on set
 use Rattle.std.specs.Prelude.{◌≡◌, ◌≤◌, ℕ, ◌+◌, ◌%◌, Bool, false, true, not, List, [], ◌∷◌, ◌++◌, Option, length, take, drop, find, max, replicate, slice_index_or}
 use Rattle.std.specs.List.{list_all, prefix_len}
 use Rattle.cell_num.specs.Lists.{from_on, upto}
@@ -38,6 +38,6 @@ abbrev pub longest_run : List Bool → ℕ
 longest_run [] = 0
 longest_run (taken ∷ table) = max (prefix_len not (taken ∷ table)) (longest_run table)
 
--- the n pages are in the table
-abbrev pub filled : List Bool → ℕ → ℕ → Bool → List Bool
-filled table page n value = take page table ++ replicate n value ++ drop (page + n) table
+-- the n places are in the list
+abbrev pub filled : {X : Type 0} → List X → ℕ → ℕ → X → List X
+filled xs from n x = take from xs ++ replicate n x ++ drop (from + n) xs
