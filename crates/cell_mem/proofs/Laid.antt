@@ -1,8 +1,8 @@
 -- Regions of whole pages that stand apart, and which one covers an address.
 use Rattle.std.proofs.Common.{◌≡◌, ℕ, zero, suc, ◌+◌, ◌-◌, ◌*◌, ◌/◌, ◌%◌, ◌<◌, ◌≤◌, Bool, true, false, cond, ◌&&◌, List, [], ◌∷◌, ◌++◌, Option, Some, None, length, take, get_or, leb, ltb, refl, sym, ap, ◌∙◌, subst, ⊎_elim, arith}
-use Rattle.std.specs.List.{find, slice_get}
-use Rattle.std.specs.Prelude.{option_map, option_and_then, is_some}
-use Rattle.std.proofs.lemmas.Bool.{cases_lt, leb-true, ltb-true, le-leb, lt-leb, lt-ltb, le-ltb, and_parts, and_from, and_left, and_right, false≢true}
+use Rattle.std.specs.List.{find}
+use Rattle.std.specs.Prelude.{option_map}
+use Rattle.std.proofs.lemmas.Bool.{cases_lt, leb-true, ltb-true, le-leb, lt-leb, lt-ltb, le-ltb, and_parts, and_from, and_left, and_right}
 use Rattle.cell_num.specs.Lists.{or_else}
 use Rattle.cell_world.specs.World.{Region}
 use Rattle.cell_world.specs.Memory.{covers, end_of}
@@ -173,7 +173,7 @@ find_lies low (s ∷ rs) high test r h e = go (test s) refl e (find_lies (end_of
 pub found_passes : (test : Region → Bool) (rs : List Region) (r : Region) → find test rs ≡ Some r → test r ≡ true
 found_passes test [] r e = absurd cc
 found_passes test (s ∷ rs) r e = go (test s) refl e (found_passes test rs r)
-    where
-      go : (b : Bool) → test s ≡ b → cond b (Some s) (find test rs) ≡ Some r → (find test rs ≡ Some r → test r ≡ true) → test r ≡ true
-      go true t e f = let same : s ≡ r = cc in subst (λ x. test x ≡ true) same t
-      go false t e f = f e
+  where
+    go : (b : Bool) → test s ≡ b → cond b (Some s) (find test rs) ≡ Some r → (find test rs ≡ Some r → test r ≡ true) → test r ≡ true
+    go true t e f = let same : s ≡ r = cc in subst (λ x. test x ≡ true) same t
+    go false t e f = f e

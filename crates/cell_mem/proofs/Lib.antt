@@ -7,4 +7,5 @@ pub mod Inserting
 pub mod Removing
 pub mod Reading
 pub mod Soundness
+pub mod Undo
 pub mod Writes

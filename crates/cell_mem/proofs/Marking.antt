@@ -1,9 +1,9 @@
 -- The index with the pages of one more region.
-use Rattle.std.proofs.Common.{◌≡◌, ℕ, zero, suc, ◌+◌, ◌-◌, ◌*◌, ◌/◌, ◌%◌, ◌<◌, ◌≤◌, Bool, true, false, cond, List, [], ◌∷◌, ◌++◌, Option, Some, None, length, take, get_or, replicate, refl, sym, ap, ◌∙◌, ⊎_elim, arith}
+use Rattle.std.proofs.Common.{◌≡◌, ℕ, ◌+◌, ◌-◌, ◌*◌, ◌/◌, ◌%◌, ◌<◌, ◌≤◌, false, cond, List, [], Option, Some, None, length, take, get_or, refl, sym, ap, ◌∙◌, ⊎_elim, arith}
 use Rattle.std.proofs.lemmas.Bool.{cases_lt}
-use Rattle.std.proofs.lemmas.List.{take_more, length-take-le, get_or-replicate, take_all}
+use Rattle.std.proofs.lemmas.List.{take_more, length-take-le}
 use Rattle.cell_num.specs.Lists.{or_else}
-use Rattle.cell_world.specs.Memory.{covers, end_of}
+use Rattle.cell_world.specs.Memory.{end_of}
 use Rattle.cell_world.specs.World.{Region}
 use Rattle.cell_world.specs.Pages.{filled}
 use Rattle.cell_mem.specs.Index.{IsLaid, IsIndex, place_of, covers_page}

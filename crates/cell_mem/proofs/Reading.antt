@@ -1,6 +1,5 @@
 -- Which region has the bytes of an access.
-use Rattle.std.proofs.Common.{◌≡◌, ℕ, zero, suc, ◌+◌, ◌-◌, ◌*◌, ◌%◌, ◌<◌, ◌≤◌, Bool, true, false, cond, List, [], ◌∷◌, Option, Some, None, length, get_or, leb, refl, sym, ap, ◌∙◌, subst, ⊎_elim, ◌⊎◌, inl, inr, arith}
-use Rattle.std.specs.List.{find}
+use Rattle.std.proofs.Common.{◌≡◌, ℕ, zero, suc, ◌+◌, ◌%◌, ◌<◌, ◌≤◌, Bool, true, false, List, [], ◌∷◌, Option, Some, None, length, get_or, leb, refl, sym, ap, ◌∙◌, subst, ⊎_elim, ◌⊎◌, inl, inr, arith}
 use Rattle.std.specs.Prelude.{option_map, option_and_then, is_some, IfSome, IfOk, OnOk, eqb, ◌||◌}
 use Rattle.std.specs.Borrow.{Bor}
 use Rattle.std.specs.Option.{ok_or}
@@ -14,7 +13,7 @@ use Rattle.cell_mem.specs.Access.{need, ◌>>◌, found as found_or, region_for}
 use Rattle.cell_mem.specs.Index.{IsWhole, IsLaid, place_of}
 use Rattle.cell_mem.specs.State.{MemoryState, region_of, region_with, is_width}
 use Rattle.cell_mem.specs.Writing.{HasBytes}
-use Rattle.cell_mem.proofs.Laid.{no_region, Lies, At, place_at, place_none, find_lies, found_passes, covers_low, covers_high}
+use Rattle.cell_mem.proofs.Laid.{no_region, place_at, place_none, find_lies, found_passes, covers_low, covers_high}
 
 -- a region has the bytes
 pub record Has (r : Region) (addr n : ℕ) : Type 0 where
@@ -85,14 +84,14 @@ width_cases : (n : ℕ) → is_width n ≡ true → (n ≡ 1) ⊎ ((n ≡ 2) ⊎
 width_cases n e =
     ⊎_elim (λ (a : eqb 1 n ≡ true). inl (sym (eqb-true 1 n a)))
     (λ (e2 : (eqb 2 n || (eqb 4 n || (eqb 8 n || false))) ≡ true).
-        ⊎_elim (λ (a : eqb 2 n ≡ true). inr (inl (sym (eqb-true 2 n a))))
-        (λ (e3 : (eqb 4 n || (eqb 8 n || false)) ≡ true).
-            ⊎_elim (λ (a : eqb 4 n ≡ true). inr (inr (inl (sym (eqb-true 4 n a)))))
-            (λ (e4 : (eqb 8 n || false) ≡ true).
-                ⊎_elim (λ (a : eqb 8 n ≡ true). inr (inr (inr (sym (eqb-true 8 n a))))) (λ (x : false ≡ true). absurd (false≢true x))
-                (or_cases (eqb 8 n) false e4))
-            (or_cases (eqb 4 n) (eqb 8 n || false) e3))
-        (or_cases (eqb 2 n) (eqb 4 n || (eqb 8 n || false)) e2))
+    ⊎_elim (λ (a : eqb 2 n ≡ true). inr (inl (sym (eqb-true 2 n a))))
+    (λ (e3 : (eqb 4 n || (eqb 8 n || false)) ≡ true).
+    ⊎_elim (λ (a : eqb 4 n ≡ true). inr (inr (inl (sym (eqb-true 4 n a)))))
+    (λ (e4 : (eqb 8 n || false) ≡ true).
+    ⊎_elim (λ (a : eqb 8 n ≡ true). inr (inr (inr (sym (eqb-true 8 n a))))) (λ (x : false ≡ true). absurd (false≢true x))
+    (or_cases (eqb 8 n) false e4))
+    (or_cases (eqb 4 n) (eqb 8 n || false) e3))
+    (or_cases (eqb 2 n) (eqb 4 n || (eqb 8 n || false)) e2))
     (or_cases (eqb 1 n) (eqb 2 n || (eqb 4 n || (eqb 8 n || false))) e)
 
 pub aligned_has : (r : Region) (addr width : ℕ) → IsWhole r → covers r addr ≡ true → is_width width ≡ true → addr % width ≡ 0 → Has r addr width

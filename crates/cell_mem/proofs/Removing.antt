@@ -1,12 +1,12 @@
 -- A region less among those that stand apart.
-use Rattle.std.proofs.Common.{◌≡◌, ℕ, zero, suc, ◌+◌, ◌-◌, ◌<◌, ◌≤◌, Bool, true, false, not, cond, List, [], ◌∷◌, ◌++◌, Option, Some, None, length, take, drop, filter, eqb, refl, sym, ap, ◌∙◌, subst, arith}
+use Rattle.std.proofs.Common.{◌≡◌, ℕ, zero, suc, ◌<◌, ◌≤◌, Bool, true, false, not, cond, List, [], ◌∷◌, Option, Some, None, filter, eqb, refl, sym, ap, ◌∙◌, subst, arith}
 use Rattle.std.specs.List.{find, remove}
 use Rattle.std.specs.Prelude.{option_map, is_some}
-use Rattle.std.proofs.lemmas.Bool.{eqb-true, eqb-false, eq-eqb, ne_eqb}
+use Rattle.std.proofs.lemmas.Bool.{eqb-true, ne_eqb}
 use Rattle.cell_world.specs.World.{Region}
 use Rattle.cell_world.specs.Memory.{covers, end_of}
-use Rattle.cell_mem.specs.Index.{IsWhole, IsLaid, place_of}
-use Rattle.cell_mem.proofs.Laid.{no_region, laid_low, laid_lower, covers_from, not_above}
+use Rattle.cell_mem.specs.Index.{IsLaid, place_of}
+use Rattle.cell_mem.proofs.Laid.{laid_lower, covers_from, not_above}
 
 abbrev pub starts_at : ℕ → Region → Bool
 starts_at start r = eqb r.start start

@@ -1,20 +1,19 @@
 -- What always holds of a memory's fields, seen from its value, and after its regions changed.
-use Rattle.std.proofs.Common.{◌≡◌, ℕ, ◌+◌, ◌-◌, ◌*◌, ◌%◌, ◌<◌, ◌≤◌, Bool, true, false, List, Option, Some, None, length, map, filter, sym, ap, ◌∙◌, subst, arith}
+use Rattle.std.proofs.Common.{◌≡◌, ℕ, ◌+◌, ◌-◌, ◌*◌, ◌<◌, Bool, true, false, List, Some, None, length, filter, sym, ap, ◌∙◌, subst}
 use Rattle.std.specs.Prelude.{is_some}
-use Rattle.std.specs.List.{find, list_all, insert, remove, position_or_len}
+use Rattle.std.specs.List.{find, insert, remove, position_or_len}
 use Rattle.std.proofs.Common.{ltb, not, get_or}
 use Rattle.std.proofs.lemmas.Bool.{eqb-true, false≢true}
 use Rattle.cell_num.specs.Bits.{bytes_of}
 use Rattle.cell_world.specs.World.{Region, Permission}
-use Rattle.cell_world.specs.Memory.{covers, end_of, written}
+use Rattle.cell_world.specs.Memory.{covers}
 use Rattle.cell_world.specs.Pages.{filled}
 use Rattle.cell_world.specs.Place.{with_region}
 use Rattle.cell_mem.specs.declared.memory.Memory.TheInside.{Inside}
 use Rattle.cell_mem.specs.Inside.{IsSound, state_of}
-use Rattle.cell_mem.specs.Index.{IsWhole, IsLaid, IsIndex, place_of}
-use Rattle.cell_mem.specs.State.{MemoryState, IsRoom, region_with, region_from, size_of, one_less, one_more, written_at, mapped, unmapped}
-use Rattle.cell_mem.specs.Writing.{HasBytes, put, at_place}
-use Rattle.cell_mem.proofs.Reading.{mapped_place, mapped_somewhere}
+use Rattle.cell_mem.specs.Index.{IsLaid, place_of}
+use Rattle.cell_mem.specs.State.{MemoryState, IsRoom, region_from, size_of, one_less, one_more, written_at, mapped, unmapped}
+use Rattle.cell_mem.specs.Writing.{put, at_place}
 use Rattle.cell_mem.proofs.Writes.{map_written}
 use Rattle.cell_mem.proofs.Laid.{no_region, Lies, get_lies, place_at, place_none}
 use Rattle.cell_mem.proofs.Removing.{starts_at, place_start, removed_is}
@@ -35,7 +34,7 @@ written_is i m addr width value place regions s e p w =
     let old : MemoryState = state_of i in
     let here : place_of (λ r. covers r addr) i.regions.items ≡ Some place = ap (λ k. place_of (λ r. covers r addr) k.regions) e ∙ p in
     ap (λ (rs : List Region). let new : MemoryState = record old { regions = rs; writes_left = one_less old.writes_left } in new)
-        (w ∙ map_written i.base i.regions.items _ place addr (bytes_of width value) s.laid here)
+    (w ∙ map_written i.base i.regions.items _ place addr (bytes_of width value) s.laid here)
     ∙ ap (λ k. written_at k addr width value) e
 
 -- the regions with a new one
@@ -106,7 +105,7 @@ unmapped_is i m start place size regions sealed s e at now n marks =
     let old : MemoryState = state_of i in
     let wanted : size ≡ size_of (region_from old start) = n ∙ sym (ap size_of at.found) in
     ap (λ (rs : List Region). let new : MemoryState = record old { regions = rs; sealed = sealed; spare = old.spare + 1 } in new)
-        (now ∙ removed_is i.base i.regions.items _ place start s.laid at.place_is)
+    (now ∙ removed_is i.base i.regions.items _ place start s.laid at.place_is)
     ∙ ap (λ (bs : List Bool). let new : MemoryState = record old { regions = filter (λ r. not (starts_at start r)) i.regions.items; sealed = bs; spare = old.spare + 1 } in new)
-        (marks ∙ ap (λ k. filled i.sealed.items (start - i.base) k false) wanted)
+    (marks ∙ ap (λ k. filled i.sealed.items (start - i.base) k false) wanted)
     ∙ ap (λ k. unmapped k start) e

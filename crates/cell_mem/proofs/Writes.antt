@@ -1,16 +1,13 @@
 -- A write into one region of those that stand apart.
-use Rattle.std.proofs.Common.{◌≡◌, ℕ, zero, suc, ◌+◌, ◌-◌, ◌*◌, ◌<◌, ◌≤◌, ◌%◌, ◌/◌, Bool, true, false, cond, ◌&&◌, List, [], ◌∷◌, ◌++◌, Option, Some, None, length, take, drop, map, get_or, set, leb, ltb, refl, sym, ap, ◌∙◌, subst, arith, length-append, length-drop}
-use Rattle.std.specs.List.{find, slice_get}
-use Rattle.std.specs.Prelude.{option_map, option_and_then, is_some}
+use Rattle.std.proofs.Common.{◌≡◌, ℕ, zero, suc, ◌+◌, ◌-◌, ◌*◌, ◌<◌, ◌≤◌, ◌/◌, Bool, true, false, cond, ◌&&◌, List, [], ◌∷◌, ◌++◌, Option, Some, None, length, take, drop, map, leb, ltb, refl, sym, ap, ◌∙◌, subst, arith, length-append, length-drop}
+use Rattle.std.specs.Prelude.{option_map}
 use Rattle.std.proofs.lemmas.List.{length-take-le}
-use Rattle.std.proofs.lemmas.Bool.{leb-true, false≢true}
 use Rattle.cell_num.specs.Bits.{bytes_of}
-use Rattle.cell_num.specs.Lists.{where_true}
 use Rattle.cell_world.specs.World.{Region}
 use Rattle.cell_world.specs.Memory.{covers, end_of, pasted, written}
-use Rattle.cell_mem.specs.Index.{IsWhole, IsLaid, IsIndex, place_of, covers_page}
+use Rattle.cell_mem.specs.Index.{IsLaid, IsIndex, place_of}
 use Rattle.cell_mem.specs.Writing.{HasBytes, put, at_place}
-use Rattle.cell_mem.proofs.Laid.{no_region, covers_low, covers_high, not_below}
+use Rattle.cell_mem.proofs.Laid.{covers_high, not_below}
 
 pub length-pasted : (bytes : List ℕ) (i : ℕ) (new : List ℕ) → i + length new ≤ length bytes → length (pasted bytes i new) ≡ length bytes
 length-pasted bytes i new le =

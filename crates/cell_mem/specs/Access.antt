@@ -2,7 +2,7 @@
 --     loaded m addr width            the number there
 --     fetched m addr                 the instruction word there
 --     stored m addr width value      the memory with the number there
-use Rattle.std.specs.Prelude.{ℕ, ◌+◌, ◌-◌, ◌%◌, ◌==◌, Bool, true, false, not, List, Option, Some, None, Result, Ok, Err}
+use Rattle.std.specs.Prelude.{ℕ, ◌%◌, ◌==◌, Bool, true, false, not, Option, Some, None, Result, Ok, Err}
 use Rattle.cell_num.specs.Bits.{little}
 use Rattle.cell_world.specs.World.{Region}
 use Rattle.cell_mem.specs.declared.fault.MemFault.{MemFault}

@@ -1,5 +1,5 @@
 -- What the fields of a memory mean, and what always holds of them.
-use Rattle.std.specs.Prelude.{◌≡◌, ◌≤◌, ℕ, ◌+◌, ◌*◌, length, vec_len, vec_capacity}
+use Rattle.std.specs.Prelude.{◌≡◌, ◌≤◌, ◌+◌, ◌*◌, length, vec_len, vec_capacity}
 use Rattle.cell_world.specs.Pages.{IsSpace}
 use Rattle.cell_mem.specs.declared.memory.Memory.TheInside.{Inside}
 use Rattle.cell_mem.specs.Index.{IsLaid, IsIndex}

@@ -7,7 +7,7 @@
 --     written_at m addr width value     m with the number's low bytes from the address on
 --     patched_at, sealed_at             what a patch and a seal leave
 --     IsRoom m start n, mapped, unmapped, one_less, one_more
-use Rattle.std.specs.Prelude.{◌≡◌, ◌≤◌, ℕ, ◌+◌, ◌-◌, ◌*◌, ◌%◌, ◌^◌, ◌==◌, nat_le, Bool, true, false, not, ◌&&◌, ◌||◌, List, [], ◌∷◌, Option, Some, None, length, filter, find, map, min, max, replicate, slice_range, option_map, option_and_then}
+use Rattle.std.specs.Prelude.{◌≡◌, ◌≤◌, ℕ, ◌+◌, ◌-◌, ◌*◌, ◌%◌, ◌^◌, ◌==◌, nat_le, Bool, true, false, not, ◌||◌, List, [], ◌∷◌, Option, Some, None, length, filter, find, map, min, max, replicate, slice_range, option_map, option_and_then}
 use Rattle.std.specs.List.{list_any, list_all}
 use Rattle.cell_num.specs.Bits.{bytes_of}
 use Rattle.cell_num.specs.Lists.{holds, where_true}

@@ -1,4 +1,4 @@
-use Rattle.std.proofs.Common.{ℕ, List, Option, [], length, subst, sym, take, arith}
+use Rattle.std.proofs.Common.{ℕ, List, Option, [], subst, sym, arith}
 use Rattle.std.proofs.lemmas.List.{take_all}
 use Rattle.cell_world.specs.World.{Region}
 use Rattle.cell_mem.specs.Index.{IsIndex}

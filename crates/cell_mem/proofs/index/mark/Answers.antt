@@ -1,4 +1,4 @@
-use Rattle.std.proofs.Common.{◌≡◌, ◌+◌, ◌-◌, ◌*◌, ◌/◌, ◌≤◌, ℕ, List, Option, Some, length, take, get_or, subst, sym, ap, ◌∙◌, arith}
+use Rattle.std.proofs.Common.{◌≡◌, ◌+◌, ◌-◌, ◌/◌, ◌≤◌, ℕ, List, Option, Some, length, take, get_or, subst, sym, ap, ◌∙◌}
 use Rattle.std.proofs.lemmas.List.{get_or_read}
 use Rattle.cell_world.specs.World.{Region}
 use Rattle.cell_world.specs.Pages.{filled}
@@ -17,7 +17,7 @@ fill-requires c =
     let read = get_or_read c.args.regions.now c.args.place c.index-regions-place.result c.requires.inside c.index-regions-place.is no_region in
     rw c.as_slice.ensures
     (subst (λ (r : Region). (r.start - c.args.base) / 4096 + length r.bytes / 4096 ≤ length c.args.slots.now) (sym read)
-        (run_inside c.args.base c.args.regions.now c.args.place c.args.slots.now c.requires.aligned c.requires.inside c.requires.laid c.requires.before))
+    (run_inside c.args.base c.args.regions.now c.args.place c.args.slots.now c.requires.aligned c.requires.inside c.requires.laid c.requires.before))
 
 pub returns : goal.returns
 returns c =

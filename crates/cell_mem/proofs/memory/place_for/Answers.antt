@@ -1,4 +1,4 @@
-use Rattle.std.proofs.Common.{◌≡◌, ℕ, ◌+◌, ◌<◌, ◌≤◌, ltb, List, length, get_or, subst, sym, ap, ◌∙◌, ⊎_elim, arith}
+use Rattle.std.proofs.Common.{◌≡◌, ℕ, ◌+◌, ◌<◌, ◌≤◌, ltb, List, length, get_or, subst, sym, ◌∙◌, ⊎_elim, arith}
 use Rattle.std.proofs.lemmas.Bool.{lt-ltb, le-ltb, cases_lt}
 use Rattle.std.proofs.lemmas.List.{get_or_default}
 use Rattle.std.proofs.lemmas.List.Sums.{position_or_len_is}
@@ -11,8 +11,8 @@ returns-then-regions-place c =
     let read = get_or_default c.args.regions.now c.loop-place.place c.index-regions-place.result no_region (omega arith) in
     let later : c.args.start < (get_or c.args.regions.now c.loop-place.place no_region).start = subst (λ (r : Region). c.args.start < r.start) read c.if-regions-place.true in
     sym (position_or_len_is (λ r. ltb c.args.start r.start) c.args.regions.now c.loop-place.place no_region (omega arith)
-        (λ k lt. le-ltb c.args.start (get_or c.args.regions.now k no_region).start (c.loop-place.invariant k lt))
-        (λ lt. lt-ltb c.args.start (get_or c.args.regions.now c.loop-place.place no_region).start later))
+    (λ k lt. le-ltb c.args.start (get_or c.args.regions.now k no_region).start (c.loop-place.invariant k lt))
+    (λ lt. lt-ltb c.args.start (get_or c.args.regions.now c.loop-place.place no_region).start later))
 
 one_more : (regions : List Region) (place start : ℕ) → ((k : ℕ) → k < place → (get_or regions k no_region).start ≤ start) → (get_or regions place no_region).start ≤ start
     → (k : ℕ) → k < place + 1 → (get_or regions k no_region).start ≤ start
@@ -31,5 +31,5 @@ returns c =
     let whole : c.loop-place.place ≡ length c.args.regions.now = omega arith in
     sym whole
     ∙ sym (position_or_len_is (λ r. ltb c.args.start r.start) c.args.regions.now c.loop-place.place no_region (omega arith)
-        (λ k lt. le-ltb c.args.start (get_or c.args.regions.now k no_region).start (c.loop-place.invariant k lt))
-        (λ lt. absurd (omega arith)))
+    (λ k lt. le-ltb c.args.start (get_or c.args.regions.now k no_region).start (c.loop-place.invariant k lt))
+    (λ lt. absurd (omega arith)))

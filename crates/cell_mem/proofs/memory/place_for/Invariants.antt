@@ -1,4 +1,4 @@
-use Rattle.std.proofs.Common.{◌≡◌, ℕ, ◌<◌, ◌≤◌, get_or}
+use Rattle.std.proofs.Common.{ℕ, ◌<◌, ◌≤◌, get_or}
 use Rattle.cell_mem.proofs.Laid.{no_region}
 use Rattle.cell_mem.proofs.memory.place_for.Given as goal
 

@@ -1,8 +1,8 @@
-use Rattle.std.proofs.Common.{◌≡◌, ℕ, zero, suc, ◌+◌, ◌-◌, ◌≤◌, ◌<◌, List, [], ◌∷◌, length, get_or, sym, ap, ◌∙◌, refl, arith}
+use Rattle.std.proofs.Common.{◌≡◌, ℕ, zero, suc, ◌+◌, ◌≤◌, ◌<◌, List, [], ◌∷◌, length, get_or, ap, ◌∙◌, refl, arith}
 use Rattle.std.proofs.Math.ListN.{set}
 use Rattle.cell_num.specs.Bits.{bytes_of}
 use Rattle.cell_world.specs.World.{Region}
-use Rattle.cell_world.specs.Memory.{end_of, pasted}
+use Rattle.cell_world.specs.Memory.{end_of}
 use Rattle.cell_mem.specs.Writing.{HasBytes, put, at_place}
 use Rattle.cell_mem.proofs.memory.write_in.Goals as goal
 
@@ -37,8 +37,11 @@ overflow_sub-at c = has_low c.args.regions.now c.args.place c.args.addr c.args.w
 
 pub write_number-requires : goal.write_number-requires
 write_number-requires c =
-    omega (arith, has_low c.args.regions.now c.args.place c.args.addr c.args.width c.index-regions-place.result c.requires,
-        has_high c.args.regions.now c.args.place c.args.addr c.args.width c.index-regions-place.result c.requires)
+    omega (
+      arith,
+      has_low c.args.regions.now c.args.place c.args.addr c.args.width c.index-regions-place.result c.requires,
+      has_high c.args.regions.now c.args.place c.args.addr c.args.width c.index-regions-place.result c.requires,
+    )
 
 pub returns : goal.returns
 returns c =

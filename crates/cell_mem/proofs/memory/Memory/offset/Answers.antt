@@ -1,4 +1,4 @@
-use Rattle.std.proofs.Common.{◌≡◌, ◌+◌, ◌*◌, length, subst, ap, arith}
+use Rattle.std.proofs.Common.{◌+◌, ◌*◌, length, subst, ap, arith}
 use Rattle.cell_mem.specs.Index.{IsLaid}
 use Rattle.cell_mem.specs.State.{MemoryState}
 use Rattle.cell_mem.proofs.Reading.{mapped_inside}

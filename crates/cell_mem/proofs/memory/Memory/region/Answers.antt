@@ -1,7 +1,6 @@
-use Rattle.std.proofs.Common.{◌≡◌, ◌<◌, Some, None, length, get_or, sym, ap, ◌∙◌, subst, arith}
-use Rattle.std.specs.Prelude.{option_map, IfSome}
+use Rattle.std.proofs.Common.{◌<◌, Some, length, get_or, sym, ap, ◌∙◌, subst, arith}
+use Rattle.std.specs.Prelude.{option_map}
 use Rattle.std.proofs.lemmas.List.{get_or_read}
-use Rattle.cell_world.specs.World.{Region}
 use Rattle.cell_world.specs.Memory.{covers}
 use Rattle.cell_mem.specs.Index.{IsWhole}
 use Rattle.cell_mem.proofs.Laid.{no_region, place_at, place_none, get_lies}

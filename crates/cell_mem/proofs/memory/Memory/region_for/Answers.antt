@@ -1,4 +1,4 @@
-use Rattle.std.proofs.Common.{◌≡◌, ◌∙◌, ap, sym, subst, ◌%◌}
+use Rattle.std.proofs.Common.{◌≡◌, ◌∙◌, ap, sym, ◌%◌}
 use Rattle.cell_mem.proofs.Reading.{access_answer, access_inside, access_mapped}
 use Rattle.cell_mem.proofs.memory.Memory.region_for.Goals as goal
 

@@ -1,13 +1,12 @@
-use Rattle.std.proofs.Common.{◌≡◌, ◌+◌, ◌-◌, ◌*◌, ◌≤◌, ℕ, List, Option, Bool, false, length, get_or, subst, sym, ap, ◌∙◌, arith}
+use Rattle.std.proofs.Common.{◌≡◌, ◌+◌, ◌-◌, ◌*◌, ℕ, List, Option, Bool, false, length, get_or, subst, sym, ap, ◌∙◌, arith}
 use Rattle.std.specs.Vec.{with_items}
-use Rattle.std.specs.List.{remove}
 use Rattle.std.proofs.lemmas.List.{with_items_is, get_or_read}
 use Rattle.cell_world.specs.World.{Region}
 use Rattle.cell_world.specs.Pages.{filled}
 use Rattle.cell_mem.specs.Index.{IsLaid, IsIndex}
 use Rattle.cell_mem.proofs.Laid.{no_region}
 use Rattle.cell_mem.proofs.Removing.{laid_removed}
-use Rattle.cell_mem.proofs.Soundness.{Starts, starts_is, starts_somewhere, unmapped_is}
+use Rattle.cell_mem.proofs.Soundness.{starts_is, starts_somewhere, unmapped_is}
 use Rattle.cell_mem.proofs.memory.Memory.unmap.Goals as goal
 
 pub unreachable-requires : goal.unreachable-requires
