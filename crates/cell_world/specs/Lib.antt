@@ -5,6 +5,7 @@ pub mod Memory
 pub mod Field
 pub mod Relink
 pub mod Outcome
+pub mod Pages
 pub mod Place
 pub mod Gather
 pub mod Fit

@@ -1,0 +1,11 @@
+pub mod Filling
+pub mod Laid
+pub mod Little
+pub mod Marking
+pub mod Pasting
+pub mod Inserting
+pub mod Removing
+pub mod Reading
+pub mod Soundness
+pub mod Undo
+pub mod Writes

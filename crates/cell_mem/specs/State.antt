@@ -1,0 +1,125 @@
+-- The memory as contracts see it, and what its calls make of it.
+--     MemoryState                       regions, seals and counts
+--     region_of m addr                  the region that covers the address
+--     region_with m addr n              the region that has the n bytes from the address on
+--     bytes_at m addr n                 these bytes
+--     is_sealed m addr n                one of these bytes is sealed
+--     written_at m addr width value     m with the number's low bytes from the address on
+--     patched_at, sealed_at             what a patch and a seal leave
+--     IsRoom m start n, mapped, unmapped, one_less, one_more
+use Rattle.std.specs.Prelude.{◌≡◌, ◌≤◌, ℕ, ◌+◌, ◌-◌, ◌*◌, ◌%◌, ◌^◌, ◌==◌, nat_le, Bool, true, false, not, ◌||◌, List, [], ◌∷◌, Option, Some, None, length, filter, find, map, min, max, replicate, slice_range, option_map, option_and_then}
+use Rattle.std.specs.List.{list_any, list_all}
+use Rattle.cell_num.specs.Bits.{bytes_of}
+use Rattle.cell_num.specs.Lists.{holds, where_true}
+use Rattle.cell_world.specs.World.{Region, Permission}
+use Rattle.cell_world.specs.Memory.{covers, end_of, written}
+use Rattle.cell_world.specs.Pages.{filled}
+use Rattle.cell_world.specs.Place.{with_region}
+
+-- regions ascend by their starts; `sealed` has one Bool a byte of the space; `spare` is how many regions
+-- more can be mapped without memory; writes are counted only while an undo is begun
+pub record MemoryState : Type 0 where
+  pub base : ℕ
+  pub pages : ℕ
+  pub regions : List Region
+  pub sealed : List Bool
+  pub spare : ℕ
+  pub writes_left : Option ℕ
+  pub patches : ℕ
+  pub maps : ℕ
+
+abbrev pub region_of : MemoryState → ℕ → Option Region
+region_of m addr = find (λ r. covers r addr) m.regions
+
+abbrev pub region_with : MemoryState → ℕ → ℕ → Option Region
+region_with m addr n = option_and_then (λ r. where_true (nat_le (addr + n) (end_of r)) r) (region_of m addr)
+
+-- n bytes of the region from an address on
+abbrev pub bytes_in : Region → ℕ → ℕ → List ℕ
+bytes_in r addr n = slice_range r.bytes (addr - r.start) (addr - r.start + n)
+
+-- the same, where they are all in it
+abbrev pub part_of : Region → ℕ → ℕ → Option (List ℕ)
+part_of r addr n = where_true (nat_le (addr + n) (end_of r)) (bytes_in r addr n)
+
+abbrev pub bytes_at : MemoryState → ℕ → ℕ → Option (List ℕ)
+bytes_at m addr n = option_and_then (λ r. part_of r addr n) (region_of m addr)
+
+abbrev pub is_sealed : MemoryState → ℕ → ℕ → Bool
+is_sealed m addr n = list_any (λ sealed. sealed) (slice_range m.sealed (addr - m.base) (addr - m.base + n))
+
+-- how many bytes a load, a store, a patch or a seal has
+abbrev pub is_width : ℕ → Bool
+is_width = holds (1 ∷ 2 ∷ 4 ∷ 8 ∷ [])
+
+abbrev pub one_less : Option ℕ → Option ℕ
+one_less = option_map (λ left. left - 1)
+
+-- a count stands still at the last value of 64 bits
+abbrev pub one_more : ℕ → ℕ
+one_more count = min (count + 1) (2 ^ 64 - 1)
+
+-- the lowest byte first, whatever the region's permission; it takes one of the writes of a begun undo
+abbrev pub written_at : MemoryState → ℕ → ℕ → ℕ → MemoryState
+written_at m addr width value =
+    record m {
+      regions = map (λ r. written r addr (bytes_of width value)) m.regions;
+      writes_left = one_less m.writes_left;
+    }
+
+abbrev pub patched_at : MemoryState → ℕ → ℕ → ℕ → MemoryState
+patched_at m addr width value = record (written_at m addr width value) { patches = one_more m.patches }
+
+abbrev pub sealed_at : MemoryState → ℕ → ℕ → MemoryState
+sealed_at m addr width = record m { sealed = filled m.sealed (addr - m.base) width true }
+
+-- n bytes from start on are one or more whole pages of the space, in no region, and a region is in reserve
+pub record IsRoom (m : MemoryState) (start n : ℕ) : Type 0 where
+  pub aligned : start % 4096 ≡ 0
+  pub whole : n % 4096 ≡ 0
+  pub filled : 1 ≤ n
+  pub above : m.base ≤ start
+  pub below : start + n ≤ m.base + 4096 * m.pages
+  pub apart : list_all (λ r. nat_le (end_of r) start || nat_le (start + n) r.start) m.regions ≡ true
+  pub spare : 1 ≤ m.spare
+
+abbrev pub mapped : MemoryState → ℕ → Permission → List ℕ → MemoryState
+mapped m start permission bytes =
+    record m {
+      regions = with_region (record { start = start; permission = permission; bytes = bytes }) m.regions;
+      spare = m.spare - 1;
+      maps = one_more m.maps;
+    }
+
+abbrev pub region_from : MemoryState → ℕ → Option Region
+region_from m start = find (λ r. r.start == start) m.regions
+
+abbrev pub size_of : Option Region → ℕ
+size_of None = 0
+size_of (Some r) = length r.bytes
+
+-- without the region that starts there, and without its seals; its room is in reserve again
+abbrev pub unmapped : MemoryState → ℕ → MemoryState
+unmapped m start =
+    record m {
+      regions = filter (λ r. not (r.start == start)) m.regions;
+      sealed = filled m.sealed (start - m.base) (size_of (region_from m start)) false;
+      spare = m.spare + 1;
+    }
+
+abbrev pub reserved : MemoryState → ℕ → MemoryState
+reserved m regions = record m { spare = max m.spare regions }
+
+-- the memory of a space before the first region is mapped
+abbrev pub empty_memory : ℕ → ℕ → MemoryState
+empty_memory base pages =
+    record {
+      base = base;
+      pages = pages;
+      regions = [];
+      sealed = replicate (4096 * pages) false;
+      spare = 0;
+      writes_left = None;
+      patches = 0;
+      maps = 0;
+    }

@@ -1,0 +1,27 @@
+//! Lists of one value.
+
+ghost use Rattle.std.specs.Prelude.{◌≡◌, ◌+◌, ◌≤◌, length, replicate, IfOk};
+ghost use Rattle.cell_world.specs.Pages.{filled};
+
+use std::alloc::{AllocError, Global};
+
+/// Sets so many places.
+pub fn fill<T: Copy>(items: &mut [T], from: usize, count: usize, value: T)
+    requires { from + count ≤ length items.old }
+    ensures { items.new ≡ filled items.old from count value }
+{
+    for i in 0..count {
+        items[from + i] = value;
+    }
+}
+
+/// So many copies of one value.
+pub fn repeated<T: Copy>(alloc: Global, value: T, count: usize) -> Result<Vec<T>, AllocError>
+    ensures { IfOk result (λ items. items.items ≡ replicate count value) }
+{
+    let mut items = Vec::with_capacity(alloc, count)?;
+    for _ in 0..count {
+        items.push(value)?;
+    }
+    Ok(items)
+}
