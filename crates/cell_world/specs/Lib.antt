@@ -5,6 +5,7 @@ pub mod Memory
 pub mod Field
 pub mod Relink
 pub mod Outcome
+pub mod Pages
 pub mod Place
 pub mod Gather
 pub mod Fit
@@ -13,3 +14,4 @@ pub mod LoadCommand
 pub mod DumpCommand
 pub mod Next
 pub mod Later
+pub mod Coherent
