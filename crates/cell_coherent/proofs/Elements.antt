@@ -1,8 +1,9 @@
 -- What holds of each element of a list, against the tests that are computed over it.
-use Rattle.std.proofs.Common.{◌≡◌, refl, sym, ◌∙◌, ap, subst, arith, ℕ, zero, suc, ◌+◌, ◌<◌, ◌⊎◌, inl, inr, Bool, true, false, cond, not, ◌||◌, List, [], ◌∷◌, ◌++◌, map, length, true≢false}
+use Rattle.std.proofs.Common.{◌≡◌, refl, sym, ◌∙◌, ap, subst, arith, ℕ, zero, suc, ◌+◌, ◌<◌, ◌⊎◌, inl, inr, Bool, true, false, cond, not, ◌&&◌, ◌||◌, List, [], ◌∷◌, ◌++◌, map, length, true≢false}
 use Rattle.std.specs.Prelude.{Option, Some, None, All, find, filter, filter_map, flat_map, fold, position, nat_lt, slice_get, is_some, is_none}
 use Rattle.std.specs.List.{list_any, list_all, cons_option, slice_index_or, prefix_len}
 use Rattle.std.proofs.lemmas.Bool.{and_parts, and_from, or_cases, or_left, ltb-true}
+use Rattle.std.proofs.lemmas.List.Folds.{list_all-map}
 use Rattle.std.proofs.Math.Bool.{or-true}
 use Rattle.cell_num.specs.Lists.{each_pair, numbered_from, first, or_else}
 
@@ -159,6 +160,14 @@ module _ {X : Type 0} where
       let k : (list_all (t z) zs ≡ true) × (each_pair t zs ≡ true) = and_parts (list_all (t z) zs) (each_pair t zs) h in
       and_from _ _ (In-all (u z) zs (λ x m. f z x (inl refl) (inr m) (all-In (t z) zs k.0 x m))) (pairs_same t u zs (λ x y m n. f x y (inr m) (inr n)) k.1)
 
+  all_equal : (p q : X → Bool) (xs : List X) → ((x : X) → p x ≡ q x) → list_all p xs ≡ list_all q xs
+  all_equal p q [] f = refl
+  all_equal p q (x ∷ xs) f = ap (λ b. b && list_all p xs) (f x) ∙ ap (λ b. q x && b) (all_equal p q xs f)
+
+  pub pairs_equal : (t u : X → X → Bool) (xs : List X) → ((x y : X) → t x y ≡ u x y) → each_pair t xs ≡ each_pair u xs
+  pairs_equal t u [] f = refl
+  pairs_equal t u (x ∷ xs) f = ap (λ b. b && each_pair t xs) (all_equal (t x) (u x) xs (f x)) ∙ ap (λ b. list_all (u x) xs && b) (pairs_equal t u xs f)
+
   pub first-In : (xs : List X) (x : X) → first xs ≡ Some x → In x xs
   first-In [] x h = cc
   first-In (y ∷ xs) x h = inl cc
@@ -234,6 +243,10 @@ module _ {X Y : Type 0} where
       go : In y (f z) ⊎ In y (flat_map f xs) → (In y (flat_map f xs) → (x : X) × In x xs × In y (f x)) → (x : X) × In x (z ∷ xs) × In y (f x)
       go (inl k) g = (z, inl refl, k)
       go (inr k) g = let r = g k in (r.0, inr r.1, r.2)
+
+  pub pairs-map : (t : Y → Y → Bool) (f : X → Y) (xs : List X) → each_pair t (map f xs) ≡ each_pair (λ x y. t (f x) (f y)) xs
+  pairs-map t f [] = refl
+  pairs-map t f (x ∷ xs) = ap (λ b. b && each_pair t (map f xs)) (list_all-map (t (f x)) f xs) ∙ ap (λ b. list_all (λ y. t (f x) (f y)) xs && b) (pairs-map t f xs)
 
   pub flat_same : (f g : X → List Y) (xs : List X) → ((x : X) → In x xs → f x ≡ g x) → flat_map f xs ≡ flat_map g xs
   flat_same f g [] h = refl

@@ -38,7 +38,7 @@ In-with_shape s x (t ∷ xs) h = go (nat_lt s.start t.start) h (In-with_shape s 
     go false (inr (inl e)) f = inl e
     go false (inr (inr k)) f = inr (f (inr k))
 
-In-fold_shape : (xs acc : List Shape) (x : Shape) → In x acc ⊎ In x xs → In x (fold (λ shapes s. with_shape s shapes) acc xs)
+pub In-fold_shape : (xs acc : List Shape) (x : Shape) → In x acc ⊎ In x xs → In x (fold (λ shapes s. with_shape s shapes) acc xs)
 In-fold_shape [] acc x (inl h) = h
 In-fold_shape [] acc x (inr h) = absurd h
 In-fold_shape (s ∷ xs) acc x (inl h) = In-fold_shape xs (with_shape s acc) x (inl (In-with_shape s x acc (inr h)))

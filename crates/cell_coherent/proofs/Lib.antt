@@ -19,3 +19,6 @@ pub mod Relinks
 pub mod Fitting
 pub mod PlacedAll
 pub mod Loaded
+pub mod OwnPlaces
+pub mod NewPlaced
+pub mod Ready

@@ -7,6 +7,7 @@ use Rattle.cell_num.specs.Lists.{each_pair}
 use Rattle.cell_world.specs.World.{World, Region}
 use Rattle.cell_world.specs.Relink.{relink}
 use Rattle.cell_world.specs.Coherent.{IsReady, IsCoherent, Shape, shape_of, ends_before}
+use Rattle.cell_coherent.proofs.Elements.{pairs-map}
 use Rattle.cell_coherent.proofs.Relinked.{relink_twice}
 use Rattle.cell_coherent.proofs.Reshaped.{shapes_relinked}
 use Rattle.cell_coherent.proofs.FieldsInside.{fields_end_in}
@@ -20,10 +21,6 @@ shape_in_space w s =
 abbrev shape_before : Shape → Shape → Bool
 shape_before s t = nat_le (s.start + s.size) t.start
 
-pairs_map : (rs : List Region) → each_pair shape_before (map shape_of rs) ≡ each_pair ends_before rs
-pairs_map [] = refl
-pairs_map (r ∷ rs) = ap (λ b. b && each_pair shape_before (map shape_of rs)) (list_all-map (shape_before (shape_of r)) shape_of rs) ∙ ap (λ b. list_all (ends_before r) rs && b) (pairs_map rs)
-
 -- linking changes no more of a ready world than the bytes of its regions and the links
 pub ready_relinked : (w : World) → IsReady w → IsReady (relink w)
 ready_relinked w c = record {
@@ -31,7 +28,7 @@ ready_relinked w c = record {
   own_names = c.own_names;
   regions = regions_after w c.regions c.in_space c.apart c.placed c.objects;
   in_space = sym (list_all-map (shape_in_space w) shape_of (relink w).regions) ∙ (ap (list_all (shape_in_space w)) shapes ∙ (list_all-map (shape_in_space w) shape_of w.regions ∙ c.in_space));
-  apart = sym (pairs_map (relink w).regions) ∙ (ap (each_pair shape_before) shapes ∙ (pairs_map w.regions ∙ c.apart));
+  apart = sym (pairs-map shape_before shape_of (relink w).regions) ∙ (ap (each_pair shape_before) shapes ∙ (pairs-map shape_before shape_of w.regions ∙ c.apart));
   placed = c.placed;
   supplied = c.supplied;
   fitting = c.fitting;

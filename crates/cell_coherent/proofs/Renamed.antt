@@ -1,8 +1,9 @@
 -- Places of cells play no part in names: who provides a name stays when cells are placed.
-use Rattle.std.proofs.Common.{◌≡◌, refl, sym, ◌∙◌, ap, ℕ, Bool, true, false, cond, List, [], ◌∷◌, map}
+use Rattle.std.proofs.Common.{◌≡◌, refl, sym, ◌∙◌, ap, subst, ℕ, Bool, true, false, cond, List, [], ◌∷◌, map}
 use Rattle.std.specs.Prelude.{filter, filter_map, option_map, ◌==◌}
-use Rattle.std.specs.List.{cons_option}
-use Rattle.cell_num.specs.Lists.{first, holds, or_else}
+use Rattle.std.specs.List.{cons_option, list_all}
+use Rattle.cell_num.specs.Lists.{first, holds, or_else, each_pair}
+use Rattle.cell_coherent.proofs.Elements.{In, all-In, In-all, In-map, map-In, pairs-map, pairs_equal}
 use Rattle.cell_world.specs.World.{World, Cell, Standing, Attached, Detached, is_attached, is_of_group}
 use Rattle.cell_world.specs.Names.{Provider, chain, first_provider, provider_for, symbol_named}
 use Rattle.cell_world.specs.Place.{Starts, places_in, with_places}
@@ -17,6 +18,21 @@ bare_with_places number starts c = go (c.id.0 == number)
     go : (b : Bool) → bare (cond b (record c { placed = record c.placed { places = places_in starts c.object } }) c) ≡ bare c
     go true = refl
     go false = refl
+
+pub In-bare : (c : Cell) (xs ys : List Cell) → map bare xs ≡ map bare ys → In c xs → (d : Cell) × In d ys × (bare c ≡ bare d)
+In-bare c xs ys e k = In-map bare ys (bare c) (subst (λ (cs : List Cell). In (bare c) cs) e (map-In bare xs c k))
+
+-- tests that don't ask for places hold of cells that are the same but for places
+pub pairs_bare : (t : Cell → Cell → Bool) → ((a b : Cell) → t (bare a) (bare b) ≡ t a b) → (xs ys : List Cell) → map bare xs ≡ map bare ys → each_pair t ys ≡ true → each_pair t xs ≡ true
+pairs_bare t f xs ys e h =
+    sym (pairs-map t bare xs ∙ pairs_equal (λ a b. t (bare a) (bare b)) t xs f)
+    ∙ (ap (each_pair t) e ∙ (pairs-map t bare ys ∙ (pairs_equal (λ a b. t (bare a) (bare b)) t ys f ∙ h)))
+
+pub all_bare : (p : Cell → Bool) → ((c : Cell) → p (bare c) ≡ p c) → (xs ys : List Cell) → map bare xs ≡ map bare ys → list_all p ys ≡ true → list_all p xs ≡ true
+all_bare p f xs ys e h = In-all p xs (λ c k. go c (In-bare c xs ys e k))
+  where
+    go : (c : Cell) → (d : Cell) × In d ys × (bare c ≡ bare d) → p c ≡ true
+    go c d = sym (f c) ∙ (ap p d.2 ∙ (f d.0 ∙ all-In p ys h d.0 d.1))
 
 filter_bare : (test : Cell → Bool) → ((c : Cell) → test (bare c) ≡ test c) → (cells : List Cell) → filter test (map bare cells) ≡ map bare (filter test cells)
 filter_bare test t [] = refl
