@@ -108,6 +108,14 @@ module _ {X : Type 0} where
       passes true e (inr k) f = f k
       passes false e k f = f k
 
+  pub filter_all : (p : X → Bool) (xs : List X) → ((x : X) → In x xs → p x ≡ true) → filter p xs ≡ xs
+  filter_all p [] f = refl
+  filter_all p (y ∷ ys) f = ap (λ b. cond b (y ∷ filter p ys) (filter p ys)) (f y (inl refl)) ∙ ap (λ zs. y ∷ zs) (filter_all p ys (λ x k. f x (inr k)))
+
+  pub filter_none : (p : X → Bool) (xs : List X) → ((x : X) → In x xs → p x ≡ false) → filter p xs ≡ []
+  filter_none p [] f = refl
+  filter_none p (y ∷ ys) f = ap (λ b. cond b (y ∷ filter p ys) (filter p ys)) (f y (inl refl)) ∙ filter_none p ys (λ x k. f x (inr k))
+
   pub any-In : (p : X → Bool) (xs : List X) (x : X) → In x xs → p x ≡ true → list_any p xs ≡ true
   any-In p [] x h t = absurd h
   any-In p (y ∷ ys) x (inl e) t = or_left (p y) (list_any p ys) (subst (λ v. p v ≡ true) e t)

@@ -22,3 +22,6 @@ pub mod Loaded
 pub mod OwnPlaces
 pub mod NewPlaced
 pub mod Ready
+pub mod LoadCoherent
+pub mod NextCoherent
+pub mod Tables

@@ -1,24 +1,23 @@
 -- Each new cell stands by the rule of places, and the regions that it adds are those that it should have.
-use Rattle.std.proofs.Common.{◌≡◌, refl, sym, ◌∙◌, ap, subst, arith, ℕ, ◌+◌, ◌<◌, ◌⊎◌, inl, inr, Bool, true, false, cond, List, [], ◌∷◌, ◌++◌, map, length, append_assoc, Ok}
-use Rattle.std.specs.Prelude.{fold, flat_map, nat_lt, ◌/◌, ◌%◌, ◌==◌}
+use Rattle.std.proofs.Common.{◌≡◌, refl, sym, ◌∙◌, ap, subst, arith, ℕ, ◌<◌, ◌⊎◌, inl, inr, Bool, true, false, cond, List, [], ◌∷◌, ◌++◌, map, length, append_assoc, Ok}
+use Rattle.std.specs.Prelude.{flat_map, nat_lt, ◌/◌, ◌%◌, ◌==◌}
 use Rattle.std.specs.List.{list_all}
-use Rattle.std.proofs.lemmas.Bool.{and_parts, and_from, ltb-true, eq-eqb}
-use Rattle.std.proofs.lemmas.List.{append-nil, map-append}
+use Rattle.std.proofs.lemmas.Bool.{and_parts, and_from, eq-eqb}
+use Rattle.std.proofs.lemmas.List.{map-append}
 use Rattle.std.proofs.lemmas.List.Sums.{fold-append}
 use Rattle.cell_num.specs.Lists.{each_pair}
-use Rattle.cell_object.specs.declared.object.Object.{Object}
 use Rattle.cell_object.specs.declared.object.Section.{Section as ObjectSection}
 use Rattle.cell_object.specs.Sound.{IsSoundObject}
 use Rattle.cell_world.specs.World.{World, Cell, Region}
 use Rattle.cell_world.specs.Relink.{Class, Text, ReadOnly, Writable, sections_in, image_of, laid_out, permission_of}
-use Rattle.cell_world.specs.Place.{Placing, Starts, places_in, start_in, with_region, with_run, with_places, start_of_run, place_sections, place_class, place_cell, place_all}
+use Rattle.cell_world.specs.Place.{Placing, Starts, places_in, start_in, with_region, with_run, with_places, start_of_run, place_sections, place_cell, place_all}
 use Rattle.cell_world.specs.Coherent.{Shape, shape_of, with_shape, class_shape, is_in_space, is_placed}
 use Rattle.cell_coherent.proofs.Elements.{In, all-In, In-append, In-right}
 use Rattle.cell_coherent.proofs.Outcomes.{bind_ok}
 use Rattle.cell_coherent.proofs.Appended.{ok_same}
-use Rattle.cell_coherent.proofs.Places.{Spaced, RunAt, Disjoint, run_ok, run_disjoint, whole_region, image_pages, shape_inserted}
+use Rattle.cell_coherent.proofs.Places.{Spaced, Disjoint, run_ok, run_disjoint, whole_region, image_pages, shape_inserted}
 use Rattle.cell_coherent.proofs.PlacedAll.{Put, Placed, CellRuns, cell_runs, class_placed, cell_placed}
-use Rattle.cell_coherent.proofs.Renamed.{bare, pairs_bare}
+use Rattle.cell_coherent.proofs.Renamed.{pairs_bare}
 use Rattle.cell_coherent.proofs.FieldsInside.{classes}
 use Rattle.cell_coherent.proofs.OwnPlaces.{shape_at, shape_is, placed_by_rule}
 

@@ -1,11 +1,10 @@
 -- A cell whose sections have their places by the starts of its classes stands by the rule of places.
 use Rattle.std.proofs.Common.{◌≡◌, refl, sym, ◌∙◌, ap, subst, arith, ℕ, zero, suc, ◌+◌, ◌-◌, ◌⊎◌, inl, inr, Bool, true, false, cond, not, ◌&&◌, List, [], ◌∷◌, map, length, true≢false, Option, Some, None}
 use Rattle.std.specs.Prelude.{◌%◌, ◌==◌, max, find, option_map, unwrap_or, nat_lt}
-use Rattle.std.specs.List.{list_all}
 use Rattle.std.proofs.Math.Nat.{mod_self}
-use Rattle.std.proofs.lemmas.Bool.{and_from, cases_Bool, eqb-true, eq-eqb, ltb-true}
+use Rattle.std.proofs.lemmas.Bool.{and_from, eqb-true, eq-eqb, ltb-true}
 use Rattle.std.proofs.lemmas.Slice.Eq.{bytes_eq-Decides}
-use Rattle.cell_num.specs.Lists.{equals, first}
+use Rattle.cell_num.specs.Lists.{first}
 use Rattle.cell_object.specs.declared.object.Object.{Object}
 use Rattle.cell_object.specs.declared.object.Section.{Section as ObjectSection}
 use Rattle.cell_object.specs.Sound.{IsSoundObject}
@@ -107,9 +106,9 @@ module _ (c : Cell) (starts : Starts) (sound : IsSoundObject c.object) (by : c.p
     where
       go : (ss : List ObjectSection) → sections_in class c.object ≡ ss
           → elim (option_map (λ (x : ObjectSection). start_of c.placed x.number) (first ss)) as (λ _. List Shape) [
-              | None ↦ []
-              | Some start ↦ record { start = start; permission = permission_of class; size = length (image_of (sections_in class c.object)) } ∷ []
-            ] ≡ shape_at class (start_in starts class) ss
+            | None ↦ []
+            | Some start ↦ record { start = start; permission = permission_of class; size = length (image_of (sections_in class c.object)) } ∷ []
+          ] ≡ shape_at class (start_in starts class) ss
       go [] e = refl
       go (t ∷ rest) e =
           ap (λ (n : ℕ). record { start = n; permission = permission_of class; size = length (image_of (sections_in class c.object)) } ∷ []) (first_start class t rest e)

@@ -11,6 +11,7 @@ use Rattle.cell_world.specs.Memory.{covers}
 use Rattle.cell_world.specs.Pages.{is_free, is_free_run, lowest_run, longest_run}
 use Rattle.cell_world.specs.Place.{is_taken, page_table, with_region, start_of_run}
 use Rattle.cell_world.specs.Coherent.{Shape, shape_of, with_shape, is_in_space, ends_before}
+use Rattle.cell_coherent.specs.Clear.{IsClear}
 use Rattle.cell_coherent.proofs.Elements.{In, all-In, In-all, none-In, found-In}
 use Rattle.cell_coherent.proofs.Appended.{ok_same}
 use Rattle.cell_world.specs.Outcome.{Outcome}
@@ -120,46 +121,73 @@ free_below table q h = go (cases_lt q (length table))
     go (inl l) = l
     go (inr l) = absurd (true≢false (sym (subst (λ b. not b ≡ true) (get_or_past table q true l) h)))
 
+-- the lowest free run is in the table and free
+pub record FreeAt (w : World) (n page : ℕ) : Type 0 where
+  pub room : page + n ≤ w.pages
+  pub free : is_free_run (page_table w) page n ≡ true
+
+pub run_at : (w : World) (n page : ℕ) → 0 < n → lowest_run (page_table w) n ≡ Some page → FreeAt w n page
+run_at w n page l h =
+    let f : In page (upto (length (page_table w))) × (is_free_run (page_table w) page n ≡ true) = found-In (λ page. is_free_run (page_table w) page n) (upto (length (page_table w))) page h in
+    let b : page + n - 1 < length (page_table w) = free_below (page_table w) (page + n - 1) (all-In (is_free (page_table w)) (from_on page n) f.1 (page + n - 1) (In-from n page (page + n - 1) (omega (arith, l)) (omega (arith, l)))) in
+    record { room = omega (arith, l, b, table_length w); free = f.1 }
+
 pub run_ok : (w : World) (n start : ℕ) → 0 < n → start_of_run w n ≡ Ok start → RunAt w n start
 run_ok w n start l h = go (lowest_run (page_table w) n) refl h
   where
     go : (o : Option ℕ) → lowest_run (page_table w) n ≡ o
         → elim o as (λ _. Outcome ℕ) [ None ↦ Err (Exhausted n (longest_run (page_table w))) | Some page ↦ Ok (w.base + 4096 * page) ] ≡ Ok start → RunAt w n start
     go None e k = cc
-    go (Some page) e k =
-        let f : In page (upto (length (page_table w))) × (is_free_run (page_table w) page n ≡ true) = found-In (λ page. is_free_run (page_table w) page n) (upto (length (page_table w))) page e in
-        let b : page + n - 1 < length (page_table w) = free_below (page_table w) (page + n - 1) (all-In (is_free (page_table w)) (from_on page n) f.1 (page + n - 1) (In-from n page (page + n - 1) (omega (arith, l)) (omega (arith, l)))) in
-        record { page = page; is = ok_same _ start k; room = omega (arith, l, b, table_length w); free = f.1 }
+    go (Some page) e k = let f : FreeAt w n page = run_at w n page l e in record { page = page; is = ok_same _ start k; room = f.room; free = f.free }
+
+pub taken_at : (w : World) (q : ℕ) → q < w.pages → slice_index_or (page_table w) q true ≡ is_taken w q
+taken_at w q l = index_from (is_taken w) w.pages 0 q l ∙ ap (is_taken w) (omega arith)
 
 -- no region covers a page of a free run
-pub page_free : (w : World) (page n : ℕ) → page + n ≤ w.pages → is_free_run (page_table w) page n ≡ true → (q : ℕ) → page ≤ q → q < page + n → is_taken w q ≡ false
+page_free : (w : World) (page n : ℕ) → page + n ≤ w.pages → is_free_run (page_table w) page n ≡ true → (q : ℕ) → page ≤ q → q < page + n → is_taken w q ≡ false
 page_free w page n room h q a b =
-    ap (is_taken w) (omega arith)
-    ∙ (sym (index_from (is_taken w) w.pages 0 q (omega (arith, room, b)))
-    ∙ not_true (slice_index_or (page_table w) q true) (all-In (is_free (page_table w)) (from_on page n) h q (In-from n page q a b)))
+    sym (taken_at w q (omega (arith, room, b)))
+    ∙ not_true (slice_index_or (page_table w) q true) (all-In (is_free (page_table w)) (from_on page n) h q (In-from n page q a b))
 
 -- whole pages of the space
 abbrev pub Whole : ℕ → Region → Type 0
 Whole base s = (base ≤ s.start) × ((s.start - base) % 4096 ≡ 0) × (0 < length s.bytes) × (length s.bytes % 4096 ≡ 0)
 
+-- a region of whole pages has no byte of a free run
+pub free_clear : (w : World) (page n : ℕ) → page + n ≤ w.pages → is_free_run (page_table w) page n ≡ true → 0 < n → (s : Region) → In s w.regions → Whole w.base s → IsClear (w.base + 4096 * page) (4096 * n) s
+free_clear w page n room free l s k h = go (cases_lt first (page + n)) (cases_lt page (first + count)) (cases_lt page first)
+  where
+    first : ℕ
+    first = (s.start - w.base) / 4096
+
+    count : ℕ
+    count = length s.bytes / 4096
+
+    start : s.start ≡ w.base + 4096 * ((s.start - w.base) / 4096)
+    start = omega (arith, h.0, h.1)
+
+    size : length s.bytes ≡ 4096 * (length s.bytes / 4096)
+    size = omega (arith, h.3)
+
+    clash : (q : ℕ) → page ≤ q → q < page + n → s.start ≤ w.base + 4096 * q → w.base + 4096 * q < s.start + length s.bytes → ⊥
+    clash q a b c d =
+        true≢false (sym (and_from (nat_le s.start (w.base + 4096 * q)) (nat_lt (w.base + 4096 * q) (s.start + length s.bytes)) (le-leb s.start (w.base + 4096 * q) c) (lt-ltb (w.base + 4096 * q) (s.start + length s.bytes) d))
+        ∙ none-In (λ r. covers r (w.base + 4096 * q)) w.regions (page_free w page n room free q a b) s k)
+
+    go : (first < page + n) ⊎ (page + n ≤ first) → (page < first + count) ⊎ (first + count ≤ page) → (page < first) ⊎ (first ≤ page) → IsClear (w.base + 4096 * page) (4096 * n) s
+    go (inr a) b c = inl (omega (arith, start, a))
+    go (inl a) (inr b) c = inr (omega (arith, start, size, b))
+    go (inl a) (inl b) (inl c) = absurd (clash first (omega (arith, c)) a (omega (arith, start)) (omega (arith, start, h.2)))
+    go (inl a) (inl b) (inr c) = absurd (clash page (omega arith) (omega (arith, l)) (omega (arith, start, c)) (omega (arith, start, size, b)))
+
 -- the new region is disjoint from those that are there
 pub run_disjoint : (w : World) (r : Region) → RunAt w (length r.bytes / 4096) r.start → 0 < length r.bytes → length r.bytes % 4096 ≡ 0
     → (s : Region) → In s w.regions → Whole w.base s → Disjoint r s
-run_disjoint w r at l m s k h =
-    go (cases_lt ((s.start - w.base) / 4096) (at.page + length r.bytes / 4096)) (cases_lt at.page ((s.start - w.base) / 4096 + length s.bytes / 4096)) (cases_lt at.page ((s.start - w.base) / 4096))
+run_disjoint w r at l m s k h = go (free_clear w at.page (length r.bytes / 4096) at.room at.free (omega (arith, l, m)) s k h)
   where
-    clash : (q : ℕ) → at.page ≤ q → q < at.page + length r.bytes / 4096 → s.start ≤ w.base + 4096 * q → w.base + 4096 * q < s.start + length s.bytes → ⊥
-    clash q a b c d =
-        true≢false (sym (and_from (nat_le s.start (w.base + 4096 * q)) (nat_lt (w.base + 4096 * q) (s.start + length s.bytes)) (le-leb s.start (w.base + 4096 * q) c) (lt-ltb (w.base + 4096 * q) (s.start + length s.bytes) d))
-        ∙ none-In (λ r. covers r (w.base + 4096 * q)) w.regions (page_free w at.page (length r.bytes / 4096) at.room at.free q a b) s k)
-
-    go : ((s.start - w.base) / 4096 < at.page + length r.bytes / 4096) ⊎ (at.page + length r.bytes / 4096 ≤ (s.start - w.base) / 4096)
-        → (at.page < (s.start - w.base) / 4096 + length s.bytes / 4096) ⊎ ((s.start - w.base) / 4096 + length s.bytes / 4096 ≤ at.page)
-        → (at.page < (s.start - w.base) / 4096) ⊎ ((s.start - w.base) / 4096 ≤ at.page) → Disjoint r s
-    go (inr a) b c = inl (omega (arith, at.is, h.0, h.1, a, l, m))
-    go (inl a) (inr b) c = inr (omega (arith, at.is, h.0, h.1, h.3, b))
-    go (inl a) (inl b) (inl c) = absurd (clash ((s.start - w.base) / 4096) (omega (arith, c)) a (omega (arith, h.0, h.1)) (omega (arith, h.0, h.1, h.2)))
-    go (inl a) (inl b) (inr c) = absurd (clash at.page (omega arith) (omega (arith, l, m)) (omega (arith, h.0, h.1, c)) (omega (arith, h.0, h.1, h.3, b)))
+    go : IsClear (w.base + 4096 * at.page) (4096 * (length r.bytes / 4096)) s → Disjoint r s
+    go (inl e) = inl (omega (arith, at.is, e, m))
+    go (inr e) = inr (omega (arith, at.is, e))
 
 -- an image is whole pages, at least one
 pub image_pages : (bytes : List ℕ) → (0 < length (to_pages bytes)) × (length (to_pages bytes) % 4096 ≡ 0)

@@ -1,12 +1,12 @@
 -- A world that is coherent but for its code and links is coherent once it is relinked.
-use Rattle.std.proofs.Common.{◌≡◌, refl, sym, ◌∙◌, ap, ◌+◌, ◌-◌, ◌*◌, Bool, ◌&&◌, List, [], ◌∷◌, map}
+use Rattle.std.proofs.Common.{◌≡◌, sym, ◌∙◌, ap, ◌+◌, ◌-◌, ◌*◌, Bool, ◌&&◌, map}
 use Rattle.std.specs.Prelude.{nat_lt, nat_le, ◌%◌, ◌==◌}
 use Rattle.std.specs.List.{list_all}
 use Rattle.std.proofs.lemmas.List.Folds.{list_all-map}
 use Rattle.cell_num.specs.Lists.{each_pair}
-use Rattle.cell_world.specs.World.{World, Region}
+use Rattle.cell_world.specs.World.{World}
 use Rattle.cell_world.specs.Relink.{relink}
-use Rattle.cell_world.specs.Coherent.{IsReady, IsCoherent, Shape, shape_of, ends_before}
+use Rattle.cell_world.specs.Coherent.{IsReady, IsCoherent, Shape, shape_of}
 use Rattle.cell_coherent.proofs.Elements.{pairs-map}
 use Rattle.cell_coherent.proofs.Relinked.{relink_twice}
 use Rattle.cell_coherent.proofs.Reshaped.{shapes_relinked}
