@@ -116,6 +116,16 @@ module _ {X : Type 0} where
   filter_none p [] f = refl
   filter_none p (y ∷ ys) f = ap (λ b. cond b (y ∷ filter p ys) (filter p ys)) (f y (inl refl)) ∙ filter_none p ys (λ x k. f x (inr k))
 
+  -- what passes is found, be it the one or another
+  pub find_there : (p : X → Bool) (xs : List X) (x : X) → In x xs → p x ≡ true → (y : X) × (find p xs ≡ Some y)
+  find_there p [] x h t = absurd h
+  find_there p (y ∷ ys) x h t = go (p y) refl h (find_there p ys x)
+    where
+      go : (b : Bool) → p y ≡ b → (x ≡ y) ⊎ In x ys → (In x ys → p x ≡ true → (z : X) × (find p ys ≡ Some z)) → (z : X) × (cond b (Some y) (find p ys) ≡ Some z)
+      go true e k f = (y, refl)
+      go false e (inl k) f = absurd (true≢false (sym t ∙ (ap p k ∙ e)))
+      go false e (inr k) f = f k t
+
   pub any-In : (p : X → Bool) (xs : List X) (x : X) → In x xs → p x ≡ true → list_any p xs ≡ true
   any-In p [] x h t = absurd h
   any-In p (y ∷ ys) x (inl e) t = or_left (p y) (list_any p ys) (subst (λ v. p v ≡ true) e t)

@@ -25,3 +25,6 @@ pub mod Ready
 pub mod LoadCoherent
 pub mod NextCoherent
 pub mod Tables
+pub mod Present
+pub mod Inside
+pub mod InSpace

@@ -4,18 +4,22 @@
 ghost use Rattle.std.specs.Prelude.{ℕ, ◌≡◌, ◌+◌, ◌*◌, ◌<◌, ◌≤◌, IsTrue, List, All, true, Some, Ok, length};
 ghost use Rattle.std.specs.List.{list_all};
 ghost use Rattle.cell_num.specs.Lists.{each_pair};
+ghost use Rattle.cell_num.specs.Kinds.{width_of};
 ghost use Rattle.cell_object.specs.declared.object.Object.{Object};
 ghost use Rattle.cell_world.specs.declared.command.Command.{Command};
 ghost use Rattle.cell_world.specs.Answer.{Done};
 ghost use Rattle.cell_world.specs.Coherent.{AreSound, IsCoherent, IsReady, ends_before, is_in_space};
+ghost use Rattle.cell_world.specs.Field.{place_of};
 ghost use Rattle.cell_world.specs.Gather.{Source};
 ghost use Rattle.cell_world.specs.LoadCommand.{next_load};
 ghost use Rattle.cell_world.specs.Next.{next};
 ghost use Rattle.cell_world.specs.Pages.{IsSpace, filled, lowest_run};
 ghost use Rattle.cell_world.specs.Place.{Placing, page_table, place_class, with_region};
 ghost use Rattle.cell_world.specs.Relink.{Class, relink};
+ghost use Rattle.cell_world.specs.Target.{start_of};
 ghost use Rattle.cell_world.specs.World.{Region, World, empty_world};
 ghost use Rattle.cell_coherent.specs.Clear.{IsClear};
+ghost use Rattle.cell_coherent.specs.Present.{IsInside, JoinsPresent, NamesPresent};
 
 /// The machine is coherent before the first command.
 pub fn empty_is_coherent()
@@ -40,6 +44,22 @@ pub fn relinked_is_coherent()
 /// Relinking twice is relinking once.
 pub fn relink_twice_is_once()
     ensures { (w : World) → IsReady w → relink (relink w) ≡ relink w }
+{}
+
+/// Each entry of a present cell names a number, or a place in a section of a present cell.
+pub fn entries_name_present()
+    ensures { (w : World) → IsReady w → All (λ c. All (NamesPresent w c) c.object.entries) w.cells }
+{}
+
+/// Each link is from a section of a present cell to a section of a present cell.
+pub fn links_join_present()
+    ensures { (w : World) → IsCoherent w → All (JoinsPresent w) w.links }
+{}
+
+/// Each section and each field of a present cell lies in one region.
+pub fn cells_lie_in_regions()
+    ensures sections { (w : World) → IsReady w → All (λ c. All (λ s. 0 < s.size → IsInside w (start_of c.placed s.number) s.size) c.object.sections) w.cells }
+    ensures fields { (w : World) → IsReady w → All (λ c. All (λ e. IsInside w (place_of c.placed e) (width_of e.kind)) c.object.entries) w.cells }
 {}
 
 /// A region of n whole pages from a page on takes these pages of the table, and no others change.
