@@ -1,6 +1,6 @@
 -- An accepted load keeps the machine coherent.
 use Rattle.std.proofs.Common.{◌≡◌, refl, sym, ◌∙◌, ap, subst, arith, ℕ, ◌⊎◌, inl, inr, true, false, List, ◌++◌, map, None, Ok}
-use Rattle.std.specs.Prelude.{filter, nat_lt, nat_le}
+use Rattle.std.specs.Prelude.{filter, flat_map, nat_lt, nat_le}
 use Rattle.std.specs.List.{list_all}
 use Rattle.std.proofs.lemmas.Bool.{ltb-true, leb-true, cases_Bool}
 use Rattle.std.proofs.lemmas.List.Elements.{filter-append}
@@ -12,14 +12,15 @@ use Rattle.cell_world.specs.Fit.{first_misfit}
 use Rattle.cell_world.specs.Answer.{Done}
 use Rattle.cell_world.specs.LoadCommand.{next_load}
 use Rattle.cell_world.specs.Coherent.{AreSound, IsReady, IsCoherent, is_known_cell}
+use Rattle.cell_coherent.specs.Linkable.{IsLinkable}
 use Rattle.cell_coherent.proofs.Elements.{In, all-In, In-right, filter_all, filter_none}
 use Rattle.cell_coherent.proofs.Known.{known_parts, object_sound}
 use Rattle.cell_coherent.proofs.Gathered.{Ranks}
 use Rattle.cell_coherent.proofs.Places.{Spaced}
 use Rattle.cell_coherent.proofs.Renamed.{bare}
 use Rattle.cell_coherent.proofs.PlacedAll.{Placed, all_placed}
-use Rattle.cell_coherent.proofs.NewPlaced.{AllPlaced, new_placed}
-use Rattle.cell_coherent.proofs.Ready.{grown, LimitParts, limit_parts, ready_after}
+use Rattle.cell_coherent.proofs.NewPlaced.{Adds, AllPlaced, new_placed, shapes_of}
+use Rattle.cell_coherent.proofs.Ready.{grown, LimitParts, limit_parts, linkable_after, ready_after}
 use Rattle.cell_coherent.proofs.Loaded.{Loaded, load_ok}
 use Rattle.cell_coherent.proofs.Relinks.{coherent_relinked}
 
@@ -52,26 +53,37 @@ module _ (v : World) (ready : IsReady v) (new : List Cell) (next : ℕ) where
       ∙ (ap (λ (cs : List Cell). cs ++ filter (λ c. nat_le v.next_cell c.id.0) new) (filter_none (λ c. nat_le v.next_cell c.id.0) v.cells old_number)
       ∙ filter_all (λ c. nat_le v.next_cell c.id.0) new (all-In (λ c. nat_le v.next_cell c.id.0) new fresh))
 
-  -- placed, the new cells leave the machine ready to be linked
-  pub placed_ready : (w : World) → Ranks gathered → list_all (λ c. is_attached c.standing) new ≡ true → list_all (λ c. nat_le v.next_cell c.id.0) new ≡ true
-      → first_lack gathered new ≡ None → place_all gathered new ≡ Ok w → first_misfit w (fresh_cells v.next_cell w) ≡ None → IsReady w
-  placed_ready w ranks attached fresh lacks h fit =
-      subst IsReady is
-      (ready_after v ready new all.new next w.regions ranks attached fresh lacks (subst Spaced (sym is) rest.spaced)
-      (ap (map bare) (sym all.cells) ∙ rest.cells) all.placed (record { shapes = all.adds.shapes; apart = all.adds.apart; stay = all.adds.stay })
-      (subst (λ (u : World). first_misfit u (fresh_cells v.next_cell u) ≡ None) (sym is) fit))
-    where
-      spaced : Spaced gathered
-      spaced = record { in_space = ready.in_space; apart = ready.apart }
+  module _ (w : World) (ranks : Ranks gathered) (attached : list_all (λ c. is_attached c.standing) new ≡ true) (fresh : list_all (λ c. nat_le v.next_cell c.id.0) new ≡ true) (lacks : first_lack gathered new ≡ None)
+      (h : place_all gathered new ≡ Ok w) where
+    spaced : Spaced gathered
+    spaced = record { in_space = ready.in_space; apart = ready.apart }
 
-      rest : Placed gathered w
-      rest = all_placed gathered new w spaced h
+    rest : Placed gathered w
+    rest = all_placed gathered new w spaced h
 
-      all : AllPlaced gathered v.cells w
-      all = new_placed new v.cells gathered w (λ c k. object_sound gathered ranks.objects c (In-right v.cells new c k)) refl ranks.order spaced h
+    all : AllPlaced gathered v.cells w
+    all = new_placed new v.cells gathered w (λ c k. object_sound gathered ranks.objects c (In-right v.cells new c k)) refl ranks.order spaced h
 
-      is : grown v (v.cells ++ all.new) next w.regions ≡ w
-      is = sym (ap (λ (u : World). record u { cells = w.cells; regions = w.regions }) rest.rest ∙ ap (λ (cs : List Cell). grown v cs next w.regions) all.cells)
+    is : grown v (v.cells ++ all.new) next w.regions ≡ w
+    is = sym (ap (λ (u : World). record u { cells = w.cells; regions = w.regions }) rest.rest ∙ ap (λ (cs : List Cell). grown v cs next w.regions) all.cells)
+
+    adds : Adds v (grown v (v.cells ++ all.new) next w.regions) (flat_map shapes_of all.new)
+    adds = record { shapes = all.adds.shapes; apart = all.adds.apart; stay = all.adds.stay }
+
+    -- placed, the new cells leave the machine such that it can be linked
+    pub placed_linkable : IsLinkable w
+    placed_linkable =
+        subst IsLinkable is
+        (linkable_after v ready new all.new next w.regions ranks attached fresh lacks (subst Spaced (sym is) rest.spaced)
+        (ap (map bare) (sym all.cells) ∙ rest.cells) all.placed adds)
+
+    -- and ready for it, where each entry fits
+    pub placed_ready : first_misfit w (fresh_cells v.next_cell w) ≡ None → IsReady w
+    placed_ready fit =
+        subst IsReady is
+        (ready_after v ready new all.new next w.regions ranks attached fresh lacks (subst Spaced (sym is) rest.spaced)
+        (ap (map bare) (sym all.cells) ∙ rest.cells) all.placed adds
+        (subst (λ (u : World). first_misfit u (fresh_cells v.next_cell u) ≡ None) (sym is) fit))
 
 pub load_ready : (v after : World) → IsReady v → Loaded v after → (w : World) × IsReady w × (relink w ≡ after)
 load_ready v after ready l = (l.world, placed_ready v ready l.extends.new l.extends.next l.world (subst Ranks back l.ranks) l.extends.attached l.extends.fresh lacks places l.fit, l.is)

@@ -19,6 +19,7 @@ use Rattle.cell_world.specs.Names.{Provider, provider_of}
 use Rattle.cell_world.specs.Target.{start_of, own_target, provided_target, symbol_target, numbered_target, naming_entry, target_of}
 use Rattle.cell_world.specs.Relink.{link_to, link_of, links_of}
 use Rattle.cell_world.specs.Coherent.{IsReady, IsCoherent, IsLoadable, is_known_cell, is_supplied}
+use Rattle.cell_coherent.specs.Linkable.{IsLinkable}
 use Rattle.cell_coherent.specs.Present.{HasSection, IsInSection, IsThere, NamesPresent, JoinsPresent}
 use Rattle.cell_coherent.proofs.Elements.{In, Has, all-In, found-In, get-In, In-All, In-flat_map, In-numbered}
 use Rattle.cell_coherent.proofs.Known.{object_sound}
@@ -121,7 +122,7 @@ module _ (w : World) (order : each_pair (λ a b. nat_lt a.id.0 b.id.0) w.cells �
 pub links_present : (w : World) → IsCoherent w → All (JoinsPresent w) w.links
 links_present w c = subst (λ (ls : List LinkRow). All (JoinsPresent w) ls) (ap (λ (u : World). u.links) c.linked) (links_join w c.ready.cell_order c.ready.objects)
 
-pub targets_present : (w : World) → IsReady w → All (λ c. All (NamesPresent w c) c.object.entries) w.cells
+pub targets_present : (w : World) → IsLinkable w → All (λ c. All (NamesPresent w c) c.object.entries) w.cells
 targets_present w r = In-All (λ (c : Cell). All (NamesPresent w c) c.object.entries) w.cells (λ c k. In-All (NamesPresent w c) c.object.entries (λ e i. names c k e i))
   where
     names : (c : Cell) → In c w.cells → (e : Entry) → In e c.object.entries → NamesPresent w c e

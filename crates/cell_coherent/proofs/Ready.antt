@@ -11,6 +11,7 @@ use Rattle.cell_world.specs.Names.{needs_of, provider_of}
 use Rattle.cell_world.specs.Gather.{first_lack, fresh_cells}
 use Rattle.cell_world.specs.Fit.{first_misfit}
 use Rattle.cell_world.specs.Coherent.{IsReady, IsLoadable, Shape, shape_of, with_shape, stack_shape, wanted_shapes, may_both_stand, has_each_name_once, is_placed, is_supplied, is_fitting, is_known_cell, is_sound_task, are_limits_kept}
+use Rattle.cell_coherent.specs.Linkable.{IsLinkable}
 use Rattle.cell_coherent.proofs.Elements.{In, Has, all-In, In-all, All-In, In-All, In-append, In-right, In-map, filter-In, some_has}
 use Rattle.cell_coherent.proofs.Attach.{Grows, cell_grown}
 use Rattle.cell_coherent.proofs.Supplied.{still_supplied, still_fitting, none_lacking}
@@ -83,7 +84,6 @@ module _ (v : World) (ready : IsReady v) (new placed : List Cell) (next : ℕ) (
     (same : map bare (v.cells ++ placed) ≡ map bare (v.cells ++ new))
     (by_rule : list_all is_placed placed ≡ true)
     (adds : Adds v (grown v (v.cells ++ placed) next regions) (flat_map shapes_of placed))
-    (fits : first_misfit (grown v (v.cells ++ placed) next regions) (fresh_cells v.next_cell (grown v (v.cells ++ placed) next regions)) ≡ None)
   where
     abbrev bare_world : World
     bare_world = grown v (v.cells ++ new) next v.regions
@@ -167,23 +167,36 @@ module _ (v : World) (ready : IsReady v) (new placed : List Cell) (next : ℕ) (
           highest = l.highest;
         })
 
-    pub ready_after : IsReady after
-    ready_after = record {
-      names = pairs_bare (may_both_stand after) (λ a b. refl) after.cells bare_world.cells same ranks.names;
-      own_names = all_bare has_each_name_once (λ c. refl) after.cells bare_world.cells same ranks.own_names;
+    -- all that linking asks for
+    pub linkable_after : IsLinkable after
+    linkable_after = record {
       regions = regions_wanted;
       in_space = spaced.in_space;
       apart = spaced.apart;
       placed = In-all is_placed after.cells (old_or_new (λ c. is_placed c ≡ true) (all-In is_placed v.cells ready.placed) (all-In is_placed placed by_rule));
       supplied = In-all (is_supplied after) after.cells (old_or_new (λ c. is_supplied after c ≡ true) (λ c k. still_supplied v after grows ready.cell_order ready.cells ready.objects ready.supplied c k) new_supplied);
+      cell_order = pairs_bare (λ a b. nat_lt a.id.0 b.id.0) (λ a b. refl) after.cells bare_world.cells same ranks.order;
+      cells = all_bare (is_known_cell after) (λ c. refl) after.cells bare_world.cells same ranks.known;
+      objects = objects_after;
+    }
+
+    pub ready_after : first_misfit after (fresh_cells v.next_cell after) ≡ None → IsReady after
+    ready_after fits = record {
+      names = pairs_bare (may_both_stand after) (λ a b. refl) after.cells bare_world.cells same ranks.names;
+      own_names = all_bare has_each_name_once (λ c. refl) after.cells bare_world.cells same ranks.own_names;
+      regions = linkable_after.regions;
+      in_space = linkable_after.in_space;
+      apart = linkable_after.apart;
+      placed = linkable_after.placed;
+      supplied = linkable_after.supplied;
       fitting = In-all (is_fitting after) after.cells (old_or_new (λ c. is_fitting after c ≡ true)
           (λ c k. still_fitting v after grows ready.cell_order ready.cells ready.objects ready.supplied c k (all-In (is_fitting v) v.cells ready.fitting c k))
           (λ c k. new_fits after (fresh_cells v.next_cell after) fits c (new_is_fresh c k)));
       spaces = ready.spaces;
       space_names = ready.space_names;
-      cell_order = pairs_bare (λ a b. nat_lt a.id.0 b.id.0) (λ a b. refl) after.cells bare_world.cells same ranks.order;
-      cells = all_bare (is_known_cell after) (λ c. refl) after.cells bare_world.cells same ranks.known;
-      objects = objects_after;
+      cell_order = linkable_after.cell_order;
+      cells = linkable_after.cells;
+      objects = linkable_after.objects;
       task_order = ready.task_order;
       tasks = In-all (is_sound_task after) v.tasks (λ t k. task_still t (all-In (is_sound_task v) v.tasks ready.tasks t k));
       limits = limits_after;
