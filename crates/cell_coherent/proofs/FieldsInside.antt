@@ -28,7 +28,7 @@ length-bytes_of : (k n : ℕ) → length (bytes_of k n) ≡ k
 length-bytes_of zero n = refl
 length-bytes_of (suc k) n = ap suc (length-bytes_of k (n / 256))
 
-In-with_shape : (s x : Shape) (xs : List Shape) → (x ≡ s) ⊎ In x xs → In x (with_shape s xs)
+pub In-with_shape : (s x : Shape) (xs : List Shape) → (x ≡ s) ⊎ In x xs → In x (with_shape s xs)
 In-with_shape s x [] h = h
 In-with_shape s x (t ∷ xs) h = go (nat_lt s.start t.start) h (In-with_shape s x xs)
   where
@@ -110,7 +110,7 @@ class_In s = go s.exec refl s.write refl
 abbrev pub classes : List Class
 classes = Text ∷ ReadOnly ∷ Writable ∷ []
 
-class-In : (class : Class) → In class classes
+pub class-In : (class : Class) → In class classes
 class-In Text = inl refl
 class-In ReadOnly = inr (inl refl)
 class-In Writable = inr (inr (inl refl))

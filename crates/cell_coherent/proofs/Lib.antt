@@ -25,3 +25,4 @@ pub mod Ready
 pub mod LoadCoherent
 pub mod NextCoherent
 pub mod Tables
+pub mod Distinct
