@@ -45,7 +45,7 @@ In-fold_shape (s ∷ xs) acc x (inl h) = In-fold_shape xs (with_shape s acc) x (
 In-fold_shape (s ∷ xs) acc x (inr (inl e)) = In-fold_shape xs (with_shape s acc) x (inl (In-with_shape s x acc (inl e)))
 In-fold_shape (s ∷ xs) acc x (inr (inr h)) = In-fold_shape xs (with_shape s acc) x (inr h)
 
-among-In : (entries seen : List Entry) (f : Entry) → In f (fields_among seen entries) → In f entries
+pub among-In : (entries seen : List Entry) (f : Entry) → In f (fields_among seen entries) → In f entries
 among-In [] seen f h = absurd h
 among-In (e ∷ entries) seen f h = go (list_any (is_at e) seen) h (among-In entries seen f) (among-In entries (e ∷ seen) f)
   where

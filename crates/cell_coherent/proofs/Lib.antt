@@ -26,3 +26,7 @@ pub mod LoadCoherent
 pub mod NextCoherent
 pub mod Tables
 pub mod Distinct
+pub mod OldRegions
+pub mod OwnRegions
+pub mod FreshLinks
+pub mod After

@@ -2,20 +2,27 @@
 --     In x xs              the element is in the list
 --     IsOwn new r          the region is that of a class of one of the new cells, with the class's own bytes
 --     IsGrown v w new      w is v with the new cells after its own, in regions of their own
-use Rattle.std.specs.Prelude.{ℕ, ◌≡◌, ◌⊎◌, IsTrue, List, [], ◌∷◌, ◌++◌, Some}
+--     with_fields w new r  the region with what linking writes for the new cells
+--     links_from w new     one link for each entry of the new cells whose target is a section
+use Rattle.std.specs.Prelude.{ℕ, ◌≡◌, ◌⊎◌, IsTrue, List, [], ◌∷◌, ◌++◌, Some, filter_map, flat_map, fold}
 use Rattle.std.specs.List.{list_all}
+use Rattle.cell_num.specs.Lists.{numbered}
+use Rattle.cell_world.specs.declared.state.LinkRow.{LinkRow}
 use Rattle.cell_world.specs.World.{World, Cell, Region, is_attached}
-use Rattle.cell_world.specs.Relink.{Class, class_start, permission_of, sections_in, image_of}
+use Rattle.cell_world.specs.Relink.{Class, class_start, permission_of, sections_in, image_of, patched, patches_of, link_of}
 
 -- x is an element of the list
 abbrev pub In : {X : Type 0} → X → List X → Type 0
 In x [] = ⊥
 In x (y ∷ ys) = (x ≡ y) ⊎ In x ys
 
-abbrev pub IsOwn : List Cell → Region → Type 0
-IsOwn new r =
-    (c : Cell) × In c new × (class : Class) × (start : ℕ) × (class_start c class ≡ Some start)
-    × (r ≡ record { start = start; permission = permission_of class; bytes = image_of (sections_in class c.object) })
+pub record IsOwn (new : List Cell) (r : Region) : Type 0 where
+  pub cell : Cell
+  pub new_cell : In cell new
+  pub class : Class
+  pub start : class_start cell class ≡ Some r.start
+  pub permission : r.permission ≡ permission_of class
+  pub bytes : r.bytes ≡ image_of (sections_in class cell.object)
 
 pub record IsGrown (v w : World) (new : List Cell) : Type 0 where
   pub cells : w.cells ≡ v.cells ++ new
@@ -25,3 +32,9 @@ pub record IsGrown (v w : World) (new : List Cell) : Type 0 where
   pub old : (r : Region) → In r v.regions → In r w.regions
   pub regions : (r : Region) → In r w.regions → In r v.regions ⊎ IsOwn new r
   pub starts : (c : Cell) → In c new → (class : Class) (start : ℕ) → class_start c class ≡ Some start → (r : Region) → In r v.regions → start ≡ r.start → ⊥
+
+abbrev pub with_fields : World → List Cell → Region → Region
+with_fields w new r = fold patched r (flat_map (patches_of w) new)
+
+abbrev pub links_from : World → List Cell → List LinkRow
+links_from w new = flat_map (λ c. filter_map (link_of w c) (numbered c.object.entries)) new
