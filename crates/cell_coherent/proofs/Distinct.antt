@@ -1,12 +1,12 @@
 -- The classes of all cells start at different places, where the regions are theirs and stand apart.
-use Rattle.std.proofs.Common.{◌≡◌, refl, sym, ◌∙◌, ap, subst, arith, ℕ, ◌+◌, ◌<◌, ◌⊎◌, inl, inr, Bool, true, false, cond, not, ◌&&◌, List, [], ◌∷◌, ◌++◌, map, length, true≢false, Option, Some, None}
-use Rattle.std.specs.Prelude.{fold, flat_map, nat_lt, nat_le, ◌==◌}
+use Rattle.std.proofs.Common.{◌≡◌, refl, sym, ◌∙◌, ap, subst, arith, ℕ, ◌+◌, ◌<◌, ◌⊎◌, inl, inr, Bool, true, false, cond, not, List, [], ◌∷◌, ◌++◌, map, length, true≢false, Some, None}
+use Rattle.std.specs.Prelude.{fold, flat_map, nat_lt, ◌==◌}
 use Rattle.std.specs.List.{list_all}
 use Rattle.std.proofs.lemmas.List.Folds.{list_all-map}
-use Rattle.std.proofs.lemmas.Bool.{and_parts, and_from, ltb-true, leb-true, eqb-true, eq-eqb}
+use Rattle.std.proofs.lemmas.Bool.{and_parts, and_from, leb-true, eqb-true, eq-eqb}
 use Rattle.cell_num.specs.Lists.{each_pair}
-use Rattle.cell_world.specs.World.{World, Cell, Region, Permission}
-use Rattle.cell_world.specs.Relink.{Class, Text, ReadOnly, Writable, class_start, image_of, sections_in, permission_of}
+use Rattle.cell_world.specs.World.{World, Cell, Region}
+use Rattle.cell_world.specs.Relink.{Class, class_start, image_of, sections_in, permission_of}
 use Rattle.cell_world.specs.Coherent.{Shape, shape_of, with_shape, class_shape, stack_shape, wanted_shapes, is_in_space, ends_before}
 use Rattle.cell_coherent.proofs.Elements.{In, all-In, In-all, In-left, In-right, pairs_same, flat_map-In}
 use Rattle.cell_coherent.proofs.Places.{whole_region}

@@ -1,5 +1,5 @@
 -- A region that was there holds after the growth what it held, with the fields of the new cells written.
-use Rattle.std.proofs.Common.{◌≡◌, refl, sym, ◌∙◌, ap, subst, ℕ, ◌⊎◌, inl, inr, Bool, true, false, cond, List, [], ◌∷◌, ◌++◌, map, true≢false, Option, Some, None}
+use Rattle.std.proofs.Common.{◌≡◌, refl, sym, ◌∙◌, ap, subst, ℕ, inl, inr, Bool, true, false, cond, List, [], ◌∷◌, ◌++◌, map, Option, Some, None}
 use Rattle.std.specs.Prelude.{filter, fold, flat_map, ◌==◌}
 use Rattle.std.proofs.lemmas.Bool.{eqb-true}
 use Rattle.std.proofs.lemmas.List.{append-nil}
@@ -8,7 +8,7 @@ use Rattle.std.proofs.lemmas.List.Concat.{flat_map-append}
 use Rattle.std.proofs.lemmas.List.Sums.{fold-append}
 use Rattle.cell_num.specs.Lists.{first}
 use Rattle.cell_world.specs.World.{World, Cell, Region}
-use Rattle.cell_world.specs.Relink.{Class, Text, ReadOnly, class_start, sections_in, image_of, is_region_of, images_for, Patch, patch_of, patched, patches_of, bound_entries, restored, remade, relink}
+use Rattle.cell_world.specs.Relink.{Class, Text, ReadOnly, class_start, sections_in, image_of, is_region_of, images_for, Patch, patch_of, patched, patches_of, restored, remade}
 use Rattle.cell_world.specs.Names.{chain}
 use Rattle.cell_world.specs.Field.{Bound, fields_of}
 use Rattle.cell_world.specs.Coherent.{IsCoherent}
@@ -16,7 +16,7 @@ use Rattle.cell_coherent.specs.Grown.{IsGrown, with_fields}
 use Rattle.cell_coherent.proofs.Elements.{In, flat_same}
 use Rattle.cell_coherent.proofs.Attach.{Grows}
 use Rattle.cell_coherent.proofs.Supplied.{same_bound}
-use Rattle.cell_coherent.proofs.Relinked.{patches, own_image, restore, restored_is}
+use Rattle.cell_coherent.proofs.Relinked.{patches, restore, restored_is}
 
 -- a map that leaves a list leaves each element
 pub fixed-In : {X : Type 0} (f : X → X) (xs : List X) → map f xs ≡ xs → (x : X) → In x xs → f x ≡ x

@@ -1,13 +1,13 @@
 -- A region of a new cell has the class's own bytes until the new fields are written, for no old field is in it.
-use Rattle.std.proofs.Common.{◌≡◌, refl, sym, ◌∙◌, ap, subst, arith, ℕ, ◌+◌, ◌-◌, ◌≤◌, ◌<◌, ◌⊎◌, inl, inr, Bool, true, false, cond, List, [], ◌∷◌, ◌++◌, map, length, true≢false, Option, Some, None}
-use Rattle.std.specs.Prelude.{filter, fold, flat_map, nat_le, nat_lt, ◌==◌}
+use Rattle.std.proofs.Common.{◌≡◌, refl, sym, ◌∙◌, ap, subst, arith, ℕ, ◌+◌, ◌-◌, ◌≤◌, ◌<◌, ◌⊎◌, inl, inr, Bool, true, false, cond, List, [], ◌∷◌, length, true≢false, Option, Some, None}
+use Rattle.std.specs.Prelude.{filter, fold, nat_le, nat_lt, ◌==◌}
 use Rattle.std.proofs.lemmas.Bool.{eqb-true, leb-true, ltb-true, and_parts}
 use Rattle.cell_num.specs.declared.kinds.RelKind.{RelKind}
 use Rattle.cell_num.specs.declared.kinds.RelKind.TheVariants.{Abs32, Abs64, Branch, Jal, Call, CallPlt, GotHi20, PcrelHi20, PcrelLo12I, PcrelLo12S, Hi20, Lo12I, Lo12S, Add8, Add16, Add32, Add64, Sub8, Sub16, Sub32, Sub64, Sub6, Set6, Set8, Set16, Set32, Pcrel32}
 use Rattle.cell_num.specs.Kinds.{width_of}
 use Rattle.cell_world.specs.World.{World, Cell, Region}
 use Rattle.cell_world.specs.Memory.{covers, pasted}
-use Rattle.cell_world.specs.Relink.{Class, Text, ReadOnly, class_start, sections_in, image_of, permission_of, is_region_of, images_for, Patch, patch_of, patched, patches_of, bound_entries, restored, remade}
+use Rattle.cell_world.specs.Relink.{Class, Text, ReadOnly, class_start, sections_in, image_of, is_region_of, images_for, Patch, patch_of, patched, patches_of, bound_entries, restored, remade}
 use Rattle.cell_world.specs.Field.{fields_of, place_of}
 use Rattle.cell_world.specs.Coherent.{IsReady, IsCoherent, ends_before}
 use Rattle.cell_coherent.specs.Grown.{IsOwn, IsGrown, with_fields}
