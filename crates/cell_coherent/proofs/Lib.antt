@@ -30,3 +30,4 @@ pub mod OldRegions
 pub mod OwnRegions
 pub mod FreshLinks
 pub mod After
+pub mod NewRegions
