@@ -106,7 +106,7 @@ pairs_mapped t f (x ∷ xs) h =
     and_from (list_all (t (f x)) (map f xs)) (each_pair t (map f xs)) (list_all-map (t (f x)) f xs ∙ k.0) (pairs_mapped t f xs k.1)
 
 -- the shape of a class that has a start
-shape_there : (c : Cell) (class : Class) (start : ℕ) → class_start c class ≡ Some start → In (record { start = start; permission = permission_of class; size = length (image_of (sections_in class c.object)) }) (class_shape c class)
+pub shape_there : (c : Cell) (class : Class) (start : ℕ) → class_start c class ≡ Some start → In (record { start = start; permission = permission_of class; size = length (image_of (sections_in class c.object)) }) (class_shape c class)
 shape_there c class start h =
     subst (λ o. In (record { start = start; permission = permission_of class; size = length (image_of (sections_in class c.object)) })
     (elim o as (λ _. List Shape) [ None ↦ [] | Some start ↦ record { start = start; permission = permission_of class; size = length (image_of (sections_in class c.object)) } ∷ [] ])) (sym h) (inl refl)

@@ -31,3 +31,5 @@ pub mod OwnRegions
 pub mod FreshLinks
 pub mod After
 pub mod NewRegions
+pub mod LoadGrown
+pub mod LoadLinks
