@@ -32,9 +32,6 @@ module _ (sources : List Source) (v : World) (ns stem : List ℕ) (w : World) (s
       ∙ (ap (λ o. o >>= (λ gathered. link_fresh v.next_cell gathered)) h.bring_all
       ∙ ap (λ o. o >>= (λ placed. linked_now v.next_cell placed (first_misfit placed (fresh_cells v.next_cell placed)))) h.place)
 
-  pub overflows : (refusal : Refusal) → first_misfit w (fresh_cells v.next_cell w) ≡ Some refusal → next_load sources v ns stem ≡ Err refusal
-  overflows refusal misfit = goes_on ∙ ap (linked_now v.next_cell w) misfit
-
   pub links : first_misfit w (fresh_cells v.next_cell w) ≡ None → next_load sources v ns stem
       ≡ done (LoadDone (ids (numbers_of (fresh_cells v.next_cell w))) (field_count (fresh_cells v.next_cell w)))
           (record w { regions = map (with_fields w (fresh_cells v.next_cell w)) w.regions; links = v.links ++ links_from w (fresh_cells v.next_cell w) })
