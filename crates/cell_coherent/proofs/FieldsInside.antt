@@ -28,7 +28,7 @@ length-bytes_of : (k n : ℕ) → length (bytes_of k n) ≡ k
 length-bytes_of zero n = refl
 length-bytes_of (suc k) n = ap suc (length-bytes_of k (n / 256))
 
-In-with_shape : (s x : Shape) (xs : List Shape) → (x ≡ s) ⊎ In x xs → In x (with_shape s xs)
+pub In-with_shape : (s x : Shape) (xs : List Shape) → (x ≡ s) ⊎ In x xs → In x (with_shape s xs)
 In-with_shape s x [] h = h
 In-with_shape s x (t ∷ xs) h = go (nat_lt s.start t.start) h (In-with_shape s x xs)
   where
@@ -45,7 +45,7 @@ In-fold_shape (s ∷ xs) acc x (inl h) = In-fold_shape xs (with_shape s acc) x (
 In-fold_shape (s ∷ xs) acc x (inr (inl e)) = In-fold_shape xs (with_shape s acc) x (inl (In-with_shape s x acc (inl e)))
 In-fold_shape (s ∷ xs) acc x (inr (inr h)) = In-fold_shape xs (with_shape s acc) x (inr h)
 
-among-In : (entries seen : List Entry) (f : Entry) → In f (fields_among seen entries) → In f entries
+pub among-In : (entries seen : List Entry) (f : Entry) → In f (fields_among seen entries) → In f entries
 among-In [] seen f h = absurd h
 among-In (e ∷ entries) seen f h = go (list_any (is_at e) seen) h (among-In entries seen f) (among-In entries (e ∷ seen) f)
   where
@@ -110,7 +110,7 @@ class_In s = go s.exec refl s.write refl
 abbrev pub classes : List Class
 classes = Text ∷ ReadOnly ∷ Writable ∷ []
 
-class-In : (class : Class) → In class classes
+pub class-In : (class : Class) → In class classes
 class-In Text = inl refl
 class-In ReadOnly = inr (inl refl)
 class-In Writable = inr (inr (inl refl))

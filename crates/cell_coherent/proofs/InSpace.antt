@@ -1,5 +1,5 @@
 -- The place of each section of a cell that is placed lies in the space.
-use Rattle.std.proofs.Common.{◌≡◌, refl, sym, ◌∙◌, ap, subst, arith, ℕ, ◌+◌, ◌-◌, ◌*◌, ◌≤◌, ◌⊎◌, inl, inr, Bool, true, false, cond, ◌&&◌, List, [], ◌∷◌, map, length, Option, Some}
+use Rattle.std.proofs.Common.{◌≡◌, sym, ◌∙◌, ap, subst, arith, ℕ, ◌+◌, ◌-◌, ◌*◌, ◌≤◌, inl, inr, true, false, cond, ◌&&◌, List, [], ◌∷◌, map, length, Option, Some}
 use Rattle.std.specs.Prelude.{All, find, option_map, unwrap_or, nat_lt, nat_le, ◌%◌, ◌==◌}
 use Rattle.std.specs.List.{list_all}
 use Rattle.std.proofs.lemmas.Bool.{and_parts, leb-true, eq-eqb}

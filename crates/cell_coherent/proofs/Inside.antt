@@ -1,6 +1,6 @@
 -- In a machine that is ready, each section and each field of a present cell is in one region.
-use Rattle.std.proofs.Common.{◌≡◌, refl, sym, ap, subst, arith, ℕ, ◌+◌, ◌*◌, ◌≤◌, ◌<◌, ◌⊎◌, inl, inr, Bool, true, false, cond, List, [], ◌∷◌, length, true≢false, Some}
-use Rattle.std.specs.Prelude.{All, find, nat_lt, nat_le}
+use Rattle.std.proofs.Common.{◌≡◌, sym, subst, arith, ℕ, ◌+◌, ◌*◌, ◌≤◌, ◌<◌, ◌⊎◌, inl, inr, true, length}
+use Rattle.std.specs.Prelude.{All, nat_lt, nat_le}
 use Rattle.std.proofs.lemmas.Bool.{and_parts, and_from, leb-true, ltb-true, le-leb, lt-ltb}
 use Rattle.cell_num.specs.Kinds.{width_of}
 use Rattle.cell_num.specs.Lists.{each_pair}

@@ -28,3 +28,11 @@ pub mod Tables
 pub mod Present
 pub mod Inside
 pub mod InSpace
+pub mod Distinct
+pub mod OldRegions
+pub mod OwnRegions
+pub mod FreshLinks
+pub mod After
+pub mod NewRegions
+pub mod LoadGrown
+pub mod LoadLinks

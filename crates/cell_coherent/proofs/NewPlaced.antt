@@ -152,7 +152,7 @@ abbrev pub in_order : List Cell → Bool
 in_order cells = each_pair (λ a b. nat_lt a.id.0 b.id.0) cells
 
 -- among cells in order only the one of that number gets the places
-one_changes : (before rest : List Cell) (c : Cell) (starts : Starts) → in_order (before ++ c ∷ rest) ≡ true → map (with_places c.id.0 starts) (before ++ c ∷ rest) ≡ before ++ with_starts starts c ∷ rest
+pub one_changes : (before rest : List Cell) (c : Cell) (starts : Starts) → in_order (before ++ c ∷ rest) ≡ true → map (with_places c.id.0 starts) (before ++ c ∷ rest) ≡ before ++ with_starts starts c ∷ rest
 one_changes before rest c starts h =
     let p = pairs_split (λ (a : Cell) (b : Cell). nat_lt a.id.0 b.id.0) before c rest h in
     map-append (with_places c.id.0 starts) before (c ∷ rest)

@@ -1,8 +1,8 @@
 -- In a machine that is ready, what an entry names is a number or a place in a section of a present cell.
-use Rattle.std.proofs.Common.{◌≡◌, refl, sym, ◌∙◌, ap, subst, ℕ, zero, suc, ◌+◌, Bool, true, false, cond, List, [], ◌∷◌, ◌⊎◌, inl, inr, ◌&&◌, true≢false, Option, Some, None}
-use Rattle.std.specs.Prelude.{All, filter_map, flat_map, find, option_map, option_and_then, unwrap_or, slice_get, nat_lt, nat_le, ◌==◌}
-use Rattle.std.specs.List.{list_all, cons_option}
-use Rattle.std.proofs.lemmas.Bool.{leb-true, and_parts, eqb-true}
+use Rattle.std.proofs.Common.{◌≡◌, refl, sym, ◌∙◌, ap, subst, ℕ, zero, suc, ◌+◌, Bool, true, false, cond, List, [], ◌∷◌, inl, inr, ◌&&◌, true≢false, Option, Some, None}
+use Rattle.std.specs.Prelude.{All, filter_map, option_map, option_and_then, unwrap_or, slice_get, nat_lt, nat_le, ◌==◌}
+use Rattle.std.specs.List.{cons_option}
+use Rattle.std.proofs.lemmas.Bool.{leb-true, and_parts}
 use Rattle.cell_num.specs.Lists.{each_pair, numbered}
 use Rattle.cell_object.specs.declared.object.Section.{Section as ObjectSection}
 use Rattle.cell_object.specs.declared.object.Symbol.{Symbol}
@@ -10,7 +10,7 @@ use Rattle.cell_object.specs.declared.object.Entry.{Entry}
 use Rattle.cell_object.specs.declared.object.Home.{Home}
 use Rattle.cell_object.specs.declared.object.Home.TheVariants.{Undef, Abs, Inside, Elsewhere}
 use Rattle.cell_object.specs.Parts.{is_global, section_of, symbol_at}
-use Rattle.cell_object.specs.Sound.{IsSoundObject, is_known_bind, is_sound_home, is_sound_symbol, is_sound_entry_in}
+use Rattle.cell_object.specs.Sound.{is_known_bind, is_sound_home, is_sound_symbol, is_sound_entry_in}
 use Rattle.cell_world.specs.declared.state.LinkRow.{LinkRow}
 use Rattle.cell_world.specs.declared.state.Target.{Target}
 use Rattle.cell_world.specs.declared.state.Target.TheVariants.{Section, Number}
@@ -18,7 +18,7 @@ use Rattle.cell_world.specs.World.{World, Cell, cell_of, key_of}
 use Rattle.cell_world.specs.Names.{Provider, provider_of}
 use Rattle.cell_world.specs.Target.{start_of, own_target, provided_target, symbol_target, numbered_target, naming_entry, target_of}
 use Rattle.cell_world.specs.Relink.{link_to, link_of, links_of}
-use Rattle.cell_world.specs.Coherent.{IsReady, IsCoherent, IsLoadable, is_known_cell, is_supplied}
+use Rattle.cell_world.specs.Coherent.{IsCoherent, IsLoadable, is_supplied}
 use Rattle.cell_coherent.specs.Linkable.{IsLinkable}
 use Rattle.cell_coherent.specs.Present.{HasSection, IsInSection, IsThere, NamesPresent, JoinsPresent}
 use Rattle.cell_coherent.proofs.Elements.{In, Has, all-In, found-In, get-In, In-All, In-flat_map, In-numbered}

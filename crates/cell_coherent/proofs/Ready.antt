@@ -67,7 +67,7 @@ limits_from w l =
     (and_from _ (nat_lt w.swaps w.next_cell) (and_from _ (nat_le w.next_task 65536) (and_from _ (nat_le w.next_cell 65536) (and_from _ (nat_le (length w.tasks) 64)
     (and_from (nat_le (length w.namespaces) 256) (nat_le (length w.cells) 1024) l.namespaces l.cells) l.tasks) l.next_cell) l.next_task) l.swaps) l.fewest) l.most) l.aligned) l.lowest) l.highest
 
-append_same : {X : Type 0} (front xs ys : List X) → front ++ xs ≡ front ++ ys → xs ≡ ys
+pub append_same : {X : Type 0} (front xs ys : List X) → front ++ xs ≡ front ++ ys → xs ≡ ys
 append_same [] xs ys e = e
 append_same (x ∷ front) xs ys e = append_same front xs ys (tail_same e)
   where

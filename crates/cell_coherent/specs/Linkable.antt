@@ -1,6 +1,6 @@
 -- What linking asks of a machine.
 --     IsLinkable w     the cells stand in regions of their own, their objects are sound, and each need has a provider
-use Rattle.std.specs.Prelude.{◌≡◌, All, IsTrue, List, map, nat_lt}
+use Rattle.std.specs.Prelude.{◌≡◌, All, IsTrue, map, nat_lt}
 use Rattle.std.specs.List.{list_all}
 use Rattle.cell_num.specs.Lists.{each_pair}
 use Rattle.cell_world.specs.World.{World}

@@ -1,25 +1,32 @@
 //! Laws on machines that stay coherent. Each is the contract of a function with an empty body.
 #![tactic(auto)]
 
-ghost use Rattle.std.specs.Prelude.{ℕ, ◌≡◌, ◌+◌, ◌*◌, ◌<◌, ◌≤◌, IsTrue, List, All, true, Some, Ok, length};
+ghost use Rattle.std.specs.Prelude.{ℕ, ◌≡◌, ◌+◌, ◌*◌, ◌<◌, ◌≤◌, IsTrue, List, ◌++◌, All, true, Some, None, Ok, Err, length, map};
 ghost use Rattle.std.specs.List.{list_all};
-ghost use Rattle.cell_num.specs.Lists.{each_pair};
 ghost use Rattle.cell_num.specs.Kinds.{width_of};
+ghost use Rattle.cell_num.specs.Lists.{each_pair};
+ghost use Rattle.cell_object.specs.declared.object.Entry.{Entry};
 ghost use Rattle.cell_object.specs.declared.object.Object.{Object};
 ghost use Rattle.cell_world.specs.declared.command.Command.{Command};
-ghost use Rattle.cell_world.specs.Answer.{Done};
+ghost use Rattle.cell_world.specs.declared.refusal.Refusal.{Refusal};
+ghost use Rattle.cell_world.specs.declared.reply.Reply.TheVariants.{Load as LoadDone};
+ghost use Rattle.cell_world.specs.Answer.{Done, done, ids, numbers_of};
 ghost use Rattle.cell_world.specs.Coherent.{AreSound, IsCoherent, IsReady, ends_before, is_in_space};
 ghost use Rattle.cell_world.specs.Field.{place_of};
-ghost use Rattle.cell_world.specs.Gather.{Source};
-ghost use Rattle.cell_world.specs.LoadCommand.{next_load};
+ghost use Rattle.cell_world.specs.Fit.{first_misfit};
+ghost use Rattle.cell_world.specs.Gather.{Source, fresh_cells};
+ghost use Rattle.cell_world.specs.LoadCommand.{field_count, next_load};
+ghost use Rattle.cell_world.specs.Memory.{end_of};
 ghost use Rattle.cell_world.specs.Next.{next};
 ghost use Rattle.cell_world.specs.Pages.{IsSpace, filled, lowest_run};
 ghost use Rattle.cell_world.specs.Place.{Placing, page_table, place_class, with_region};
 ghost use Rattle.cell_world.specs.Relink.{Class, relink};
 ghost use Rattle.cell_world.specs.Target.{start_of};
-ghost use Rattle.cell_world.specs.World.{Region, World, empty_world};
+ghost use Rattle.cell_world.specs.World.{Cell, Region, World, empty_world};
 ghost use Rattle.cell_coherent.specs.Clear.{IsClear};
+ghost use Rattle.cell_coherent.specs.Grown.{In, IsGrown, with_fields, links_from};
 ghost use Rattle.cell_coherent.specs.Linkable.{IsLinkable};
+ghost use Rattle.cell_coherent.specs.Loading.{HasPlaced};
 ghost use Rattle.cell_coherent.specs.Present.{IsInside, JoinsPresent, NamesPresent};
 
 /// The machine is coherent before the first command.
@@ -88,4 +95,34 @@ pub fn placed_class_is_apart()
         → IsTrue (list_all (is_in_space w) p.world.regions) }
     ensures apart { (w : World) (class : Class) (object : Object) (p : Placing) → IsTrue (list_all (is_in_space w) w.regions) → IsTrue (each_pair ends_before w.regions) → place_class w class object ≡ Ok p
         → IsTrue (each_pair ends_before p.world.regions) }
+{}
+
+/// Linking after new cells have come writes their fields, adds their links, and changes nothing else.
+pub fn relinked_after()
+    ensures { (v : World) (w : World) (new : List Cell) → IsCoherent v → IsReady w → IsGrown v w new →
+        relink w ≡ record w { regions = map (with_fields w new) w.regions; links = v.links ++ links_from w new } }
+{}
+
+/// Each field of each cell lies in one region.
+pub fn fields_lie_in()
+    ensures { (w : World) → IsReady w → (c : Cell) → In c w.cells → (e : Entry) → In e c.object.entries →
+        (r : Region) × In r w.regions × (r.start ≤ place_of c.placed e) × (place_of c.placed e + width_of e.kind ≤ end_of r) }
+{}
+
+/// Once the cells of a load have their places, the machine has grown by them and can be linked; where each entry fits, it is ready for it.
+pub fn load_grows()
+    ensures grown { (sources : List Source) (v : World) (ns : List ℕ) (stem : List ℕ) (w : World) → AreSound sources → IsCoherent v → HasPlaced sources v ns stem w → IsGrown v w (fresh_cells v.next_cell w) }
+    ensures linkable { (sources : List Source) (v : World) (ns : List ℕ) (stem : List ℕ) (w : World) → AreSound sources → IsCoherent v → HasPlaced sources v ns stem w → IsLinkable w }
+    ensures ready { (sources : List Source) (v : World) (ns : List ℕ) (stem : List ℕ) (w : World) → AreSound sources → IsCoherent v → HasPlaced sources v ns stem w →
+        first_misfit w (fresh_cells v.next_cell w) ≡ None → IsReady w }
+{}
+
+/// What a load answers then: the first entry that doesn't fit, or else the new cells, with their fields written and their links added.
+pub fn load_links()
+    ensures overflows { (sources : List Source) (v : World) (ns : List ℕ) (stem : List ℕ) (w : World) → HasPlaced sources v ns stem w →
+        (refusal : Refusal) → first_misfit w (fresh_cells v.next_cell w) ≡ Some refusal → next_load sources v ns stem ≡ Err refusal }
+    ensures links { (sources : List Source) (v : World) (ns : List ℕ) (stem : List ℕ) (w : World) → AreSound sources → IsCoherent v → HasPlaced sources v ns stem w →
+        first_misfit w (fresh_cells v.next_cell w) ≡ None → next_load sources v ns stem
+        ≡ done (LoadDone (ids (numbers_of (fresh_cells v.next_cell w))) (field_count (fresh_cells v.next_cell w)))
+        (record w { regions = map (with_fields w (fresh_cells v.next_cell w)) w.regions; links = v.links ++ links_from w (fresh_cells v.next_cell w) }) }
 {}
