@@ -1,11 +1,11 @@
 -- While a load goes on, the machine with the new cells in their places has grown by them, and is ready where they fit.
-use Rattle.std.proofs.Common.{◌≡◌, refl, sym, ◌∙◌, ap, subst, ℕ, ◌⊎◌, inl, inr, true, List, ◌++◌, map, None, Ok}
+use Rattle.std.proofs.Common.{◌≡◌, refl, sym, ◌∙◌, ap, subst, ℕ, ◌⊎◌, true, List, ◌++◌, map, None, Ok}
 use Rattle.std.specs.Prelude.{filter, flat_map, nat_le, length, Some}
 use Rattle.std.specs.List.{list_all}
 use Rattle.std.proofs.lemmas.List.{map-append}
 use Rattle.cell_num.specs.Lists.{equals}
 use Rattle.cell_world.specs.declared.refusal.Refusal.TheVariants.{Unknown, NoObject}
-use Rattle.cell_world.specs.World.{World, Cell, Region, is_attached}
+use Rattle.cell_world.specs.World.{World, Cell, is_attached}
 use Rattle.cell_world.specs.Names.{namespace_named}
 use Rattle.cell_world.specs.Relink.{Class, class_start, image_of, sections_in, permission_of}
 use Rattle.cell_world.specs.Place.{place_all}

@@ -1,5 +1,5 @@
 -- What a load answers once its cells have their places.
-use Rattle.std.proofs.Common.{◌≡◌, refl, sym, ◌∙◌, ap, ℕ, List, ◌++◌, map, Option, Some, None, Ok, Err}
+use Rattle.std.proofs.Common.{◌≡◌, ◌∙◌, ap, ℕ, List, ◌++◌, map, Option, None}
 use Rattle.cell_world.specs.declared.refusal.Refusal.{Refusal}
 use Rattle.cell_world.specs.declared.reply.Reply.TheVariants.{Load as LoadDone}
 use Rattle.cell_world.specs.World.{World}
@@ -34,7 +34,7 @@ module _ (sources : List Source) (v : World) (ns stem : List ℕ) (w : World) (s
 
   pub links : first_misfit w (fresh_cells v.next_cell w) ≡ None → next_load sources v ns stem
       ≡ done (LoadDone (ids (numbers_of (fresh_cells v.next_cell w))) (field_count (fresh_cells v.next_cell w)))
-          (record w { regions = map (with_fields w (fresh_cells v.next_cell w)) w.regions; links = v.links ++ links_from w (fresh_cells v.next_cell w) })
+      (record w { regions = map (with_fields w (fresh_cells v.next_cell w)) w.regions; links = v.links ++ links_from w (fresh_cells v.next_cell w) })
   links fit =
       goes_on
       ∙ (ap (linked_now v.next_cell w) fit

@@ -1,19 +1,18 @@
 -- Each region that placing adds is that of a class of a new cell, with the class's own bytes.
 use Rattle.std.proofs.Common.{◌≡◌, refl, sym, ◌∙◌, ap, subst, ℕ, ◌⊎◌, inl, inr, true, List, [], ◌∷◌, ◌++◌, map, append_assoc, Ok}
 use Rattle.std.specs.Prelude.{Some, length, nat_lt, ◌/◌}
-use Rattle.cell_object.specs.declared.object.Object.{Object}
 use Rattle.cell_object.specs.declared.object.Section.{Section as ObjectSection}
 use Rattle.cell_object.specs.Sound.{IsSoundObject}
 use Rattle.cell_world.specs.World.{World, Cell, Region}
 use Rattle.cell_world.specs.Relink.{Class, Text, ReadOnly, Writable, sections_in, image_of, permission_of}
-use Rattle.cell_world.specs.Place.{Placing, Starts, start_in, with_run, with_places, start_of_run, place_sections, place_class, place_cell, place_all}
+use Rattle.cell_world.specs.Place.{Placing, Starts, start_in, with_run, with_places, start_of_run, place_sections, place_cell, place_all}
 use Rattle.cell_coherent.specs.Grown.{IsOwn}
-use Rattle.cell_coherent.proofs.Elements.{In, In-left, In-right}
+use Rattle.cell_coherent.proofs.Elements.{In, In-left}
 use Rattle.cell_coherent.proofs.Outcomes.{bind_ok}
 use Rattle.cell_coherent.proofs.Appended.{ok_same}
 use Rattle.cell_coherent.proofs.Places.{Spaced, In-inserted}
 use Rattle.cell_coherent.proofs.PlacedAll.{Placed, CellRuns, cell_runs, cell_placed}
-use Rattle.cell_coherent.proofs.Renamed.{bare, pairs_bare}
+use Rattle.cell_coherent.proofs.Renamed.{pairs_bare}
 use Rattle.cell_coherent.proofs.OwnPlaces.{class_starts}
 use Rattle.cell_coherent.proofs.NewPlaced.{AllSound, in_order, one_changes, with_starts}
 

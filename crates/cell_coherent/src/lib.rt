@@ -98,5 +98,5 @@ pub fn load_links()
     ensures links { (sources : List Source) (v : World) (ns : List ℕ) (stem : List ℕ) (w : World) → AreSound sources → IsCoherent v → HasPlaced sources v ns stem w →
         first_misfit w (fresh_cells v.next_cell w) ≡ None → next_load sources v ns stem
         ≡ done (LoadDone (ids (numbers_of (fresh_cells v.next_cell w))) (field_count (fresh_cells v.next_cell w)))
-            (record w { regions = map (with_fields w (fresh_cells v.next_cell w)) w.regions; links = v.links ++ links_from w (fresh_cells v.next_cell w) }) }
+        (record w { regions = map (with_fields w (fresh_cells v.next_cell w)) w.regions; links = v.links ++ links_from w (fresh_cells v.next_cell w) }) }
 {}
