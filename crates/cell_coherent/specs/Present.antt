@@ -1,10 +1,10 @@
--- What it is that an address or a target is in the machine.
---     IsInside w addr n          the n bytes from the address on are in one region
---     IsInSection w key offset addr      the offset is one of a section of a present cell, and it stands at the address
---     IsThere w target           the target is a number, or a place in a section of a present cell
---     NamesPresent w c e         the entry of the cell names one
---     HasSection w key           the section is one of a present cell
---     JoinsPresent w l           both ends of the link are
+-- What there is at an address, and what a target and a link name.
+--     IsInside w addr n                the n bytes from the address on are in one region
+--     HasSection w key                 the section is one of a present cell
+--     IsInSection w key offset addr    the offset is in a section of a present cell, and stands at the address
+--     IsThere w target                 the target is a number, or a place in a section of a present cell
+--     NamesPresent w c e               what the entry of the cell names is there
+--     JoinsPresent w l                 both ends of the link are sections of present cells
 use Rattle.std.specs.Prelude.{ℕ, ◌+◌, ◌≤◌, ◌≡◌, Some}
 use Rattle.cell_num.specs.declared.ids.SecKey.{SecKey}
 use Rattle.cell_object.specs.declared.object.Section.{Section as ObjectSection}
@@ -41,7 +41,6 @@ IsThere w (Number value) = Unit {0}
 abbrev pub NamesPresent : World → Cell → Entry → Type 0
 NamesPresent w c e = (t : Target) × (target_of w c e ≡ Some t) × IsThere w t
 
--- both ends of a link are sections of present cells
 pub record JoinsPresent (w : World) (l : LinkRow) : Type 0 where
   pub user : HasSection w l.user
   pub target : HasSection w l.target
