@@ -8,7 +8,8 @@ use Rattle.cell_object.specs.declared.object.Section.{Section as ObjectSection}
 use Rattle.cell_world.specs.World.{World, Cell, Region}
 use Rattle.cell_world.specs.Outcome.{Outcome, ◌>>=◌}
 use Rattle.cell_world.specs.Relink.{Class, Text, ReadOnly, Writable, sections_in, image_of, laid_out, permission_of}
-use Rattle.cell_world.specs.Place.{Placing, with_region, with_run, with_places, places_in, place_sections, place_class, place_cell, place_all, runs_of, longest_run}
+use Rattle.cell_world.specs.Place.{Placing, with_region, with_run, with_places, places_in, place_sections, place_class, place_cell, place_all, page_table}
+use Rattle.cell_world.specs.Pages.{longest_run}
 use Rattle.cell_world.specs.declared.refusal.Refusal.{Refusal}
 use Rattle.cell_world.specs.declared.refusal.Refusal.TheVariants.{Exhausted}
 use Rattle.cell_law.specs.Settled.{In, Stacked, top_of, IsSettled, IsSettledCell}
@@ -95,7 +96,7 @@ module _ (w : World) (aligned : w.base % 4096 ≡ 0) (stacked : Stacked w.base w
       let p = image_pages (laid_out [] (s ∷ rest)) in
       let u = used_is w aligned stacked in (
         length (image_of (s ∷ rest)) / 4096,
-        longest_run w.pages (runs_of w),
+        longest_run (page_table w),
         ap (λ o. o >>= (λ start. Ok (with_run w class (s ∷ rest) start))) (start_none w aligned stacked (length (image_of (s ∷ rest)) / 4096) (omega (arith, p)) (omega (arith, p, u, h))),
       )
 

@@ -14,3 +14,4 @@ pub mod LoadCommand
 pub mod DumpCommand
 pub mod Next
 pub mod Later
+pub mod Coherent

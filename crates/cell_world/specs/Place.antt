@@ -1,7 +1,5 @@
 -- Which pages are free, and where the sections of new cells stand.
---     Run, runs_of w                        the runs of pages that regions take
---     lowest_run pages runs n               the least page from which n pages are free
---     longest_run pages runs                the length of the longest free run
+--     page_table w                          which pages the regions take
 --     offset_in sections number             where the section stands in its class's run
 --     place_cell w c, place_all w cells     w with the cells' regions and starts
 use Rattle.std.specs.Prelude.{ℕ, zero, suc, ◌+◌, ◌-◌, ◌*◌, ◌/◌, ◌==◌, nat_lt, nat_le, Bool, true, false, not, ◌&&◌, List, [], ◌∷◌, Option, Some, None, Ok, Err, map, length, find, fold, max, if◌then◌else◌}
@@ -11,35 +9,18 @@ use Rattle.cell_object.specs.declared.object.Section.{Section as ObjectSection}
 use Rattle.cell_world.specs.declared.refusal.Refusal.TheVariants.{Exhausted}
 use Rattle.cell_world.specs.declared.state.SecPlace.{SecPlace}
 use Rattle.cell_world.specs.World.{World, Cell, Region}
-use Rattle.cell_num.specs.Lists.{from_on, upto}
+use Rattle.cell_num.specs.Lists.{upto}
+use Rattle.cell_world.specs.Memory.{covers}
+use Rattle.cell_world.specs.Pages.{lowest_run, longest_run}
 use Rattle.cell_world.specs.Relink.{Class, Text, ReadOnly, Writable, sections_in, image_of, permission_of, gap}
 use Rattle.cell_world.specs.Outcome.{Outcome, ◌>>=◌, each}
 
--- so many pages from that page on
-pub record Run : Type 0 where
-  pub page : ℕ
-  pub count : ℕ
+-- the page table: a page is taken where a region covers it
+abbrev pub is_taken : World → ℕ → Bool
+is_taken w page = list_any (λ r. covers r (w.base + 4096 * page)) w.regions
 
-abbrev pub runs_of : World → List Run
-runs_of w = map (λ r. record { page = (r.start - w.base) / 4096; count = length r.bytes / 4096 }) w.regions
-
-abbrev pub is_free : List Run → ℕ → Bool
-is_free runs page = not (list_any (λ r. nat_le r.page page && nat_lt page (r.page + r.count)) runs)
-
-abbrev pub is_free_run : List Run → ℕ → ℕ → Bool
-is_free_run runs page n = list_all (is_free runs) (from_on page n)
-
--- n is at least 1
-abbrev pub lowest_run : ℕ → List Run → ℕ → Option ℕ
-lowest_run pages runs n = find (λ page. is_free_run runs page n) (upto (pages + 1 - n))
-
--- how many pages are free without a gap, of the next ones
-abbrev pub free_from : ℕ → List Run → ℕ → ℕ
-free_from zero runs page = 0
-free_from (suc left) runs page = elim (is_free runs page) [ true ↦ suc (free_from left runs (suc page)) | false ↦ 0 ]
-
-abbrev pub longest_run : ℕ → List Run → ℕ
-longest_run pages runs = fold (λ most page. max most (free_from (pages - page) runs page)) 0 (upto pages)
+abbrev pub page_table : World → List Bool
+page_table w = map (is_taken w) (upto w.pages)
 
 -- the region in its place by starts
 abbrev pub with_region : Region → List Region → List Region
@@ -58,8 +39,8 @@ offset_in sections number = offset_from 0 sections number
 -- where the lowest free run of n pages starts, or the refusal
 abbrev pub start_of_run : World → ℕ → Outcome ℕ
 start_of_run w n =
-    elim (lowest_run w.pages (runs_of w) n) [
-      | None ↦ Err (Exhausted n (longest_run w.pages (runs_of w)))
+    elim (lowest_run (page_table w) n) [
+      | None ↦ Err (Exhausted n (longest_run (page_table w)))
       | Some page ↦ Ok (w.base + 4096 * page)
     ]
 

@@ -1,0 +1,32 @@
+-- What is known of each cell of a coherent world, part by part.
+use Rattle.std.proofs.Common.{◌≡◌, Bool, true, ◌&&◌, length}
+use Rattle.std.specs.Prelude.{All, nat_lt, ◌==◌}
+use Rattle.std.specs.List.{list_any, list_all}
+use Rattle.std.proofs.lemmas.Bool.{and_parts, and_from}
+use Rattle.cell_object.specs.Sound.{IsSoundObject}
+use Rattle.cell_world.specs.World.{World, Cell}
+use Rattle.cell_world.specs.Names.{definitions_of}
+use Rattle.cell_world.specs.Coherent.{IsLoadable, is_known_cell, is_sound_standing}
+use Rattle.cell_coherent.proofs.Elements.{In, All-In}
+
+abbrev pub has_own_aliases : Cell → Bool
+has_own_aliases c = list_all (λ a. list_any (λ d. d.symbol == a.symbol) (definitions_of c.object)) c.aliases
+
+pub record KnownParts (w : World) (c : Cell) : Type 0 where
+  pub number : nat_lt c.id.0 w.next_cell ≡ true
+  pub ns : nat_lt c.ns (length w.namespaces) ≡ true
+  pub standing : is_sound_standing w c.standing ≡ true
+  pub aliases : has_own_aliases c ≡ true
+
+pub known_parts : (w : World) (c : Cell) → is_known_cell w c ≡ true → KnownParts w c
+known_parts w c h =
+    let p = and_parts (nat_lt c.id.0 w.next_cell && nat_lt c.ns (length w.namespaces) && is_sound_standing w c.standing) (has_own_aliases c) h in
+    let q = and_parts (nat_lt c.id.0 w.next_cell && nat_lt c.ns (length w.namespaces)) (is_sound_standing w c.standing) p.0 in
+    let r = and_parts (nat_lt c.id.0 w.next_cell) (nat_lt c.ns (length w.namespaces)) q.0 in
+    record { number = r.0; ns = r.1; standing = q.1; aliases = p.1 }
+
+pub known_from : (w : World) (c : Cell) → KnownParts w c → is_known_cell w c ≡ true
+known_from w c k = and_from _ (has_own_aliases c) (and_from _ (is_sound_standing w c.standing) (and_from (nat_lt c.id.0 w.next_cell) (nat_lt c.ns (length w.namespaces)) k.number k.ns) k.standing) k.aliases
+
+pub object_sound : (w : World) → All (λ c. IsLoadable c.object) w.cells → (c : Cell) → In c w.cells → IsSoundObject c.object
+object_sound w objects c k = (All-In (λ (c : Cell). IsLoadable c.object) w.cells objects c k).sound

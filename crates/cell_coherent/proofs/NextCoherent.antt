@@ -1,0 +1,75 @@
+-- Each command keeps the machine coherent, and the first machine is coherent.
+use Rattle.std.proofs.Common.{◌≡◌, refl, ap, subst, arith, ℕ, true, List, Ok, Err}
+use Rattle.std.specs.Prelude.{decimal, ◌%◌}
+use Rattle.std.proofs.lemmas.Bool.{le-leb, eq-eqb}
+use Rattle.cell_object.specs.Parts.{section_of}
+use Rattle.cell_world.specs.declared.command.Command.{Command}
+use Rattle.cell_world.specs.declared.command.Command.TheVariants.{Load, Dump}
+use Rattle.cell_world.specs.declared.refusal.Refusal.TheVariants.{Unknown}
+use Rattle.cell_world.specs.World.{World, empty_world}
+use Rattle.cell_world.specs.Pages.{IsSpace}
+use Rattle.cell_world.specs.Gather.{Source}
+use Rattle.cell_world.specs.Outcome.{Outcome, found}
+use Rattle.cell_world.specs.Answer.{Done, present_cell}
+use Rattle.cell_world.specs.DumpCommand.{next_dump}
+use Rattle.cell_world.specs.Next.{outcome_of, answered_by, next}
+use Rattle.cell_world.specs.Coherent.{AreSound, IsReady, IsCoherent, are_limits_kept}
+use Rattle.cell_coherent.proofs.Outcomes.{bind_ok}
+use Rattle.cell_coherent.proofs.Appended.{ok_same}
+use Rattle.cell_coherent.proofs.Ready.{limits_from}
+use Rattle.cell_coherent.proofs.LoadCoherent.{load_coherent}
+
+dump_same : (w : World) (cell section : ℕ) (d : Done) → next_dump w cell section ≡ Ok d → w ≡ d.world
+dump_same w cell section d h =
+    let a = bind_ok (present_cell w cell) _ d h in
+    let b = bind_ok (found (section_of a.0.object section) (Unknown (decimal section))) _ d a.2 in
+    ap (λ (x : Done). x.world) (ok_same _ d b.2)
+
+answered : (w : World) (o : Outcome Done) → IsCoherent w → ((d : Done) → o ≡ Ok d → IsCoherent d.world) → IsCoherent (answered_by w o).world
+answered w (Ok d) c f = f d refl
+answered w (Err r) c f = c
+
+outcome_coherent : (sources : List Source) (w : World) (command : Command) → AreSound sources → IsCoherent w → (d : Done) → outcome_of sources w command ≡ Ok d → IsCoherent d.world
+outcome_coherent sources w (Load name stem) sound c d h = load_coherent sources w name stem d sound c h
+outcome_coherent sources w (Dump cell section) sound c d h = subst IsCoherent (dump_same w cell section d h) c
+
+pub next_coherent : (sources : List Source) (w : World) (command : Command) → AreSound sources → IsCoherent w → IsCoherent (next sources w command).world
+next_coherent sources w command sound c = answered w (outcome_of sources w command) c (outcome_coherent sources w command sound c)
+
+empty_limits : (base pages : ℕ) → IsSpace base pages → are_limits_kept (empty_world base pages) ≡ true
+empty_limits base pages s = limits_from (empty_world base pages) (record {
+  namespaces = refl;
+  cells = refl;
+  tasks = refl;
+  next_cell = refl;
+  next_task = refl;
+  swaps = refl;
+  fewest = le-leb 16 pages s.fewest;
+  most = le-leb pages 4096 s.most;
+  aligned = eq-eqb (base % 4096) 0 s.aligned;
+  lowest = le-leb 0x1000 base s.lowest;
+  highest = le-leb base 0x7ff_ffff_f000 s.highest;
+})
+
+empty_ready : (base pages : ℕ) → IsSpace base pages → IsReady (empty_world base pages)
+empty_ready base pages s = record {
+  names = refl;
+  own_names = refl;
+  regions = refl;
+  in_space = refl;
+  apart = refl;
+  placed = refl;
+  supplied = refl;
+  fitting = refl;
+  spaces = refl;
+  space_names = refl;
+  cell_order = refl;
+  cells = refl;
+  objects = λ k d l. absurd (omega (arith, l));
+  task_order = refl;
+  tasks = refl;
+  limits = empty_limits base pages s;
+}
+
+pub empty_coherent : (base pages : ℕ) → IsSpace base pages → IsCoherent (empty_world base pages)
+empty_coherent base pages s = record { ready = empty_ready base pages s; linked = refl }

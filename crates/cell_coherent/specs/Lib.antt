@@ -1,0 +1,5 @@
+pub mod Clear
+pub mod Present
+pub mod Linkable
+pub mod Grown
+pub mod Loading
