@@ -26,10 +26,7 @@ fn command<'a>(alloc: Global) -> Result<Command<'a>, AllocError>
 }
 
 /// What the words match. Words that the command refuses are `Usage`.
-pub fn matches_in<'a>(
-    alloc: Global,
-    words: &'a [String],
-) -> Result<ArgMatches<'a>, ArgumentsFault>
+pub fn matches_in<'a>(alloc: Global, words: &'a [String]) -> Result<ArgMatches<'a>, ArgumentsFault>
     ensures taken { IfOk result (λ m. fault_of command (map string_bytes words.now) ≡ []) }
     ensures rows { IfOk result (λ m. rows_of (found_of m) ≡ matches_of command (map string_bytes words.now)) }
     ensures refused { IfErr result (λ fault. fault ≡ ArgumentsFault.Usage → fault_of command (map string_bytes words.now) ≢ []) }

@@ -27,7 +27,10 @@ fn options(rt: HostRuntime) -> Result<(), Fail> {
         ("d s", Some((0x1000_0000, 1024))),
         ("--base=0x1000 d s", Some((0x1000, 1024))),
         ("d --base 0x1000 s --pages 16", Some((0x1000, 16))),
-        ("d s --base 0x7fffffff000 --pages=4096", Some((0x7ff_ffff_f000, 4096))),
+        (
+            "d s --base 0x7fffffff000 --pages=4096",
+            Some((0x7ff_ffff_f000, 4096)),
+        ),
         ("--pages 4096 -- d s", Some((0x1000_0000, 4096))),
         ("d -- --base", Some((0x1000_0000, 1024))),
         (" s", Some((0x1000_0000, 1024))),

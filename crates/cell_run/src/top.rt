@@ -88,13 +88,7 @@ fn refuse<K: Sink>(alloc: Global, script: &str, reason: Reason, out: &mut K) -> 
 }
 
 /// Does the commands of a script on a machine without a cell.
-fn run_script<K: Sink>(
-    alloc: Global,
-    base: u64,
-    pages: u32,
-    input: Input,
-    out: &mut K,
-) -> Status
+fn run_script<K: Sink>(alloc: Global, base: u64, pages: u32, input: Input, out: &mut K) -> Status
     requires range { IsInRange base pages }
     requires small { All (λ f. length f.bytes ≤ 1048576) input.files }
     ensures transcript { WritesRun (run_from (first_state base pages input) input.script) result (K.written out.old) (K.written out.new) }

@@ -73,11 +73,7 @@ fn read_line(alloc: Global, text: &[u8], spans: &mut Vec<Span>) -> Result<Readin
 }
 
 /// What stands at these places.
-fn texts_at<'a>(
-    alloc: Global,
-    line: &'a [u8],
-    spans: &[Span],
-) -> Result<Vec<&'a [u8]>, AllocError>
+fn texts_at<'a>(alloc: Global, line: &'a [u8], spans: &[Span]) -> Result<Vec<&'a [u8]>, AllocError>
     requires { All (IsInside line.now) spans.now }
     ensures { IfOk result (λ texts. map (λ text. text.now) texts.items ≡ map (text_at line.now) spans.now) }
 {

@@ -77,7 +77,12 @@ fn another_base(rt: HostRuntime) -> Result<(), Fail> {
 }
 
 /// `lui a0,%hi(h::x)`, and `h::x` behind so many zeros of `.data`.
-fn far_object(alloc: Global, head: &[u8], zeros: usize, tail: &[u8]) -> Result<Vec<u8>, AllocError> {
+fn far_object(
+    alloc: Global,
+    head: &[u8],
+    zeros: usize,
+    tail: &[u8],
+) -> Result<Vec<u8>, AllocError> {
     let mut bytes = Vec::from_slice(alloc, head)?;
     for _ in 0..zeros {
         bytes.push(0)?;
@@ -92,8 +97,16 @@ fn the_end_of_the_range(rt: HostRuntime) -> Result<(), Fail> {
     let far = far_object(rt.alloc(), &FAR_HEAD, 2048, &FAR_TAIL)?;
     let words = ["d", "s", "--base", "0x7fffe000", "--pages", "16"];
     for (file, want, text) in [
-        (near.as_slice(), Status::Done, b"1 ok load #1 patched 1\n".as_slice()),
-        (far.as_slice(), Status::SomeRefused, b"1 E12 overflow #1.1+0 HI20\n"),
+        (
+            near.as_slice(),
+            Status::Done,
+            b"1 ok load #1 patched 1\n".as_slice(),
+        ),
+        (
+            far.as_slice(),
+            Status::SomeRefused,
+            b"1 E12 overflow #1.1+0 HI20\n",
+        ),
     ] {
         let (status, sink) = outcome(rt.alloc(), &words, "load k h", &[("k#h.o", file)])?;
         assert!(rt; status == want);
