@@ -12,13 +12,13 @@ use Rattle.std.proofs.lemmas.Map.Views.{All-insert_key, Contains-from_any}
 use Rattle.cell_world.specs.declared.file.File.{File}
 use Rattle.cell_run.specs.declared.take.Input.{Input}
 use Rattle.cell_run.specs.declared.take.TakeFail.{TakeFail}
-use Rattle.cell_io.specs.Files.{File as HostFile, UpTo, folder, bytes_named}
+use Rattle.cell_io.specs.Files.{File as HostFile, UpTo, bytes_named}
 use Rattle.cell_script.specs.declared.line.Line.{Line}
 use Rattle.cell_run.specs.declared.status.What.TheVariants.{Names, Files, ScriptBytes}
 use Rattle.cell_run.specs.declared.status.Reason.{Reason}
-use Rattle.cell_run.specs.declared.status.Reason.TheVariants.{Usage, NoScript, TooLarge}
+use Rattle.cell_run.specs.declared.status.Reason.TheVariants.{NoScript, TooLarge}
 use Rattle.cell_run.specs.Gives.{◌>>=◌, Fails}
-use Rattle.cell_run.specs.Taking.{is_option, input_of, listing, within, files_after, commands_of, input_from}
+use Rattle.cell_run.specs.Taking.{listing, within, files_after, commands_of, input_from}
 use Rattle.cell_run.specs.Objects.{is_object_name, objects_of}
 use Rattle.cell_run.proofs.Binds.{fails_first, fails_same, goes_on}
 use Rattle.cell_run.proofs.Listing.{many_names}
@@ -102,30 +102,3 @@ pub all_steps : (script : List ℕ) (files : List HostFile) (objects : List (Lis
     → within ScriptBytes 1048576 (bytes_named script files) ≡ Ok text → files_after 0 objects files ≡ Ok taken → commands_of text ≡ Ok lines → input_from script files ≡ Ok (record { files = taken; script = lines })
 all_steps script files objects text taken lines e t f l =
     from_files script files objects text taken e t f ∙ goes_on lines _ (λ lines. Ok (record { files = taken; script = lines })) l
-
-or_true : (a : Bool) → (a || true) ≡ true
-or_true true = refl
-or_true false = refl
-
-pub option_first : (dir script : List ℕ) (files : List HostFile) → is_option dir ≡ true → input_of (dir ∷ script ∷ []) files ≡ Err Usage
-unfolding input_of
-option_first dir script files e = ap (λ a. cond (a || is_option script) (Err Usage) (input_from script (folder dir files))) e
-
-pub option_second : (dir script : List ℕ) (files : List HostFile) → is_option script ≡ true → input_of (dir ∷ script ∷ []) files ≡ Err Usage
-unfolding input_of
-option_second dir script files e =
-    ap (λ b. cond (is_option dir || b) (Err Usage) (input_from script (folder dir files))) e
-    ∙ ap (λ c. cond c (Err Usage) (input_from script (folder dir files))) (or_true (is_option dir))
-
-pub no_option : (dir script : List ℕ) (files : List HostFile) → is_option dir ≡ false → is_option script ≡ false → input_of (dir ∷ script ∷ []) files ≡ input_from script (folder dir files)
-unfolding input_of
-no_option dir script files d s =
-    ap (λ a. cond (a || is_option script) (Err Usage) (input_from script (folder dir files))) d
-    ∙ ap (λ b. cond b (Err Usage) (input_from script (folder dir files))) s
-
-pub not_two : (words : List (List ℕ)) (files : List HostFile) → length words ≢ 2 → input_of words files ≡ Err Usage
-unfolding input_of
-not_two [] files h = refl
-not_two (a ∷ []) files h = refl
-not_two (a ∷ b ∷ []) files h = absurd (h refl)
-not_two (a ∷ b ∷ c ∷ words) files h = refl

@@ -4,3 +4,4 @@ pub mod Listing
 pub mod ObjectFiles
 pub mod Sizes
 pub mod Transcript
+pub mod Words

@@ -1,9 +1,10 @@
 -- A whole run: its text and its status.
 --     run_of words files              the run of a program that is given these words and meets these files
 --     WritesRun run status old new    how an answer and what was written stand to a run
-use Rattle.std.specs.Prelude.{◌≡◌, ◌⊎◌, ℕ, Bool, true, false, ◌||◌, List, [], ◌∷◌, ◌++◌, if◌then◌else◌, Option, Result, Ok, Err}
+use Rattle.std.specs.Prelude.{◌≡◌, ◌⊎◌, ℕ, Bool, true, false, ◌||◌, List, [], ◌∷◌, ◌++◌, if◌then◌else◌, Option, Some, None, Result, Ok, Err}
 use Rattle.std.specs.Io.KnownBytes.{Appends}
-use Rattle.cell_io.specs.Files.{File as HostFile}
+use Rattle.cell_io.specs.Files.{File as HostFile, folder}
+use Rattle.cell_arguments.specs.Arguments.{Said, arguments_of}
 use Rattle.cell_io.specs.Written.{AppendsPartOf}
 use Rattle.cell_world.specs.declared.command.Command.{Command}
 use Rattle.cell_world.specs.declared.reply.Reply.{Reply}
@@ -19,7 +20,7 @@ use Rattle.cell_run.specs.declared.status.Status.TheVariants.{Done, SomeRefused,
 use Rattle.cell_run.specs.declared.status.Reason.{Reason}
 use Rattle.cell_run.specs.declared.status.Reason.TheVariants.{Usage, NoScript, BadScript, TooLarge}
 use Rattle.cell_run.specs.declared.take.Input.{Input}
-use Rattle.cell_run.specs.Taking.{input_of}
+use Rattle.cell_run.specs.Taking.{input_from}
 use Rattle.cell_run.specs.StatusLine.{reason_line}
 
 pub record Run : Type 0 where
@@ -50,9 +51,9 @@ any_refused s (line ∷ lines) = is_refusal (answered s line.command).answer || 
 abbrev pub run_from : State → List Line → Run
 run_from s lines = record { text = text_from s lines; status = if any_refused s lines then SomeRefused else Done }
 
--- the machine before the first command: 1024 pages from 0x10000000 on
-abbrev pub first_state : Input → State
-first_state input = record { files = input.files; world = empty_world 0x1000_0000 1024 }
+-- the machine before the first command
+abbrev pub first_state : ℕ → ℕ → Input → State
+first_state base pages input = record { files = input.files; world = empty_world base pages }
 
 abbrev pub status_of : Reason → Status
 status_of Usage = UsageStatus
@@ -61,15 +62,20 @@ status_of (BadScript n) = BadScriptStatus n
 status_of (TooLarge what limit) = TooLargeStatus what limit
 
 -- a run that is refused before its first command
-abbrev pub refused_run : List (List ℕ) → Reason → Run
-refused_run words reason = record { text = reason_line words reason; status = status_of reason }
+abbrev pub refused_run : List ℕ → Reason → Run
+refused_run script reason = record { text = reason_line script reason; status = status_of reason }
 
-abbrev pub run_after : List (List ℕ) → Result Input Reason → Run
-run_after words (Ok input) = run_from (first_state input) input.script
-run_after words (Err reason) = refused_run words reason
+abbrev pub run_after : Said → Result Input Reason → Run
+run_after said (Ok input) = run_from (first_state said.base said.pages input) input.script
+run_after said (Err reason) = refused_run said.script reason
+
+-- what the words say is done; words that say nothing are refused
+abbrev pub run_in : Option Said → List HostFile → Run
+run_in None files = refused_run [] Usage
+run_in (Some said) files = run_after said (input_from said.script (folder said.dir files))
 
 abbrev pub run_of : List (List ℕ) → List HostFile → Run
-run_of words files = run_after words (input_of words files)
+run_of words files = run_in (arguments_of words) files
 
 -- the run was cut off by a fault or by want of memory
 abbrev pub IsCut : Status → Type 0

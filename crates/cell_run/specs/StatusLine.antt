@@ -7,11 +7,6 @@ use Rattle.cell_run.specs.declared.status.What.TheVariants.{Names, Files, FileBy
 use Rattle.cell_run.specs.declared.status.Reason.{Reason}
 use Rattle.cell_run.specs.declared.status.Reason.TheVariants.{Usage, NoScript, BadScript, TooLarge}
 
-abbrev pub second : List (List ℕ) → List ℕ
-second [] = []
-second (a ∷ []) = []
-second (a ∷ b ∷ words) = b
-
 abbrev pub what_word : What → List ℕ
 what_word Names = codes "names"
 what_word Files = codes "files"
@@ -19,8 +14,9 @@ what_word FileBytes = codes "file-bytes"
 what_word AllBytes = codes "all-bytes"
 what_word ScriptBytes = codes "script-bytes"
 
-abbrev pub reason_line : List (List ℕ) → Reason → List ℕ
-reason_line words Usage = line (codes "usage: cells DIR SCRIPT [--base HEX] [--pages N] | --generate N --seed S" ∷ [])
-reason_line words NoScript = line (codes "no script " ∷ second words ∷ [])
-reason_line words (BadScript n) = line (codes "bad script line " ∷ decimal n ∷ [])
-reason_line words (TooLarge what limit) = line (codes "too large: " ∷ what_word what ∷ codes " limit " ∷ decimal limit ∷ [])
+-- the line of a run of that script
+abbrev pub reason_line : List ℕ → Reason → List ℕ
+reason_line script Usage = line (codes "usage: cells DIR SCRIPT [--base HEX] [--pages N] | --generate N --seed S" ∷ [])
+reason_line script NoScript = line (codes "no script " ∷ script ∷ [])
+reason_line script (BadScript n) = line (codes "bad script line " ∷ decimal n ∷ [])
+reason_line script (TooLarge what limit) = line (codes "too large: " ∷ what_word what ∷ codes " limit " ∷ decimal limit ∷ [])

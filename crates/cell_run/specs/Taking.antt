@@ -1,27 +1,18 @@
--- What stands before the first command: the words, the folder, the script and the object files.
---     input_of words files      the object files and the commands, or the first refusal
-use Rattle.std.specs.Prelude.{ℕ, ◌+◌, Bool, false, not, ◌||◌, ◌==◌, nat_lt, List, [], ◌∷◌, length, map, if◌then◌else◌, bytes_eq, Result, Ok, Err}
+-- What stands before the first command: the folder, the script and the object files.
+--     input_from script files      the object files and the commands, or the first refusal
+use Rattle.std.specs.Prelude.{ℕ, ◌+◌, nat_lt, List, [], ◌∷◌, length, map, if◌then◌else◌, bytes_eq, Result, Ok, Err}
 use Rattle.std.specs.List.{list_any}
-use Rattle.cell_io.specs.Files.{File as HostFile, folder, bytes_named}
+use Rattle.cell_io.specs.Files.{File as HostFile, bytes_named}
 use Rattle.cell_world.specs.declared.file.File.{File}
 use Rattle.cell_script.specs.declared.line.Line.{Line}
 use Rattle.cell_script.specs.Script.{script_of}
 use Rattle.cell_run.specs.declared.status.What.{What}
 use Rattle.cell_run.specs.declared.status.What.TheVariants.{Names, Files, FileBytes, AllBytes, ScriptBytes}
 use Rattle.cell_run.specs.declared.status.Reason.{Reason}
-use Rattle.cell_run.specs.declared.status.Reason.TheVariants.{Usage, NoScript, BadScript, TooLarge}
+use Rattle.cell_run.specs.declared.status.Reason.TheVariants.{NoScript, BadScript, TooLarge}
 use Rattle.cell_run.specs.declared.take.Input.{Input}
 use Rattle.cell_run.specs.Objects.{objects_of}
 use Rattle.cell_run.specs.Gives.{◌>>=◌}
-
-abbrev pub is_option : List ℕ → Bool
-is_option [] = false
-is_option (b ∷ bs) = b == 45
-
--- the words are two, and neither begins with a dash
-abbrev pub has_reading : List (List ℕ) → Bool
-has_reading (dir ∷ script ∷ []) = not (is_option dir || is_option script)
-has_reading _ = false
 
 -- at most that many files
 abbrev pub few_objects : List (List ℕ) → Result (List (List ℕ)) Reason
@@ -71,8 +62,3 @@ input_from script files =
     files_after 0 objects files >>= λ taken.
     commands_of text >>= λ lines.
     Ok (record { files = taken; script = lines })
-
--- the same from the words
-unfoldable pub input_of : List (List ℕ) → List HostFile → Result Input Reason
-input_of (dir ∷ script ∷ []) files = if is_option dir || is_option script then Err Usage else input_from script (folder dir files)
-input_of _ files = Err Usage

@@ -1,7 +1,7 @@
 //! The line of a run that ends before its first command.
 
-ghost use Rattle.std.specs.Prelude.{◌≡◌, map, IfOk, string_bytes};
-ghost use Rattle.cell_run.specs.StatusLine.{second, what_word, reason_line};
+ghost use Rattle.std.specs.Prelude.{◌≡◌, IfOk};
+ghost use Rattle.cell_run.specs.StatusLine.{what_word, reason_line};
 
 use crate::What;
 use crate::status::Reason;
@@ -9,8 +9,9 @@ use cell_print::put_line;
 use itoa::Buffer;
 use std::alloc::{AllocError, Global};
 
-pub fn reason_line(alloc: Global, words: &[String], reason: Reason) -> Result<Vec<u8>, AllocError>
-    ensures { IfOk result (λ text. text.items ≡ reason_line (map string_bytes words.now) reason) }
+/// The line of a run of that script.
+pub fn reason_line(alloc: Global, script: &str, reason: Reason) -> Result<Vec<u8>, AllocError>
+    ensures { IfOk result (λ text. text.items ≡ reason_line script.now reason) }
 {
     let mut text = Vec::new(alloc);
     match reason {
@@ -18,7 +19,7 @@ pub fn reason_line(alloc: Global, words: &[String], reason: Reason) -> Result<Ve
             &[b"usage: cells DIR SCRIPT [--base HEX] [--pages N] | --generate N --seed S"],
             &mut text,
         )?,
-        Reason::NoScript => put_line(&[b"no script ", second(words)], &mut text)?,
+        Reason::NoScript => put_line(&[b"no script ", script.as_bytes()], &mut text)?,
         Reason::BadScript { line } => {
             let mut number = Buffer::new();
             let number = number.format(line).as_bytes();
@@ -34,15 +35,6 @@ pub fn reason_line(alloc: Global, words: &[String], reason: Reason) -> Result<Ve
         }
     }
     Ok(text)
-}
-
-fn second(words: &[String]) -> &[u8]
-    ensures { result.now ≡ second (map string_bytes words.now) }
-{
-    match words {
-        [_, word, ..] => word.as_bytes(),
-        _ => b"",
-    }
 }
 
 fn what_word(what: What) -> &'static [u8]

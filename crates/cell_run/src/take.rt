@@ -1,4 +1,4 @@
-//! What a run works on: the words, the folder, the script and the object files.
+//! What a run works on: the folder, the script and the object files.
 
 ghost use Rattle.std.specs.Prelude.{◌≡◌, ◌≢◌, ◌≤◌, ◌^◌, ◌<◌, ◌+◌, false, Err, ℕ, List, [], ◌∷◌, map, length, IfOk, IsErrOf, Contains, All, string_bytes, bytes_eq};
 ghost use Rattle.std.specs.List.{list_any};
@@ -6,7 +6,7 @@ ghost use Rattle.cell_io.specs.Causes.{HasCause};
 ghost use Rattle.cell_io.specs.Files.{names_in, bytes_in, folder};
 ghost use Rattle.cell_run.specs.Gives.{IfTold, Gives};
 ghost use Rattle.cell_run.specs.Objects.{objects_of};
-ghost use Rattle.cell_run.specs.Taking.{has_reading, is_option, listing, within, bytes_after, file_after, files_after, commands_of, input_from, input_of};
+ghost use Rattle.cell_run.specs.Taking.{listing, within, bytes_after, file_after, files_after, commands_of, input_from};
 
 use crate::What;
 use crate::object_name::is_object_name;
@@ -46,47 +46,8 @@ pub struct Input {
     pub script: Script,
 }
 
-/// Reads the words, the folder, the script and the object files.
-pub fn take_in<H: Host>(alloc: Global, words: &[String], host: &mut H) -> Result<Input, TakeFail>
-    ensures input { IfTold (H.files host.old) (λ all. Gives (λ input. input) result (input_of (map string_bytes words.now) all)) }
-    ensures small { IfOk result (λ input. All (λ f. length f.bytes ≤ 1048576) input.files) }
-    ensures cause { HasCause (H.faults host.old) (H.faults host.new) (IsErrOf result TakeFail.ReadFault) }
-    ensures usage { has_reading (map string_bytes words.now) ≡ false → result ≡ Err (TakeFail.Refused Reason.Usage) }
-{
-    if words.len() != 2 {
-        return Err(TakeFail::Refused(Reason::Usage));
-    }
-    take_two(alloc, words[0].as_str(), words[1].as_str(), host)
-}
-
-fn take_two<H: Host>(
-    alloc: Global,
-    dir: &str,
-    script: &str,
-    host: &mut H,
-) -> Result<Input, TakeFail>
-    ensures input { IfTold (H.files host.old) (λ all. Gives (λ input. input) result (input_of (dir.now ∷ script.now ∷ []) all)) }
-    ensures small { IfOk result (λ input. All (λ f. length f.bytes ≤ 1048576) input.files) }
-    ensures cause { HasCause (H.faults host.old) (H.faults host.new) (IsErrOf result TakeFail.ReadFault) }
-    ensures usage { has_reading (dir.now ∷ script.now ∷ []) ≡ false → result ≡ Err (TakeFail.Refused Reason.Usage) }
-{
-    if is_option(dir) || is_option(script) {
-        return Err(TakeFail::Refused(Reason::Usage));
-    }
-    take_from(alloc, dir, script, host)
-}
-
-fn is_option(word: &str) -> bool
-    ensures { result ≡ is_option word.now }
-{
-    match word.as_bytes() {
-        [] => false,
-        [first, ..] => *first == b'-',
-    }
-}
-
 /// Reads the folder, then the script, then the object files; the script's lines come last.
-fn take_from<H: Host>(
+pub fn take_from<H: Host>(
     alloc: Global,
     dir: &str,
     script: &str,
@@ -306,7 +267,7 @@ fn read_after<H: Host>(
 
 /// Reads the lines of the script.
 fn commands(alloc: Global, text: &[u8]) -> Result<Script, TakeFail>
-    requires { length text.now < 2 ^ 31 }
+    requires { length text.now < 2 ^ 32 }
     ensures lines { Gives (λ lines. lines) result (commands_of text.now) }
     ensures no_fault { result ≢ Err TakeFail.ReadFault }
 {

@@ -1,27 +1,23 @@
 //! The whole call.
 
-ghost use Rattle.std.specs.Prelude.{◌≡◌, ◌≢◌, ◌≤◌, ℕ, false, Err, List, [], map, length, All, OnOk, IfOk, IfErr, IfSome, IsErrOf, string_bytes};
+ghost use Rattle.std.specs.Prelude.{◌≡◌, ◌≢◌, ◌≤◌, ℕ, false, Err, None, Some, List, [], map, length, All, OnOk, IfOk, IfErr, IfSome, IsErrOf, string_bytes};
 ghost use Rattle.std.specs.Io.KnownBytes.{Appends};
 ghost use Rattle.cell_io.specs.Causes.{Rose, HasCause};
 ghost use Rattle.cell_io.specs.Written.{AppendsPartOf};
 ghost use Rattle.cell_print.specs.Lines.{lines_of};
-ghost use Rattle.cell_run.specs.Taking.{has_reading};
-ghost use Rattle.cell_run.specs.Run.{IsCut, WritesRun, Answers, DoesLine, answered, run_of, run_from, first_state, refused_run};
+ghost use Rattle.cell_arguments.specs.Arguments.{IsInRange, arguments_of, said};
+ghost use Rattle.cell_run.specs.Run.{IsCut, WritesRun, Answers, DoesLine, answered, run_of, run_in, run_from, first_state, refused_run};
 
 use crate::Status;
 use crate::refuse::reason_line;
 use crate::status::{Reason, status_of};
-use crate::take::{Input, TakeFail, take_in};
+use crate::take::{Input, TakeFail, take_from};
+use cell_arguments::{Arguments, ArgumentsFault, read_arguments};
 use cell_io::{Host, Sink};
 use cell_print::{put_refusal, put_reply};
 use cell_script::Line;
 use cell_system::{Fail, System};
 use std::alloc::{AllocError, Global};
-
-/// The memory of a run's machine: where it begins, and its pages.
-const BASE: u64 = 0x1000_0000;
-
-const PAGES: u32 = 1024;
 
 /// Does all that the program does: reads the words, the folder, the script and the object files, does
 /// the commands, and writes each answer as it comes.
@@ -41,27 +37,48 @@ pub fn cells<H: Host, K: Sink>(
 
     // A fault of reading comes before anything is written, and not where nothing was to be read.
     ensures nothing { result ≡ Status.ReadFault → Appends (K.written out.old) (K.written out.new) [] }
-    ensures no_read { has_reading (map string_bytes words.now.items) ≡ false → result ≢ Status.ReadFault }
+    ensures no_read { arguments_of (map string_bytes words.now.items) ≡ None → result ≢ Status.ReadFault }
 
     // Words without a reading are refused whatever the host holds, also where it tells nothing.
-    ensures usage { has_reading (map string_bytes words.now.items) ≡ false →
-        WritesRun (refused_run (map string_bytes words.now.items) Reason.Usage) result (K.written out.old) (K.written out.new) }
+    ensures usage { arguments_of (map string_bytes words.now.items) ≡ None →
+        WritesRun (refused_run [] Reason.Usage) result (K.written out.old) (K.written out.new) }
 {
-    match take_in(alloc, words.as_slice(), host) {
-        Ok(input) => run_script(alloc, input, out),
-        Err(TakeFail::Refused(reason)) => refuse(alloc, words.as_slice(), reason, out),
+    match read_arguments(alloc, words.as_slice()) {
+        Ok(arguments) => run(alloc, &arguments, host, out),
+        Err(ArgumentsFault::Usage) => refuse(alloc, "", Reason::Usage, out),
+        Err(ArgumentsFault::OutOfMemory) => Status::OutOfMemory,
+    }
+}
+
+/// Does what the words say.
+fn run<H: Host, K: Sink>(
+    alloc: Global,
+    arguments: &Arguments<'_>,
+    host: &mut H,
+    out: &mut K,
+) -> Status
+    requires { IsInRange arguments.now.base arguments.now.pages }
+    ensures transcript { IfSome (H.files host.old) (λ files.
+        WritesRun (run_in (Some (said arguments.now)) files) result (K.written out.old) (K.written out.new)) }
+    ensures read_cause { result ≡ Status.ReadFault → Rose (H.faults host.old) (H.faults host.new) }
+    ensures write_cause { result ≡ Status.WriteFault → Rose (K.faults out.old) (K.faults out.new) }
+    ensures nothing { result ≡ Status.ReadFault → Appends (K.written out.old) (K.written out.new) [] }
+{
+    match take_from(alloc, arguments.dir, arguments.script, host) {
+        Ok(input) => run_script(alloc, arguments.base, arguments.pages, input, out),
+        Err(TakeFail::Refused(reason)) => refuse(alloc, arguments.script, reason, out),
         Err(TakeFail::ReadFault) => Status::ReadFault,
         Err(TakeFail::OutOfMemory) => Status::OutOfMemory,
     }
 }
 
 /// Writes the line of a run that ends before its first command.
-fn refuse<K: Sink>(alloc: Global, words: &[String], reason: Reason, out: &mut K) -> Status
-    ensures refused { WritesRun (refused_run (map string_bytes words.now) reason) result (K.written out.old) (K.written out.new) }
+fn refuse<K: Sink>(alloc: Global, script: &str, reason: Reason, out: &mut K) -> Status
+    ensures refused { WritesRun (refused_run script.now reason) result (K.written out.old) (K.written out.new) }
     ensures cause { HasCause (K.faults out.old) (K.faults out.new) (result ≡ Status.WriteFault) }
     ensures no_read { result ≢ Status.ReadFault }
 {
-    let Ok(line) = reason_line(alloc, words, reason) else {
+    let Ok(line) = reason_line(alloc, script, reason) else {
         return Status::OutOfMemory;
     };
     if out.put(line.as_slice()).is_err() {
@@ -71,28 +88,30 @@ fn refuse<K: Sink>(alloc: Global, words: &[String], reason: Reason, out: &mut K)
 }
 
 /// Does the commands of a script on a machine without a cell.
-fn run_script<K: Sink>(alloc: Global, input: Input, out: &mut K) -> Status
-    requires { All (λ f. length f.bytes ≤ 1048576) input.files }
-    ensures transcript { WritesRun (run_from (first_state input) input.script) result (K.written out.old) (K.written out.new) }
+fn run_script<K: Sink>(alloc: Global, base: u64, pages: u32, input: Input, out: &mut K) -> Status
+    requires range { IsInRange base pages }
+    requires small { All (λ f. length f.bytes ≤ 1048576) input.files }
+    ensures transcript { WritesRun (run_from (first_state base pages input) input.script) result (K.written out.old) (K.written out.new) }
     ensures cause { HasCause (K.faults out.old) (K.faults out.new) (result ≡ Status.WriteFault) }
     ensures no_read { result ≢ Status.ReadFault }
 {
     let Input { files, script } = input;
-    let Ok(mut system) = System::new(alloc, BASE, PAGES, files.into_vec()) else {
+    let Ok(mut system) = System::new(alloc, base, pages, files.into_vec()) else {
         return Status::OutOfMemory;
     };
     do_lines(alloc, &mut system, script.as_slice(), out)
 }
 
-/// Does the commands of these lines, and writes each answer.
+/// Does the commands of these lines, and writes each answer. One buffer serves all answers.
 fn do_lines<K: Sink>(alloc: Global, system: &mut System, lines: &[Line], out: &mut K) -> Status
     ensures transcript { WritesRun (run_from system.old lines.now) result (K.written out.old) (K.written out.new) }
     ensures cause { HasCause (K.faults out.old) (K.faults out.new) (result ≡ Status.WriteFault) }
     ensures no_read { result ≢ Status.ReadFault }
 {
     let mut some_refused = false;
+    let mut text = Vec::new(alloc);
     for line in lines {
-        match do_line(alloc, system, line, out) {
+        match do_line(system, line, &mut text, out) {
             Ok(refused) => some_refused = some_refused || refused,
             Err(status) => return status,
         }
@@ -104,11 +123,11 @@ fn do_lines<K: Sink>(alloc: Global, system: &mut System, lines: &[Line], out: &m
     }
 }
 
-/// Does the command of a line, writes its answer, and says whether it was refused.
+/// Does the command of a line, writes its answer by way of `text`, and says whether it was refused.
 fn do_line<K: Sink>(
-    alloc: Global,
     system: &mut System,
     line: &Line,
+    text: &mut Vec<u8>,
     out: &mut K,
 ) -> Result<bool, Status>
     ensures done { IfOk result (λ refused. DoesLine system.old line.now refused system.new (K.written out.old) (K.written out.new)) }
@@ -117,41 +136,29 @@ fn do_line<K: Sink>(
     ensures cause { HasCause (K.faults out.old) (K.faults out.new) (IsErrOf result Status.WriteFault) }
     ensures no_read { result ≢ Err Status.ReadFault }
 {
-    let Ok(answer) = do_command(alloc, system, line) else {
+    text.clear();
+    let Ok(refused) = do_command(system, line, text) else {
         return Err(Status::OutOfMemory);
     };
-    if out.put(answer.text.as_slice()).is_err() {
+    if out.put(text.as_slice()).is_err() {
         return Err(Status::WriteFault);
     }
-    Ok(answer.refused)
+    Ok(refused)
 }
 
-/// The lines of an answer, and whether it is a refusal.
-#[derive(Drop)]
-struct Answer {
-    text: Vec<u8>,
-    refused: bool,
-}
-
-/// Does the command of a line.
-fn do_command(alloc: Global, system: &mut System, line: &Line) -> Result<Answer, AllocError>
-    ensures { IfOk result (λ answer. Answers system.old line.now answer.text.items answer.refused system.new) }
+/// Does the command of a line, appends the lines of its answer, and says whether it is a refusal.
+fn do_command(system: &mut System, line: &Line, text: &mut Vec<u8>) -> Result<bool, AllocError>
+    requires { text.old.items ≡ [] }
+    ensures { IfOk result (λ refused. Answers system.old line.now text.new.items refused system.new) }
 {
-    let mut text = Vec::new(alloc);
     match system.do_command(&line.command) {
         Ok(reply) => {
-            put_reply(line.number, &reply, &mut text)?;
-            Ok(Answer {
-                text,
-                refused: false,
-            })
+            put_reply(line.number, &reply, text)?;
+            Ok(false)
         }
         Err(Fail::Refused(refusal)) => {
-            put_refusal(line.number, &refusal, &mut text)?;
-            Ok(Answer {
-                text,
-                refused: true,
-            })
+            put_refusal(line.number, &refusal, text)?;
+            Ok(true)
         }
         Err(Fail::OutOfMemory) => Err(AllocError),
     }

@@ -5,7 +5,7 @@ use std::test::*;
 
 /// The number of the first line without a reading.
 fn bad_line(rt: &HostRuntime, text: &[u8]) -> Option<u32>
-    requires { length text.now < 2 ^ 31 }
+    requires { length text.now < 2 ^ 32 }
 {
     match read_script(rt.alloc(), text) {
         Err(ScriptFail::Bad { line }) => Some(line),
@@ -45,6 +45,17 @@ fn bad_lines(rt: HostRuntime) {
         (b"\nload K a", 2),
         (b"load k a\r\n", 1),
         (b"load k a b", 1),
+        (b"load k", 1),
+        (b"Load k a", 1),
+        (b"load k a\0", 1),
+        (b"load k a #", 1),
+        (b"load k a-b", 1),
+        (b"dump 1 1\n\rdump 1 1", 2),
+        (b"dump 1 1\n\n\x0b", 3),
+        (b"dump 00 0", 1),
+        (b"dump +1 0", 1),
+        (b"dump 0x1 0", 1),
+        (b"dump 1", 1),
         (b"dump 4294967296 0", 1),
         (b"dump 01 0", 1),
         (b"load k a\nfrob\nfrob", 2),

@@ -1,19 +1,14 @@
 -- Canonical decimal text and its number.
 use Rattle.std.proofs.Common.{◌≡◌, ℕ, ◌<◌, ◌≤◌, ◌^◌, List, [], ◌∷◌, ◌&&◌, Bool, true, false, not, length, ◌⊎◌, inl, inr, get_or, refl, sym, ap, ◌∙◌, arith}
-use Rattle.std.specs.Prelude.{Ok, Err, Some, None, SomeIff, nat_le, cond}
-use Rattle.std.specs.Result.{result_ok}
-use Rattle.std.specs.declared.option.Option.{Option}
-use Rattle.std.specs.declared.result.Result.{Result}
-use Rattle.std.specs.Result.{OkIff}
+use Rattle.std.specs.Prelude.{Some, None, nat_le, cond}
 use Rattle.std.specs.Fmt.{decimal}
-use Rattle.std.specs.Str.{all_ascii_digits, IsUtf8}
-use Rattle.std.specs.Str.Parse.{digits_value, ParsesUnsigned}
+use Rattle.std.specs.Str.{all_ascii_digits}
+use Rattle.std.specs.Str.Parse.{digits_value, IsNumeral}
 use Rattle.std.specs.Char.{is_ascii_digit}
 use Rattle.std.proofs.lemmas.Bool.Decides.{nat_tests}
 use Rattle.std.proofs.lemmas.Bool.{cases_lt}
-use Rattle.std.proofs.lemmas.Fmt.{decimal_is_IsNumeral, decimal_digit, first_decimal, decimal_nonempty, decimal-digits_value, IsAscii-from_digits}
-use Rattle.std.proofs.lemmas.Str.{IsUtf8-from_ascii}
-use Rattle.std.proofs.lemmas.Str.Parse.{IsNumeralModel, numerals_by_value, tells_all_ascii_digits, parse_digits}
+use Rattle.std.proofs.lemmas.Fmt.{decimal_is_IsNumeral, decimal_digit, first_decimal, decimal_nonempty, decimal-digits_value}
+use Rattle.std.proofs.lemmas.Str.Parse.{IsNumeralModel, numerals_by_value, tells_all_ascii_digits}
 use Rattle.cell_text.specs.Text.{is_filled}
 use Rattle.cell_text.specs.Number.{has_leading_zero, are_digits, is_canonical, number_in}
 
@@ -31,13 +26,13 @@ and_parts true true false e = cc
 and_parts true false c e = cc
 and_parts false b c e = cc
 
-and_whole : (a b c : Bool) → a ≡ true → b ≡ true → c ≡ true → (a && b && c) ≡ true
+pub and_whole : (a b c : Bool) → a ≡ true → b ≡ true → c ≡ true → (a && b && c) ≡ true
 and_whole true true true p q r = refl
 and_whole true true false p q r = cc
 and_whole true false c p q r = cc
 and_whole false b c p q r = cc
 
-is_filled-some : (ds : List ℕ) → 0 < length ds → is_filled ds ≡ true
+pub is_filled-some : (ds : List ℕ) → 0 < length ds → is_filled ds ≡ true
 is_filled-some [] h = absurd (omega arith)
 is_filled-some (b ∷ bs) h = refl
 
@@ -46,7 +41,7 @@ filled [] h = cc
 filled (b ∷ bs) h = omega arith
 
 -- one digit, or a first that is above the zero's
-no_zero : (ds : List ℕ) → 48 < get_or ds 0 0 → has_leading_zero ds ≡ false
+pub no_zero : (ds : List ℕ) → 48 < get_or ds 0 0 → has_leading_zero ds ≡ false
 no_zero [] h = refl
 no_zero (b ∷ []) h = refl
 no_zero (b ∷ c ∷ bs) h = grind (arith, nat_tests)
@@ -81,18 +76,9 @@ decimal-value ds e small =
     let some : 0 < length ds = filled ds parts.0 in
     decimal-digits_value own ds (all_digits ds e) some (alone ds parts.1 some) small
 
-pub is_text : (ds : List ℕ) → is_canonical ds ≡ true → IsUtf8 ds
-is_text ds e = IsUtf8-from_ascii ds (IsAscii-from_digits ds (own.to ds (all_digits ds e)))
-
-some_iff : {E : Type 0} (r : Result ℕ E) (v : ℕ) (P : Type 0) → P → OkIff r (P × (v < 2 ^ 64)) v → SomeIff (result_ok r) (v < 2 ^ 64) v
-some_iff (Ok x) v P p h = (h.0.1, h.1)
-some_iff (Err e) v P p h = λ small. h (p, small)
-
--- the answer of `parse`, as an option
-pub value_told : {E : Type 0} (ds : List ℕ) (r : Result ℕ E) (o : Option ℕ) → is_canonical ds ≡ true → ParsesUnsigned 64 10 ds r → o ≡ result_ok r → SomeIff o (digits_value 10 ds < 2 ^ 64) (digits_value 10 ds)
-value_told ds r o e h same =
-    let some : 0 < length ds = filled ds (and_parts (is_filled ds) (not (has_leading_zero ds)) (are_digits ds) e).0 in
-    rw same (some_iff r (digits_value 10 ds) (0 < length ds) some (parse_digits own 64 ds r h (all_digits ds e)))
+pub decimal_is_numeral : (ds : List ℕ) → is_canonical ds ≡ true → IsNumeral 10 ds
+decimal_is_numeral ds e =
+    (filled ds (and_parts (is_filled ds) (not (has_leading_zero ds)) (are_digits ds) e).0, own.to ds (all_digits ds e))
 
 pub no_number : (most : ℕ) (ds : List ℕ) → is_canonical ds ≡ false → number_in most ds ≡ None
 no_number most ds e = ap (λ t. cond (t && nat_le (digits_value 10 ds) most) (Some (digits_value 10 ds)) None) e

@@ -1,2 +1,4 @@
 pub mod Splits
 pub mod Decimal
+pub mod Hexadecimal
+pub mod Spans

@@ -1,7 +1,10 @@
 -- The pieces of a text, found from its front.
-use Rattle.std.proofs.Common.{◌≡◌, ℕ, ◌+◌, ◌-◌, ◌<◌, ◌≤◌, List, [], ◌∷◌, ◌++◌, Bool, true, false, cond, length, get_or, take, drop, refl, sym, ap, ◌∙◌, arith, append_assoc, append-nil, length-drop}
+use Rattle.std.proofs.Common.{◌≡◌, ℕ, zero, suc, ◌+◌, ◌-◌, ◌<◌, ◌≤◌, List, [], ◌∷◌, ◌++◌, map, Vec, Bor, Global, Bool, true, false, cond, length, get_or, take, drop, refl, sym, ap, ◌∙◌, arith, append_assoc, append-nil, length-drop}
 use Rattle.std.proofs.lemmas.List.{drop_more, take_more, get_or-drop, drop_all}
-use Rattle.cell_text.specs.Text.{pieces, onto}
+use Rattle.std.specs.declared.result.Result.{Result}
+use Rattle.std.specs.Prelude.{Ok, Err, IfOk}
+use Rattle.cell_text.specs.declared.pieces.Separator.TheVariants.{LineFeed}
+use Rattle.cell_text.specs.Text.{pieces, onto, separates, lines_in, Behind}
 
 -- bytes in front of the first piece
 abbrev pub glue : List ℕ → List (List ℕ) → List (List ℕ)
@@ -90,3 +93,22 @@ length_cond false b ps = length_onto b ps
 pub length-pieces : (test : ℕ → Bool) (t : List ℕ) → length (pieces test t) ≤ length t + 1
 length-pieces test [] = omega arith
 length-pieces test (b ∷ bs) = omega (arith, length_cond (test b) b (pieces test bs), length-pieces test bs)
+
+behind_more : (b : ℕ) (ps : List (List ℕ)) (n : ℕ) (s : Bool) (k : ℕ) → ((j : ℕ) → j < length ps → j + length (get_or ps j []) ≤ n)
+    → k < length (cond s ([] ∷ ps) (onto b ps)) → k + length (get_or (cond s ([] ∷ ps) (onto b ps)) k []) ≤ suc n
+behind_more b ps n true zero far h = omega arith
+behind_more b ps n true (suc k) far h = omega (arith, far k (omega arith))
+behind_more b [] n false zero far h = omega arith
+behind_more b [] n false (suc k) far h = absurd (omega arith)
+behind_more b (p ∷ ps) n false zero far h = omega (arith, far 0 (omega arith))
+behind_more b (p ∷ ps) n false (suc k) far h = omega (arith, far (suc k) (omega arith))
+
+-- each piece begins behind as many separators as there are pieces before it
+pub pieces_behind : (test : ℕ → Bool) (t : List ℕ) (k : ℕ) → k < length (pieces test t) → k + length (get_or (pieces test t) k []) ≤ length t
+pieces_behind test [] zero h = omega arith
+pieces_behind test [] (suc k) h = absurd (omega arith)
+pieces_behind test (b ∷ bs) k h = behind_more b (pieces test bs) (length bs) (test b) k (pieces_behind test bs) h
+
+pub lines_behind : {E : Type 0} (r : Result (Vec (Bor (List ℕ)) Global) E) (t : List ℕ) → IfOk r (λ lines. map (λ line. line.now) lines.items ≡ lines_in t) → IfOk r (λ lines. Behind (length t) (map (λ line. line.now) lines.items))
+lines_behind (Ok lines) t e = rw e (pieces_behind (separates LineFeed) t)
+lines_behind (Err x) t e = tt

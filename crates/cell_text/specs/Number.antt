@@ -2,7 +2,8 @@
 --     hex n                 the number in lower-case hex
 --     hex_byte b            two hex digits
 --     number_in most text   the number of at most that size that the text spells in decimal
-use Rattle.std.specs.Prelude.{ℕ, ◌/◌, ◌%◌, nat_le, Bool, false, not, ◌&&◌, ◌==◌, List, [], ◌∷◌, Option, Some, None, if◌then◌else◌}
+--     hex_number_in text    the number below 2 ^ 64 that the text spells in hex
+use Rattle.std.specs.Prelude.{ℕ, ◌/◌, ◌%◌, ◌^◌, ◌||◌, nat_lt, nat_le, Bool, false, not, ◌&&◌, ◌==◌, List, [], ◌∷◌, Option, Some, None, if◌then◌else◌}
 use Rattle.std.specs.List.{list_all}
 use Rattle.std.specs.Char.{is_ascii_digit}
 use Rattle.std.specs.Str.Parse.{digits_value}
@@ -33,3 +34,18 @@ is_canonical text = is_filled text && not (has_leading_zero text) && are_digits 
 -- the number that the text spells in decimal, where it is at most that
 abbrev pub number_in : ℕ → List ℕ → Option ℕ
 number_in most text = if is_canonical text && nat_le (digits_value 10 text) most then Some (digits_value 10 text) else None
+
+-- 0 to 9, and a to f
+abbrev pub is_hex_digit : ℕ → Bool
+is_hex_digit b = is_ascii_digit b || nat_le 97 b && nat_le b 102
+
+abbrev pub are_hex_digits : List ℕ → Bool
+are_hex_digits text = list_all is_hex_digit text
+
+-- lower-case hex digits, one at least, without a leading zero
+abbrev pub is_canonical_hex : List ℕ → Bool
+is_canonical_hex text = is_filled text && not (has_leading_zero text) && are_hex_digits text
+
+-- the number that the text spells in hex, where it is below 2 ^ 64
+abbrev pub hex_number_in : List ℕ → Option ℕ
+hex_number_in text = if is_canonical_hex text && nat_lt (digits_value 16 text) (2 ^ 64) then Some (digits_value 16 text) else None

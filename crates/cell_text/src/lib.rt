@@ -4,8 +4,8 @@
 mod number;
 mod pieces;
 
-pub use number::{put_dec, put_hex, put_hex_byte, read_dec};
-pub use pieces::{lines, words};
+pub use number::{put_dec, put_hex, put_hex_byte, read_dec, read_hex};
+pub use pieces::{Span, lines, words};
 
 #[cfg(test)]
 mod tests;

@@ -2,8 +2,8 @@
 
 ghost use Rattle.std.specs.Prelude.{◌≡◌, ◌≢◌, ◌≤◌, ◌<◌, ◌++◌, ◌^◌, ℕ, true, false, None, IfSome, SomeIff, is_ok, decimal, if◌then◌else◌};
 ghost use Rattle.std.specs.Fmt.{digit_glyph};
-ghost use Rattle.std.specs.Str.Parse.{digits_value};
-ghost use Rattle.cell_text.specs.Number.{hex, hex_byte, has_leading_zero, are_digits, is_canonical, number_in};
+ghost use Rattle.std.specs.Str.Parse.{digits_value, IsNumeral};
+ghost use Rattle.cell_text.specs.Number.{hex, hex_byte, has_leading_zero, are_digits, is_hex_digit, are_hex_digits, is_canonical, is_canonical_hex, number_in, hex_number_in};
 
 use itoa::Buffer;
 use std::alloc::AllocError;
@@ -18,19 +18,34 @@ pub fn read_dec(text: &[u8], most: u64) -> Option<u64>
     if !is_canonical(text) {
         return None;
     }
-    match value_of(text) {
+    match value_of(text, 10) {
         Some(value) if value <= most => Some(value),
         _ => None,
     }
 }
 
+/// The number that the text spells in lower-case hex, without leading zeros, where it is below 2^64.
+/// Nothing stands before the digits, as `0x` might.
+pub fn read_hex(text: &[u8]) -> Option<u64>
+    ensures reading { result ≡ hex_number_in text.now }
+    ensures value { IfSome result (λ n. text.now ≡ hex n) }
+    ensures none { result ≡ None → (n : ℕ) → n < 2 ^ 64 → text.now ≢ hex n }
+{
+    if !is_canonical_hex(text) {
+        return None;
+    }
+    value_of(text, 16)
+}
+
 /// The number that the digits spell, where it is below 2^64.
-fn value_of(digits: &[u8]) -> Option<u64>
-    requires { is_canonical digits.now ≡ true }
-    ensures { SomeIff result (digits_value 10 digits.now < 2 ^ 64) (digits_value 10 digits.now) }
+fn value_of(digits: &[u8], radix: u32) -> Option<u64>
+    requires low { 2 ≤ radix }
+    requires high { radix ≤ 16 }
+    requires digits { IsNumeral radix digits.now }
+    ensures { SomeIff result (digits_value radix digits.now < 2 ^ 64) (digits_value radix digits.now) }
 {
     match str::from_utf8(digits) {
-        Ok(text) => text.parse::<u64>().ok(),
+        Ok(text) => u64::from_str_radix(text, radix).ok(),
         Err(_) => None,
     }
 }
@@ -39,6 +54,12 @@ fn is_canonical(text: &[u8]) -> bool
     ensures { result ≡ is_canonical text.now }
 {
     !text.is_empty() && !has_leading_zero(text) && are_digits(text)
+}
+
+fn is_canonical_hex(text: &[u8]) -> bool
+    ensures { result ≡ is_canonical_hex text.now }
+{
+    !text.is_empty() && !has_leading_zero(text) && are_hex_digits(text)
 }
 
 fn has_leading_zero(text: &[u8]) -> bool
@@ -54,6 +75,18 @@ fn are_digits(text: &[u8]) -> bool
     ensures { result ≡ are_digits text.now }
 {
     text.iter().all(|b| b.is_ascii_digit())
+}
+
+fn are_hex_digits(text: &[u8]) -> bool
+    ensures { result ≡ are_hex_digits text.now }
+{
+    text.iter().all(|b| is_hex_digit(*b))
+}
+
+fn is_hex_digit(b: u8) -> bool
+    ensures { result ≡ is_hex_digit b }
+{
+    b.is_ascii_digit() || (b >= b'a' && b <= b'f')
 }
 
 /// Appends the number in decimal.

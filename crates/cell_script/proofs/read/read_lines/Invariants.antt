@@ -4,8 +4,5 @@ use Rattle.cell_script.proofs.Lines.{prepend}
 use Rattle.cell_script.proofs.read.read_lines.Given as goal
 
 -- the lines so far, and those of the texts that are left, are all lines
-abbrev pub invariant-loop-text : goal.invariant-loop-text
-invariant-loop-text l = record {
-  all : prepend l.lines.items (script_from (l.number + 1) (map (λ text. text.now) (drop l.text-index l.texts))) ≡ script_from 1 (map (λ text. text.now) l.texts);
-  counted : l.number ≡ l.text-index;
-}
+abbrev pub invariant-loop-i : goal.invariant-loop-i
+invariant-loop-i l = prepend l.lines.items (script_from (l.i + 1) (map (λ text. text.now) (drop l.i l.texts))) ≡ script_from 1 (map (λ text. text.now) l.texts)

@@ -3,13 +3,18 @@ use Rattle.std.proofs.lemmas.Bool.{cases_lt}
 use Rattle.std.specs.Fmt.{decimal}
 use Rattle.std.specs.Str.Parse.{digits_value}
 use Rattle.cell_text.specs.Number.{is_canonical}
-use Rattle.cell_text.proofs.Decimal.{is_canonical-decimal, digits_value-decimal, decimal-value, no_number, small_number, large_number, too_large}
+use Rattle.cell_text.proofs.Decimal.{is_canonical-decimal, digits_value-decimal, decimal_is_numeral, decimal-value, no_number, small_number, large_number, too_large}
 use Rattle.cell_text.proofs.number.read_dec.Goals as goal
 
 pub returns-then-not-is_canonical-clause-none : goal.returns-then-not-is_canonical-clause-none
 returns-then-not-is_canonical-clause-none c = λ _ n small same.
     let spelled : is_canonical c.args.text.now ≡ true = ap is_canonical same ∙ is_canonical-decimal n (omega arith) in
     cc
+
+pub value_of-requires-clause-digits : goal.value_of-requires-clause-digits
+value_of-requires-clause-digits c =
+    let spelled : is_canonical c.args.text.now ≡ true = cc in
+    decimal_is_numeral c.args.text.now spelled
 
 pub returns-in-Some-clause-value : goal.returns-in-Some-clause-value
 returns-in-Some-clause-value c =

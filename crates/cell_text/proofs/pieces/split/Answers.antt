@@ -1,7 +1,7 @@
-use Rattle.std.proofs.Common.{◌≤◌, ◌+◌, length, List, ℕ, map, sym, ◌∙◌, ap, arith}
-use Rattle.std.proofs.lemmas.List.{map-append, length-map}
+use Rattle.std.proofs.Common.{List, ℕ, map, sym, ◌∙◌, ap, arith}
+use Rattle.std.proofs.lemmas.List.{map-append}
 use Rattle.cell_text.specs.Text.{separates}
-use Rattle.cell_text.proofs.Splits.{glue-nil, closes, grows, ends, length-pieces}
+use Rattle.cell_text.proofs.Splits.{glue-nil, closes, grows, ends}
 use Rattle.cell_text.proofs.pieces.split.Goals as goal
 use Rattle.cell_text.proofs.pieces.split.Goals.{then-is_separator+in_ok-push, else-is_separator}
 
@@ -28,16 +28,10 @@ loop-i-preserved c =
       }
     ]
 
-pub returns-clause-parts : goal.returns-clause-parts
-returns-clause-parts c =
+pub returns : goal.returns
+returns c =
     let t = c.args.text.now in
     let parts : List (List ℕ) = map (λ part. part.now) c.loop-i.parts.items in
     ap (λ xs. map (λ part. part.now) xs) c.in_ok-push-2.ensures.items
     ∙ map-append (λ part. part.now) c.loop-i.parts.items _
     ∙ ends (separates c.args.separator) t parts _ c.loop-i.start c.loop-i.i (omega arith) c.loop-i.invariant.all
-
-pub returns-clause-few : goal.returns-clause-few
-returns-clause-few c =
-    let few : length (map (λ part. part.now) c.push-2.new.self.items) ≤ length c.args.text.now + 1 =
-    rw (returns-clause-parts c) (length-pieces (separates c.args.separator) c.args.text.now) in
-    omega (arith, few, length-map c.push-2.new.self.items (λ part. part.now))

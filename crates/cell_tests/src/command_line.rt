@@ -1,0 +1,116 @@
+//! Command lines, and what comes of them.
+
+use crate::folder::outcome;
+use crate::images::{FAR_HEAD, FAR_TAIL, NEAR_HEAD, NEAR_TAIL, POINTER, SEVEN};
+use cell_run::Status;
+use std::alloc::{AllocError, Global};
+use std::test::Fail;
+
+const USAGE: &str = "usage: cells DIR SCRIPT [--base HEX] [--pages N] | --generate N --seed S\n";
+
+/// What a command line comes to over a folder with the empty script `s`, words between single spaces.
+const LINES: [(&str, Status, &str); 22] = [
+    ("d s", Status::Done, ""),
+    ("--base=0x1000 d s", Status::Done, ""),
+    ("d --pages 4096 s", Status::Done, ""),
+    ("-- d s", Status::Done, ""),
+    ("d -- s", Status::Done, ""),
+    ("d t", Status::NoScript, "no script t\n"),
+    ("d ", Status::NoScript, "no script \n"),
+    ("d -- --base", Status::NoScript, "no script --base\n"),
+    ("d", Status::Usage, USAGE),
+    ("", Status::Usage, USAGE),
+    ("d s x", Status::Usage, USAGE),
+    ("d s --help", Status::Usage, USAGE),
+    ("d s --base", Status::Usage, USAGE),
+    ("d s --base 0x10000001", Status::Usage, USAGE),
+    ("d s --base 0x0", Status::Usage, USAGE),
+    ("d s --base 0xA0000000", Status::Usage, USAGE),
+    ("d s --base 0x01000", Status::Usage, USAGE),
+    ("d s --base 0x1000 --base 0x1000", Status::Usage, USAGE),
+    ("d s --pages 15", Status::Usage, USAGE),
+    ("d s --pages 4097", Status::Usage, USAGE),
+    ("d s --pages 016", Status::Usage, USAGE),
+    ("--generate 1 --seed 1", Status::Usage, USAGE),
+];
+
+fn split(alloc: Global, line: &'static str) -> Result<Vec<&'static str>, AllocError> {
+    let mut words = Vec::new(alloc);
+    for word in line.split(' ') {
+        words.push(word)?;
+    }
+    Ok(words)
+}
+
+#[test]
+fn command_lines(rt: HostRuntime) -> Result<(), Fail> {
+    for (line, want, text) in LINES {
+        let words = split(rt.alloc(), line)?;
+        let (status, sink) = outcome(rt.alloc(), words.as_slice(), "", &[])?;
+        assert!(rt; status == want, "{line}");
+        assert!(rt; sink.written() == text.as_bytes(), "{line}");
+    }
+    Ok(())
+}
+
+#[test]
+fn a_script_without_a_reading(rt: HostRuntime) -> Result<(), Fail> {
+    let (status, sink) = outcome(rt.alloc(), &["d", "s"], "load k", &[])?;
+    assert!(rt; status == Status::BadScript { line: 1 });
+    assert!(rt; sink.written() == b"bad script line 1\n".as_slice());
+    Ok(())
+}
+
+#[test]
+fn another_base(rt: HostRuntime) -> Result<(), Fail> {
+    let files = [("k#a.o", SEVEN.as_slice()), ("k#b.o", POINTER.as_slice())];
+    let words = ["d", "s", "--pages", "16", "--base", "0x7ff0000"];
+    let script = "load k a\nload k b\ndump 2 1\n";
+    let (status, sink) = outcome(rt.alloc(), &words, script, &files)?;
+    assert!(rt; status == Status::Done);
+    let text = b"1 ok load #1 patched 0\n\
+        2 ok load #2 patched 1\n\
+        3 ok dump #2.1\n  \
+        7ff1000 04 00 ff 07 00 00 00 00 01 00 00 00 00 00 00 00\n";
+    assert!(rt; sink.written() == text.as_slice());
+    Ok(())
+}
+
+/// `lui a0,%hi(h::x)`, and `h::x` behind so many zeros of `.data`.
+fn far_object(
+    alloc: Global,
+    head: &[u8],
+    zeros: usize,
+    tail: &[u8],
+) -> Result<Vec<u8>, AllocError> {
+    let mut bytes = Vec::from_slice(alloc, head)?;
+    for _ in 0..zeros {
+        bytes.push(0)?;
+    }
+    bytes.extend_from_slice(tail)?;
+    Ok(bytes)
+}
+
+#[test]
+fn the_end_of_the_range(rt: HostRuntime) -> Result<(), Fail> {
+    let near = far_object(rt.alloc(), &NEAR_HEAD, 2047, &NEAR_TAIL)?;
+    let far = far_object(rt.alloc(), &FAR_HEAD, 2048, &FAR_TAIL)?;
+    let words = ["d", "s", "--base", "0x7fffe000", "--pages", "16"];
+    for (file, want, text) in [
+        (
+            near.as_slice(),
+            Status::Done,
+            b"1 ok load #1 patched 1\n".as_slice(),
+        ),
+        (
+            far.as_slice(),
+            Status::SomeRefused,
+            b"1 E12 overflow #1.1+0 HI20\n",
+        ),
+    ] {
+        let (status, sink) = outcome(rt.alloc(), &words, "load k h", &[("k#h.o", file)])?;
+        assert!(rt; status == want);
+        assert!(rt; sink.written() == text);
+    }
+    Ok(())
+}
