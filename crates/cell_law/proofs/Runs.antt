@@ -118,7 +118,9 @@ module _ (w : World) (aligned : w.base % 4096 ≡ 0) (stacked : Stacked w.base w
 
   -- a page of the table is free where no region covers it
   free_is : (page : ℕ) → page < w.pages → is_free (page_table w) page ≡ not (list_any (takes w.base page) w.regions)
-  free_is page h = ap not (in_table (is_taken w) w.pages 0 page h)
+  free_is page h =
+      let from_zero : 0 + page ≡ page = omega arith in
+      ap not (in_table (is_taken w) w.pages 0 page h) ∙ ap (λ (q : ℕ). not (is_taken w q)) from_zero
 
   free_above : (page : ℕ) → used w ≤ page → page < w.pages → is_free (page_table w) page ≡ true
   free_above page h k = free_is page k ∙ ap not (untaken w.base page w.base w.regions (omega arith) (omega arith) stacked (omega (arith, used_is, h)))
@@ -137,12 +139,13 @@ module _ (w : World) (aligned : w.base % 4096 ≡ 0) (stacked : Stacked w.base w
   -- a run that ends past the table isn't free
   not_past : (page n : ℕ) → 0 < n → w.pages < page + n → is_free_run (page_table w) page n ≡ false
   not_past page zero l h = absurd (omega (arith, l))
-  not_past page (suc n) l h = go (cases_lt page w.pages) (cases_lt 0 n)
+  not_past page (suc n) l h = go (cases_lt page w.pages) (cases_lt 0 n) (λ m. not_past (suc page) n m (omega (arith, h)))
     where
-      go : (page < w.pages) ⊎ (w.pages ≤ page) → (0 < n) ⊎ (n ≤ 0) → (is_free (page_table w) page && list_all (is_free (page_table w)) (from_on (suc page) n)) ≡ false
-      go (inr k) m = subst (λ b. (b && list_all (is_free (page_table w)) (from_on (suc page) n)) ≡ false) (sym (ap not (past_table (is_taken w) w.pages 0 page k))) refl
-      go (inl k) (inl m) = and_false (is_free (page_table w) page) _ (not_past (suc page) n m (omega (arith, h)))
-      go (inl k) (inr m) = absurd (omega (arith, h, k, m))
+      go : (page < w.pages) ⊎ (w.pages ≤ page) → (0 < n) ⊎ (n ≤ 0) → (0 < n → list_all (is_free (page_table w)) (from_on (suc page) n) ≡ false)
+          → (is_free (page_table w) page && list_all (is_free (page_table w)) (from_on (suc page) n)) ≡ false
+      go (inr k) m f = subst (λ b. (b && list_all (is_free (page_table w)) (from_on (suc page) n)) ≡ false) (sym (ap not (past_table (is_taken w) w.pages 0 page k))) refl
+      go (inl k) (inl m) f = and_false (is_free (page_table w) page) _ (f m)
+      go (inl k) (inr m) f = absurd (omega (arith, h, k, m))
 
   run_above : (page n : ℕ) → used w ≤ page → page + n ≤ w.pages → is_free_run (page_table w) page n ≡ true
   run_above page n h m = In-all (is_free (page_table w)) (from_on page n) (λ q k. let b = from-In n page q k in free_above q (omega (arith, b.0, h)) (omega (arith, b.1, m)))
