@@ -1,5 +1,5 @@
 -- A run that nothing cuts off but want of memory.
-use Rattle.std.proofs.Common.{◌≡◌, ◌⊎◌, inl, inr, ℕ, ◌+◌, ◌<◌, List, [], ◌∷◌, ◌++◌, Some, length, length-append, refl, ap, subst, arith}
+use Rattle.std.proofs.Common.{◌≡◌, inl, inr, ℕ, ◌+◌, ◌<◌, List, [], ◌++◌, Some, length, length-append, refl, ap, subst, arith}
 use Rattle.cell_io.specs.Written.{IsFull}
 use Rattle.cell_io.specs.MemorySink.{room_in}
 use Rattle.cell_run.specs.declared.status.Status.{Status}

@@ -1,6 +1,6 @@
-use Rattle.std.proofs.Common.{◌≡◌, Some, None, map, sym, ap, ◌∙◌, string_bytes}
+use Rattle.std.proofs.Common.{Some, map, sym, ap, ◌∙◌, string_bytes}
 use Rattle.cell_arguments.specs.Arguments.{arguments_of, said}
-use Rattle.cell_run.proofs.Words.{read_words, unread_words, two_readings}
+use Rattle.cell_run.proofs.Words.{read_words, unread_words}
 use Rattle.cell_run.proofs.top.cells.Goals as goal
 
 pub returns-in-Ok-clause-transcript : goal.returns-in-Ok-clause-transcript
