@@ -5,3 +5,4 @@ pub mod ObjectFiles
 pub mod Sizes
 pub mod Transcript
 pub mod Words
+pub mod Whole

@@ -88,6 +88,10 @@ IsCut _ = ⊥
 abbrev pub WritesRun : Run → Status → Option (List ℕ) → Option (List ℕ) → Type 0
 WritesRun run status old new = ((status ≡ run.status) × Appends old new run.text) ⊎ (IsCut status × AppendsPartOf old new run.text)
 
+-- status and whole text are those of the run, or memory ran out
+abbrev pub IsWhole : Run → Status → List ℕ → List ℕ → Type 0
+IsWhole run status old new = ((status ≡ run.status) × (new ≡ old ++ run.text)) ⊎ (status ≡ OutOfMemory)
+
 -- the plain machine's answer to a line's command: its text, whether it is a refusal, and the state after it
 pub record Answers (s : State) (line : Line) (said : List ℕ) (refused : Bool) (new : State) : Type 0 where
   pub text : said ≡ lines_of line.number (answered s line.command).answer

@@ -41,7 +41,7 @@ fn no_such_script(rt: HostRuntime) -> Result<(), Fail> {
     let alloc = rt.alloc();
     let mut host = folder(alloc, "")?;
     let mut out = sink(alloc)?;
-    let status = cells(alloc, &words(alloc, "t")?, &mut host, &mut out);
+    let status = cells_in_memory(alloc, &words(alloc, "t")?, &mut host, &mut out);
     assert_eq!(rt; status, Status::NoScript);
     assert!(rt; out.written() == b"no script t\n".as_slice());
     Ok(())

@@ -3,7 +3,7 @@
 ghost use Rattle.std.specs.Prelude.{◌≡◌, ◌≢◌, ◌≤◌, ℕ, false, Err, None, Some, List, [], map, length, All, OnOk, IfOk, IfErr, IfSome, IsErrOf, string_bytes};
 ghost use Rattle.std.specs.Io.KnownBytes.{Appends};
 ghost use Rattle.cell_io.specs.Causes.{Rose, HasCause};
-ghost use Rattle.cell_io.specs.Written.{AppendsPartOf};
+ghost use Rattle.cell_io.specs.Written.{AppendsPartOf, IsFull};
 ghost use Rattle.cell_print.specs.Lines.{lines_of};
 ghost use Rattle.cell_arguments.specs.Arguments.{IsInRange, arguments_of, said};
 ghost use Rattle.cell_run.specs.Run.{IsCut, WritesRun, Answers, DoesLine, answered, run_of, run_in, run_from, first_state, refused_run};
@@ -35,6 +35,9 @@ pub fn cells<H: Host, K: Sink>(
     ensures read_cause { result ≡ Status.ReadFault → Rose (H.faults host.old) (H.faults host.new) }
     ensures write_cause { result ≡ Status.WriteFault → Rose (K.faults out.old) (K.faults out.new) }
 
+    // Where the output fails for want of room alone, its room was used up.
+    ensures full { result ≡ Status.WriteFault → IsFull (K.room out.old) (K.written out.new) }
+
     // A fault of reading comes before anything is written, and not where nothing was to be read.
     ensures nothing { result ≡ Status.ReadFault → Appends (K.written out.old) (K.written out.new) [] }
     ensures no_read { arguments_of (map string_bytes words.now.items) ≡ None → result ≢ Status.ReadFault }
@@ -62,6 +65,7 @@ fn run<H: Host, K: Sink>(
         WritesRun (run_in (Some (said arguments.now)) files) result (K.written out.old) (K.written out.new)) }
     ensures read_cause { result ≡ Status.ReadFault → Rose (H.faults host.old) (H.faults host.new) }
     ensures write_cause { result ≡ Status.WriteFault → Rose (K.faults out.old) (K.faults out.new) }
+    ensures full { result ≡ Status.WriteFault → IsFull (K.room out.old) (K.written out.new) }
     ensures nothing { result ≡ Status.ReadFault → Appends (K.written out.old) (K.written out.new) [] }
 {
     match take_from(alloc, arguments.dir, arguments.script, host) {
@@ -76,6 +80,7 @@ fn run<H: Host, K: Sink>(
 fn refuse<K: Sink>(alloc: Global, script: &str, reason: Reason, out: &mut K) -> Status
     ensures refused { WritesRun (refused_run script.now reason) result (K.written out.old) (K.written out.new) }
     ensures cause { HasCause (K.faults out.old) (K.faults out.new) (result ≡ Status.WriteFault) }
+    ensures full { result ≡ Status.WriteFault → IsFull (K.room out.old) (K.written out.new) }
     ensures no_read { result ≢ Status.ReadFault }
 {
     let Ok(line) = reason_line(alloc, script, reason) else {
@@ -93,6 +98,7 @@ fn run_script<K: Sink>(alloc: Global, base: u64, pages: u32, input: Input, out: 
     requires small { All (λ f. length f.bytes ≤ 1048576) input.files }
     ensures transcript { WritesRun (run_from (first_state base pages input) input.script) result (K.written out.old) (K.written out.new) }
     ensures cause { HasCause (K.faults out.old) (K.faults out.new) (result ≡ Status.WriteFault) }
+    ensures full { result ≡ Status.WriteFault → IsFull (K.room out.old) (K.written out.new) }
     ensures no_read { result ≢ Status.ReadFault }
 {
     let Input { files, script } = input;
@@ -106,6 +112,7 @@ fn run_script<K: Sink>(alloc: Global, base: u64, pages: u32, input: Input, out: 
 fn do_lines<K: Sink>(alloc: Global, system: &mut System, lines: &[Line], out: &mut K) -> Status
     ensures transcript { WritesRun (run_from system.old lines.now) result (K.written out.old) (K.written out.new) }
     ensures cause { HasCause (K.faults out.old) (K.faults out.new) (result ≡ Status.WriteFault) }
+    ensures full { result ≡ Status.WriteFault → IsFull (K.room out.old) (K.written out.new) }
     ensures no_read { result ≢ Status.ReadFault }
 {
     let mut some_refused = false;
@@ -134,6 +141,8 @@ fn do_line<K: Sink>(
     ensures cut { IfErr result (λ status.
         IsCut status × AppendsPartOf (K.written out.old) (K.written out.new) (lines_of line.now.number (answered system.old line.now.command).answer)) }
     ensures cause { HasCause (K.faults out.old) (K.faults out.new) (IsErrOf result Status.WriteFault) }
+    ensures room { K.room out.new ≡ K.room out.old }
+    ensures full { IfErr result (λ status. status ≡ Status.WriteFault → IsFull (K.room out.old) (K.written out.new)) }
     ensures no_read { result ≢ Err Status.ReadFault }
 {
     text.clear();

@@ -1,5 +1,5 @@
-//! `cells DIR SCRIPT`: does the commands of a script over the object files of a folder, and writes the
-//! transcript to standard output.
+//! `cells DIR SCRIPT [--base HEX] [--pages N]`: does the commands of a script over the object files of
+//! a folder, and writes the transcript to standard output.
 #![tactic(auto)]
 
 ghost use Rattle.std.specs.Prelude.{◌≡◌};

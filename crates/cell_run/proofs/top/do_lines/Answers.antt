@@ -24,5 +24,6 @@ loop-line-preserved g c =
       refused = ap (λ b. b || any_refused c.do_line.new.system (drop (c.loop-line.line-index + 1) c.args.lines.now)) both
           ∙ refused_more c.loop-line.some_refused c.in-Ok.refused c.args.system.now c.loop-line.system c.do_line.new.system (g.K.Sink.written c.loop-line.out) (g.K.Sink.written c.do_line.new.out) c.args.lines.now c.loop-line.line-index c.line-item.result
           (omega arith) c.line-item.is c.in-Ok.ensures.done c.loop-line.invariant.refused;
+      room = c.in-Ok.ensures.room ∙ c.loop-line.invariant.room;
       later = omega (arith, c.in-Ok.ensures.cause.later);
     }

@@ -8,5 +8,6 @@ abbrev pub invariant-loop-line : goal.invariant-loop-line
 invariant-loop-line g l = record {
   text : SoFar (g.K.Sink.written l.fn.out) (g.K.Sink.written l.out) l.fn.system l.system l.lines (drop l.line-index l.lines);
   refused : (l.some_refused || any_refused l.system (drop l.line-index l.lines)) ≡ any_refused l.fn.system l.lines;
+  room : g.K.Sink.room l.out ≡ g.K.Sink.room l.fn.out;
   later : g.K.Sink.faults l.fn.out ≤ g.K.Sink.faults l.out;
 }
