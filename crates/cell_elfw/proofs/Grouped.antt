@@ -1,9 +1,9 @@
 -- Entries by section.
-use Rattle.std.proofs.Common.{◌≡◌, ℕ, zero, suc, ◌+◌, ◌<◌, ◌≤◌, Bool, true, false, cond, List, [], ◌∷◌, ◌++◌, length, take, sym, ap, subst, ◌∙◌, refl, arith, append-nil, get_or, set, length-append, length-take, ◌-◌, ◌⊎◌, inl, inr, eqb}
-use Rattle.std.proofs.lemmas.Bool.{cases_eq, cases_lt, eq-eqb, ne_eqb}
+use Rattle.std.proofs.Common.{◌≡◌, ℕ, suc, ◌+◌, ◌<◌, Bool, cond, List, [], ◌∷◌, ◌++◌, length, take, sym, ap, subst, ◌∙◌, refl, arith, get_or, length-append, length-take, ◌-◌, inl, inr}
+use Rattle.std.proofs.lemmas.Bool.{cases_lt}
 use Rattle.std.specs.Prelude.{◌==◌, if◌then◌else◌}
 use Rattle.std.specs.List.{filter}
-use Rattle.std.proofs.lemmas.List.{take_more, get_or_append_left, get_or-append_right, get_or-set_same, get_or-set_other, get_or_default}
+use Rattle.std.proofs.lemmas.List.{take_more, get_or_append_left, get_or-append_right}
 use Rattle.std.proofs.lemmas.List.Elements.{filter_more, filter-append}
 use Rattle.cell_num.specs.Lists.{numbered_from}
 use Rattle.cell_object.specs.declared.object.Section.{Section}
@@ -42,31 +42,6 @@ unfolding entries_for
 put_more items entries i d old new lt len are put = λ e k h.
     let h2 : k < length old = omega (arith, len, h) in
     put e k h2 ∙ ap (λ v. v ++ (if (get_or entries i d).section == k + 1 then get_or entries i d ∷ [] else [])) (are e k h2) ∙ sym (filter_more (λ x. x.section == k + 1) entries i d lt)
-
--- the entry is put to the table of its section, which was t
-pub entry_put : {T : Type 0} (items : T → List Entry) (entry : Entry) (old : List T) (i : ℕ) (t d : T) → i + 1 ≡ entry.section → i < length old → items t ≡ items (get_or old i d) ++ (entry ∷ [])
-    → IsEntryPut items entry old (set old i t)
-entry_put items entry old i t d e lt p = λ z k h.
-    elim (cases_eq k i) [
-      | inl same ↦
-          let yes : eqb entry.section (k + 1) ≡ true = eq-eqb entry.section (k + 1) (omega (arith, e, same)) in
-          ap (λ v. items (get_or (set old i t) v z)) same
-          ∙ ap items (get_or-set_same old i t z lt)
-          ∙ p
-          ∙ ap (λ v. items v ++ (entry ∷ [])) (get_or_default old i d z lt ∙ ap (λ v. get_or old v z) (sym same))
-          ∙ ap (λ v. items (get_or old k z) ++ cond v (entry ∷ []) []) (sym yes)
-      | inr other ↦
-          let no : eqb entry.section (k + 1) ≡ false = ne_eqb entry.section (k + 1) (λ q. other (omega (arith, e, q))) in
-          ap items (get_or-set_other old i k t z other)
-          ∙ sym (append-nil (items (get_or old k z)))
-          ∙ ap (λ v. items (get_or old k z) ++ cond v (entry ∷ []) []) (sym no)
-    ]
-
--- there is no table for its section
-pub none_put : {T : Type 0} (items : T → List Entry) (entry : Entry) (old : List T) → (entry.section ≡ 0) ⊎ (length old < entry.section) → IsEntryPut items entry old old
-none_put items entry old out = λ z k h.
-    let no : eqb entry.section (k + 1) ≡ false = ne_eqb entry.section (k + 1) (λ q. elim out [ inl e ↦ omega (arith, e, q) | inr far ↦ omega (arith, far, q, h) ]) in
-    sym (append-nil (items (get_or old k z))) ∙ ap (λ v. items (get_or old k z) ++ cond v (entry ∷ []) []) (sym no)
 
 -- one more empty table
 pub empty_put : {T : Type 0} (items : T → List Entry) (old : List T) (t : T) → items t ≡ [] → AreTables items [] old → AreTables items [] (old ++ (t ∷ []))

@@ -1,7 +1,7 @@
 -- A file, its names and its rows, one part later.
-use Rattle.std.proofs.Common.{◌≡◌, ℕ, zero, suc, ◌+◌, ◌-◌, ◌<◌, ◌≤◌, List, [], ◌∷◌, ◌++◌, length, take, sym, ap, ◌∙◌, refl, arith, append_assoc, append-nil, map, replicate, get_or, length-append}
+use Rattle.std.proofs.Common.{◌≡◌, ℕ, ◌+◌, ◌≤◌, List, [], ◌∷◌, ◌++◌, length, take, sym, ap, ◌∙◌, arith, append_assoc, append-nil, replicate, length-append}
 use Rattle.std.specs.List.{flat_map}
-use Rattle.std.proofs.lemmas.List.{take_more, map-append, length-replicate, take-replicate}
+use Rattle.std.proofs.lemmas.List.{length-replicate, take-replicate}
 use Rattle.std.proofs.lemmas.Grind.{flat_map-append}
 use Rattle.cell_elfw.specs.Before.{with_before, with_before_from}
 use Rattle.cell_elfw.specs.Strings.{string, string_table, place_in, name_place}

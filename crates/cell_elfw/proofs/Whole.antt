@@ -11,7 +11,7 @@ use Rattle.cell_elfw.specs.declared.rows.SectionRow.{SectionRow}
 use Rattle.cell_elfw.specs.Before.{with_before}
 use Rattle.cell_elfw.specs.Strings.{string, string_table, place_in, name_place}
 use Rattle.cell_elfw.specs.Rows.{stored, fields, header_bytes, section_row_bytes}
-use Rattle.cell_elfw.specs.Parts.{padded, offset_after, contents, own_names, symtab_number, shstrtab_number, relocated, table, table_name, names_before_tables, parts_before_tables, parts_before_strings, parts_before_names, parts, symbols_part, symbol_strings, section_strings, symbol_part_bytes}
+use Rattle.cell_elfw.specs.Parts.{padded, offset_after, contents, own_names, symtab_number, shstrtab_number, relocated, table, names_before_tables, parts_before_tables, parts_before_strings, parts_before_names, parts, symbols_part, symbol_strings, section_strings, symbol_part_bytes}
 use Rattle.cell_elfw.specs.Image.{null_row, own_row, symtab_row_at, symtab_row, strings_row, strtab_row, shstrtab_row, table_row, section_rows, image_header, image}
 use Rattle.cell_elfw.specs.Drafts.{file_of, HoldsSections, HoldsSymbols, HoldsTables}
 use Rattle.cell_elfw.proofs.Growth.{part_put, file_length, name_put, place_is}

@@ -1,9 +1,8 @@
 -- The image of an object: the ELF file that it is written as.
-use Rattle.std.specs.Prelude.{ℕ, ◌+◌, ◌*◌, Bool, if◌then◌else◌, List, [], ◌∷◌, ◌++◌, length, map, codes}
+use Rattle.std.specs.Prelude.{ℕ, ◌+◌, Bool, if◌then◌else◌, List, [], ◌∷◌, ◌++◌, length, map, codes}
 use Rattle.std.specs.List.{flat_map, filter}
 use Rattle.cell_object.specs.declared.object.Object.{Object}
 use Rattle.cell_object.specs.declared.object.Section.{Section}
-use Rattle.cell_object.specs.declared.object.Entry.{Entry}
 use Rattle.cell_object.specs.declared.object.Fill.{Fill}
 use Rattle.cell_object.specs.declared.object.Fill.TheVariants.{Prog, Note, Zero}
 use Rattle.cell_object.specs.Parts.{is_local}
@@ -11,7 +10,7 @@ use Rattle.cell_elfw.specs.declared.rows.SectionRow.{SectionRow}
 use Rattle.cell_elfw.specs.Before.{with_before}
 use Rattle.cell_elfw.specs.Strings.{name_place}
 use Rattle.cell_elfw.specs.Rows.{header_bytes, section_row_bytes}
-use Rattle.cell_elfw.specs.Parts.{offset_after, padded, symtab_number, strtab_number, shstrtab_number, entries_for, relocated, symbols_part, symbol_strings, section_strings, table, table_name, own_names, names_before_tables, contents, parts_before_tables, parts_before_strings, parts_before_names, parts}
+use Rattle.cell_elfw.specs.Parts.{offset_after, padded, symtab_number, strtab_number, shstrtab_number, relocated, symbols_part, symbol_strings, section_strings, table, table_name, own_names, names_before_tables, contents, parts_before_tables, parts_before_strings, parts_before_names, parts}
 
 -- section header 0
 abbrev pub null_row : SectionRow

@@ -1,7 +1,4 @@
-use Rattle.std.proofs.Common.{◌≡◌, ℕ, ◌+◌, ◌++◌, List, [], length, ap, sym, subst, ◌∙◌}
-use Rattle.cell_object.specs.declared.object.Object.{Object}
-use Rattle.cell_object.specs.declared.object.Section.{Section}
-use Rattle.cell_object.specs.declared.object.Symbol.{Symbol}
+use Rattle.std.proofs.Common.{ℕ, ◌+◌, ◌++◌, List, length, ap, sym, subst, ◌∙◌}
 use Rattle.cell_elfw.specs.Parts.{padded, parts}
 use Rattle.cell_elfw.specs.Drafts.{HoldsSections, HoldsSymbols}
 use Rattle.cell_elfw.proofs.Whole.{Stages, tables_none, fourth_is, has_room, image_is, ok_along}

@@ -1,4 +1,4 @@
-use Rattle.std.proofs.Common.{◌≡◌, ◌+◌, ◌<◌, ℕ, length, ap, sym, subst, ◌∙◌, refl, get_or, take, arith}
+use Rattle.std.proofs.Common.{◌≡◌, ◌+◌, ◌<◌, length, ap, sym, subst, ◌∙◌, refl, get_or, take, arith}
 use Rattle.cell_elfw.specs.declared.draft.Draft.{Draft}
 use Rattle.cell_elfw.specs.Parts.{relocated, entries_for}
 use Rattle.cell_elfw.specs.Drafts.{HoldsTables}

@@ -1,4 +1,4 @@
-use Rattle.std.proofs.Common.{◌≡◌, ◌++◌, ℕ, List, ap, length, ◌∙◌}
+use Rattle.std.proofs.Common.{◌++◌, ℕ, List, ap, length, ◌∙◌}
 use Rattle.cell_object.specs.declared.object.Section.{Section}
 use Rattle.cell_elfw.specs.Strings.{string, place_in}
 use Rattle.cell_elfw.specs.Rows.{section_row_bytes}
