@@ -1,0 +1,5 @@
+pub mod Numbers
+pub mod Growth
+pub mod Stages
+pub mod Grouped
+pub mod Whole

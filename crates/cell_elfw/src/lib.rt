@@ -1,0 +1,22 @@
+//! Writes relocatable ELF objects.
+#![tactic(auto)]
+
+mod draft;
+mod fail;
+mod headers;
+mod number;
+mod parts;
+mod rows;
+mod same;
+mod strings;
+mod symbols;
+mod tables;
+mod writing;
+
+pub use fail::WriteFail;
+pub use writing::write_object;
+
+#[cfg(test)]
+mod images;
+#[cfg(test)]
+mod tests;
