@@ -1,8 +1,8 @@
 -- Rows of which no name stands twice.
-use Rattle.std.proofs.Common.{◌≡◌, ℕ, zero, suc, ◌+◌, Bool, true, false, List, [], ◌∷◌, ◌++◌, Some, None, take, refl, ap, sym, ◌∙◌, arith}
+use Rattle.std.proofs.Common.{◌≡◌, ℕ, zero, suc, ◌+◌, Bool, true, false, List, [], ◌∷◌, ◌++◌, Some, take, refl, ap, sym, ◌∙◌, arith}
 use Rattle.std.specs.Prelude.{not, ◌&&◌, ◌||◌, slice_get}
 use Rattle.std.specs.List.{list_all}
-use Rattle.cell_num.specs.Lists.{equals, each_pair}
+use Rattle.cell_num.specs.Lists.{equals}
 use Rattle.cell_world.specs.World.{Alias}
 use Rattle.cell_space.specs.Rows.{has_name, are_apart}
 

@@ -1,8 +1,7 @@
 -- Searches among the elements that pass a test.
-use Rattle.std.proofs.Common.{◌≡◌, ℕ, Bool, true, false, cond, List, [], ◌∷◌, Some, None, refl, ap, sym, ◌∙◌}
+use Rattle.std.proofs.Common.{◌≡◌, Bool, true, false, cond, List, [], ◌∷◌, Some, None, refl, ap, ◌∙◌}
 use Rattle.std.specs.Prelude.{Option, find, filter, filter_map, ◌&&◌}
 use Rattle.std.specs.List.{cons_option}
-use Rattle.cell_num.specs.Lists.{first}
 
 find_one : {X : Type 0} (p q : Bool) (x : X) (rest found : Option X) (ys : List X) (test : X → Bool) → test x ≡ p → rest ≡ found → find test ys ≡ rest
     → find test (cond q (x ∷ ys) ys) ≡ cond (p && q) (Some x) found

@@ -5,10 +5,10 @@
 --     provider_for spaces state name cells     the same for a cell in that state
 --     rivals spaces ns cells             the attached cells on one path with the namespace
 --     with_cell c cells                  one more cell, before those of higher numbers
-use Rattle.std.specs.Prelude.{ℕ, ◌==◌, nat_lt, Bool, true, false, not, ◌&&◌, List, [], ◌∷◌, Option, Some, None, map, filter, filter_map, find, option_map, option_and_then, if◌then◌else◌}
+use Rattle.std.specs.Prelude.{ℕ, ◌==◌, nat_lt, Bool, true, false, not, ◌&&◌, List, [], ◌∷◌, Option, None, map, filter, filter_map, find, option_map, if◌then◌else◌}
 use Rattle.cell_num.specs.Lists.{equals, holds, first, or_else}
 use Rattle.cell_world.specs.declared.state.Namespace.{Namespace}
-use Rattle.cell_world.specs.Names.{Provider, chain, are_on_one_path}
+use Rattle.cell_world.specs.Names.{Provider, are_on_one_path}
 use Rattle.cell_space.specs.declared.cell.CellState.{CellState}
 use Rattle.cell_space.specs.declared.cell.CellState.TheVariants.{Attached, Detached}
 use Rattle.cell_space.specs.declared.cell.SpaceCell.{SpaceCell}

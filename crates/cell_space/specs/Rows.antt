@@ -1,5 +1,5 @@
 -- The rows of a table of names.
-use Rattle.std.specs.Prelude.{ℕ, Bool, not, List, Option, map, find, option_map}
+use Rattle.std.specs.Prelude.{ℕ, Bool, not, List, Option, find, option_map}
 use Rattle.std.specs.List.{list_any}
 use Rattle.cell_num.specs.Lists.{equals, each_pair}
 use Rattle.cell_world.specs.World.{Alias}

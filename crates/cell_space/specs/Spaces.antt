@@ -1,11 +1,9 @@
 -- Namespaces, and the cells in them.
-use Rattle.std.specs.Prelude.{not, ◌&&◌, find, ◌≡◌, ◌<◌, ◌≤◌, ℕ, Bool, ◌==◌, List, [], ◌∷◌, Option, Some, None, All, length, map, option_and_then, position, slice_get, IsSome}
-use Rattle.std.specs.List.{list_all, list_any}
+use Rattle.std.specs.Prelude.{not, ◌&&◌, find, ◌≡◌, ◌<◌, ◌≤◌, ℕ, List, [], ◌∷◌, Option, Some, None, All, length, option_and_then, position, IsSome}
 use Rattle.cell_num.specs.Lists.{equals}
 use Rattle.cell_world.specs.declared.state.Namespace.{Namespace}
 use Rattle.cell_world.specs.Names.{Provider, chain}
-use Rattle.cell_space.specs.declared.cell.CellState.{CellState}
-use Rattle.cell_space.specs.declared.cell.CellState.TheVariants.{Attached, Detached}
+use Rattle.cell_space.specs.declared.cell.CellState.TheVariants.{Attached}
 use Rattle.cell_space.specs.declared.cell.SpaceCell.{SpaceCell}
 use Rattle.cell_space.specs.declared.provider.Scope.{Scope}
 use Rattle.cell_space.specs.declared.provider.Scope.TheVariants.{Space, Cell}

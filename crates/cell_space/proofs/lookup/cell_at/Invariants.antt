@@ -1,8 +1,4 @@
 use Rattle.std.proofs.Common.{◌≡◌, drop}
-use Rattle.std.specs.Prelude.{find, filter_map, ◌&&◌}
-use Rattle.cell_num.specs.Lists.{equals, first}
-use Rattle.cell_world.specs.Names.{chain}
-use Rattle.cell_space.specs.Rows.{has_name}
 use Rattle.cell_space.specs.Named.{cell_at}
 use Rattle.cell_space.proofs.lookup.cell_at.Given as goal
 

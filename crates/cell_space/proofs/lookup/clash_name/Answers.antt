@@ -1,6 +1,5 @@
-use Rattle.std.proofs.Common.{◌≡◌, ◌∙◌, sym, ap, Some, None}
+use Rattle.std.proofs.Common.{◌∙◌, sym, ap}
 use Rattle.std.specs.Prelude.{option_map}
-use Rattle.cell_num.specs.Lists.{equals}
 use Rattle.cell_space.specs.Rows.{has_name}
 use Rattle.cell_space.specs.Named.{is_rival, number_of}
 use Rattle.cell_space.proofs.Searches.{find-filter}

@@ -1,8 +1,7 @@
 use Rattle.std.proofs.Common.{◌≡◌, drop}
-use Rattle.std.specs.Prelude.{find, filter_map, ◌&&◌}
-use Rattle.cell_num.specs.Lists.{equals, first}
+use Rattle.std.specs.Prelude.{filter_map}
+use Rattle.cell_num.specs.Lists.{first}
 use Rattle.cell_world.specs.Names.{chain}
-use Rattle.cell_space.specs.Rows.{has_name}
 use Rattle.cell_space.specs.Named.{offer}
 use Rattle.cell_space.proofs.lookup.first_offer.Given as goal
 

@@ -1,7 +1,5 @@
 use Rattle.std.proofs.Common.{◌≡◌, drop}
-use Rattle.std.specs.Prelude.{find, filter_map, ◌&&◌}
-use Rattle.cell_num.specs.Lists.{equals, first}
-use Rattle.cell_world.specs.Names.{chain}
+use Rattle.std.specs.Prelude.{find, ◌&&◌}
 use Rattle.cell_space.specs.Rows.{has_name}
 use Rattle.cell_space.specs.Named.{is_rival}
 use Rattle.cell_space.proofs.lookup.rival_of_name.Given as goal

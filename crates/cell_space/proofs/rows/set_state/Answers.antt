@@ -1,4 +1,4 @@
-use Rattle.std.proofs.Common.{◌≡◌, ◌∙◌, ◌++◌, ap, get_or, length, map, take, drop, arith}
+use Rattle.std.proofs.Common.{◌∙◌, ap, get_or}
 use Rattle.std.proofs.Math.ListN.{set}
 use Rattle.cell_space.specs.Named.{put_into}
 use Rattle.cell_space.proofs.Changes.{set_more}

@@ -1,5 +1,4 @@
-use Rattle.std.proofs.Common.{◌≡◌, ◌∷◌, rules, arith}
-use Rattle.std.proofs.lemmas.Grind.{common_steps}
+use Rattle.std.proofs.Common.{rules}
 use Rattle.cell_space.proofs.Climbing.{stepped}
 use Rattle.cell_space.proofs.chain.ChainIterator.next.Goals as goal
 

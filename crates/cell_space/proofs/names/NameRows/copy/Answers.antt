@@ -1,4 +1,4 @@
-use Rattle.std.proofs.Common.{◌≡◌, ◌∙◌, ◌++◌, ◌∷◌, [], true, take, ap, sym}
+use Rattle.std.proofs.Common.{◌≡◌, ◌∙◌, ◌++◌, ◌∷◌, [], true, ap, sym}
 use Rattle.cell_world.specs.World.{Alias}
 use Rattle.cell_space.specs.Rows.{are_apart, has_name}
 use Rattle.cell_space.proofs.Apart.{free_before, take_next}

@@ -1,4 +1,4 @@
-use Rattle.cell_space.specs.declared.cell.CellState.TheVariants.{Attached, Detached}
+use Rattle.cell_space.specs.declared.cell.CellState.TheVariants.{Detached}
 use Rattle.cell_space.proofs.Changes.{sound-with_state}
 use Rattle.cell_space.proofs.spaces.Spaces.detach.Goals as goal
 
