@@ -54,3 +54,37 @@ fn siblings(rt: HostRuntime) -> Result<(), Fail> {
     assert!(rt; spaces.provider(Scope::Space(w), b"a::x").is_some());
     Ok(())
 }
+
+/// Two cells that were put aside together have each other's names, and a copy has them too.
+#[test]
+fn group_partners(rt: HostRuntime) -> Result<(), Fail> {
+    let alloc = rt.alloc();
+    let mut spaces = Spaces::new(alloc)?;
+    spaces.reserve(2)?;
+    spaces.attach(
+        CellId(1),
+        0,
+        Name::of(alloc, b"a")?,
+        one_name(alloc, b"a::x")?,
+    );
+    spaces.attach(CellId(2), 0, Name::of(alloc, b"b")?, NameRows::new(alloc));
+    assert_eq!(rt; spaces.cell_at(0, b"b"), Some(CellId(2)));
+    spaces.detach(CellId(1), 1);
+    spaces.detach(CellId(2), 1);
+    assert_eq!(rt; spaces.cell_at(0, b"b"), None);
+    assert_eq!(rt; spaces.provider(Scope::Space(0), b"a::x"), None);
+    let copy = spaces.copy(alloc)?;
+    let partner = copy.provider(Scope::Cell(CellId(2)), b"a::x");
+    assert_eq!(rt;
+        partner,
+        Some(Provider {
+            cell: CellId(1),
+            symbol: 1
+        })
+    );
+    assert_eq!(rt; copy.state(CellId(1)), CellState::Detached(1));
+    assert_eq!(rt; copy.names(CellId(1)).len(), 1);
+    assert!(rt; copy.ns_name(0).bytes() == b"k".as_slice());
+    assert_eq!(rt; copy.chain(0).next(), Some(0));
+    Ok(())
+}
