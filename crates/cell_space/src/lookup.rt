@@ -1,4 +1,4 @@
-//! Looking through the cells.
+//! Looking through the cells. Each cell is asked once, by its own table of names.
 
 ghost use Rattle.std.specs.Prelude.{◌≡◌, ◌<◌, ◌&&◌, ◌==◌, All, filter_map, find, length, option_map};
 ghost use Rattle.cell_num.specs.Lists.{equals, first};

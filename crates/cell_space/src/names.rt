@@ -1,6 +1,6 @@
 //! The names that a cell has.
 
-ghost use Rattle.std.specs.Prelude.{◌≡◌, ◌++◌, ◌∷◌, ◌<◌, [], Some, false, length, slice_get, IfOk, OnOk};
+ghost use Rattle.std.specs.Prelude.{◌≡◌, ◌==◌, ◌++◌, ◌∷◌, ◌<◌, [], Some, false, length, slice_get, IfOk, OnOk};
 ghost use Rattle.cell_space.specs.Rows.{symbol_in, has_name};
 
 use indexmap::IndexMap;
@@ -14,7 +14,7 @@ pub struct NameRows {
 }
 
 impl Model for NameRows {
-    ghost use Rattle.std.specs.Prelude.{◌≡◌, List, map, true};
+    ghost use Rattle.std.specs.Prelude.{◌≡◌, ◌==◌, List, map, true};
     ghost use Rattle.cell_world.specs.World.{Alias};
     ghost use Rattle.cell_space.specs.Rows.{are_apart};
 
@@ -26,6 +26,7 @@ impl Model for NameRows {
 }
 
 impl NameRows {
+    /// A table without a name.
     pub fn new(alloc: Global) -> NameRows
         ensures { result ≡ [] }
     {
@@ -34,10 +35,17 @@ impl NameRows {
         }
     }
 
+    /// How many names there are.
     pub fn len(&self) -> usize
         ensures { result ≡ length self.now }
     {
         self.rows.len()
+    }
+
+    pub fn is_empty(&self) -> bool
+        ensures { result ≡ (length self.now == 0) }
+    {
+        self.len() == 0
     }
 
     /// The symbol that has the name.

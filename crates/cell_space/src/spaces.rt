@@ -78,6 +78,7 @@ impl Spaces {
         Ok(number)
     }
 
+    /// The name of a namespace that is there.
     pub fn ns_name(&self, ns: u16) -> &Name
         requires { ns < length self.now.namespaces }
         ensures { option_map (λ s. s.name) (slice_get self.now.namespaces ns) ≡ Some result.now }
@@ -157,7 +158,7 @@ impl Spaces {
         clash_name(&self.namespaces, ns, &self.cells, name)
     }
 
-    /// Makes room for so many more cells.
+    /// Makes room for so many more cells. Their names bring their own.
     pub fn reserve(&mut self, cells: u32) -> Result<(), AllocError>
         ensures room { OnOk result (cells ≤ self.new.spare_cells) }
         ensures more { self.old.spare_cells ≤ self.new.spare_cells }
