@@ -3,3 +3,4 @@ pub mod NameChanges
 pub mod Located
 pub mod Depots
 pub mod MorePlaces
+pub mod InOrder

@@ -4,7 +4,7 @@
 --     places_for ns stem files     where they stand in the list, in order
 --     are_apart files              no two files have one name
 use Rattle.std.specs.Prelude.{ℕ, Bool, not, ◌&&◌, List, map, filter}
-use Rattle.cell_num.specs.Lists.{equals, numbered, each_pair}
+use Rattle.cell_num.specs.Lists.{equals, is_before, numbered, each_pair}
 use Rattle.cell_world.specs.declared.file.File.{File}
 use Rattle.cell_world.specs.Gather.{ns_of_file, stem_of_file}
 
@@ -26,3 +26,7 @@ has_name name f = equals f.name name
 
 abbrev pub are_apart : List File → Bool
 are_apart files = each_pair (λ f g. not (equals f.name g.name)) files
+
+-- in byte order of their names, of which no two are the same
+abbrev pub are_in_order : List File → Bool
+are_in_order files = each_pair (λ f g. is_before f.name g.name) files

@@ -1,0 +1,10 @@
+use Rattle.std.proofs.Common.{◌≡◌, drop}
+use Rattle.std.specs.Prelude.{filter_map}
+use Rattle.cell_num.specs.Lists.{first}
+use Rattle.cell_world.specs.Names.{chain}
+use Rattle.cell_space.specs.Named.{offer}
+use Rattle.cell_space.proofs.lookup.first_offer.Given as goal
+
+-- none so far
+abbrev pub invariant-loop-cell : goal.invariant-loop-cell
+invariant-loop-cell l = first (filter_map (offer (chain l.namespaces l.ns) l.state l.name) (drop l.cell-index l.cells)) ≡ first (filter_map (offer (chain l.namespaces l.ns) l.state l.name) l.cells)

@@ -1,0 +1,5 @@
+pub mod Rows
+pub mod Named
+pub mod Spaces
+pub mod Rooted
+pub mod Machine

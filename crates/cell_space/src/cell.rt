@@ -1,0 +1,87 @@
+//! A cell by what it is called.
+
+ghost use Rattle.std.specs.Prelude.{◌≡◌, IfOk};
+ghost use Rattle.cell_num.specs.Lists.{equals};
+ghost use Rattle.cell_space.specs.Rows.{has_name};
+ghost use Rattle.cell_space.specs.Named.{is_state, is_in, is_numbered};
+
+use crate::names::NameRows;
+use cell_num::{CellId, Name};
+use std::alloc::{AllocError, Global};
+
+/// Whether the cell takes part in names, or the swap that put it aside.
+#[derive(Clone, Copy, Debug, PartialEq, Eq)]
+pub enum CellState {
+    Attached,
+    Detached(u32),
+}
+
+/// A cell: its number, namespace and stem, and the names of its GLOBAL symbols, aliases last.
+#[derive(Drop)]
+pub struct SpaceCell {
+    pub cell: CellId,
+    pub ns: u16,
+    pub stem: Name,
+    pub state: CellState,
+    pub names: NameRows,
+}
+
+pub fn is_state(a: CellState, b: CellState) -> bool
+    ensures { result ≡ is_state a b }
+{
+    match (a, b) {
+        (CellState::Attached, CellState::Attached) => true,
+        (CellState::Detached(k), CellState::Detached(l)) => l == k,
+        (CellState::Attached, CellState::Detached(_)) => false,
+        (CellState::Detached(_), CellState::Attached) => false,
+    }
+}
+
+impl SpaceCell {
+    pub(crate) fn is_in(&self, state: CellState) -> bool
+        ensures { result ≡ is_in state self.now }
+    {
+        is_state(state, self.state)
+    }
+
+    pub(crate) fn is_numbered(&self, number: u32) -> bool
+        ensures { result ≡ is_numbered number self.now }
+    {
+        self.cell.0 == number
+    }
+
+    pub(crate) fn has_stem(&self, stem: &[u8]) -> bool
+        ensures { result ≡ equals self.now.stem stem.now }
+    {
+        self.stem.bytes() == stem
+    }
+
+    pub(crate) fn has_name(&self, name: &[u8]) -> bool
+        ensures { result ≡ has_name self.now.names name.now }
+    {
+        self.names.symbol_of(name).is_some()
+    }
+
+    fn copy(&self, alloc: Global) -> Result<SpaceCell, AllocError>
+        ensures { IfOk result (λ copy. copy ≡ self.now) }
+    {
+        Ok(SpaceCell {
+            cell: self.cell,
+            ns: self.ns,
+            stem: self.stem.copy(alloc)?,
+            state: self.state,
+            names: self.names.copy(alloc)?,
+        })
+    }
+}
+
+/// Equal cells.
+pub fn copy_cells(alloc: Global, cells: &[SpaceCell]) -> Result<Vec<SpaceCell>, AllocError>
+    ensures { IfOk result (λ copies. copies.items ≡ cells.now) }
+{
+    let mut copies = Vec::new(alloc);
+    for cell in cells {
+        copies.push(cell.copy(alloc)?)?;
+    }
+    Ok(copies)
+}

@@ -1,0 +1,23 @@
+//! Namespaces, the cells in them by stem and name, and who provides a name.
+#![tactic(auto)]
+
+mod cell;
+mod chain;
+mod lookup;
+mod names;
+mod namespaces;
+mod provider;
+mod rows;
+mod spaces;
+mod symbol_name;
+
+pub use cell::{CellState, SpaceCell};
+pub use cell_world::Namespace;
+pub use chain::Chain;
+pub use names::NameRows;
+pub use provider::{Provider, Scope};
+pub use spaces::Spaces;
+pub use symbol_name::{base_name, crate_of};
+
+#[cfg(test)]
+mod tests;

@@ -1,0 +1,68 @@
+//! Changing the list of cells.
+
+ghost use Rattle.std.specs.Prelude.{◌≡◌, ◌<◌, ◌≤◌, ◌+◌, ℕ, length, vec_capacity, vec_len};
+ghost use Rattle.std.specs.List.{position_or_len};
+ghost use Rattle.cell_space.specs.Named.{is_higher, put_into, with_cell, with_state, without};
+
+use crate::cell::{CellState, SpaceCell};
+
+fn is_higher(cell: &SpaceCell, number: u32) -> bool
+    ensures { result ≡ is_higher number cell.now }
+{
+    number < cell.cell.0
+}
+
+/// Where a cell of a number is to stand: before the first of a higher number.
+fn place_for(cells: &[SpaceCell], number: u32) -> usize
+    ensures place { result ≡ position_or_len (is_higher number) cells.now }
+    ensures inside { result ≤ length cells.now }
+{
+    let mut place = 0;
+    for cell in cells {
+        if is_higher(cell, number) {
+            return place;
+        }
+        place += 1;
+    }
+    place
+}
+
+/// Puts a cell into a state, where it has the number.
+fn put_into(cell: &mut SpaceCell, number: u32, state: CellState)
+    ensures { cell.new ≡ put_into state number cell.old }
+{
+    if cell.is_numbered(number) {
+        cell.state = state;
+    }
+}
+
+/// Puts the cell of a number into a state.
+pub fn set_state(cells: &mut Vec<SpaceCell>, number: u32, state: CellState)
+    ensures items { cells.new.items ≡ with_state state number cells.old.items }
+    ensures len { vec_len cells.new ≡ vec_len cells.old }
+    ensures capacity { vec_capacity cells.new ≡ vec_capacity cells.old }
+{
+    for cell in cells.iter_mut() {
+        put_into(cell, number, state);
+    }
+}
+
+/// Adds a cell to cells that have room, before those of higher numbers; this takes no memory.
+pub fn insert_cell(cells: &mut Vec<SpaceCell>, cell: SpaceCell)
+    requires { vec_len cells.old < vec_capacity cells.old }
+    ensures items { cells.new.items ≡ with_cell cell cells.old.items }
+    ensures len { vec_len cells.new ≡ vec_len cells.old + 1 }
+    ensures capacity { vec_capacity cells.old ≤ vec_capacity cells.new }
+{
+    let place = place_for(cells, cell.cell.0);
+    let _ = cells.insert(place, cell);
+}
+
+/// Takes the cell of a number away.
+pub fn remove_cell(cells: &mut Vec<SpaceCell>, number: u32)
+    ensures items { cells.new.items ≡ without number cells.old.items }
+    ensures len { vec_len cells.new ≤ vec_len cells.old }
+    ensures capacity { vec_capacity cells.new ≡ vec_capacity cells.old }
+{
+    cells.retain(|cell| !cell.is_numbered(number));
+}

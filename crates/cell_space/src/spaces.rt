@@ -1,0 +1,233 @@
+//! The spaces.
+
+ghost use Rattle.std.specs.Prelude.{◌≡◌, ◌<◌, ◌≤◌, ◌+◌, ◌++◌, ◌∷◌, [], None, Some, All, IfOk, OnOk, OnErr, length, option_map, slice_get};
+ghost use Rattle.cell_world.specs.Names.{chain as chain_in};
+ghost use Rattle.cell_space.specs.declared.cell.CellState.TheVariants.{Attached, Detached};
+ghost use Rattle.cell_space.specs.Named.{cell_numbered as numbered, provider_as, number_as, clash_stem as stem_clash, clash_name as name_clash, cell_at as cell_in, with_cell, with_state, without};
+ghost use Rattle.cell_space.specs.Spaces.{IsThere, HasCell, HasDetached, HasAttached, HasNoRival, kernel, provider_in, namespace_named};
+
+use crate::cell::{CellState, SpaceCell, copy_cells};
+use crate::chain::{Chain, chain_of};
+use crate::lookup::{cell_at, cell_numbered, clash_name, clash_stem, provider_for};
+use crate::names::NameRows;
+use crate::namespaces::{copy_namespaces, first_namespace, place_of};
+use crate::provider::{Provider, Scope};
+use crate::rows::{insert_cell, remove_cell, set_state};
+use cell_num::{CellId, Name};
+use cell_world::Namespace;
+use std::alloc::{AllocError, Global};
+use std::marker::Model;
+
+/// The namespaces, and the cells in them. Room for cells is reserved before, so that attaching takes
+/// no memory.
+#[derive(Drop)]
+pub struct Spaces {
+    namespaces: Vec<Namespace>,
+    cells: Vec<SpaceCell>,
+}
+
+impl Model for Spaces {
+    ghost use Rattle.std.specs.Prelude.{◌-◌, vec_capacity, vec_len};
+    ghost use Rattle.cell_space.specs.Spaces.{SpacesState, AreSound};
+
+    ghost Value = { SpacesState };
+
+    ghost view = { λ s. record { namespaces = s.namespaces.items; cells = s.cells.items; spare_cells = vec_capacity s.cells - vec_len s.cells } };
+
+    ghost invariant = { λ s. AreSound s.namespaces.items s.cells.items };
+}
+
+impl Spaces {
+    /// The namespace `k` alone.
+    pub fn new(alloc: Global) -> Result<Spaces, AllocError>
+        ensures namespaces { IfOk result (λ s. s.namespaces ≡ kernel) }
+        ensures cells { IfOk result (λ s. s.cells ≡ []) }
+    {
+        Ok(Spaces {
+            namespaces: first_namespace(alloc)?,
+            cells: Vec::new(alloc),
+        })
+    }
+
+    /// The number of the namespace of that name.
+    pub fn find_ns(&self, name: &[u8]) -> Option<u16>
+        ensures { result ≡ namespace_named self.now.namespaces name.now }
+    {
+        match place_of(&self.namespaces, name) {
+            Some(place) => Some(place as u16),
+            None => None,
+        }
+    }
+
+    /// Adds a namespace, and gives its number.
+    pub fn add_ns(&mut self, name: Name, parent: u16) -> Result<u16, AllocError>
+        requires new { namespace_named self.old.namespaces name ≡ None }
+        requires parent { parent < length self.old.namespaces }
+        requires few { length self.old.namespaces < 256 }
+        ensures number { IfOk result (λ n. n ≡ length self.old.namespaces) }
+        ensures added { OnOk result (self.new.namespaces ≡ self.old.namespaces ++ record { name = name; parent = Some parent } ∷ []) }
+        ensures unchanged { OnErr result (self.new.namespaces ≡ self.old.namespaces) }
+        ensures same_cells { self.new.cells ≡ self.old.cells }
+        ensures same_room { self.new.spare_cells ≡ self.old.spare_cells }
+    {
+        let number = self.namespaces.len() as u16;
+        self.namespaces.push(Namespace {
+            name,
+            parent: Some(parent),
+        })?;
+        Ok(number)
+    }
+
+    /// The name of a namespace that is there.
+    pub fn ns_name(&self, ns: u16) -> &Name
+        requires { ns < length self.now.namespaces }
+        ensures { option_map (λ s. s.name) (slice_get self.now.namespaces ns) ≡ Some result.now }
+    {
+        &self.namespaces[ns as usize].name
+    }
+
+    /// The names of a cell that is there.
+    pub fn names(&self, cell: CellId) -> &NameRows
+        requires { HasCell self.now cell.0 }
+        ensures { option_map (λ c. c.names) (numbered self.now.cells cell.0) ≡ Some result.now }
+    {
+        match cell_numbered(&self.cells, cell.0) {
+            Some(found) => &found.names,
+            None => unreachable!(),
+        }
+    }
+
+    /// The state of a cell that is there.
+    pub fn state(&self, cell: CellId) -> CellState
+        requires { HasCell self.now cell.0 }
+        ensures { option_map (λ c. c.state) (numbered self.now.cells cell.0) ≡ Some result }
+    {
+        match cell_numbered(&self.cells, cell.0) {
+            Some(found) => found.state,
+            None => unreachable!(),
+        }
+    }
+
+    /// The namespaces of the chain, from the namespace itself up to `k`.
+    pub fn chain(&self, ns: u16) -> Chain<'_>
+        requires { ns < length self.now.namespaces }
+        ensures { result ≡ chain_in self.now.namespaces ns }
+    {
+        chain_of(self.namespaces.as_slice(), ns)
+    }
+
+    /// The attached cell of a stem in the namespace itself.
+    pub fn cell_at(&self, ns: u16, stem: &[u8]) -> Option<CellId>
+        requires { ns < length self.now.namespaces }
+        ensures { option_map number_as result ≡ cell_in ns stem.now self.now.cells }
+    {
+        cell_at(&self.cells, ns, stem)
+    }
+
+    /// Who provides a name for a namespace, or for a cell.
+    pub fn provider(&self, scope: Scope, name: &[u8]) -> Option<Provider>
+        requires { IsThere self.now scope }
+        ensures { option_map provider_as result ≡ provider_in self.now scope name.now }
+    {
+        match scope {
+            Scope::Space(ns) => {
+                provider_for(&self.namespaces, ns, &self.cells, CellState::Attached, name)
+            }
+            Scope::Cell(cell) => match cell_numbered(&self.cells, cell.0) {
+                Some(found) => {
+                    provider_for(&self.namespaces, found.ns, &self.cells, found.state, name)
+                }
+                None => None,
+            },
+        }
+    }
+
+    /// The lowest attached cell on one path with the namespace that has the stem.
+    pub fn clash_stem(&self, ns: u16, stem: &[u8]) -> Option<CellId>
+        requires { ns < length self.now.namespaces }
+        ensures { option_map number_as result ≡ stem_clash self.now.namespaces ns stem.now self.now.cells }
+    {
+        clash_stem(&self.namespaces, ns, &self.cells, stem)
+    }
+
+    /// The lowest attached cell on one path with the namespace that has the name.
+    pub fn clash_name(&self, ns: u16, name: &[u8]) -> Option<CellId>
+        requires { ns < length self.now.namespaces }
+        ensures { option_map number_as result ≡ name_clash self.now.namespaces ns name.now self.now.cells }
+    {
+        clash_name(&self.namespaces, ns, &self.cells, name)
+    }
+
+    /// Makes room for so many more cells. Their names bring their own.
+    pub fn reserve(&mut self, cells: u32) -> Result<(), AllocError>
+        ensures room { OnOk result (cells ≤ self.new.spare_cells) }
+        ensures more { self.old.spare_cells ≤ self.new.spare_cells }
+        ensures same_namespaces { self.new.namespaces ≡ self.old.namespaces }
+        ensures same_cells { self.new.cells ≡ self.old.cells }
+    {
+        self.cells.reserve(cells as usize)
+    }
+
+    /// Adds an attached cell.
+    pub fn attach(&mut self, cell: CellId, ns: u16, stem: Name, names: NameRows)
+        requires room { 0 < self.old.spare_cells }
+        requires there { ns < length self.old.namespaces }
+        requires new { numbered self.old.cells cell.0 ≡ None }
+        requires stem_free { stem_clash self.old.namespaces ns stem self.old.cells ≡ None }
+        requires names_free { All (λ a. name_clash self.old.namespaces ns a.name self.old.cells ≡ None) names }
+        ensures added { self.new.cells ≡ with_cell (record { cell = cell; ns = ns; stem = stem; state = Attached; names = names }) self.old.cells }
+        ensures same_namespaces { self.new.namespaces ≡ self.old.namespaces }
+        ensures room { self.old.spare_cells ≤ self.new.spare_cells + 1 }
+    {
+        let row = SpaceCell {
+            cell,
+            ns,
+            stem,
+            state: CellState::Attached,
+            names,
+        };
+        insert_cell(&mut self.cells, row);
+    }
+
+    /// Puts an attached cell aside, in a group.
+    pub fn detach(&mut self, cell: CellId, group: u32)
+        requires { HasAttached self.old cell.0 }
+        ensures state { self.new.cells ≡ with_state (Detached group) cell.0 self.old.cells }
+        ensures same_namespaces { self.new.namespaces ≡ self.old.namespaces }
+        ensures same_room { self.old.spare_cells ≤ self.new.spare_cells }
+    {
+        set_state(&mut self.cells, cell.0, CellState::Detached(group));
+    }
+
+    /// Attaches a cell again that was put aside.
+    pub fn reattach(&mut self, cell: CellId)
+        requires detached { HasDetached self.old cell.0 }
+        requires free { HasNoRival self.old cell.0 }
+        ensures state { self.new.cells ≡ with_state Attached cell.0 self.old.cells }
+        ensures same_namespaces { self.new.namespaces ≡ self.old.namespaces }
+        ensures same_room { self.old.spare_cells ≤ self.new.spare_cells }
+    {
+        set_state(&mut self.cells, cell.0, CellState::Attached);
+    }
+
+    /// Takes a cell away.
+    pub fn drop_cell(&mut self, cell: CellId)
+        requires { HasCell self.old cell.0 }
+        ensures cells { self.new.cells ≡ without cell.0 self.old.cells }
+        ensures same_namespaces { self.new.namespaces ≡ self.old.namespaces }
+        ensures same_room { self.old.spare_cells ≤ self.new.spare_cells }
+    {
+        remove_cell(&mut self.cells, cell.0);
+    }
+
+    /// Equal spaces, with room of their own.
+    pub fn copy(&self, alloc: Global) -> Result<Spaces, AllocError>
+        ensures namespaces { IfOk result (λ copy. copy.namespaces ≡ self.now.namespaces) }
+        ensures cells { IfOk result (λ copy. copy.cells ≡ self.now.cells) }
+    {
+        Ok(Spaces {
+            namespaces: copy_namespaces(alloc, &self.namespaces)?,
+            cells: copy_cells(alloc, &self.cells)?,
+        })
+    }
+}
