@@ -7,7 +7,7 @@ ghost use Rattle.cell_num.specs.Bits.{bytes_of};
 ghost use Rattle.cell_world.specs.Memory.{covers, end_of};
 ghost use Rattle.cell_world.specs.Pages.{IsSpace};
 ghost use Rattle.cell_mem.specs.Access.{fetched, loaded, region_for, storable, stored};
-ghost use Rattle.cell_mem.specs.Index.{IsWhole, place_of};
+ghost use Rattle.cell_mem.specs.Index.{IsLaid, IsWhole, place_of};
 ghost use Rattle.cell_mem.specs.Perm.{permission_of};
 ghost use Rattle.cell_mem.specs.State.{IsRoom, MemoryState, bytes_at, empty_memory, is_sealed, is_width, mapped, part_of, one_less, patched_at, region_from, region_of, region_with, reserved, sealed_at, unmapped, written_at};
 ghost use Rattle.cell_mem.specs.Writing.{HasBytes, at_place, put};
@@ -130,6 +130,13 @@ impl Memory {
         ensures { result ≡ self.now.maps }
     {
         self.maps
+    }
+
+    /// The regions are whole pages of the space, ascending by their starts and apart.
+    pub fn laid_out(&self)
+        ensures { IsLaid self.now.base self.now.regions (self.now.base + 4096 * self.now.pages) }
+    {
+        let _ = &self.base;
     }
 
     /// Takes memory for so many regions, which can then be mapped without any.

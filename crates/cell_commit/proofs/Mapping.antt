@@ -1,0 +1,52 @@
+-- What mapping regions leaves of a memory, part by part.
+use Rattle.std.proofs.Common.{◌≡◌, refl, ◌∙◌, arith, ℕ, suc, ◌+◌, ◌-◌, ◌^◌, ◌≤◌, List, [], ◌∷◌, length, min}
+use Rattle.std.specs.Prelude.{fold}
+use Rattle.cell_world.specs.World.{Region}
+use Rattle.cell_world.specs.Place.{with_region}
+use Rattle.cell_mem.specs.State.{MemoryState, one_more}
+use Rattle.cell_commit.specs.Commit.{all_mapped, mapped_one}
+
+-- a count that stands still at its last value
+pub count_none : (a : ℕ) → a ≤ 2 ^ 64 - 1 → a ≡ min (a + 0) (2 ^ 64 - 1)
+count_none a le = omega arith
+
+pub count_more : (a n : ℕ) → min (one_more a + n) (2 ^ 64 - 1) ≡ min (a + suc n) (2 ^ 64 - 1)
+count_more a n = omega arith
+
+pub count_bound : (a : ℕ) → one_more a ≤ 2 ^ 64 - 1
+count_bound a = omega arith
+
+pub mapped_regions : (m : MemoryState) (regions : List Region) → (all_mapped m regions).regions ≡ fold (λ rs r. with_region r rs) m.regions regions
+mapped_regions m [] = refl
+mapped_regions m (r ∷ regions) = mapped_regions (mapped_one m r) regions
+
+pub mapped_maps : (m : MemoryState) (regions : List Region) → m.maps ≤ 2 ^ 64 - 1 → (all_mapped m regions).maps ≡ min (m.maps + length regions) (2 ^ 64 - 1)
+mapped_maps m [] le = count_none m.maps le
+mapped_maps m (r ∷ regions) le = mapped_maps (mapped_one m r) regions (count_bound m.maps) ∙ count_more m.maps (length regions)
+
+one_fewer : (a n : ℕ) → a - 1 - n ≡ a - suc n
+one_fewer a n = omega arith
+
+pub mapped_spare : (m : MemoryState) (regions : List Region) → (all_mapped m regions).spare ≡ m.spare - length regions
+mapped_spare m [] = omega arith
+mapped_spare m (r ∷ regions) = mapped_spare (mapped_one m r) regions ∙ one_fewer m.spare (length regions)
+
+pub mapped_base : (m : MemoryState) (regions : List Region) → (all_mapped m regions).base ≡ m.base
+mapped_base m [] = refl
+mapped_base m (r ∷ regions) = mapped_base (mapped_one m r) regions
+
+pub mapped_pages : (m : MemoryState) (regions : List Region) → (all_mapped m regions).pages ≡ m.pages
+mapped_pages m [] = refl
+mapped_pages m (r ∷ regions) = mapped_pages (mapped_one m r) regions
+
+pub mapped_sealed : (m : MemoryState) (regions : List Region) → (all_mapped m regions).sealed ≡ m.sealed
+mapped_sealed m [] = refl
+mapped_sealed m (r ∷ regions) = mapped_sealed (mapped_one m r) regions
+
+pub mapped_undo : (m : MemoryState) (regions : List Region) → (all_mapped m regions).writes_left ≡ m.writes_left
+mapped_undo m [] = refl
+mapped_undo m (r ∷ regions) = mapped_undo (mapped_one m r) regions
+
+pub mapped_patches : (m : MemoryState) (regions : List Region) → (all_mapped m regions).patches ≡ m.patches
+mapped_patches m [] = refl
+mapped_patches m (r ∷ regions) = mapped_patches (mapped_one m r) regions

@@ -1,0 +1,30 @@
+//! The fields of the code and data.
+
+ghost use Rattle.std.specs.Prelude.{◌≡◌, None, All};
+ghost use Rattle.cell_commit.specs.Commit.{IsLaidOut, IsMapped, field_written, fields_written};
+
+use cell_link::FieldValue;
+use cell_mem::Memory;
+
+/// Seals a field and writes it. The regions of every memory are laid out.
+fn write_field(memory: &mut Memory, field: &FieldValue)
+    requires mapped { IsMapped memory.old field.now }
+    requires undo { memory.old.writes_left ≡ None }
+    ensures written { memory.new ≡ field_written memory.old field.now }
+    ensures laid { IsLaidOut memory.old }
+{
+    memory.laid_out();
+    memory.seal(field.addr, field.width);
+    memory.patch(field.addr, field.width, field.value);
+}
+
+/// Seals each field against stores and writes it, one after another.
+pub fn write_fields(memory: &mut Memory, fields: &[FieldValue])
+    requires mapped { All (IsMapped memory.old) fields.now }
+    requires undo { memory.old.writes_left ≡ None }
+    ensures { memory.new ≡ fields_written memory.old fields.now }
+{
+    for field in fields {
+        write_field(memory, field);
+    }
+}
