@@ -16,3 +16,4 @@ pub mod SymbolRules
 pub mod Relocations
 pub mod Fitting
 pub mod RoundTrip
+pub mod Pointer
