@@ -24,3 +24,7 @@ offered false x f ys rest o e h = h
 pub filter_map-filter : {X Y : Type 0} (f : X → Option Y) (q : X → Bool) (xs : List X) → filter_map f (filter q xs) ≡ filter_map (λ x. cond (q x) (f x) None) xs
 filter_map-filter f q [] = refl
 filter_map-filter f q (x ∷ xs) = offered (q x) x f (filter q xs) _ (f x) refl (filter_map-filter f q xs)
+
+pub none_either_way : {X : Type 0} (b : Bool) (o : Option X) → o ≡ None → cond b o None ≡ None
+none_either_way true o e = e
+none_either_way false o e = refl

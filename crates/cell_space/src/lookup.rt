@@ -26,7 +26,9 @@ pub fn cell_numbered(cells: &[SpaceCell], number: u32) -> Option<&SpaceCell>
     None
 }
 
-/// The cell as a provider of the name, where it is in the state and in the namespace's chain.
+/// The cell as a provider of the name, where it is in the state and in the namespace's chain. The
+/// way up is looked at last, since few cells have the name.
+#[tactic(auto, using(crate::proofs::Searches::none_either_way))]
 fn offer(
     namespaces: &[Namespace],
     ns: u16,
@@ -38,16 +40,19 @@ fn offer(
     requires there { ns < length namespaces.now }
     ensures { option_map provider_as result ≡ offer (chain namespaces.now ns) state name.now cell.now }
 {
-    if !cell.is_in(state) || !is_above(namespaces, ns, cell.ns) {
+    if !cell.is_in(state) {
         return None;
     }
-    match cell.names.symbol_of(name) {
-        Some(symbol) => Some(Provider {
-            cell: cell.cell,
-            symbol,
-        }),
-        None => None,
+    let Some(symbol) = cell.names.symbol_of(name) else {
+        return None;
+    };
+    if !is_above(namespaces, ns, cell.ns) {
+        return None;
     }
+    Some(Provider {
+        cell: cell.cell,
+        symbol,
+    })
 }
 
 /// The first cell that offers the name.
