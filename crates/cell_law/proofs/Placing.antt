@@ -1,223 +1,185 @@
--- The classes of a new cell come to stand above all regions, or a refusal says that they don't fit.
-use Rattle.std.proofs.Common.{◌≡◌, refl, sym, ◌∙◌, ap, subst, arith, ℕ, ◌+◌, ◌*◌, ◌≤◌, ◌<◌, ◌⊎◌, inl, inr, false, cond, List, [], ◌∷◌, ◌++◌, map, length, append_assoc, Ok, Err}
-use Rattle.std.specs.Prelude.{◌/◌, ◌%◌, ◌==◌}
-use Rattle.std.proofs.lemmas.Bool.{cases_lt, le-ltb, eq-eqb}
-use Rattle.std.proofs.lemmas.List.{map-append}
+-- The classes of a new cell take the runs that the page table gives, one after another.
+use Rattle.std.proofs.Common.{◌≡◌, refl, sym, ◌∙◌, ap, ap₂, subst, arith, ℕ, zero, suc, ◌+◌, ◌*◌, ◌≤◌, ◌<◌, ◌⊎◌, inl, inr, Bool, true, false, cond, not, List, [], ◌∷◌, ◌++◌, map, length, true≢false, Option, Some, None, Ok, Err}
+use Rattle.std.specs.Prelude.{◌/◌, ◌%◌, ◌==◌, slice_index_or}
+use Rattle.std.proofs.lemmas.Bool.{cases_lt, eq-eqb}
+use Rattle.std.proofs.lemmas.List.{map-append, length-map}
+use Rattle.cell_num.specs.Lists.{from_on, upto}
 use Rattle.cell_object.specs.declared.object.Object.{Object}
 use Rattle.cell_object.specs.declared.object.Section.{Section as ObjectSection}
-use Rattle.cell_world.specs.World.{World, Cell, Region}
+use Rattle.cell_world.specs.World.{World, Cell}
 use Rattle.cell_world.specs.Outcome.{Outcome, ◌>>=◌}
 use Rattle.cell_world.specs.Relink.{Class, Text, ReadOnly, Writable, sections_in, image_of, laid_out, permission_of}
-use Rattle.cell_world.specs.Place.{Placing, with_region, with_run, with_places, places_in, place_sections, place_class, place_cell, place_all, page_table}
-use Rattle.cell_world.specs.Pages.{longest_run}
-use Rattle.cell_world.specs.declared.refusal.Refusal.{Refusal}
+use Rattle.cell_world.specs.Pages.{is_free, is_free_run, lowest_run, longest_run, filled}
+use Rattle.cell_world.specs.Place.{Placing, Starts, is_taken, page_table, with_run, with_places, places_in, place_sections, place_class, place_cell, place_all}
 use Rattle.cell_world.specs.declared.refusal.Refusal.TheVariants.{Exhausted}
-use Rattle.cell_law.specs.Settled.{In, Stacked, top_of, IsSettled, IsSettledCell}
-use Rattle.cell_law.specs.Loading.{run_size, run_start, run_region, class_size, read_only_from, writable_from, object_size, starts_from, regions_from, appended_with, placed_cell, placed_with, HasRoom, IsNewCell}
-use Rattle.cell_law.proofs.Elements.{append_none, In-fixed}
-use Rattle.cell_law.proofs.Stacks.{stacked_append, top_append, top_above}
+use Rattle.cell_law.specs.Settled.{In}
+use Rattle.cell_law.specs.Loading.{Taken, take_for, take_class, AllTaken, take_runs, with_run_of, with_classes, appended_with, placed_cell, placed_at}
+use Rattle.cell_law.proofs.Binds.{bind_map, bind_assoc, bind_same, bind_ok, ok_same}
+use Rattle.cell_law.proofs.Elements.{all-In, found-In}
 use Rattle.cell_law.proofs.Offsets.{image_pages}
-use Rattle.cell_law.proofs.Runs.{used_is, start_some, start_none}
+use Rattle.cell_law.proofs.Tables.{table_with, length-from}
 
-pub bind_is : {X Y : Type 0} (a : Outcome X) (f : X → Outcome Y) (x : X) (r : Outcome Y) → a ≡ Ok x → f x ≡ r → (a >>= f) ≡ r
-bind_is a f x r e h = ap (λ o. o >>= f) e ∙ h
+past_table : (table : List Bool) (k : ℕ) → length table ≤ k → slice_index_or table k true ≡ true
+past_table [] k h = refl
+past_table (b ∷ table) zero h = absurd (omega (arith, h))
+past_table (b ∷ table) (suc k) h = past_table table k (omega (arith, h))
 
-pub bind_err : {X Y : Type 0} (a : Outcome X) (f : X → Outcome Y) (r : Refusal) → a ≡ Err r → (a >>= f) ≡ Err r
-bind_err a f r e = ap (λ o. o >>= f) e
+last-In : (n a : ℕ) → In (a + n) (from_on a (suc n))
+last-In zero a = inl (omega arith)
+last-In (suc n) a = inr (subst (λ (k : ℕ). In k (from_on (suc a) (suc n))) (omega arith) (last-In n (suc a)))
 
--- memory is exhausted
-abbrev pub Exhausts : {X : Type 0} → Outcome X → Type 0
-Exhausts a = (wanted : ℕ) × (largest : ℕ) × (a ≡ Err (Exhausted wanted largest))
+not_true : (b : Bool) → not b ≡ true → b ≡ false
+not_true true h = absurd (true≢false (sym h))
+not_true false h = refl
 
-exhausts_now : {X Y : Type 0} (a : Outcome X) (f : X → Outcome Y) → Exhausts a → Exhausts (a >>= f)
-exhausts_now a f e = (e.0, e.1, bind_err a f (Exhausted e.0 e.1) e.2)
+-- a free run ends in the table
+run_inside : (table : List Bool) (page n : ℕ) → 0 < n → is_free_run table page n ≡ true → page + n ≤ length table
+run_inside table page zero l h = absurd (omega (arith, l))
+run_inside table page (suc n) l h = go (cases_lt (page + n) (length table))
+  where
+    free : slice_index_or table (page + n) true ≡ false
+    free = not_true _ (all-In (is_free table) (from_on page (suc n)) h (page + n) (last-In n page))
 
-exhausts_later : {X Y : Type 0} (a : Outcome X) (f : X → Outcome Y) (x : X) → a ≡ Ok x → Exhausts (f x) → Exhausts (a >>= f)
-exhausts_later a f x e h = (h.0, h.1, bind_is a f x (Err (Exhausted h.0 h.1)) e h.2)
+    go : (page + n < length table) ⊎ (length table ≤ page + n) → page + suc n ≤ length table
+    go (inl m) = omega (arith, m)
+    go (inr m) = absurd (true≢false (sym (past_table table (page + n) m) ∙ free))
 
--- the top of a class's run
-pub run_top : (a : ℕ) (class : Class) (ss : List ObjectSection) → top_of a (run_region a class ss) ≡ a + run_size ss
-run_top a class [] = omega arith
-run_top a class (s ∷ rest) = refl
+pub lowest_inside : (table : List Bool) (n page : ℕ) → 0 < n → lowest_run table n ≡ Some page → page + n ≤ length table
+lowest_inside table n page l e = run_inside table page n l (found-In (λ page. is_free_run table page n) (upto (length table)) page e).1
 
-pub run_stacked : (a : ℕ) (class : Class) (ss : List ObjectSection) → Stacked a (run_region a class ss)
-run_stacked a class [] = tt
-run_stacked a class (s ∷ rest) = let p = image_pages (laid_out [] (s ∷ rest)) in (refl, p.0, p.1, tt)
+table_length : (w : World) → length (page_table w) ≡ w.pages
+table_length w = length-map (upto w.pages) (is_taken w) ∙ length-from 0 w.pages
 
--- the regions of an object stand one after another
-module _ (a : ℕ) (o : Object) where
-  two_tops : top_of a (run_region a Text (sections_in Text o) ++ run_region (read_only_from a o) ReadOnly (sections_in ReadOnly o)) ≡ writable_from a o
-  two_tops =
-      top_append a (run_region a Text (sections_in Text o)) (run_region (read_only_from a o) ReadOnly (sections_in ReadOnly o))
-      ∙ (ap (λ (n : ℕ). top_of n (run_region (read_only_from a o) ReadOnly (sections_in ReadOnly o))) (run_top a Text (sections_in Text o))
-      ∙ run_top (read_only_from a o) ReadOnly (sections_in ReadOnly o))
+-- the world with a class's run
+abbrev pub with_class_in : World → Class → List ObjectSection → ℕ → World
+with_class_in u class ss start = record u { regions = with_run_of start class ss u.regions }
 
-  pub regions_top : top_of a (regions_from a o) ≡ a + object_size o
-  regions_top =
-      top_append a (run_region a Text (sections_in Text o) ++ run_region (read_only_from a o) ReadOnly (sections_in ReadOnly o)) (run_region (writable_from a o) Writable (sections_in Writable o))
-      ∙ (ap (λ (n : ℕ). top_of n (run_region (writable_from a o) Writable (sections_in Writable o))) two_tops
-      ∙ (run_top (writable_from a o) Writable (sections_in Writable o) ∙ omega arith))
+module _ (u : World) (class : Class) where
+  abbrev placing : List ObjectSection → Taken → Placing
+  placing ss t = record { world = with_class_in u class ss t.start; start = t.start }
 
-  pub regions_stacked : Stacked a (regions_from a o)
-  regions_stacked =
-      stacked_append a (run_region a Text (sections_in Text o) ++ run_region (read_only_from a o) ReadOnly (sections_in ReadOnly o)) (run_region (writable_from a o) Writable (sections_in Writable o))
-      (stacked_append a (run_region a Text (sections_in Text o)) (run_region (read_only_from a o) ReadOnly (sections_in ReadOnly o)) (run_stacked a Text (sections_in Text o))
-      (subst (λ (n : ℕ). Stacked n (run_region (read_only_from a o) ReadOnly (sections_in ReadOnly o))) (sym (run_top a Text (sections_in Text o))) (run_stacked (read_only_from a o) ReadOnly (sections_in ReadOnly o))))
-      (subst (λ (n : ℕ). Stacked n (run_region (writable_from a o) Writable (sections_in Writable o))) (sym two_tops) (run_stacked (writable_from a o) Writable (sections_in Writable o)))
-
--- a region at the top comes last
-with_last : (r : Region) (a : ℕ) (rs : List Region) → Stacked a rs → top_of a rs ≤ r.start → with_region r rs ≡ rs ++ r ∷ []
-with_last r a [] h t = refl
-with_last r a (s ∷ rs) h t =
-    let e : s.start ≡ a = h.0 in
-    let k : a + length s.bytes ≤ top_of (a + length s.bytes) rs = top_above (a + length s.bytes) rs in
-    subst (λ b. cond b (r ∷ s ∷ rs) (s ∷ with_region r rs) ≡ s ∷ (rs ++ r ∷ [])) (sym (le-ltb r.start s.start (omega (arith, e, k, t))))
-    (ap (λ (xs : List Region). s ∷ xs) (with_last r (a + length s.bytes) rs h.3 t))
-
--- the world with the class's run on top
-abbrev topped : World → Class → List ObjectSection → Placing
-topped w class ss =
-    record { world = record w { regions = w.regions ++ run_region (top_of w.base w.regions) class ss }; start = run_start (top_of w.base w.regions) ss }
-
-module _ (w : World) (aligned : w.base % 4096 ≡ 0) (stacked : Stacked w.base w.regions) (class : Class) where
-  sections_fit : (ss : List ObjectSection) → top_of w.base w.regions + run_size ss ≤ w.base + 4096 * w.pages → place_sections w class ss ≡ Ok (topped w class ss)
-  sections_fit [] h = ap (λ (rs : List Region). Ok (record { world = record w { regions = rs }; start = 0 })) (sym (append_none w.regions))
-  sections_fit (s ∷ rest) h =
-      let p = image_pages (laid_out [] (s ∷ rest)) in
-      let u = used_is w aligned stacked in
-      let r : Region = record { start = top_of w.base w.regions; permission = permission_of class; bytes = image_of (s ∷ rest) } in
-      ap (λ o. o >>= (λ start. Ok (with_run w class (s ∷ rest) start))) (start_some w aligned stacked (length (image_of (s ∷ rest)) / 4096) (omega (arith, p)) (omega (arith, p, u, h)))
-      ∙ ap (λ (rs : List Region). Ok (record { world = record w { regions = rs }; start = top_of w.base w.regions })) (with_last r w.base w.regions stacked (omega arith))
-
-  sections_fail : (ss : List ObjectSection) → top_of w.base w.regions ≤ w.base + 4096 * w.pages → w.base + 4096 * w.pages < top_of w.base w.regions + run_size ss
-      → Exhausts (place_sections w class ss)
-  sections_fail [] r h = absurd (omega (arith, r, h))
-  sections_fail (s ∷ rest) r h =
-      let p = image_pages (laid_out [] (s ∷ rest)) in
-      let u = used_is w aligned stacked in (
-        length (image_of (s ∷ rest)) / 4096,
-        longest_run (page_table w),
-        ap (λ o. o >>= (λ start. Ok (with_run w class (s ∷ rest) start))) (start_none w aligned stacked (length (image_of (s ∷ rest)) / 4096) (omega (arith, p)) (omega (arith, p, u, h))),
-      )
-
--- the three classes one after another
-module _ (w : World) (aligned : w.base % 4096 ≡ 0) (stacked : Stacked w.base w.regions) (c : Cell) where
-  abbrev start : ℕ
-  start = top_of w.base w.regions
-
-  abbrev texts : List ObjectSection
-  texts = sections_in Text c.object
-
-  abbrev read_onlys : List ObjectSection
-  read_onlys = sections_in ReadOnly c.object
-
-  abbrev writables : List ObjectSection
-  writables = sections_in Writable c.object
-
-  abbrev with_text : World
-  with_text = record w { regions = w.regions ++ run_region start Text texts }
-
-  abbrev with_read_only : World
-  with_read_only = record w { regions = w.regions ++ run_region start Text texts ++ run_region (read_only_from start c.object) ReadOnly read_onlys }
-
-  abbrev with_writable : World
-  with_writable = record w { regions = w.regions ++ run_region start Text texts ++ run_region (read_only_from start c.object) ReadOnly read_onlys ++ run_region (writable_from start c.object) Writable writables }
-
-  top_text : top_of w.base with_text.regions ≡ read_only_from start c.object
-  top_text = top_append w.base w.regions (run_region start Text texts) ∙ run_top start Text texts
-
-  stacked_text : Stacked w.base with_text.regions
-  stacked_text = stacked_append w.base w.regions (run_region start Text texts) stacked (run_stacked start Text texts)
-
-  top_read_only : top_of w.base with_read_only.regions ≡ writable_from start c.object
-  top_read_only =
-      top_append w.base with_text.regions (run_region (read_only_from start c.object) ReadOnly read_onlys)
-      ∙ (ap (λ (n : ℕ). top_of n (run_region (read_only_from start c.object) ReadOnly read_onlys)) top_text ∙ run_top (read_only_from start c.object) ReadOnly read_onlys)
-
-  stacked_read_only : Stacked w.base with_read_only.regions
-  stacked_read_only =
-      stacked_append w.base with_text.regions (run_region (read_only_from start c.object) ReadOnly read_onlys) stacked_text
-      (subst (λ (n : ℕ). Stacked n (run_region (read_only_from start c.object) ReadOnly read_onlys)) (sym top_text) (run_stacked (read_only_from start c.object) ReadOnly read_onlys))
-
-  text_fits : start + class_size Text c.object ≤ w.base + 4096 * w.pages → place_class w Text c.object ≡ Ok (record { world = with_text; start = run_start start texts })
-  text_fits h = sections_fit w aligned stacked Text texts h
-
-  read_only_fits : read_only_from start c.object + class_size ReadOnly c.object ≤ w.base + 4096 * w.pages
-      → place_class with_text ReadOnly c.object ≡ Ok (record { world = with_read_only; start = run_start (read_only_from start c.object) read_onlys })
-  read_only_fits h =
-      sections_fit with_text aligned stacked_text ReadOnly read_onlys (omega (arith, top_text, h))
-      ∙ ap (λ (n : ℕ). Ok (record { world = record w { regions = with_text.regions ++ run_region n ReadOnly read_onlys }; start = run_start n read_onlys })) top_text
-
-  writable_fits : writable_from start c.object + class_size Writable c.object ≤ w.base + 4096 * w.pages
-      → place_class with_read_only Writable c.object ≡ Ok (record { world = with_writable; start = run_start (writable_from start c.object) writables })
-  writable_fits h =
-      sections_fit with_read_only aligned stacked_read_only Writable writables (omega (arith, top_read_only, h))
-      ∙ ap (λ (n : ℕ). Ok (record { world = record w { regions = with_read_only.regions ++ run_region n Writable writables }; start = run_start n writables })) top_read_only
-
-  cell_fits : start + object_size c.object ≤ w.base + 4096 * w.pages
-      → place_cell w c ≡ Ok (record with_writable { cells = map (with_places c.id.0 (starts_from start c.object)) w.cells })
-  cell_fits h =
-      bind_is _ _ _ _ (text_fits (omega (arith, h)))
-      (bind_is _ _ _ _ (read_only_fits (omega (arith, h)))
-      (bind_is _ _ _ _ (writable_fits (omega (arith, h))) refl))
-
-  cell_fails : start ≤ w.base + 4096 * w.pages → w.base + 4096 * w.pages < start + object_size c.object → Exhausts (place_cell w c)
-  cell_fails r h = first (cases_lt (w.base + 4096 * w.pages) (start + class_size Text c.object))
+  pub class_is : (ss : List ObjectSection) → place_sections u class ss ≡ (take_for u.base (page_table u) ss >>= (λ t. Ok (placing ss t)))
+  class_is [] = refl
+  class_is (s ∷ rest) = go (lowest_run (page_table u) (length (image_of (s ∷ rest)) / 4096))
     where
-      third : start + class_size Text c.object ≤ w.base + 4096 * w.pages → read_only_from start c.object + class_size ReadOnly c.object ≤ w.base + 4096 * w.pages → Exhausts (place_cell w c)
-      third a b =
-          exhausts_later _ _ _ (text_fits a)
-          (exhausts_later _ _ _ (read_only_fits b)
-          (exhausts_now _ _ (sections_fail with_read_only aligned stacked_read_only Writable writables (omega (arith, top_read_only, b)) (omega (arith, top_read_only, h)))))
+      n : ℕ
+      n = length (image_of (s ∷ rest)) / 4096
 
-      second : start + class_size Text c.object ≤ w.base + 4096 * w.pages
-          → (w.base + 4096 * w.pages < read_only_from start c.object + class_size ReadOnly c.object) ⊎ (read_only_from start c.object + class_size ReadOnly c.object ≤ w.base + 4096 * w.pages)
-          → Exhausts (place_cell w c)
-      second a (inl b) =
-          exhausts_later _ _ _ (text_fits a)
-          (exhausts_now _ _ (sections_fail with_text aligned stacked_text ReadOnly read_onlys (omega (arith, top_text, a)) (omega (arith, top_text, b))))
-      second a (inr b) = third a b
+      go : (o : Option ℕ)
+          → (elim o as (λ _. Outcome ℕ) [ None ↦ Err (Exhausted n (longest_run (page_table u))) | Some page ↦ Ok (u.base + 4096 * page) ] >>= (λ start. Ok (with_run u class (s ∷ rest) start)))
+          ≡ (elim o as (λ _. Outcome Taken) [ None ↦ Err (Exhausted n (longest_run (page_table u))) | Some page ↦ Ok (record { start = u.base + 4096 * page; table = filled (page_table u) page n true }) ] >>= (λ t. Ok (placing (s ∷ rest) t)))
+      go None = refl
+      go (Some page) = refl
 
-      first : (w.base + 4096 * w.pages < start + class_size Text c.object) ⊎ (start + class_size Text c.object ≤ w.base + 4096 * w.pages) → Exhausts (place_cell w c)
-      first (inl a) = exhausts_now _ _ (sections_fail w aligned stacked Text texts r a)
-      first (inr a) = second a (cases_lt (w.base + 4096 * w.pages) (read_only_from start c.object + class_size ReadOnly c.object))
+  pub class_table : (ss : List ObjectSection) (t : Taken) → take_for u.base (page_table u) ss ≡ Ok t → page_table (with_class_in u class ss t.start) ≡ t.table
+  class_table [] t e = ap (λ (t : Taken). t.table) (ok_same (record { start = 0; table = page_table u }) t e)
+  class_table (s ∷ rest) t e = go (lowest_run (page_table u) (length (image_of (s ∷ rest)) / 4096)) refl e
+    where
+      n : ℕ
+      n = length (image_of (s ∷ rest)) / 4096
 
-unlike : (a b : ℕ) → a < b → (a == b) ≡ false
-unlike a b h = grind (arith, h)
+      pages : (0 < length (image_of (s ∷ rest))) × (length (image_of (s ∷ rest)) % 4096 ≡ 0)
+      pages = image_pages (laid_out [] (s ∷ rest))
 
-module _ (w : World) (c : Cell) (settled : IsSettled w) (new : IsNewCell w c) where
-  abbrev places_with : Cell → Cell
-  places_with = with_places c.id.0 (starts_from (top_of w.base w.regions) c.object)
+      go : (o : Option ℕ) → lowest_run (page_table u) (length (image_of (s ∷ rest)) / 4096) ≡ o
+          → elim o as (λ _. Outcome Taken) [ None ↦ Err (Exhausted (length (image_of (s ∷ rest)) / 4096) (longest_run (page_table u))) | Some page ↦ Ok (record { start = u.base + 4096 * page; table = filled (page_table u) page (length (image_of (s ∷ rest)) / 4096) true }) ] ≡ Ok t
+          → page_table (with_class_in u class (s ∷ rest) t.start) ≡ t.table
+      go None low k = cc
+      go (Some page) low k =
+          let fits : page + length (image_of (s ∷ rest)) / 4096 ≤ length (page_table u) = lowest_inside (page_table u) (length (image_of (s ∷ rest)) / 4096) page (omega (arith, pages)) low in
+          let same = ok_same (record { start = u.base + 4096 * page; table = filled (page_table u) page (length (image_of (s ∷ rest)) / 4096) true }) t k in
+          subst (λ (t : Taken). page_table (with_class_in u class (s ∷ rest) t.start) ≡ t.table) same
+          (table_with u (record { start = u.base + 4096 * page; permission = permission_of class; bytes = image_of (s ∷ rest) }) page (length (image_of (s ∷ rest)) / 4096) refl (omega (arith, pages)) (omega (arith, fits, table_length u)))
 
-  abbrev given : Cell → Cell
-  given d = record d { placed = record d.placed { places = places_in (starts_from (top_of w.base w.regions) c.object) d.object } }
+abbrev three_starts : ℕ → ℕ → ℕ → Starts
+three_starts a b c = record { text = a; read_only = b; writable = c }
 
-  old_left : (d : Cell) → In d w.cells → places_with d ≡ d
-  old_left d k =
-      let s : IsSettledCell w d = settled.cells d k in
-      let e : (d.id.0 == c.id.0) ≡ false = unlike d.id.0 c.id.0 (omega (arith, s.older, new.number)) in
-      ap (λ b. cond b (given d) d) e
+module _ (v : World) (number : ℕ) (o : Object) where
+  abbrev finished : World → Starts → World
+  finished u starts = record u { cells = map (with_places number starts) v.cells }
 
-  new_placed : places_with c ≡ placed_cell w c
-  new_placed = ap (λ b. cond b (given c) c) (eq-eqb c.id.0 c.id.0 refl)
+  abbrev last_class : World → ℕ → ℕ → Outcome World
+  last_class u a b = place_class u Writable o >>= (λ writable. Ok (finished writable.world (three_starts a b writable.start)))
 
-  cells_placed : map places_with (w.cells ++ c ∷ []) ≡ w.cells ++ placed_cell w c ∷ []
-  cells_placed =
-      map-append places_with w.cells (c ∷ [])
-      ∙ (ap (λ (xs : List Cell). xs ++ places_with c ∷ []) (In-fixed places_with w.cells old_left)
-      ∙ ap (λ (d : Cell). w.cells ++ d ∷ []) new_placed)
+  abbrev last_taken : World → List Bool → ℕ → ℕ → Outcome World
+  last_taken u table a b = take_class u.base table Writable o >>= (λ t. Ok (finished (with_class_in u Writable (sections_in Writable o) t.start) (three_starts a b t.start)))
 
-  regions_joined : w.regions ++ run_region (top_of w.base w.regions) Text (sections_in Text c.object) ++ run_region (read_only_from (top_of w.base w.regions) c.object) ReadOnly (sections_in ReadOnly c.object)
-      ++ run_region (writable_from (top_of w.base w.regions) c.object) Writable (sections_in Writable c.object) ≡ w.regions ++ regions_from (top_of w.base w.regions) c.object
-  regions_joined = simp append_assoc
+  third : (u : World) (a b : ℕ) → last_class u a b ≡ last_taken u (page_table u) a b
+  third u a b =
+      ap (λ p. p >>= (λ writable. Ok (finished writable.world (three_starts a b writable.start)))) (class_is u Writable (sections_in Writable o))
+      ∙ bind_map (take_class u.base (page_table u) Writable o) _ (λ writable. Ok (finished writable.world (three_starts a b writable.start)))
 
-  -- where there is room, the new cell is placed above the others
-  pub place_fits : HasRoom w c.object → place_all (appended_with w c) (c ∷ []) ≡ Ok (placed_with w c)
-  place_fits h =
-      bind_is _ _ _ _ (cell_fits (appended_with w c) settled.aligned settled.stacked c h)
-      (ap (λ (cs : List Cell). Ok (record (appended_with w c) { cells = cs; regions = w.regions ++ run_region (top_of w.base w.regions) Text (sections_in Text c.object) ++ run_region (read_only_from (top_of w.base w.regions) c.object) ReadOnly (sections_in ReadOnly c.object) ++ run_region (writable_from (top_of w.base w.regions) c.object) Writable (sections_in Writable c.object) })) cells_placed
-      ∙ ap (λ (rs : List Region). Ok (record (placed_with w c) { regions = rs })) regions_joined)
+  abbrev two_classes : World → ℕ → Outcome World
+  two_classes u a = place_class u ReadOnly o >>= (λ read_only. last_class read_only.world a read_only.start)
 
-  -- where there is no room, it is refused
-  pub place_fails : w.base + 4096 * w.pages < top_of w.base w.regions + object_size c.object → (wanted : ℕ) × (largest : ℕ) × (place_all (appended_with w c) (c ∷ []) ≡ Err (Exhausted wanted largest))
-  place_fails h = exhausts_now _ _ (cell_fails (appended_with w c) settled.aligned settled.stacked c settled.room h)
+  abbrev two_taken : World → List Bool → ℕ → Outcome World
+  two_taken u table a = take_class u.base table ReadOnly o >>= (λ t. last_taken (with_class_in u ReadOnly (sections_in ReadOnly o) t.start) t.table a t.start)
+
+  second : (u : World) (a : ℕ) → two_classes u a ≡ two_taken u (page_table u) a
+  second u a =
+      ap (λ p. p >>= (λ read_only. last_class read_only.world a read_only.start)) (class_is u ReadOnly (sections_in ReadOnly o))
+      ∙ (bind_map (take_class u.base (page_table u) ReadOnly o) _ (λ read_only. last_class read_only.world a read_only.start)
+      ∙ bind_same (take_class u.base (page_table u) ReadOnly o) _ _ (λ t e.
+      let more : World = with_class_in u ReadOnly (sections_in ReadOnly o) t.start in
+      third more a t.start ∙ ap (λ table. last_taken more table a t.start) (class_table u ReadOnly (sections_in ReadOnly o) t e)))
+
+  abbrev all_taken : World → List Bool → Outcome World
+  all_taken u table = take_class u.base table Text o >>= (λ t. two_taken (with_class_in u Text (sections_in Text o) t.start) t.table t.start)
+
+  first_class : (u : World) → (place_class u Text o >>= (λ text. two_classes text.world text.start)) ≡ all_taken u (page_table u)
+  first_class u =
+      ap (λ p. p >>= (λ text. two_classes text.world text.start)) (class_is u Text (sections_in Text o))
+      ∙ (bind_map (take_class u.base (page_table u) Text o) _ (λ text. two_classes text.world text.start)
+      ∙ bind_same (take_class u.base (page_table u) Text o) _ _ (λ t e.
+      let more : World = with_class_in u Text (sections_in Text o) t.start in
+      second more t.start ∙ ap (λ table. two_taken more table t.start) (class_table u Text (sections_in Text o) t e)))
+
+  -- the starts first, and then the world
+  pub runs_first : (u : World) → all_taken u (page_table u) ≡ (take_runs u.base (page_table u) o >>= (λ t. Ok (finished (record u { regions = with_classes t.starts o u.regions }) t.starts)))
+  runs_first u = sym
+      (bind_assoc (take_class u.base (page_table u) Text o) _ _
+      ∙ bind_same (take_class u.base (page_table u) Text o) _ _ (λ t e.
+      bind_assoc (take_class u.base t.table ReadOnly o) _ _
+      ∙ bind_same (take_class u.base t.table ReadOnly o) _ _ (λ r f.
+      bind_map (take_class u.base r.table Writable o) _ _)))
+
+one_placed : (v w : World) (o : Outcome World) → (o >>= (λ y. Ok y)) ≡ o
+one_placed v w (Ok y) = refl
+one_placed v w (Err r) = refl
+
+module _ (w : World) (c : Cell) (older : (d : Cell) → In d w.cells → (d.id.0 == c.id.0) ≡ false) where
+  kept_places : (starts : Starts) (cells : List Cell) → ((d : Cell) → In d cells → (d.id.0 == c.id.0) ≡ false) → map (with_places c.id.0 starts) cells ≡ cells
+  kept_places starts [] f = refl
+  kept_places starts (d ∷ cells) f =
+      ap₂ (λ (x : Cell) xs. x ∷ xs) (ap (λ b. cond b (record d { placed = record d.placed { places = places_in starts d.object } }) d) (f d (inl refl)))
+      (kept_places starts cells (λ x k. f x (inr k)))
+
+  cells_placed : (starts : Starts) → map (with_places c.id.0 starts) (w.cells ++ c ∷ []) ≡ w.cells ++ placed_cell starts c ∷ []
+  cells_placed starts =
+      map-append (with_places c.id.0 starts) w.cells (c ∷ [])
+      ∙ ap₂ (λ (xs ys : List Cell). xs ++ ys) (kept_places starts w.cells older) (ap (λ b. cond b (placed_cell starts c) c ∷ []) (eq-eqb c.id.0 c.id.0 refl))
+
+  -- the new cell comes to stand where its classes' runs are, or no run is long enough
+  pub place_is : place_all (appended_with w c) (c ∷ []) ≡ (take_runs w.base (page_table w) c.object >>= (λ t. Ok (placed_at t.starts w c)))
+  place_is =
+      one_placed w w (place_cell (appended_with w c) c)
+      ∙ (first_class (appended_with w c) c.id.0 c.object (appended_with w c)
+      ∙ (runs_first (appended_with w c) c.id.0 c.object (appended_with w c)
+      ∙ bind_same (take_runs w.base (page_table w) c.object) _ _ (λ t e.
+      ap (λ (cells : List Cell). Ok (record (appended_with w c) { cells = cells; regions = with_classes t.starts c.object w.regions })) (cells_placed t.starts))))
+
+-- the page table with the runs of all classes
+module _ (o : Object) where
+  pub runs_table : (u : World) (t : AllTaken) → take_runs u.base (page_table u) o ≡ Ok t → page_table (record u { regions = with_classes t.starts o u.regions }) ≡ t.table
+  runs_table u t h =
+      let x = bind_ok (take_class u.base (page_table u) Text o) _ t h in
+      let u1 : World = with_class_in u Text (sections_in Text o) x.0.start in
+      let e1 : page_table u1 ≡ x.0.table = class_table u Text (sections_in Text o) x.0 x.1 in
+      let y = bind_ok (take_class u.base x.0.table ReadOnly o) _ t x.2 in
+      let u2 : World = with_class_in u1 ReadOnly (sections_in ReadOnly o) y.0.start in
+      let e2 : page_table u2 ≡ y.0.table = class_table u1 ReadOnly (sections_in ReadOnly o) y.0 (ap (λ table. take_class u.base table ReadOnly o) e1 ∙ y.1) in
+      let z = bind_ok (take_class u.base y.0.table Writable o) _ t y.2 in
+      let u3 : World = with_class_in u2 Writable (sections_in Writable o) z.0.start in
+      let e3 : page_table u3 ≡ z.0.table = class_table u2 Writable (sections_in Writable o) z.0 (ap (λ table. take_class u.base table Writable o) e2 ∙ z.1) in
+      let same = ok_same (record { starts = three_starts x.0.start y.0.start z.0.start; table = z.0.table }) t z.2 in
+      subst (λ (t : AllTaken). page_table (record u { regions = with_classes t.starts o u.regions }) ≡ t.table) same e3

@@ -1,17 +1,17 @@
 -- Where all cells are attached in `k`, names are looked up among all cells, in order.
-use Rattle.std.proofs.Common.{◌≡◌, refl, ◌∙◌, ap, ℕ, ◌⊎◌, inl, inr, List, [], ◌∷◌, ◌++◌}
-use Rattle.std.specs.Prelude.{filter, filter_map, ◌&&◌}
+use Rattle.std.proofs.Common.{◌≡◌, refl, sym, ◌∙◌, ap, subst, ℕ, ◌⊎◌, inl, inr, List, [], ◌∷◌, ◌++◌}
+use Rattle.std.specs.Prelude.{Option, option_map, filter, filter_map, ◌&&◌}
 use Rattle.cell_num.specs.Lists.{first, holds}
 use Rattle.cell_object.specs.declared.object.Object.{Object}
-use Rattle.cell_object.specs.Sound.{IsSoundObject}
 use Rattle.cell_world.specs.declared.state.Namespace.{Namespace}
 use Rattle.cell_world.specs.World.{World, Cell, Alias, Standing, Attached, is_attached, empty_world}
-use Rattle.cell_world.specs.Names.{chain, are_on_one_path, definitions_of, names_of, provider_for, provider_of, attached_provider, first_provider, rivals}
+use Rattle.cell_world.specs.Names.{Provider, symbol_named, chain, are_on_one_path, definitions_of, names_of, provider_for, provider_of, attached_provider, first_provider, rivals}
 use Rattle.cell_world.specs.Gather.{Source, new_cell}
-use Rattle.cell_law.specs.Settled.{In, IsSettled}
-use Rattle.cell_law.specs.Loading.{IsNewCell, appended_with, placed_cell, placed_with}
+use Rattle.cell_law.specs.Settled.{In, IsPlainCell, IsSettled}
+use Rattle.cell_world.specs.Place.{Starts}
+use Rattle.cell_object.specs.Sound.{IsSoundObject}
+use Rattle.cell_law.specs.Loading.{IsNewCell, appended_with, placed_cell, placed_at}
 use Rattle.cell_law.proofs.Elements.{append_none, filter_all, In-append}
-use Rattle.cell_law.proofs.Attached.{offer}
 
 -- the cell that is made of a file may come after the others
 pub new_is : (w : World) (f : Source) (object : Object) → IsSoundObject object → IsNewCell w (new_cell w 0 f object)
@@ -40,18 +40,31 @@ module _ (w : World) (c : Cell) (s : IsSettled w) (n : IsNewCell w c) where
       in_k d (inr (inl e)) = ap (λ (x : Cell). x.ns) e ∙ n.in_k
       in_k d (inr (inr z)) = absurd z
 
-  pub placed_plain : IsPlain (placed_with w c)
-  placed_plain = record { spaces = s.spaces; attached = λ d i. attached d (In-append w.cells (placed_cell w c ∷ []) d i); in_k = λ d i. in_k d (In-append w.cells (placed_cell w c ∷ []) d i) }
+  pub placed_plain : (starts : Starts) → IsPlain (placed_at starts w c)
+  placed_plain starts = record { spaces = s.spaces; attached = λ d i. attached d (In-append w.cells (placed_cell starts c ∷ []) d i); in_k = λ d i. in_k d (In-append w.cells (placed_cell starts c ∷ []) d i) }
     where
-      attached : (d : Cell) → In d w.cells ⊎ In d (placed_cell w c ∷ []) → d.standing ≡ Attached
+      attached : (d : Cell) → In d w.cells ⊎ In d (placed_cell starts c ∷ []) → d.standing ≡ Attached
       attached d (inl i) = (s.cells d i).attached
       attached d (inr (inl e)) = ap (λ (x : Cell). x.standing) e ∙ n.attached
       attached d (inr (inr z)) = absurd z
 
-      in_k : (d : Cell) → In d w.cells ⊎ In d (placed_cell w c ∷ []) → d.ns ≡ 0
+      in_k : (d : Cell) → In d w.cells ⊎ In d (placed_cell starts c ∷ []) → d.ns ≡ 0
       in_k d (inl i) = (s.cells d i).in_k
       in_k d (inr (inl e)) = ap (λ (x : Cell). x.ns) e ∙ n.in_k
       in_k d (inr (inr z)) = absurd z
+
+  -- no cell of the machine with the new one has an alias
+  pub placed_cells : (starts : Starts) → (d : Cell) → In d (w.cells ++ placed_cell starts c ∷ []) → IsPlainCell d
+  placed_cells starts d i = go (In-append w.cells (placed_cell starts c ∷ []) d i)
+    where
+      go : In d w.cells ⊎ In d (placed_cell starts c ∷ []) → IsPlainCell d
+      go (inl i) = s.cells d i
+      go (inr (inl e)) = subst IsPlainCell (sym e) (record { attached = n.attached; in_k = n.in_k; unaliased = n.unaliased })
+      go (inr (inr z)) = absurd z
+
+-- what the cell has under the name
+abbrev pub offer : List ℕ → Cell → Option Provider
+offer name c = option_map (λ symbol. record { cell = c.id.0; symbol = symbol }) (symbol_named c name)
 
 -- a cell without aliases has the names that its object defines
 pub names_unaliased : (c : Cell) → c.aliases ≡ [] → names_of c ≡ definitions_of c.object

@@ -1,18 +1,21 @@
--- One more cell above the others: where its classes stand, and the machine with it before it is linked.
---     laid_end sections          how many bytes the sections of a class have, one after another
---     run_size sections          how many bytes the run of a class has
---     starts_from addr object    where the classes start, one after another from the address on
---     regions_from addr object   the classes' regions there
---     placed_with w c            the machine with the cell placed above the others
---     IsNewCell w c              the cell may come after the others of w
-use Rattle.std.specs.Prelude.{ℕ, suc, ◌+◌, ◌*◌, ◌≡◌, ◌≤◌, List, [], ◌∷◌, ◌++◌, length}
+-- One more cell after the others: the runs that its classes take, and the machine with it before it is linked.
+--     laid_end sections             how many bytes the sections of a class have, one after another
+--     run_size sections             how many bytes the run of a class has
+--     take_runs base table object   where the classes start, each in the lowest run that is free by then, and the page table with them
+--     regions_at starts object      the classes' regions there
+--     appended_with w c             the machine with the cell, which has no places yet
+--     placed_at starts w c          the machine with the cell in its places
+--     IsNewCell w c                 the cell may come after the others of w
+use Rattle.std.specs.Prelude.{ℕ, suc, ◌+◌, ◌*◌, ◌/◌, ◌≡◌, Bool, true, List, [], ◌∷◌, ◌++◌, Some, None, Ok, Err, length}
 use Rattle.cell_object.specs.declared.object.Object.{Object}
 use Rattle.cell_object.specs.declared.object.Section.{Section as ObjectSection}
+use Rattle.cell_world.specs.declared.refusal.Refusal.TheVariants.{Exhausted}
 use Rattle.cell_world.specs.World.{World, Cell, Region, Attached}
-use Rattle.cell_object.specs.Sound.{IsSoundObject}
 use Rattle.cell_world.specs.Relink.{Class, Text, ReadOnly, Writable, sections_in, image_of, permission_of, gap}
-use Rattle.cell_world.specs.Place.{Starts, places_in}
-use Rattle.cell_law.specs.Settled.{top_of}
+use Rattle.cell_world.specs.Pages.{lowest_run, longest_run, filled}
+use Rattle.cell_world.specs.Place.{Starts, places_in, with_region}
+use Rattle.cell_object.specs.Sound.{IsSoundObject}
+use Rattle.cell_world.specs.Outcome.{Outcome, ◌>>=◌}
 
 -- n bytes stand before the sections
 abbrev pub laid_end_from : ℕ → List ObjectSection → ℕ
@@ -27,61 +30,80 @@ abbrev pub run_size : List ObjectSection → ℕ
 run_size [] = 0
 run_size (s ∷ rest) = length (image_of (s ∷ rest))
 
-abbrev pub run_start : ℕ → List ObjectSection → ℕ
-run_start addr [] = 0
-run_start addr (s ∷ rest) = addr
+-- where a run starts, and the page table with it
+pub record Taken : Type 0 where
+  pub start : ℕ
+  pub table : List Bool
 
+-- n pages in the lowest free run
+abbrev pub take_run : ℕ → List Bool → ℕ → Outcome Taken
+take_run base table n =
+    elim (lowest_run table n) [
+      | None ↦ Err (Exhausted n (longest_run table))
+      | Some page ↦ Ok (record { start = base + 4096 * page; table = filled table page n true })
+    ]
+
+abbrev pub take_for : ℕ → List Bool → List ObjectSection → Outcome Taken
+take_for base table [] = Ok (record { start = 0; table = table })
+take_for base table (s ∷ rest) = take_run base table (run_size (s ∷ rest) / 4096)
+
+abbrev pub take_class : ℕ → List Bool → Class → Object → Outcome Taken
+take_class base table class object = take_for base table (sections_in class object)
+
+-- where the runs of all classes start, and the page table with them
+pub record AllTaken : Type 0 where
+  pub starts : Starts
+  pub table : List Bool
+
+abbrev pub take_runs : ℕ → List Bool → Object → Outcome AllTaken
+take_runs base table object = do
+  text ← take_class base table Text object
+  read_only ← take_class base text.table ReadOnly object
+  writable ← take_class base read_only.table Writable object
+  let starts : Starts = record { text = text.start; read_only = read_only.start; writable = writable.start } in
+      Ok (record { starts = starts; table = writable.table })
+
+-- the region of a class that has a section
 abbrev pub run_region : ℕ → Class → List ObjectSection → List Region
-run_region addr class [] = []
-run_region addr class (s ∷ rest) =
-    record { start = addr; permission = permission_of class; bytes = image_of (s ∷ rest) } ∷ []
+run_region start class [] = []
+run_region start class (s ∷ rest) =
+    record { start = start; permission = permission_of class; bytes = image_of (s ∷ rest) } ∷ []
 
-abbrev pub class_size : Class → Object → ℕ
-class_size class object = run_size (sections_in class object)
+abbrev pub regions_at : Starts → Object → List Region
+regions_at starts object =
+    run_region starts.text Text (sections_in Text object)
+    ++ run_region starts.read_only ReadOnly (sections_in ReadOnly object)
+    ++ run_region starts.writable Writable (sections_in Writable object)
 
--- behind the text, and behind the text and the read-only sections
-abbrev pub read_only_from : ℕ → Object → ℕ
-read_only_from addr object = addr + class_size Text object
+abbrev pub with_run_of : ℕ → Class → List ObjectSection → List Region → List Region
+with_run_of start class [] regions = regions
+with_run_of start class (s ∷ rest) regions =
+    with_region (record { start = start; permission = permission_of class; bytes = image_of (s ∷ rest) }) regions
 
-abbrev pub writable_from : ℕ → Object → ℕ
-writable_from addr object = addr + class_size Text object + class_size ReadOnly object
+abbrev pub with_class : ℕ → Class → Object → List Region → List Region
+with_class start class object regions = with_run_of start class (sections_in class object) regions
 
-abbrev pub object_size : Object → ℕ
-object_size object = class_size Text object + class_size ReadOnly object + class_size Writable object
-
-abbrev pub starts_from : ℕ → Object → Starts
-starts_from addr object = record {
-  text = run_start addr (sections_in Text object);
-  read_only = run_start (read_only_from addr object) (sections_in ReadOnly object);
-  writable = run_start (writable_from addr object) (sections_in Writable object);
-}
-
-abbrev pub regions_from : ℕ → Object → List Region
-regions_from addr object =
-    run_region addr Text (sections_in Text object)
-    ++ run_region (read_only_from addr object) ReadOnly (sections_in ReadOnly object)
-    ++ run_region (writable_from addr object) Writable (sections_in Writable object)
+-- the regions with those of the classes
+abbrev pub with_classes : Starts → Object → List Region → List Region
+with_classes starts object regions =
+    with_class starts.writable Writable object
+    (with_class starts.read_only ReadOnly object (with_class starts.text Text object regions))
 
 -- the machine with a cell after the others, which has no places yet
 abbrev pub appended_with : World → Cell → World
 appended_with w c = record w { cells = w.cells ++ c ∷ []; next_cell = suc w.next_cell }
 
 -- the new cell with its places
-abbrev pub placed_cell : World → Cell → Cell
-placed_cell w c =
-    record c { placed = record c.placed { places = places_in (starts_from (top_of w.base w.regions) c.object) c.object } }
+abbrev pub placed_cell : Starts → Cell → Cell
+placed_cell starts c = record c { placed = record c.placed { places = places_in starts c.object } }
 
-abbrev pub placed_with : World → Cell → World
-placed_with w c =
+abbrev pub placed_at : Starts → World → Cell → World
+placed_at starts w c =
     record w {
-      cells = w.cells ++ placed_cell w c ∷ [];
+      cells = w.cells ++ placed_cell starts c ∷ [];
       next_cell = suc w.next_cell;
-      regions = w.regions ++ regions_from (top_of w.base w.regions) c.object;
+      regions = with_classes starts c.object w.regions;
     }
-
--- there are as many pages left as the classes take
-abbrev pub HasRoom : World → Object → Type 0
-HasRoom w object = top_of w.base w.regions + object_size object ≤ w.base + 4096 * w.pages
 
 -- the cell may come after the others: as it is when its file has just been read
 pub record IsNewCell (w : World) (c : Cell) : Type 0 where

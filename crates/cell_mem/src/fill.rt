@@ -19,9 +19,7 @@ pub fn fill<T: Copy>(items: &mut [T], from: usize, count: usize, value: T)
 pub fn repeated<T: Copy>(alloc: Global, value: T, count: usize) -> Result<Vec<T>, AllocError>
     ensures { IfOk result (λ items. items.items ≡ replicate count value) }
 {
-    let mut items = Vec::with_capacity(alloc, count)?;
-    for _ in 0..count {
-        items.push(value)?;
-    }
+    let mut items = Vec::new(alloc);
+    items.resize(count, value)?;
     Ok(items)
 }

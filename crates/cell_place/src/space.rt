@@ -1,6 +1,6 @@
 //! The pages of the space.
 
-ghost use Rattle.std.specs.Prelude.{◌≡◌, ◌+◌, ◌*◌, ◌≤◌, false, true, length, replicate, IfOk, OnErr};
+ghost use Rattle.std.specs.Prelude.{◌≡◌, ◌+◌, ◌*◌, ◌≤◌, ◌<◌, ◌^◌, false, true, length, replicate, IfOk, OnErr};
 ghost use Rattle.cell_world.specs.Pages.{IsSpace, is_taken_run, filled};
 ghost use Rattle.cell_place.specs.Runs.{run_of};
 
@@ -70,7 +70,8 @@ impl Space {
 
     /// The address of a run's first byte.
     pub fn address_of(&self, run: Run) -> u64
-        ensures { result ≡ self.now.base + 4096 * run.page }
+        ensures address { result ≡ self.now.base + 4096 * run.page }
+        ensures low { result < 2 ^ 45 }
     {
         self.base + 4096 * u64::from(run.page)
     }

@@ -1,5 +1,5 @@
 -- What is written so far, and what is still to write.
-use Rattle.std.proofs.Common.{◌≡◌, ℕ, ◌+◌, ◌<◌, List, [], ◌∷◌, ◌++◌, ◌||◌, Bool, true, false, Some, None, length, get_or, drop, refl, sym, ap, ◌∙◌, ◌≤◌, subst, append_assoc, append-nil}
+use Rattle.std.proofs.Common.{◌≡◌, ℕ, ◌+◌, ◌<◌, List, [], ◌∷◌, ◌++◌, ◌||◌, Bool, true, false, Some, None, Err, length, get_or, drop, refl, sym, ap, ◌∙◌, ◌≤◌, subst, append_assoc, append-nil}
 use Rattle.std.specs.declared.option.Option.{Option}
 use Rattle.std.specs.Io.KnownBytes.{Appends}
 use Rattle.std.proofs.lemmas.List.{drop_more, drop_all}
@@ -12,7 +12,8 @@ use Rattle.cell_world.specs.declared.reply.Reply.{Reply}
 use Rattle.cell_world.specs.declared.refusal.Refusal.{Refusal}
 use Rattle.std.specs.declared.result.Result.{Result}
 use Rattle.cell_print.specs.Lines.{lines_of}
-use Rattle.cell_run.specs.Run.{Answers, DoesLine, answered, after, is_refusal, text_from, any_refused}
+use Rattle.cell_world.specs.Next.{Answered}
+use Rattle.cell_run.specs.Run.{Answers, DoesLine, Plain, plain_of, answered, after, is_refusal, text_from, any_refused}
 
 pub nothing : (o : Option (List ℕ)) → Appends o o []
 nothing None = tt
@@ -29,15 +30,15 @@ appends_more (Some xs) (Some ys) None x y p q = absurd q
 appends_more (Some xs) (Some ys) (Some zs) x y p q = q ∙ ap (λ v. v ++ y) p ∙ append_assoc xs x y
 
 -- the text so far, which with that of the lines that are left is the whole text
-pub record SoFar (old now : Option (List ℕ)) (first w : State) (lines left : List Line) : Type 0 where
+pub record SoFar (old now : Option (List ℕ)) (first w : Plain) (lines left : List Line) : Type 0 where
   pub text : List ℕ
   pub appended : Appends old now text
   pub rest : text ++ text_from w left ≡ text_from first lines
 
-pub at_start : (o : Option (List ℕ)) (w : State) (lines : List Line) → SoFar o o w w lines lines
+pub at_start : (o : Option (List ℕ)) (w : Plain) (lines : List Line) → SoFar o o w w lines lines
 at_start o w lines = record { text = []; appended = nothing o; rest = refl }
 
-pub one_more : (old before written : Option (List ℕ)) (first w new : State) (lines : List Line) (i : ℕ) (line : Line) (refused : Bool) → i < length lines → line ≡ get_or lines i line
+pub one_more : (old before written : Option (List ℕ)) (first w new : Plain) (lines : List Line) (i : ℕ) (line : Line) (refused : Bool) → i < length lines → line ≡ get_or lines i line
     → DoesLine w line refused new before written → SoFar old before first w lines (drop i lines) → SoFar old written first new lines (drop (i + 1) lines)
 one_more old before written first w new lines i line refused lt item does far =
     let said : List ℕ = lines_of line.number (answered w line.command).answer in
@@ -52,7 +53,7 @@ one_more old before written first w new lines i line refused lt item does far =
     }
 
 -- cut off in the line of one more answer
-pub cut_off : (old before written : Option (List ℕ)) (first w : State) (lines : List Line) (i : ℕ) (line : Line) → i < length lines → line ≡ get_or lines i line
+pub cut_off : (old before written : Option (List ℕ)) (first w : Plain) (lines : List Line) (i : ℕ) (line : Line) → i < length lines → line ≡ get_or lines i line
     → AppendsPartOf before written (lines_of line.number (answered w line.command).answer) → SoFar old before first w lines (drop i lines) → AppendsPartOf old written (text_from first lines)
 cut_off old before written first w lines i line lt item part far =
     let said : List ℕ = lines_of line.number (answered w line.command).answer in
@@ -69,7 +70,7 @@ cut_off old before written first w lines i line lt item part far =
     }
 
 -- the whole text stands written the last line
-pub at_end : (old now : Option (List ℕ)) (first w : State) (lines : List Line) (i : ℕ) → length lines ≤ i → SoFar old now first w lines (drop i lines) → Appends old now (text_from first lines)
+pub at_end : (old now : Option (List ℕ)) (first w : Plain) (lines : List Line) (i : ℕ) → length lines ≤ i → SoFar old now first w lines (drop i lines) → Appends old now (text_from first lines)
 at_end old now first w lines i le far =
     let none : drop i lines ≡ [] = drop_all i lines le in
     let whole : far.text ≡ text_from first lines = sym (append-nil far.text) ∙ ap (λ ls. far.text ++ text_from w ls) (sym none) ∙ far.rest in
@@ -80,7 +81,7 @@ or_assoc : (a b c : Bool) → ((a || b) || c) ≡ (a || (b || c))
 or_assoc true b c = refl
 or_assoc false b c = refl
 
-pub refused_more : (some refused : Bool) (first w new : State) (before written : Option (List ℕ)) (lines : List Line) (i : ℕ) (line : Line) → i < length lines → line ≡ get_or lines i line
+pub refused_more : (some refused : Bool) (first w new : Plain) (before written : Option (List ℕ)) (lines : List Line) (i : ℕ) (line : Line) → i < length lines → line ≡ get_or lines i line
     → DoesLine w line refused new before written → (some || any_refused w (drop i lines)) ≡ any_refused first lines → ((some || refused) || any_refused new (drop (i + 1) lines)) ≡ any_refused first lines
 refused_more some refused first w new before written lines i line lt item does far =
     let left : drop i lines ≡ line ∷ drop (i + 1) lines = drop_more lines i line lt ∙ ap (λ l. l ∷ drop (i + 1) lines) (sym item) in
@@ -94,19 +95,25 @@ or_false : (a : Bool) → (a || false) ≡ a
 or_false true = refl
 or_false false = refl
 
-pub refused_at_end : (some : Bool) (first w : State) (lines : List Line) (i : ℕ) → length lines ≤ i → (some || any_refused w (drop i lines)) ≡ any_refused first lines → any_refused first lines ≡ some
+pub refused_at_end : (some : Bool) (first w : Plain) (lines : List Line) (i : ℕ) → length lines ≤ i → (some || any_refused w (drop i lines)) ≡ any_refused first lines → any_refused first lines ≡ some
 refused_at_end some first w lines i le far = sym far ∙ ap (λ ls. some || any_refused w ls) (drop_all i lines le) ∙ or_false some
 
-same_state : (new old : State) (w : World) → new.files ≡ old.files → new.world ≡ w → new ≡ record { files = old.files; world = w }
-same_state new old w f e = let both : State = record { files = new.files; world = w } in ap (λ (v : World). record new { world = v }) e ∙ ap (λ fs. record both { files = fs }) f
+same_plain : (new old : Plain) (w : World) → new.files ≡ old.files → new.world ≡ w → new ≡ record { files = old.files; world = w }
+same_plain new old w f e = let both : Plain = record { files = new.files; world = w } in ap (λ (v : World). record new { world = v }) e ∙ ap (λ fs. record both { files = fs }) f
 
 -- the machine's answer is the plain machine's
 pub answers : (s new : State) (line : Line) (answer : Result Reply Refusal) (said : List ℕ) (refused : Bool) → next_of s line.command ≡ record { answer = answer; world = new.world } → new.files ≡ s.files
-    → said ≡ lines_of line.number answer → refused ≡ is_refusal answer → Answers s line said refused new
+    → said ≡ lines_of line.number answer → refused ≡ is_refusal answer → Answers (plain_of s) line said refused (plain_of new)
 unfolding answered
 answers s new line answer said refused e f t r =
     record {
       text = t ∙ ap (λ a. lines_of line.number a.answer) (sym e);
       verdict = r ∙ ap (λ a. is_refusal a.answer) (sym e);
-      state = same_state new s (answered s line.command).world f (ap (λ a. a.world) (sym e));
+      state = same_plain (plain_of new) (plain_of s) (answered (plain_of s) line.command).world f (ap (λ a. a.world) (sym e));
     }
+
+-- a refusal leaves the machine
+pub refuses : (s new : State) (line : Line) (refusal : Refusal) (said : List ℕ) → (next_of s line.command ≡ record { answer = Err refusal; world = s.world }) × (new ≡ s)
+    → said ≡ lines_of line.number (Err refusal) → Answers (plain_of s) line said true (plain_of new)
+refuses s new line refusal said step t =
+    answers s new line (Err refusal) said true (step.0 ∙ ap (λ (u : State). let a : Answered = record { answer = Err refusal; world = u.world } in a) (sym step.1)) (ap (λ (u : State). u.files) step.1) t refl

@@ -1,7 +1,7 @@
 -- A whole run: its text and its status.
 --     run_of words files              the run of a program that is given these words and meets these files
 --     WritesRun run status old new    how an answer and what was written stand to a run
-use Rattle.std.specs.Prelude.{◌≡◌, ◌⊎◌, ℕ, Bool, true, false, ◌||◌, List, [], ◌∷◌, ◌++◌, if◌then◌else◌, Option, Some, None, Result, Ok, Err}
+use Rattle.std.specs.Prelude.{◌≡◌, ◌⊎◌, ℕ, Bool, true, false, ◌||◌, List, [], ◌∷◌, ◌++◌, map, if◌then◌else◌, Option, Some, None, Result, Ok, Err}
 use Rattle.std.specs.Io.KnownBytes.{Appends}
 use Rattle.cell_io.specs.Files.{File as HostFile, folder}
 use Rattle.cell_arguments.specs.Arguments.{Said, arguments_of}
@@ -9,12 +9,14 @@ use Rattle.cell_io.specs.Written.{AppendsPartOf}
 use Rattle.cell_world.specs.declared.command.Command.{Command}
 use Rattle.cell_world.specs.declared.reply.Reply.{Reply}
 use Rattle.cell_world.specs.declared.refusal.Refusal.{Refusal}
-use Rattle.cell_world.specs.World.{empty_world}
+use Rattle.cell_world.specs.declared.file.File.{File}
+use Rattle.cell_world.specs.World.{World, empty_world}
+use Rattle.cell_world.specs.Gather.{source_of}
+use Rattle.cell_world.specs.Later.{next_now}
 use Rattle.cell_world.specs.Next.{Answered}
 use Rattle.cell_script.specs.declared.line.Line.{Line}
 use Rattle.cell_print.specs.Lines.{lines_of}
 use Rattle.cell_system.specs.State.{State}
-use Rattle.cell_system.specs.Step.{next_of}
 use Rattle.cell_run.specs.declared.status.Status.{Status}
 use Rattle.cell_run.specs.declared.status.Status.TheVariants.{Done, SomeRefused, Usage as UsageStatus, NoScript as NoScriptStatus, BadScript as BadScriptStatus, TooLarge as TooLargeStatus, ReadFault, WriteFault, OutOfMemory}
 use Rattle.cell_run.specs.declared.status.Reason.{Reason}
@@ -27,33 +29,41 @@ pub record Run : Type 0 where
   pub text : List ℕ
   pub status : Status
 
--- the plain machine's answer to a command, and its state after it
-unfoldable pub answered : State → Command → Answered
-answered s command = next_of s command
+-- the plain machine between two commands: the object files, which no command changes, and its world
+pub record Plain : Type 0 where
+  pub files : List File
+  pub world : World
 
-abbrev pub after : State → Command → State
-after s command = record { files = s.files; world = (answered s command).world }
+abbrev pub plain_of : State → Plain
+plain_of s = record { files = s.files; world = s.world }
+
+-- the plain machine's answer to a command, and the machine after it
+unfoldable pub answered : Plain → Command → Answered
+answered p command = next_now (map source_of p.files) p.world command
+
+abbrev pub after : Plain → Command → Plain
+after p command = record { files = p.files; world = (answered p command).world }
 
 abbrev pub is_refusal : Result Reply Refusal → Bool
 is_refusal (Ok reply) = false
 is_refusal (Err refusal) = true
 
 -- the lines of the answers to these commands, from a state on
-abbrev pub text_from : State → List Line → List ℕ
+abbrev pub text_from : Plain → List Line → List ℕ
 text_from s [] = []
 text_from s (line ∷ lines) = lines_of line.number (answered s line.command).answer ++ text_from (after s line.command) lines
 
 -- whether one of them is refused
-abbrev pub any_refused : State → List Line → Bool
+abbrev pub any_refused : Plain → List Line → Bool
 any_refused s [] = false
 any_refused s (line ∷ lines) = is_refusal (answered s line.command).answer || any_refused (after s line.command) lines
 
-abbrev pub run_from : State → List Line → Run
+abbrev pub run_from : Plain → List Line → Run
 run_from s lines = record { text = text_from s lines; status = if any_refused s lines then SomeRefused else Done }
 
 -- the machine before the first command
-abbrev pub first_state : ℕ → ℕ → Input → State
-first_state base pages input = record { files = input.files; world = empty_world base pages }
+abbrev pub first_plain : ℕ → ℕ → Input → Plain
+first_plain base pages input = record { files = input.files; world = empty_world base pages }
 
 abbrev pub status_of : Reason → Status
 status_of Usage = UsageStatus
@@ -66,7 +76,7 @@ abbrev pub refused_run : List ℕ → Reason → Run
 refused_run script reason = record { text = reason_line script reason; status = status_of reason }
 
 abbrev pub run_after : Said → Result Input Reason → Run
-run_after said (Ok input) = run_from (first_state said.base said.pages input) input.script
+run_after said (Ok input) = run_from (first_plain said.base said.pages input) input.script
 run_after said (Err reason) = refused_run said.script reason
 
 -- what the words say is done; words that say nothing are refused
@@ -93,13 +103,13 @@ abbrev pub IsWhole : Run → Status → List ℕ → List ℕ → Type 0
 IsWhole run status old new = ((status ≡ run.status) × (new ≡ old ++ run.text)) ⊎ (status ≡ OutOfMemory)
 
 -- the plain machine's answer to a line's command: its text, whether it is a refusal, and the state after it
-pub record Answers (s : State) (line : Line) (said : List ℕ) (refused : Bool) (new : State) : Type 0 where
+pub record Answers (s : Plain) (line : Line) (said : List ℕ) (refused : Bool) (new : Plain) : Type 0 where
   pub text : said ≡ lines_of line.number (answered s line.command).answer
   pub verdict : refused ≡ is_refusal (answered s line.command).answer
   pub state : new ≡ after s line.command
 
 -- the command of a line was done, and the lines of its answer written
-pub record DoesLine (s : State) (line : Line) (refused : Bool) (new : State) (before after_it : Option (List ℕ)) : Type 0 where
+pub record DoesLine (s : Plain) (line : Line) (refused : Bool) (new : Plain) (before after_it : Option (List ℕ)) : Type 0 where
   pub state : new ≡ after s line.command
   pub verdict : refused ≡ is_refusal (answered s line.command).answer
   pub written : Appends before after_it (lines_of line.number (answered s line.command).answer)

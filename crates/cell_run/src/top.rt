@@ -6,7 +6,7 @@ ghost use Rattle.cell_io.specs.Causes.{Rose, HasCause};
 ghost use Rattle.cell_io.specs.Written.{AppendsPartOf, IsFull};
 ghost use Rattle.cell_print.specs.Lines.{lines_of};
 ghost use Rattle.cell_arguments.specs.Arguments.{IsInRange, arguments_of, said};
-ghost use Rattle.cell_run.specs.Run.{IsCut, WritesRun, Answers, DoesLine, answered, run_of, run_in, run_from, first_state, refused_run};
+ghost use Rattle.cell_run.specs.Run.{IsCut, WritesRun, Answers, DoesLine, answered, run_of, run_in, run_from, plain_of, first_plain, refused_run};
 
 use crate::Status;
 use crate::refuse::reason_line;
@@ -96,7 +96,7 @@ fn refuse<K: Sink>(alloc: Global, script: &str, reason: Reason, out: &mut K) -> 
 fn run_script<K: Sink>(alloc: Global, base: u64, pages: u32, input: Input, out: &mut K) -> Status
     requires range { IsInRange base pages }
     requires small { All (λ f. length f.bytes ≤ 1048576) input.files }
-    ensures transcript { WritesRun (run_from (first_state base pages input) input.script) result (K.written out.old) (K.written out.new) }
+    ensures transcript { WritesRun (run_from (first_plain base pages input) input.script) result (K.written out.old) (K.written out.new) }
     ensures cause { HasCause (K.faults out.old) (K.faults out.new) (result ≡ Status.WriteFault) }
     ensures full { result ≡ Status.WriteFault → IsFull (K.room out.old) (K.written out.new) }
     ensures no_read { result ≢ Status.ReadFault }
@@ -110,7 +110,7 @@ fn run_script<K: Sink>(alloc: Global, base: u64, pages: u32, input: Input, out: 
 
 /// Does the commands of these lines, and writes each answer. One buffer serves all answers.
 fn do_lines<K: Sink>(alloc: Global, system: &mut System, lines: &[Line], out: &mut K) -> Status
-    ensures transcript { WritesRun (run_from system.old lines.now) result (K.written out.old) (K.written out.new) }
+    ensures transcript { WritesRun (run_from (plain_of system.old) lines.now) result (K.written out.old) (K.written out.new) }
     ensures cause { HasCause (K.faults out.old) (K.faults out.new) (result ≡ Status.WriteFault) }
     ensures full { result ≡ Status.WriteFault → IsFull (K.room out.old) (K.written out.new) }
     ensures no_read { result ≢ Status.ReadFault }
@@ -137,9 +137,9 @@ fn do_line<K: Sink>(
     text: &mut Vec<u8>,
     out: &mut K,
 ) -> Result<bool, Status>
-    ensures done { IfOk result (λ refused. DoesLine system.old line.now refused system.new (K.written out.old) (K.written out.new)) }
+    ensures done { IfOk result (λ refused. DoesLine (plain_of system.old) line.now refused (plain_of system.new) (K.written out.old) (K.written out.new)) }
     ensures cut { IfErr result (λ status.
-        IsCut status × AppendsPartOf (K.written out.old) (K.written out.new) (lines_of line.now.number (answered system.old line.now.command).answer)) }
+        IsCut status × AppendsPartOf (K.written out.old) (K.written out.new) (lines_of line.now.number (answered (plain_of system.old) line.now.command).answer)) }
     ensures cause { HasCause (K.faults out.old) (K.faults out.new) (IsErrOf result Status.WriteFault) }
     ensures room { K.room out.new ≡ K.room out.old }
     ensures full { IfErr result (λ status. status ≡ Status.WriteFault → IsFull (K.room out.old) (K.written out.new)) }
@@ -158,7 +158,7 @@ fn do_line<K: Sink>(
 /// Does the command of a line, appends the lines of its answer, and says whether it is a refusal.
 fn do_command(system: &mut System, line: &Line, text: &mut Vec<u8>) -> Result<bool, AllocError>
     requires { text.old.items ≡ [] }
-    ensures { IfOk result (λ refused. Answers system.old line.now text.new.items refused system.new) }
+    ensures { IfOk result (λ refused. Answers (plain_of system.old) line.now text.new.items refused (plain_of system.new)) }
 {
     match system.do_command(&line.command) {
         Ok(reply) => {

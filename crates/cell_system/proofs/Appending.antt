@@ -20,7 +20,7 @@ use Rattle.cell_world.specs.Gather.{depot_files, one_file, Source, source_of, st
 use Rattle.cell_world.specs.Outcome.{Outcome, ◌>>=◌, ◌>>◌, need, refused_by}
 use Rattle.cell_world.specs.LoadCommand.{append_named}
 use Rattle.cell_law.specs.Loading.{appended_with, IsNewCell}
-use Rattle.cell_law.proofs.Attached.{offer}
+use Rattle.cell_law.proofs.Plain.{offer}
 use Rattle.cell_law.proofs.Plain.{new_is, IsPlain, plain_rivals}
 use Rattle.cell_system.specs.View.{attached}
 use Rattle.cell_system.specs.Files.{files_for}

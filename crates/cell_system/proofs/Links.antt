@@ -1,6 +1,6 @@
 -- Linking among cells that are all attached in `k` is what the machine's linking says.
-use Rattle.std.proofs.Common.{◌≡◌, refl, sym, ◌∙◌, ap, subst, arith, ◌≤◌, ℕ, zero, suc, ◌<◌, Bool, true, false, cond, List, [], ◌∷◌, length}
-use Rattle.std.specs.Prelude.{Err, Option, Some, None, find, not, option_map, option_and_then, slice_get, unwrap_or, position, nat_lt, if◌then◌else◌}
+use Rattle.std.proofs.Common.{◌≡◌, refl, sym, ◌∙◌, ap, arith, ◌≤◌, ℕ, zero, suc, ◌<◌, Bool, true, false, cond, List, [], ◌∷◌, length}
+use Rattle.std.specs.Prelude.{Option, Some, None, find, not, option_map, option_and_then, slice_get, unwrap_or, position, nat_lt, if◌then◌else◌}
 use Rattle.std.specs.List.{position_or_len}
 use Rattle.std.proofs.lemmas.Bool.Decides.{nat_tests}
 use Rattle.std.proofs.lemmas.List.Folds.{find_at}
@@ -21,12 +21,8 @@ use Rattle.cell_world.specs.Field.{Bound, bound_by, fits}
 use Rattle.cell_world.specs.Fit.{overflow_at}
 use Rattle.cell_law.proofs.Elements.{map_same}
 use Rattle.cell_law.proofs.Plain.{IsPlain, plain_provider}
-use Rattle.cell_link.specs.declared.fail.LinkFail.{LinkFail}
-use Rattle.cell_link.specs.declared.fail.LinkFail.TheVariants.{Overflow as EntryOverflow, OutOfMemory as LinkMemory}
-use Rattle.cell_link.specs.Linked.{IsLinked, bound_in, first_unfit}
-use Rattle.cell_system.specs.declared.fail.Fail.{Fail}
-use Rattle.cell_system.specs.declared.fail.Fail.TheVariants.{Refused, OutOfMemory}
-use Rattle.cell_system.specs.Linking.{Links, FailsToLink, targets_among, misfit_among, entry_overflow}
+use Rattle.cell_link.specs.Linked.{bound_in, first_unfit}
+use Rattle.cell_system.specs.Linking.{targets_among, misfit_by, entry_overflow}
 use Rattle.cell_system.specs.Providers.{provider_among}
 use Rattle.cell_system.specs.Targets.{provided_among, symbol_target_among, symbol_targets, target_numbered, entry_target}
 use Rattle.cell_system.specs.View.{attached}
@@ -70,28 +66,35 @@ bound_entry (x ∷ entries) (t ∷ targets) zero b e = some_entry e
     some_entry e = ap (option_map (λ (b : Bound). b.entry)) e
 bound_entry (x ∷ entries) (t ∷ targets) (suc i) b e = bound_entry entries targets i b e
 
-module _ (cells : List Cell) (c : NewCell) where
+module _ (c : NewCell) (targets : List Target) where
   unfit : Bound → Bool
-  unfit b = not (fits c (bound_in c (targets_among cells c)) b)
+  unfit b = not (fits c (bound_in c targets) b)
 
-  pub all_fit : first_unfit c (targets_among cells c) ≡ None → misfit_among cells c ≡ None
+  pub all_fit : first_unfit c targets ≡ None → misfit_by c targets ≡ None
   unfolding unfit
-  all_fit e = none_found unfit (bound_in c (targets_among cells c)) e
+  all_fit e = none_found unfit (bound_in c targets) e
+
+  -- the first entry that doesn't fit is in the table
+  pub unfit_there : (entry : ℕ) → first_unfit c targets ≡ Some entry → entry < length c.object.entries
+  unfolding unfit
+  unfit_there entry first =
+      let found = place_found unfit (bound_in c targets) entry first in
+      inside c.object.entries entry found.0.entry (bound_entry c.object.entries targets entry found.0 found.2)
+    where
+      inside : (entries : List Entry) (i : ℕ) (e : Entry) → slice_get entries i ≡ Some e → i < length entries
+      inside [] i e h = cc
+      inside (x ∷ entries) zero e h = omega arith
+      inside (x ∷ entries) (suc i) e h = let r = inside entries i e h in omega (arith, r)
 
   -- the refusal of the entry at the first place is that of the first misfit
-  pub misfit_refused : (entry : ℕ) (refusal : Refusal) → first_unfit c (targets_among cells c) ≡ Some entry
+  pub misfit_refused : (entry : ℕ) (refusal : Refusal) → first_unfit c targets ≡ Some entry
       → option_map (entry_overflow c) (slice_get c.object.entries entry) ≡ Some refusal
-      → option_map (overflow_at (attached c)) (misfit_among cells c) ≡ Some refusal
+      → option_map (overflow_at (attached c)) (misfit_by c targets) ≡ Some refusal
   unfolding unfit
   misfit_refused entry refusal first is =
-      let found = place_found unfit (bound_in c (targets_among cells c)) entry first in
+      let found = place_found unfit (bound_in c targets) entry first in
       ap (option_map (overflow_at (attached c))) found.1
-      ∙ (ap (option_map (entry_overflow c)) (sym (bound_entry c.object.entries (targets_among cells c) entry found.0 found.2)) ∙ is)
-
-  pub links_not : (linked : LinkFail) (fail : Fail) → IsLinked c (targets_among cells c) (Err linked) → FailsToLink c linked fail → Links cells c (Err fail)
-  links_not (EntryOverflow entry) (Refused refusal) first is = misfit_refused entry refusal first is
-  links_not (EntryOverflow entry) OutOfMemory first is = tt
-  links_not LinkMemory fail first is = subst (λ fail. Links cells c (Err fail)) (sym is) tt
+      ∙ (ap (option_map (entry_overflow c)) (sym (bound_entry c.object.entries targets entry found.0 found.2)) ∙ is)
 
 module _ (v : World) (plain : IsPlain v) (cells : List Cell) (these : v.cells ≡ cells) (c : NewCell) (in_k : c.ns ≡ 0) where
   provided_is : (p : Provider) → provided_target v p ≡ provided_among cells p

@@ -13,7 +13,7 @@ use Rattle.cell_world.specs.declared.state.NewCell.{NewCell}
 use Rattle.cell_world.specs.World.{Cell}
 use Rattle.cell_world.specs.Names.{Provider, symbol_named}
 use Rattle.cell_law.specs.Settled.{In}
-use Rattle.cell_law.proofs.Attached.{offer}
+use Rattle.cell_law.proofs.Plain.{offer}
 use Rattle.cell_law.proofs.Plain.{names_unaliased}
 use Rattle.cell_system.specs.declared.loaded.Loaded.{Loaded}
 use Rattle.cell_system.specs.Names.{object_symbol, symbol_among}

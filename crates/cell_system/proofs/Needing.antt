@@ -6,7 +6,7 @@ use Rattle.cell_num.specs.Lists.{first}
 use Rattle.cell_world.specs.declared.state.NewCell.{NewCell}
 use Rattle.cell_world.specs.World.{Cell}
 use Rattle.cell_world.specs.Names.{Provider, symbol_named}
-use Rattle.cell_law.proofs.Attached.{offer}
+use Rattle.cell_law.proofs.Plain.{offer}
 use Rattle.cell_law.proofs.Plain.{names_unaliased}
 use Rattle.cell_system.specs.Names.{symbol_among, object_symbol}
 use Rattle.cell_system.specs.View.{attached}

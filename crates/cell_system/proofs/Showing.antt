@@ -13,7 +13,7 @@ use Rattle.cell_world.specs.Later.{or_later}
 use Rattle.cell_world.specs.Outcome.{found}
 use Rattle.cell_world.specs.Target.{start_of}
 use Rattle.cell_law.proofs.Elements.{found-In}
-use Rattle.cell_law.proofs.Placing.{bind_is, bind_err}
+use Rattle.cell_law.proofs.Binds.{bind_is, bind_err}
 use Rattle.cell_system.specs.declared.fail.Fail.{Fail}
 use Rattle.cell_system.specs.declared.fail.Fail.TheVariants.{Refused, OutOfMemory}
 use Rattle.cell_system.specs.declared.loaded.Loaded.{Loaded}
@@ -53,13 +53,13 @@ module _ (m : Machine) (cell section : ℕ) where
     no_section none OutOfMemory is = tt
 
     pub shown : (s : ObjectSection) → Some s ≡ section_of loaded.cell.object section → (start : ℕ) → start ≡ start_of loaded.cell s.number
-        → (bytes : List ℕ) → bytes ≡ unwrap_or (read_from m.regions.items start s.size) []
+        → (bytes : List ℕ) → bytes ≡ unwrap_or (read_from m.memory.regions start s.size) []
         → next_dump (world_of m) cell section ≡ done (DumpDone (key_of cell s.number) start bytes) (world_of m)
     shown s there start at bytes is =
         bind_is (present_cell (world_of m) cell) _ (attached loaded.cell) _ present
         (bind_is (found (section_of loaded.cell.object section) (Unknown (decimal section))) _ s _ (ap (λ (o : Option ObjectSection). found o (Unknown (decimal section))) (sym there))
-        (ap (λ n. done (DumpDone (key_of cell n) (start_of loaded.cell n) (unwrap_or (read_from m.regions.items (start_of loaded.cell n) s.size) [])) (world_of m)) (sym number)
-        ∙ (ap (λ a. done (DumpDone (key_of cell s.number) a (unwrap_or (read_from m.regions.items a s.size) [])) (world_of m)) (sym at)
+        (ap (λ n. done (DumpDone (key_of cell n) (start_of loaded.cell n) (unwrap_or (read_from m.memory.regions (start_of loaded.cell n) s.size) [])) (world_of m)) (sym number)
+        ∙ (ap (λ a. done (DumpDone (key_of cell s.number) a (unwrap_or (read_from m.memory.regions a s.size) [])) (world_of m)) (sym at)
         ∙ ap (λ bytes. done (DumpDone (key_of cell s.number) start bytes) (world_of m)) (sym is))))
       where
         number : s.number ≡ section

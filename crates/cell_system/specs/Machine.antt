@@ -1,48 +1,50 @@
 -- The machine that a system's fields are, and what holds of every one.
 --     world_of m              the machine that m is
---     placed_new top c        the cell with its places from the address on
---     IsSound m               the machine is settled, and its numbers are in their ranges
---     IsWith old p new        the machine with one more cell
---     IsKept old new          the same machine
-use Rattle.std.specs.Prelude.{ℕ, suc, ◌≡◌, ◌≤◌, [], ◌∷◌, ◌++◌}
+--     state_of files m        what a system with these files is seen as
+--     IsSound m               the machine is coherent, its page table and its index of sections are those of the machine
+use Rattle.std.specs.Prelude.{◌≡◌, ◌≤◌, ◌-◌, ◌^◌, List, [], None, flat_map, map}
+use Rattle.cell_num.specs.declared.ids.SecKey.{SecKey}
+use Rattle.cell_world.specs.declared.file.File.{File}
 use Rattle.cell_world.specs.declared.state.NewCell.{NewCell}
-use Rattle.cell_world.specs.World.{World}
-use Rattle.cell_world.specs.Place.{places_in}
-use Rattle.cell_law.specs.Loading.{starts_from}
-use Rattle.cell_law.specs.Settled.{IsSettled, top_of}
+use Rattle.cell_world.specs.World.{World, Cell, empty_world, key_of}
+use Rattle.cell_world.specs.Place.{page_table}
+use Rattle.cell_law.specs.Settled.{IsSettled}
 use Rattle.cell_system.specs.declared.machine.Machine.{Machine}
-use Rattle.cell_system.specs.declared.place.Placed.{Placed}
+use Rattle.cell_system.specs.State.{State}
 use Rattle.cell_system.specs.Targets.{AreLow}
-use Rattle.cell_system.specs.View.{cells_of, linked}
+use Rattle.cell_system.specs.View.{cells_of}
 
 abbrev pub world_of : Machine → World
-world_of m = linked m.base m.pages m.next (cells_of m.cells.items) m.regions.items
+world_of m =
+    record {
+      base = m.memory.base;
+      pages = m.memory.pages;
+      namespaces = (empty_world m.memory.base m.memory.pages).namespaces;
+      cells = cells_of m.cells.items;
+      links = m.graph.rows;
+      regions = m.memory.regions;
+      tasks = [];
+      next_cell = m.next;
+      next_task = 1;
+      swaps = 0;
+    }
 
-abbrev pub placed_new : ℕ → NewCell → NewCell
-placed_new top c = record c { places = places_in (starts_from top c.object) c.object }
+abbrev pub state_of : List File → Machine → State
+state_of files m =
+    record { files = files; world = world_of m; patches = m.memory.patches; maps = m.memory.maps }
+
+abbrev pub section_keys : NewCell → List SecKey
+section_keys c = map (λ s. key_of c.id.0 s.number) c.object.sections
+
+abbrev pub keys_of : List Cell → List SecKey
+keys_of cells = flat_map (λ c. section_keys c.placed) cells
 
 pub record IsSound (m : Machine) : Type 0 where
   pub settled : IsSettled (world_of m)
-  pub top : m.top ≡ top_of m.base m.regions.items
+  pub table : m.space.taken ≡ page_table (world_of m)
+  pub base : m.space.base ≡ m.memory.base
+  pub sections : m.graph.sections ≡ keys_of (cells_of m.cells.items)
+  pub undo : m.memory.writes_left ≡ None
+  pub patches : m.memory.patches ≤ 2 ^ 64 - 1
+  pub maps : m.memory.maps ≤ 2 ^ 64 - 1
   pub low : AreLow m.cells.items
-  pub base : m.base ≤ 8796093018112
-  pub pages : m.pages ≤ 4096
-  pub next : m.next ≤ 65536
-
--- the machine with the placed cell
-pub record IsWith (old : Machine) (p : Placed) (new : Machine) : Type 0 where
-  pub base : new.base ≡ old.base
-  pub pages : new.pages ≡ old.pages
-  pub next : new.next ≡ suc old.next
-  pub top : new.top ≡ p.top
-  pub cells : new.cells.items ≡ old.cells.items ++ p.loaded ∷ []
-  pub regions : new.regions.items ≡ old.regions.items ++ p.regions.items
-
--- the same machine
-pub record IsKept (old : Machine) (new : Machine) : Type 0 where
-  pub base : new.base ≡ old.base
-  pub pages : new.pages ≡ old.pages
-  pub next : new.next ≡ old.next
-  pub top : new.top ≡ old.top
-  pub cells : new.cells.items ≡ old.cells.items
-  pub regions : new.regions.items ≡ old.regions.items

@@ -3,7 +3,7 @@ use Rattle.std.specs.Prelude.{List, ℕ, Option, filter_map}
 use Rattle.cell_num.specs.Lists.{first}
 use Rattle.cell_world.specs.World.{Cell}
 use Rattle.cell_world.specs.Names as names
-use Rattle.cell_law.proofs.Attached.{offer}
+use Rattle.cell_law.proofs.Plain.{offer}
 use Rattle.cell_system.specs.declared.providers.Provider.{Provider}
 
 abbrev pub provider_as : Provider → names.Provider

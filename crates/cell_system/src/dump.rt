@@ -1,20 +1,19 @@
 //! The bytes of a section as they are now.
 
-ghost use Rattle.std.specs.Prelude.{◌≡◌, ◌==◌, true, IfOk, find, option_map, unwrap_or, [], decimal};
+ghost use Rattle.std.specs.Prelude.{◌≡◌, ◌==◌, IfOk, option_map, unwrap_or, [], decimal};
 ghost use Rattle.cell_object.specs.Parts.{section_of as section_with};
-ghost use Rattle.cell_world.specs.Memory.{covers as region_covers};
-ghost use Rattle.cell_system.specs.Dumps.{Dumps, IsUnknown, part_of, read_from};
+ghost use Rattle.cell_system.specs.Dumps.{Dumps, IsUnknown, read_from};
 ghost use Rattle.cell_system.specs.Machine.{IsSound, world_of};
 
 use crate::Fail;
 use crate::machine::Machine;
-use crate::memory::covers;
 use crate::providers::cell_numbered;
 use crate::targets::start_of;
+use cell_mem::Memory;
 use cell_num::{Bytes, CellId, Name, SecKey};
 use cell_object::{Object, Section};
 use cell_text::put_dec;
-use cell_world::{Refusal, Region, Reply};
+use cell_world::{Refusal, Reply};
 use std::alloc::{AllocError, Global};
 
 fn is_numbered(section: &Section, number: u32) -> bool
@@ -36,42 +35,11 @@ fn section_of(object: &Object, number: u32) -> Option<&Section>
     None
 }
 
-/// The region that covers an address.
-fn region_at(regions: &[Region], addr: u64) -> Option<&Region>
-    ensures { option_map (λ r. r.now) result ≡ find (λ r. region_covers r addr) regions.now }
-{
-    for region in regions {
-        if covers(region, addr) {
-            return Some(region);
-        }
-    }
-    None
-}
-
-/// So many bytes of a region from an address on, where they are in it.
-fn part(region: &Region, addr: u64, size: u32) -> Option<&[u8]>
-    requires { region_covers region.now addr ≡ true }
-    ensures { option_map (λ bytes. bytes.now) result ≡ part_of region.now addr size }
-{
-    let bytes = region.bytes.as_slice();
-    let from = (addr - region.start) as usize;
-    let to = from + size as usize;
-    if to > bytes.len() {
-        return None;
-    }
-    Some(&bytes[from..to])
-}
-
 /// So many bytes from an address on; none where they are not in one region.
-fn read(alloc: Global, regions: &[Region], addr: u64, size: u32) -> Result<Bytes, AllocError>
-    ensures { IfOk result (λ bytes. bytes ≡ unwrap_or (read_from regions.now addr size) []) }
+fn read(alloc: Global, memory: &Memory, addr: u64, size: u32) -> Result<Bytes, AllocError>
+    ensures { IfOk result (λ bytes. bytes ≡ unwrap_or (read_from memory.now.regions addr size) []) }
 {
-    let found = region_at(regions, addr);
-    let bytes = match found {
-        Some(region) => part(region, addr, size),
-        None => None,
-    };
-    match bytes {
+    match memory.bytes(addr, u64::from(size)) {
         Some(bytes) => Ok(Bytes::from_vec(bytes.to_vec(alloc)?)),
         None => Ok(Bytes::from_vec(Vec::new(alloc))),
     }
@@ -108,7 +76,7 @@ pub fn dump(alloc: Global, machine: &Machine, cell: u32, section: u32) -> Result
     };
     let number = found.number;
     let start = start_of(&loaded.cell, number);
-    let bytes = read(alloc, &machine.regions, start, found.size)?;
+    let bytes = read(alloc, &machine.memory, start, found.size)?;
     Ok(Reply::Dump {
         key: SecKey {
             cell: CellId(cell),

@@ -3,24 +3,18 @@
 
 mod append;
 mod bring;
-mod class;
 mod dump;
 mod fail;
 mod files;
 mod gather;
 mod highs;
-mod image;
-mod layout;
 mod link;
 mod loaded;
 mod machine;
-mod memory;
 mod names;
 mod needs;
-mod place;
-mod plan;
 mod providers;
-mod regions;
+mod stage;
 mod system;
 mod targets;
 

@@ -1,6 +1,7 @@
 //! The system.
 
-ghost use Rattle.std.specs.Prelude.{◌≡◌, ◌≤◌, ◌%◌, ◌*◌, ◌+◌, IfOk, All, length, [], ◌∷◌};
+ghost use Rattle.std.specs.Prelude.{◌≡◌, ◌≤◌, IfOk, All, length, [], ◌∷◌};
+ghost use Rattle.cell_world.specs.Pages.{IsSpace};
 ghost use Rattle.cell_world.specs.declared.command.Command.TheVariants.{Dump, Load};
 ghost use Rattle.cell_world.specs.World.{empty_world};
 ghost use Rattle.cell_system.specs.Step.{IsStep};
@@ -9,7 +10,7 @@ use crate::Fail;
 use crate::dump::dump;
 use crate::gather::gather;
 use crate::machine::Machine;
-use crate::place::place;
+use crate::stage::stage;
 use cell_num::{CellId, Listed};
 use cell_world::{Command, File, Reply};
 use std::alloc::{AllocError, Global};
@@ -25,12 +26,12 @@ pub struct System {
 
 impl Model for System {
     ghost use Rattle.std.specs.Prelude.{All, ◌≤◌, length};
-    ghost use Rattle.cell_system.specs.Machine.{IsSound, world_of};
+    ghost use Rattle.cell_system.specs.Machine.{IsSound, state_of};
     ghost use Rattle.cell_system.specs.State.{State};
 
     ghost Value = { State };
 
-    ghost view = { λ s. record { files = s.files.items; world = world_of s.machine } };
+    ghost view = { λ s. state_of s.files.items s.machine };
 
     ghost invariant = { λ s. IsSound s.machine × All (λ f. length f.bytes ≤ 1048576) s.files.items };
 }
@@ -47,24 +48,14 @@ fn one(alloc: Global, id: CellId) -> Result<Listed<CellId>, AllocError>
 impl System {
     /// A machine without a cell, whose memory is `pages` pages of 4096 bytes from `base` on.
     pub fn new(alloc: Global, base: u64, pages: u32, files: Vec<File>) -> Result<System, AllocError>
-        requires aligned { base % 4096 ≡ 0 }
-        requires low { 0x1000 ≤ base }
-        requires high { base ≤ 0x7ff_ffff_f000 }
-        requires pages { pages ≤ 4096 }
+        requires space { IsSpace base pages }
         requires small { All (λ f. length f.bytes ≤ 1048576) files.items }
-        ensures { IfOk result (λ s. s ≡ record { files = files.items; world = empty_world base pages }) }
+        ensures { IfOk result (λ s. s ≡ record { files = files.items; world = empty_world base pages; patches = 0; maps = 0 }) }
     {
         Ok(System {
             alloc,
             files,
-            machine: Machine {
-                base,
-                pages,
-                next: 1,
-                top: base,
-                cells: Vec::new(alloc),
-                regions: Vec::new(alloc),
-            },
+            machine: Machine::new(alloc, base, pages)?,
         })
     }
 
@@ -82,10 +73,10 @@ impl System {
             stem,
         )?;
         let id = loaded.cell.id;
-        let placed = place(self.alloc, machine, loaded)?;
-        let patched = placed.patched;
+        let staged = stage(self.alloc, machine, loaded)?;
+        let patched = staged.fields.as_slice().len() as u32;
         let fresh = one(self.alloc, id)?;
-        self.machine.add(placed)?;
+        self.machine.add(staged)?;
         Ok(Reply::Load { fresh, patched })
     }
 

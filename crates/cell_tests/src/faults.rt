@@ -18,9 +18,9 @@ const TEXT: &[u8] = b"1 ok load #1 patched 0\n\
     3 ok dump #2.1\n  \
     10001000 04 00 00 10 00 00 00 00 01 00 00 00 00 00 00 00\n";
 
-/// Runs the first example over this stream.
+/// Runs the first example over this stream, in a small memory, since it is run once for each room.
 fn write_to(alloc: Global, sink: &mut MemSink) -> Result<Status, AllocError> {
-    let words = words_of(alloc, &["d", "s"])?;
+    let words = words_of(alloc, &["d", "s", "--pages", "16"])?;
     let files = [("k#a.o", SEVEN.as_slice()), ("k#b.o", POINTER.as_slice())];
     let mut folder = Folder {
         script: SCRIPT,

@@ -16,7 +16,7 @@ struct Case {
     text: &'static str,
 }
 
-const CASES: [Case; 19] = [
+const CASES: [Case; 20] = [
     Case {
         script: "load k a\nload k b\ndump 2 1\n",
         files: &["k#a.o", "k#b.o"],
@@ -90,7 +90,13 @@ const CASES: [Case; 19] = [
         script: "load k over",
         files: &["k#over.o"],
         status: Status::SomeRefused,
-        text: "1 E0 later\n",
+        text: "1 E11 exhausted 1025 1024\n",
+    },
+    Case {
+        script: "load k a\nload k full\nload k b",
+        files: &["k#a.o", "k#b.o", "k#full.o"],
+        status: Status::SomeRefused,
+        text: "1 ok load #1 patched 0\n2 E11 exhausted 1024 1023\n3 ok load #2 patched 1\n",
     },
     Case {
         script: "load k x",

@@ -3,7 +3,7 @@
 --     next_now sources w command         the answer, and the world after it
 use Rattle.std.specs.Prelude.{ℕ, Bool, true, false, List, Option, Some, None, Ok, Err, if◌then◌else◌}
 use Rattle.cell_world.specs.declared.refusal.Refusal.{Refusal}
-use Rattle.cell_world.specs.declared.refusal.Refusal.TheVariants.{Later, TooMany, NoObject, Ambiguous, Duplicate, Missing, Exhausted}
+use Rattle.cell_world.specs.declared.refusal.Refusal.TheVariants.{Later, TooMany, NoObject, Ambiguous, Duplicate, Missing}
 use Rattle.cell_world.specs.declared.command.Command.{Command}
 use Rattle.cell_world.specs.declared.command.Command.TheVariants.{Load, Dump}
 use Rattle.cell_world.specs.World.{World}
@@ -13,13 +13,12 @@ use Rattle.cell_world.specs.Answer.{Done}
 use Rattle.cell_world.specs.LoadCommand.{append_named}
 use Rattle.cell_world.specs.Next.{Answered, answered_by, outcome_of}
 
--- limits, missing and ambiguous files, names that are taken and memory that is full are refused alike
+-- limits, missing and ambiguous files, and names that are taken are refused alike
 abbrev pub until_built : Refusal → Refusal
 until_built (TooMany kind limit) = Later
 until_built (NoObject stem) = Later
 until_built (Ambiguous one two) = Later
 until_built (Duplicate name holder) = Later
-until_built (Exhausted wanted largest) = Later
 until_built refusal = refusal
 
 abbrev pub or_later : Outcome Done → Outcome Done

@@ -1,5 +1,5 @@
 use Rattle.std.proofs.Common.{◌≡◌, ◌+◌, ◌||◌, drop, inr, sym, ap, ◌∙◌, arith}
-use Rattle.cell_run.specs.Run.{any_refused}
+use Rattle.cell_run.specs.Run.{any_refused, plain_of}
 use Rattle.cell_run.proofs.Transcript.{one_more, cut_off, refused_more}
 use Rattle.cell_run.proofs.top.do_lines.Goals as goal
 use Rattle.cell_run.proofs.top.do_lines.Goals.{then-some_refused, else-some_refused}
@@ -8,7 +8,7 @@ pub returns-in-Err-clause-transcript : goal.returns-in-Err-clause-transcript
 returns-in-Err-clause-transcript g c =
     inr (
       c.in-Err.ensures.cut.0,
-      cut_off _ _ _ c.args.system.now c.loop-line.system c.args.lines.now c.loop-line.line-index c.line-item.result (omega arith) c.line-item.is
+      cut_off _ _ _ (plain_of c.args.system.now) (plain_of c.loop-line.system) c.args.lines.now c.loop-line.line-index c.line-item.result (omega arith) c.line-item.is
           c.in-Err.ensures.cut.1 c.loop-line.invariant.text,
     )
 
@@ -19,10 +19,10 @@ loop-line-preserved g c =
       | else-some_refused w ↦ w.some_refused-is ∙ ap (λ b. b || c.in-Ok.refused) (sym w.if-some_refused.false)
     ] in
     record {
-      text = one_more _ _ _ c.args.system.now c.loop-line.system c.do_line.new.system c.args.lines.now c.loop-line.line-index c.line-item.result c.in-Ok.refused
+      text = one_more _ _ _ (plain_of c.args.system.now) (plain_of c.loop-line.system) (plain_of c.do_line.new.system) c.args.lines.now c.loop-line.line-index c.line-item.result c.in-Ok.refused
           (omega arith) c.line-item.is c.in-Ok.ensures.done c.loop-line.invariant.text;
-      refused = ap (λ b. b || any_refused c.do_line.new.system (drop (c.loop-line.line-index + 1) c.args.lines.now)) both
-          ∙ refused_more c.loop-line.some_refused c.in-Ok.refused c.args.system.now c.loop-line.system c.do_line.new.system (g.K.Sink.written c.loop-line.out) (g.K.Sink.written c.do_line.new.out) c.args.lines.now c.loop-line.line-index c.line-item.result
+      refused = ap (λ b. b || any_refused (plain_of c.do_line.new.system) (drop (c.loop-line.line-index + 1) c.args.lines.now)) both
+          ∙ refused_more c.loop-line.some_refused c.in-Ok.refused (plain_of c.args.system.now) (plain_of c.loop-line.system) (plain_of c.do_line.new.system) (g.K.Sink.written c.loop-line.out) (g.K.Sink.written c.do_line.new.out) c.args.lines.now c.loop-line.line-index c.line-item.result
           (omega arith) c.line-item.is c.in-Ok.ensures.done c.loop-line.invariant.refused;
       room = c.in-Ok.ensures.room ∙ c.loop-line.invariant.room;
       later = omega (arith, c.in-Ok.ensures.cause.later);

@@ -1,7 +1,5 @@
-use Rattle.std.proofs.Common.{◌∙◌, ap, List, [], sym}
-use Rattle.std.specs.Prelude.{find, unwrap_or, ◌==◌}
-use Rattle.cell_world.specs.World.{Region}
-use Rattle.cell_system.specs.Dumps.{read_from}
+use Rattle.std.proofs.Common.{◌∙◌, ap, List, sym}
+use Rattle.std.specs.Prelude.{find, ◌==◌}
 use Rattle.cell_system.specs.declared.loaded.Loaded.{Loaded}
 use Rattle.cell_system.proofs.Lookups.{numbered_low}
 use Rattle.cell_system.proofs.Showing.{no_cell, no_section, shown}
@@ -17,7 +15,7 @@ returns-in_default-section_of c =
 pub returns : goal.returns
 returns c =
     shown c.args.machine.now c.args.cell c.args.section c.in-Some.loaded.now (c.in-Some.ensures ∙ ap (λ (cells : List Loaded). find (λ (l : Loaded). l.cell.id.0 == c.args.cell) cells) c.deref.ensures.value) c.in-Some-section_of.found.now c.in-Some-section_of.ensures c.start_of-start.result c.start_of-start.ensures c.in_ok-bytes.bytes
-    (c.in_ok-bytes.ensures ∙ ap (λ (regions : List Region). unwrap_or (read_from regions c.start_of-start.result c.in-Some-section_of.found.now.size) []) c.deref-2.ensures.value)
+    c.in_ok-bytes.ensures
 
 pub start_of-start-requires : goal.start_of-start-requires
 start_of-start-requires c = numbered_low c.args.machine.now.cells.items c.args.cell c.in-Some.loaded.now c.requires.low

@@ -1,7 +1,7 @@
 use Rattle.std.proofs.Common.{◌∙◌, ap, sym, subst, length, get_or, arith}
 use Rattle.cell_object.specs.declared.object.Symbol.{Symbol}
 use Rattle.cell_law.specs.Settled.{In}
-use Rattle.cell_system.proofs.Shapes.{in_get}
+use Rattle.cell_load.proofs.Runs.{in_get}
 use Rattle.cell_system.proofs.targets.Scope.symbol_targets.Goals as goal
 
 pub symbol_target-requires : goal.symbol_target-requires

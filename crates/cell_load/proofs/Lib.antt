@@ -1,0 +1,4 @@
+pub mod Bounds
+pub mod Layouts
+pub mod Runs
+pub mod Placings

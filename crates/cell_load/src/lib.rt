@@ -1,0 +1,12 @@
+//! Where a new cell comes to stand, and what its pages hold before its fields are written.
+#![tactic(auto)]
+
+mod class;
+mod image;
+mod layout;
+mod placement;
+mod places;
+mod regions;
+mod starts;
+
+pub use placement::{PlaceFail, Placement, place};
