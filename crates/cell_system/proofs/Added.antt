@@ -1,6 +1,6 @@
 -- The machine with a staged cell is sound, and it is what a load of the cell comes to.
 use Rattle.std.proofs.Common.{◌≡◌, refl, sym, ◌∙◌, ap, subst, arith, ℕ, suc, ◌+◌, ◌-◌, ◌*◌, ◌^◌, ◌⊎◌, inl, inr, Bool, true, false, cond, ◌||◌, ◌&&◌, List, [], ◌∷◌, ◌++◌, map, length, fold, min}
-use Rattle.std.specs.Prelude.{None, nat_lt, nat_le}
+use Rattle.std.specs.Prelude.{All, None, nat_lt, nat_le}
 use Rattle.std.specs.List.{list_any}
 use Rattle.std.proofs.lemmas.List.{map-append, length-map}
 use Rattle.cell_num.specs.declared.ids.SecKey.{SecKey}
@@ -28,20 +28,23 @@ use Rattle.cell_link.specs.Linked.{field_values, value_at}
 use Rattle.cell_mem.specs.State.{MemoryState}
 use Rattle.cell_place.specs.Space.{SpaceState}
 use Rattle.cell_commit.specs.Commit.{all_mapped, patches_from}
-use Rattle.cell_commit.proofs.Mapping.{mapped_regions, mapped_maps, mapped_base, mapped_pages, mapped_undo, mapped_patches}
+use Rattle.cell_commit.specs.Seals.{IsInSpace, seal_table, spans_of}
+use Rattle.cell_commit.proofs.Mapping.{mapped_regions, mapped_maps, mapped_base, mapped_pages, mapped_sealed, mapped_undo, mapped_patches}
+use Rattle.cell_commit.proofs.Sealing.{written_sealed}
 use Rattle.cell_commit.proofs.Writing.{written_regions, written_patches, written_maps, written_base, written_pages, written_undo}
 use Rattle.cell_system.specs.declared.loaded.Loaded.{Loaded}
 use Rattle.cell_system.specs.declared.machine.Machine.{Machine}
 use Rattle.cell_system.specs.declared.stage.Staged.{Staged}
 use Rattle.cell_system.specs.Adding.{IsReadyToAdd, IsCommitted, new_keys}
 use Rattle.cell_system.specs.Linking.{misfit_by, rows_by, targets_among}
-use Rattle.cell_system.specs.Machine.{IsSound, keys_of, world_of}
+use Rattle.cell_system.specs.Machine.{IsSound, field_bytes, keys_of, world_of}
 use Rattle.cell_system.specs.Staging.{placed_cell}
 use Rattle.cell_system.specs.Step.{raised}
 use Rattle.cell_system.specs.Targets.{IsLow, AreLow, all_cells}
 use Rattle.cell_system.specs.View.{attached, cells_of}
-use Rattle.cell_system.proofs.NewCells.{after, after_is, new_low, ready}
+use Rattle.cell_system.proofs.NewCells.{W, after, after_is, here, linkable, new_low, ready}
 use Rattle.cell_system.proofs.Presence.{keys_after}
+use Rattle.cell_system.proofs.Sealed.{bytes_after, fields_in_space, spans_are}
 
 -- the regions of the classes are put in one after another
 one_put : (start : ℕ) (class : Class) (ss : List ObjectSection) (rs : List Region) → fold (λ rs r. with_region r rs) rs (run_region start class ss) ≡ with_run_of start class ss rs
@@ -198,6 +201,39 @@ module _ (m : Machine) (s : Staged) (r : IsReadyToAdd m s) where
         ∙ (ap (λ (x : NewCell). keys_of (cells_of m.cells.items) ++ map (key_of x.id.0) (map (λ (t : ObjectSection). t.number) new.object.sections)) r.staged.cell
         ∙ (sym (keys_after (cells_of m.cells.items) p) ∙ ap keys_of (sym cells_are)))))
 
+    fields_inside : All (IsInSpace mapped.base mapped.pages) s.fields
+    fields_inside =
+        subst (λ (b : ℕ). All (IsInSpace b mapped.pages) s.fields) (sym (mapped_base roomy s.regions.items))
+        (subst (λ (k : ℕ). All (IsInSpace m.memory.base k) s.fields) (sym (mapped_pages roomy s.regions.items))
+        (subst (λ (fs : List FieldValue). All (IsInSpace m.memory.base m.memory.pages) fs) (sym fields_are)
+        (fields_in_space (W w r.sound.settled new r.addable taken r.staged.runs) (ready w r.sound.settled new r.addable taken r.staged.runs fit).in_space p
+        (here w r.sound.settled new r.addable taken r.staged.runs) (linkable w r.sound.settled new r.addable taken r.staged.runs) T)))
+
+    abbrev sealed_before : List (ℕ × ℕ)
+    sealed_before = field_bytes (cells_of m.cells.items)
+
+    seals_mapped : mapped.sealed ≡ seal_table mapped.base (4096 * mapped.pages) sealed_before
+    seals_mapped =
+        mapped_sealed roomy s.regions.items
+        ∙ (r.sound.seals
+        ∙ (ap (λ b. seal_table b (4096 * m.memory.pages) sealed_before) (sym (mapped_base roomy s.regions.items))
+        ∙ ap (λ k. seal_table mapped.base (4096 * k) sealed_before) (sym (mapped_pages roomy s.regions.items))))
+
+    bytes_are : sealed_before ++ spans_of s.fields ≡ field_bytes (cells_of n.cells.items)
+    bytes_are =
+        ap (λ (fs : List FieldValue). sealed_before ++ spans_of fs) fields_are
+        ∙ (ap (λ (spans : List (ℕ × ℕ)). sealed_before ++ spans) (spans_are p T)
+        ∙ (sym (bytes_after (cells_of m.cells.items) p) ∙ ap field_bytes (sym cells_are)))
+
+    -- the fields of the new cell are sealed, and those that were
+    seals_are : n.memory.sealed ≡ seal_table n.memory.base (4096 * n.memory.pages) (field_bytes (cells_of n.cells.items))
+    seals_are =
+        ap (λ (x : MemoryState). x.sealed) c.memory
+        ∙ (written_sealed mapped sealed_before s.fields fields_inside seals_mapped
+        ∙ (ap (seal_table mapped.base (4096 * mapped.pages)) bytes_are
+        ∙ (ap (λ b. seal_table b (4096 * mapped.pages) (field_bytes (cells_of n.cells.items))) (mapped_base roomy s.regions.items ∙ sym base_is)
+        ∙ ap (λ k. seal_table n.memory.base (4096 * k) (field_bytes (cells_of n.cells.items))) (mapped_pages roomy s.regions.items ∙ sym pages_are))))
+
     low_is : AreLow n.cells.items
     low_is = subst AreLow (sym c.cells) (λ l k. go l (In-append m.cells.items (s.loaded ∷ []) l k))
       where
@@ -230,6 +266,7 @@ module _ (m : Machine) (s : Staged) (r : IsReadyToAdd m s) where
       table = ap (λ (x : SpaceState). x.taken) c.space ∙ (table_is ∙ ap page_table (sym world_is));
       base = ap (λ (x : SpaceState). x.base) c.space ∙ (r.staged.base ∙ sym base_is);
       sections = keys_are;
+      seals = seals_are;
       undo = ap (λ (x : MemoryState). x.writes_left) c.memory ∙ written_undo mapped s.fields (mapped_undo roomy s.regions.items ∙ r.sound.undo);
       patches = let k = patches_raised in omega (arith, k);
       maps = let k = maps_raised in omega (arith, k);

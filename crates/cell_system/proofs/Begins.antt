@@ -11,8 +11,10 @@ use Rattle.cell_mem.specs.State.{MemoryState, empty_memory}
 use Rattle.cell_place.specs.Space.{SpaceState}
 use Rattle.cell_system.specs.declared.loaded.Loaded.{Loaded}
 use Rattle.cell_system.specs.declared.machine.Machine.{Machine}
-use Rattle.cell_system.specs.Machine.{IsSound, keys_of, world_of}
+use Rattle.cell_commit.specs.Seals.{seal_table}
+use Rattle.cell_system.specs.Machine.{IsSound, field_bytes, keys_of, world_of}
 use Rattle.cell_system.specs.View.{cells_of}
+use Rattle.cell_system.proofs.Sealed.{none_sealed}
 
 all_free : (base pages a n : ℕ) → map (is_taken (empty_world base pages)) (from_on a n) ≡ replicate n false
 all_free base pages a zero = refl
@@ -48,6 +50,11 @@ module _ (base pages : ℕ) (space : IsSpace base pages) (m : Machine) (cells : 
     table = ap (λ (s : SpaceState). s.taken) free ∙ (sym (all_free base pages 0 pages) ∙ ap page_table (sym world_empty));
     base = ap (λ (s : SpaceState). s.base) free ∙ ap (λ (x : MemoryState). x.base) (sym memory);
     sections = sections ∙ ap (λ (cs : List Loaded). keys_of (cells_of cs)) (sym cells);
+    seals =
+        ap (λ (x : MemoryState). x.sealed) memory
+        ∙ (none_sealed base (4096 * pages)
+        ∙ (ap (λ (x : MemoryState). seal_table x.base (4096 * x.pages) []) (sym memory)
+        ∙ ap (λ (cs : List Loaded). seal_table m.memory.base (4096 * m.memory.pages) (field_bytes (cells_of cs))) (sym cells)));
     undo = ap (λ (x : MemoryState). x.writes_left) memory;
     patches = subst (λ (x : MemoryState). x.patches ≤ 2 ^ 64 - 1) (sym memory) (omega arith);
     maps = subst (λ (x : MemoryState). x.maps ≤ 2 ^ 64 - 1) (sym memory) (omega arith);

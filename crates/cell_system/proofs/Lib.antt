@@ -20,6 +20,7 @@ pub mod Rows
 pub mod Same
 pub mod Begins
 pub mod Presence
+pub mod Sealed
 pub mod Added
 pub mod Rooms
 pub mod Committing

@@ -1,5 +1,5 @@
 -- A machine with other room is the same machine.
-use Rattle.std.proofs.Common.{◌≡◌, sym, ◌∙◌, ap, subst, ◌≤◌, ◌-◌, ◌^◌, ℕ, List, []}
+use Rattle.std.proofs.Common.{◌≡◌, sym, ◌∙◌, ap, subst, ◌≤◌, ◌-◌, ◌*◌, ◌^◌, ℕ, List, []}
 use Rattle.std.specs.Prelude.{None}
 use Rattle.cell_world.specs.declared.file.File.{File}
 use Rattle.cell_world.specs.declared.state.LinkRow.{LinkRow}
@@ -13,7 +13,8 @@ use Rattle.cell_system.specs.declared.loaded.Loaded.{Loaded}
 use Rattle.cell_system.specs.declared.machine.Machine.{Machine}
 use Rattle.cell_system.specs.declared.stage.Staged.{Staged}
 use Rattle.cell_system.specs.Adding.{IsReadyToAdd, IsSame}
-use Rattle.cell_system.specs.Machine.{IsSound, state_of, world_of, keys_of}
+use Rattle.cell_commit.specs.Seals.{seal_table}
+use Rattle.cell_system.specs.Machine.{IsSound, field_bytes, state_of, world_of, keys_of}
 use Rattle.cell_system.specs.Staging.{IsAddable}
 use Rattle.cell_system.specs.State.{State}
 use Rattle.cell_link.specs.Linked.{field_values}
@@ -55,6 +56,11 @@ module _ (old new : Machine) (same : IsSame old new) where
     table = ap (λ (x : SpaceState). x.taken) same.space ∙ (s.table ∙ ap page_table (sym world_same));
     base = ap (λ (x : SpaceState). x.base) same.space ∙ (s.base ∙ ap (λ (m : MemoryState). m.base) (sym same.memory));
     sections = same.sections ∙ (s.sections ∙ ap (λ (cells : List Loaded). keys_of (cells_of cells)) (sym same.cells));
+    seals =
+        ap (λ (m : MemoryState). m.sealed) same.memory
+        ∙ (s.seals
+        ∙ (ap (λ (m : MemoryState). seal_table m.base (4096 * m.pages) (field_bytes (cells_of old.cells.items))) (sym same.memory)
+        ∙ ap (λ (cells : List Loaded). seal_table new.memory.base (4096 * new.memory.pages) (field_bytes (cells_of cells))) (sym same.cells)));
     undo = ap (λ (m : MemoryState). m.writes_left) same.memory ∙ s.undo;
     patches = subst (λ (m : MemoryState). m.patches ≤ 2 ^ 64 - 1) (sym same.memory) s.patches;
     maps = subst (λ (m : MemoryState). m.maps ≤ 2 ^ 64 - 1) (sym same.memory) s.maps;

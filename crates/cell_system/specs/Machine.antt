@@ -1,14 +1,19 @@
 -- The machine that a system's fields are, and what holds of every one.
 --     world_of m              the machine that m is
 --     state_of files m        what a system with these files is seen as
---     IsSound m               the machine is coherent, its page table and its index of sections are those of the machine
-use Rattle.std.specs.Prelude.{◌≡◌, ◌≤◌, ◌-◌, ◌^◌, List, [], None, flat_map, map}
+--     field_bytes cells       where the fields of the cells begin, and how many bytes each of them has
+--     IsSound m               the machine is coherent, its page table and its index of sections are those of the machine, and the
+--                             sealed bytes are those of the fields
+use Rattle.std.specs.Prelude.{ℕ, ◌≡◌, ◌≤◌, ◌-◌, ◌*◌, ◌^◌, List, [], None, flat_map, map}
+use Rattle.cell_num.specs.Kinds.{width_of}
 use Rattle.cell_num.specs.declared.ids.SecKey.{SecKey}
 use Rattle.cell_world.specs.declared.file.File.{File}
 use Rattle.cell_world.specs.declared.state.NewCell.{NewCell}
 use Rattle.cell_world.specs.World.{World, Cell, empty_world, key_of}
+use Rattle.cell_world.specs.Field.{fields_of, place_of}
 use Rattle.cell_world.specs.Place.{page_table}
 use Rattle.cell_law.specs.Settled.{IsSettled}
+use Rattle.cell_commit.specs.Seals.{seal_table}
 use Rattle.cell_system.specs.declared.machine.Machine.{Machine}
 use Rattle.cell_system.specs.State.{State}
 use Rattle.cell_system.specs.Targets.{AreLow}
@@ -39,11 +44,18 @@ section_keys c = map (λ s. key_of c.id.0 s.number) c.object.sections
 abbrev pub keys_of : List Cell → List SecKey
 keys_of cells = flat_map (λ c. section_keys c.placed) cells
 
+abbrev pub own_field_bytes : NewCell → List (ℕ × ℕ)
+own_field_bytes c = map (λ f. (place_of c f, width_of f.kind)) (fields_of c.object)
+
+abbrev pub field_bytes : List Cell → List (ℕ × ℕ)
+field_bytes cells = flat_map (λ c. own_field_bytes c.placed) cells
+
 pub record IsSound (m : Machine) : Type 0 where
   pub settled : IsSettled (world_of m)
   pub table : m.space.taken ≡ page_table (world_of m)
   pub base : m.space.base ≡ m.memory.base
   pub sections : m.graph.sections ≡ keys_of (cells_of m.cells.items)
+  pub seals : m.memory.sealed ≡ seal_table m.memory.base (4096 * m.memory.pages) (field_bytes (cells_of m.cells.items))
   pub undo : m.memory.writes_left ≡ None
   pub patches : m.memory.patches ≤ 2 ^ 64 - 1
   pub maps : m.memory.maps ≤ 2 ^ 64 - 1

@@ -1,6 +1,7 @@
 //! The system.
 
 ghost use Rattle.std.specs.Prelude.{◌≡◌, ◌≤◌, IfOk, All, length, [], ◌∷◌};
+ghost use Rattle.cell_world.specs.Coherent.{IsCoherent};
 ghost use Rattle.cell_world.specs.Pages.{IsSpace};
 ghost use Rattle.cell_world.specs.declared.command.Command.TheVariants.{Dump, Load};
 ghost use Rattle.cell_world.specs.World.{empty_world};
@@ -85,6 +86,13 @@ impl System {
         ensures { IsStep self.old (Dump cell section) result self.new }
     {
         dump(self.alloc, &self.machine, cell, section)
+    }
+
+    /// Every system's machine is coherent.
+    pub fn coherent(&self)
+        ensures { IsCoherent self.now.world }
+    {
+        let _ = &self.machine;
     }
 
     /// Does a command.
