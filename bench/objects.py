@@ -3,7 +3,7 @@
 
 As a library: `image(sections, symbols)` gives the bytes of an object.
 As a program:
-    objects.py images            the byte tables of crates/cell_tests/src/images.rt, on standard output
+    objects.py images CRATES     the files of byte tables in cell_elfw and cell_tests, into the folder `crates`
     objects.py example FOLDER    the two objects of examples/first, into a folder
     objects.py large FOLDER      folders with large objects and their scripts, for bench/read.sh
     objects.py links             the dumps that cells has to show of the GNU objects, as GNU ld links them
@@ -29,7 +29,7 @@ NOTYPE = 0
 UNDEFINED = 0
 
 R_32, R_64 = 1, 2
-R_PCREL_HI20, R_PCREL_LO12_I, R_HI20 = 23, 24, 26
+R_PCREL_HI20, R_PCREL_LO12_I = 23, 24
 R_ADD8 = 33
 
 
@@ -171,13 +171,6 @@ def lone_low():
 def zeros(pages):
     """`.bss` of so many pages."""
     return image([Section(".bss", WRITE, kind=NOBITS, size=4096 * pages)], [])
-
-
-def high(before):
-    """`.text`: lui a0 under HI20 on `h::x`, which stands in `.data` behind so many zeros."""
-    text = Section(".text", EXECINSTR, struct.pack("<I", 0x537), [(0, R_HI20, 1, 0)], align=4)
-    data = Section(".data", WRITE, bytes(before) + b"\1")
-    return image([text, data], [Symbol("h::x", 2, before)])
 
 
 # Sources for GNU as, and how GNU ld links them where cells puts them.
@@ -354,27 +347,25 @@ def byte_table(name, comment, data):
     return "\n".join(["/// " + comment, head] + spelled(data) + ["    \";"])
 
 
-def images():
-    near, far = high(2047), high(2048)
-    head = 72
-    print("//! Objects, as bench/objects.py writes them.")
-    tables = [
-        ("SEVEN", "`.data`: `a::n` is 7.", seven()),
-        ("POINTER", "`.rodata`: `b::p` is the address of `a::n` and 4, then 1.", pointer()),
-        ("LONE_LOW", "`.text` with a PCREL_LO12_I whose label has no PCREL_HI20.", lone_low()),
-        ("ZEROS_FULL", "`.bss` of 1024 pages.", zeros(1024)),
-        ("ZEROS_OVER", "`.bss` of 1025 pages.", zeros(1025)),
-        ("NEAR_HEAD", "Up to `.data`: lui a0 under HI20 on `h::x`.", near[:head]),
-        ("NEAR_TAIL", "`h::x` and what follows, with 2047 zeros before.", near[head + 2047:]),
-        ("FAR_HEAD", "Up to `.data`, where one more zero follows.", far[:head]),
-        ("FAR_TAIL", "`h::x` and what follows, with 2048 zeros before.", far[head + 2048:]),
-        ("GNU_POINTER", "What GNU as makes of `GNU_POINTER` in bench/objects.py.", assembled(GNU_POINTER)),
-        ("GNU_CODE", "What GNU as makes of `GNU_CODE` in bench/objects.py.", assembled(GNU_CODE)),
-        ("GNU_KINDS", "What GNU as makes of `GNU_KINDS` in bench/objects.py.", assembled(GNU_KINDS)),
-    ]
-    for name, comment, data in tables:
-        print()
-        print(byte_table(name, comment, data))
+def images(folder):
+    """The files of byte tables, into the folder `crates`."""
+    for path, head, tables in [
+        ("cell_elfw/src/images.rt", "Two objects whose layout was worked out by hand, as bench/objects.py writes them.", [
+            ("SEVEN", "`.data`: `a::n` is 7.", seven()),
+            ("POINTER", "`.rodata`: `b::p` is the address of `a::n` and 4, then 1.", pointer()),
+        ]),
+        ("cell_tests/src/broken.rt", "A broken object, as bench/objects.py writes it.", [
+            ("LONE_LOW", "`.text` with a PCREL_LO12_I whose label has no PCREL_HI20.", lone_low()),
+        ]),
+        ("cell_tests/src/gnu.rt", "Objects of GNU as, as bench/objects.py has them made.", [
+            ("GNU_POINTER", "What GNU as makes of `GNU_POINTER` in bench/objects.py.", assembled(GNU_POINTER)),
+            ("GNU_CODE", "What GNU as makes of `GNU_CODE` in bench/objects.py.", assembled(GNU_CODE)),
+            ("GNU_KINDS", "What GNU as makes of `GNU_KINDS` in bench/objects.py.", assembled(GNU_KINDS)),
+        ]),
+    ]:
+        text = "//! " + head + "\n\n" + "\n\n".join(byte_table(*table) for table in tables) + "\n"
+        with open(os.path.join(folder, path), "w") as file:
+            file.write(text)
 
 
 # Large objects.
@@ -547,8 +538,8 @@ def check():
 
 
 if __name__ == "__main__":
-    if sys.argv[1:] == ["images"]:
-        images()
+    if sys.argv[1:2] == ["images"] and len(sys.argv) == 3:
+        images(sys.argv[2])
     elif sys.argv[1:2] == ["large"] and len(sys.argv) == 3:
         large(sys.argv[2])
     elif sys.argv[1:] == ["links"]:

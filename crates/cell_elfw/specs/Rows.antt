@@ -1,11 +1,13 @@
 -- The bytes of a header, a symbol and a relocation entry. gABI, "ELF Header", "Sections", "Symbol
 -- Table", "Relocation". A number that doesn't fit its bytes is stored modulo their size.
-use Rattle.std.specs.Prelude.{ℕ, ◌+◌, ◌*◌, List, [], ◌∷◌, ◌++◌, replicate}
-use Rattle.std.specs.List.{flat_map}
+use denote.Enum.Bare.{sameb}
+use Rattle.std.specs.Prelude.{ℕ, ◌+◌, ◌*◌, Bool, List, [], ◌∷◌, ◌++◌, replicate, option_map, unwrap_or}
+use Rattle.std.specs.List.{flat_map, find}
 use Rattle.std.specs.Int.{w64, cast_unsigned}
 use Rattle.cell_num.specs.Bits.{bytes_of}
 use Rattle.cell_num.specs.declared.kinds.RelKind.{RelKind}
-use Rattle.cell_num.specs.declared.kinds.RelKind.TheVariants.{Abs32, Abs64, Branch, Jal, Call, CallPlt, GotHi20, PcrelHi20, PcrelLo12I, PcrelLo12S, Hi20, Lo12I, Lo12S, Add8, Add16, Add32, Add64, Sub8, Sub16, Sub32, Sub64, Sub6, Set6, Set8, Set16, Set32, Pcrel32}
+use Rattle.cell_num.specs.contracts.kinds.RelKind.{the_type}
+use Rattle.cell_num.specs.Kinds.{kinds}
 use Rattle.cell_object.specs.declared.object.Bind.{Bind}
 use Rattle.cell_object.specs.declared.object.Bind.TheVariants.{Local, Global, Weak}
 use Rattle.cell_object.specs.declared.object.Sort.{Sort}
@@ -93,35 +95,14 @@ symbol_bytes symtab name s =
     ∷ (s.value, 8)
     ∷ (s.size, 8) ∷ [])
 
--- RISC-V ELF psABI, "Relocations"
-abbrev pub kind_number : RelKind → ℕ
-kind_number Abs32 = 1
-kind_number Abs64 = 2
-kind_number Branch = 16
-kind_number Jal = 17
-kind_number Call = 18
-kind_number CallPlt = 19
-kind_number GotHi20 = 20
-kind_number PcrelHi20 = 23
-kind_number PcrelLo12I = 24
-kind_number PcrelLo12S = 25
-kind_number Hi20 = 26
-kind_number Lo12I = 27
-kind_number Lo12S = 28
-kind_number Add8 = 33
-kind_number Add16 = 34
-kind_number Add32 = 35
-kind_number Add64 = 36
-kind_number Sub8 = 37
-kind_number Sub16 = 38
-kind_number Sub32 = 39
-kind_number Sub64 = 40
-kind_number Sub6 = 52
-kind_number Set6 = 53
-kind_number Set8 = 54
-kind_number Set16 = 55
-kind_number Set32 = 56
-kind_number Pcrel32 = 57
+-- whether two kinds are the same, as `==` tells
+unfoldable pub same_kind : RelKind → RelKind → Bool
+same_kind = sameb the_type
+
+-- The number of a kind is the one that has this kind in the table of the psABI's numbers. R_RISCV_GOT_HI20,
+-- which object files may not have, is 20. RISC-V ELF psABI, "Relocations"
+unfoldable pub kind_number : RelKind → ℕ
+kind_number kind = unwrap_or (option_map (λ row. row.0) (find (λ row. same_kind row.1 kind) kinds)) 20
 
 -- a relocation entry: the kind is the low half of r_info and the symbol the high half
 unfoldable pub entry_bytes : Entry → List ℕ

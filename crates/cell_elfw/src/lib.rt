@@ -19,4 +19,8 @@ pub use writing::write_object;
 #[cfg(test)]
 mod images;
 #[cfg(test)]
-mod tests;
+mod plain;
+#[cfg(test)]
+mod unwritable;
+#[cfg(test)]
+mod writable;

@@ -165,6 +165,7 @@ pub fn put_symbol(
     put_fields(&fields, into)
 }
 
+#[tactic(auto, unfolding(crate::specs::Rows::kind_number, crate::specs::Rows::same_kind))]
 fn kind_number(kind: RelKind) -> u64
     ensures { result ≡ number_of_kind kind }
 {

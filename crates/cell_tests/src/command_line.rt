@@ -1,7 +1,7 @@
 //! Command lines, and what comes of them.
 
-use crate::folder::outcome;
-use crate::images::{FAR_HEAD, FAR_TAIL, NEAR_HEAD, NEAR_TAIL, POINTER, SEVEN};
+use crate::folder::{ObjectFile, outcome};
+use crate::samples::{first_example, upper_half};
 use cell_run::Status;
 use std::alloc::{AllocError, Global};
 use std::test::Fail;
@@ -63,7 +63,7 @@ fn a_script_without_a_reading(rt: HostRuntime) -> Result<(), Fail> {
 
 #[test]
 fn another_base(rt: HostRuntime) -> Result<(), Fail> {
-    let files = [("k#a.o", SEVEN.as_slice()), ("k#b.o", POINTER.as_slice())];
+    let files = first_example(rt.alloc())?;
     let words = ["d", "s", "--pages", "16", "--base", "0x7ff0000"];
     let script = "load k a\nload k b\ndump 2 1\n";
     let (status, sink) = outcome(rt.alloc(), &words, script, &files)?;
@@ -76,39 +76,18 @@ fn another_base(rt: HostRuntime) -> Result<(), Fail> {
     Ok(())
 }
 
-/// `lui a0,%hi(h::x)`, and `h::x` behind so many zeros of `.data`.
-fn far_object(
-    alloc: Global,
-    head: &[u8],
-    zeros: usize,
-    tail: &[u8],
-) -> Result<Vec<u8>, AllocError> {
-    let mut bytes = Vec::from_slice(alloc, head)?;
-    for _ in 0..zeros {
-        bytes.push(0)?;
-    }
-    bytes.extend_from_slice(tail)?;
-    Ok(bytes)
-}
-
 #[test]
 fn the_end_of_the_range(rt: HostRuntime) -> Result<(), Fail> {
-    let near = far_object(rt.alloc(), &NEAR_HEAD, 2047, &NEAR_TAIL)?;
-    let far = far_object(rt.alloc(), &FAR_HEAD, 2048, &FAR_TAIL)?;
     let words = ["d", "s", "--base", "0x7fffe000", "--pages", "16"];
-    for (file, want, text) in [
-        (
-            near.as_slice(),
-            Status::Done,
-            b"1 ok load #1 patched 1\n".as_slice(),
-        ),
-        (
-            far.as_slice(),
-            Status::SomeRefused,
-            b"1 E12 overflow #1.1+0 HI20\n",
-        ),
+    for (zeros, want, text) in [
+        (2047, Status::Done, b"1 ok load #1 patched 1\n".as_slice()),
+        (2048, Status::SomeRefused, b"1 E12 overflow #1.1+0 HI20\n"),
     ] {
-        let (status, sink) = outcome(rt.alloc(), &words, "load k h", &[("k#h.o", file)])?;
+        let files = [ObjectFile {
+            name: "k#h.o",
+            bytes: upper_half(rt.alloc(), zeros)?,
+        }];
+        let (status, sink) = outcome(rt.alloc(), &words, "load k h", &files)?;
         assert!(rt; status == want);
         assert!(rt; sink.written() == text);
     }

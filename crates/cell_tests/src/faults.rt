@@ -4,8 +4,8 @@ ghost use Rattle.std.specs.Prelude.{◌≡◌, [], ◌∷◌, IfOk};
 ghost use Rattle.cell_io.specs.Files.{names_differ};
 ghost use Rattle.cell_io.specs.MemoryHost.{file_of};
 
-use crate::folder::{Folder, words_of};
-use crate::images::{POINTER, SEVEN};
+use crate::folder::{Folder, ObjectFile, words_of};
+use crate::samples::{POINTER, SEVEN, first_example};
 use cell_io::{MemFile, MemHost, MemSink};
 use cell_run::{Status, cells};
 use std::alloc::{AllocError, Global};
@@ -19,21 +19,21 @@ const TEXT: &[u8] = b"1 ok load #1 patched 0\n\
     10001000 04 00 00 10 00 00 00 00 01 00 00 00 00 00 00 00\n";
 
 /// Runs the first example over this stream, in a small memory, since it is run once for each room.
-fn write_to(alloc: Global, sink: &mut MemSink) -> Result<Status, AllocError> {
+fn write_to(alloc: Global, files: &[ObjectFile], sink: &mut MemSink) -> Result<Status, AllocError> {
     let words = words_of(alloc, &["d", "s", "--pages", "16"])?;
-    let files = [("k#a.o", SEVEN.as_slice()), ("k#b.o", POINTER.as_slice())];
     let mut folder = Folder {
         script: SCRIPT,
-        files: &files,
+        files,
     };
     Ok(cells(alloc, &words, &mut folder, sink))
 }
 
 #[test]
 fn a_full_stream(rt: HostRuntime) -> Result<(), Fail> {
+    let files = first_example(rt.alloc())?;
     for room in 0..TEXT.len() {
         let mut sink = MemSink::new(rt.alloc(), room, Vec::new(rt.alloc()))?;
-        let status = write_to(rt.alloc(), &mut sink)?;
+        let status = write_to(rt.alloc(), &files, &mut sink)?;
         assert!(rt; status == Status::WriteFault, "room {room}");
         assert!(rt; sink.written() == &TEXT[..room], "room {room}");
     }
@@ -42,11 +42,12 @@ fn a_full_stream(rt: HostRuntime) -> Result<(), Fail> {
 
 #[test]
 fn a_put_that_fails(rt: HostRuntime) -> Result<(), Fail> {
+    let files = first_example(rt.alloc())?;
     // Each answer is one put.
     for (put, written) in [(0, 0), (1, 23), (2, 46)] {
         let failing = Vec::from_slice(rt.alloc(), &[put])?;
         let mut sink = MemSink::new(rt.alloc(), 1000, failing)?;
-        let status = write_to(rt.alloc(), &mut sink)?;
+        let status = write_to(rt.alloc(), &files, &mut sink)?;
         assert!(rt; status == Status::WriteFault, "put {put}");
         assert!(rt; sink.written() == &TEXT[..written], "put {put}");
     }
@@ -65,11 +66,11 @@ fn file(alloc: Global, name: &str, bytes: &[u8]) -> Result<MemFile, AllocError>
 }
 
 /// The first example in a folder of which the call with this number fails.
-fn failing_at(alloc: Global, call: u32) -> Result<MemHost, AllocError> {
+fn failing_at(alloc: Global, call: u32) -> Result<MemHost, Fail> {
     let mut files = Vec::new(alloc);
     files.push(file(alloc, "s", SCRIPT.as_bytes())?)?;
-    files.push(file(alloc, "k#b.o", &POINTER)?)?;
-    files.push(file(alloc, "k#a.o", &SEVEN)?)?;
+    files.push(file(alloc, "k#b.o", &POINTER.image(alloc)?)?)?;
+    files.push(file(alloc, "k#a.o", &SEVEN.image(alloc)?)?)?;
     let failing = Vec::from_slice(alloc, &[call])?;
     Ok(MemHost::new(files, failing))
 }

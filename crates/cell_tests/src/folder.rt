@@ -6,21 +6,25 @@ use cell_io::{Host, HostFault, MemSink};
 use cell_run::{Status, cells};
 use std::alloc::{AllocError, Global};
 
-/// A file's name and bytes.
-pub type Content<'a> = (&'a str, &'a [u8]);
+/// An object file of a folder.
+#[derive(Drop)]
+pub struct ObjectFile {
+    pub name: &'static str,
+    pub bytes: Vec<u8>,
+}
 
 /// A folder, of which contracts know nothing.
 #[derive(Drop)]
 pub struct Folder<'a> {
     pub script: &'a str,
-    pub files: &'a [Content<'a>],
+    pub files: &'a [ObjectFile],
 }
 
 impl<'a> Folder<'a> {
     fn bytes_of(&self, name: &str) -> &[u8] {
         for file in self.files {
-            if file.0 == name {
-                return file.1;
+            if file.name == name {
+                return file.bytes.as_slice();
             }
         }
         self.script.as_bytes()
@@ -30,7 +34,7 @@ impl<'a> Folder<'a> {
         let alloc = *into.allocator();
         into.push(String::from_str(alloc, "s")?)?;
         for file in self.files {
-            into.push(String::from_str(alloc, file.0)?)?;
+            into.push(String::from_str(alloc, file.name)?)?;
         }
         Ok(())
     }
@@ -80,7 +84,7 @@ pub fn outcome(
     alloc: Global,
     words: &[&str],
     script: &str,
-    files: &[Content],
+    files: &[ObjectFile],
 ) -> Result<(Status, MemSink), AllocError> {
     let words = words_of(alloc, words)?;
     let mut folder = Folder { script, files };

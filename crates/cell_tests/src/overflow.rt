@@ -2,7 +2,7 @@
 
 ghost use Rattle.std.specs.Prelude.{◌≤◌, length};
 
-use crate::images::{FAR_HEAD, FAR_TAIL, NEAR_HEAD, NEAR_TAIL};
+use crate::samples::upper_half;
 use cell_num::{Bytes, CellId, Name, RelKind};
 use cell_print::put_refusal;
 use cell_system::{Fail as Stop, System};
@@ -11,12 +11,8 @@ use std::alloc::{AllocError, Global};
 use std::test::Fail;
 
 /// `.text` at 0x7fffe000 and `.data` at 0x7ffff000, where `h::x` comes after so many zeros.
-fn machine(alloc: Global, head: &[u8], zeros: usize, tail: &[u8]) -> Result<System, Fail> {
-    let mut bytes = Vec::from_slice(alloc, head)?;
-    for _ in 0..zeros {
-        bytes.push(0)?;
-    }
-    bytes.extend_from_slice(tail)?;
+fn machine(alloc: Global, zeros: usize) -> Result<System, Fail> {
+    let bytes = upper_half(alloc, zeros)?;
     if bytes.len() > 1048576 {
         return Err("a file of more than 1 MiB")?;
     }
@@ -37,7 +33,7 @@ fn load(alloc: Global) -> Result<Command, AllocError> {
 
 #[test]
 fn the_last_address_that_fits(rt: HostRuntime) -> Result<(), Fail> {
-    let mut system = machine(rt.alloc(), &NEAR_HEAD, 2047, &NEAR_TAIL)?;
+    let mut system = machine(rt.alloc(), 2047)?;
     let Ok(Reply::Load { fresh, patched }) = system.do_command(&load(rt.alloc())?) else {
         return Err("the load is done")?;
     };
@@ -65,7 +61,7 @@ fn the_last_address_that_fits(rt: HostRuntime) -> Result<(), Fail> {
 
 #[test]
 fn the_first_address_that_does_not_fit(rt: HostRuntime) -> Result<(), Fail> {
-    let mut system = machine(rt.alloc(), &FAR_HEAD, 2048, &FAR_TAIL)?;
+    let mut system = machine(rt.alloc(), 2048)?;
     let Err(Stop::Refused(refusal)) = system.do_command(&load(rt.alloc())?) else {
         return Err("the load is refused")?;
     };

@@ -1,11 +1,11 @@
 //! What the program writes.
 
-use crate::folder::{Content, outcome};
-use crate::images::{
-    GNU_CODE, GNU_KINDS, GNU_POINTER, LONE_LOW, POINTER, SEVEN, ZEROS_FULL, ZEROS_OVER,
-};
+use crate::broken::LONE_LOW;
+use crate::folder::{ObjectFile, outcome};
+use crate::gnu::{GNU_CODE, GNU_KINDS, GNU_POINTER};
+use crate::samples::{POINTER, SEVEN, ZEROS_FULL, ZEROS_OVER};
 use cell_run::Status;
-use std::alloc::{AllocError, Global};
+use std::alloc::Global;
 use std::test::Fail;
 
 /// A script, the object files beside it, and what comes of it.
@@ -172,23 +172,26 @@ const CASES: [Case; 20] = [
 ];
 
 /// What is in the file of this name.
-fn image(name: &str) -> &'static [u8] {
+fn bytes_of(alloc: Global, name: &str) -> Result<Vec<u8>, Fail> {
     match name {
-        "k#b.o" | "k#a" => &POINTER,
-        "k#x.o" => &LONE_LOW,
-        "k#full.o" => &ZEROS_FULL,
-        "k#over.o" => &ZEROS_OVER,
-        "k#g.o" => &GNU_POINTER,
-        "k#c.o" => &GNU_CODE,
-        "k#r.o" => &GNU_KINDS,
-        _ => &SEVEN,
+        "k#b.o" | "k#a" => POINTER.image(alloc),
+        "k#x.o" => Ok(Vec::from_slice(alloc, &LONE_LOW)?),
+        "k#full.o" => ZEROS_FULL.image(alloc),
+        "k#over.o" => ZEROS_OVER.image(alloc),
+        "k#g.o" => Ok(Vec::from_slice(alloc, &GNU_POINTER)?),
+        "k#c.o" => Ok(Vec::from_slice(alloc, &GNU_CODE)?),
+        "k#r.o" => Ok(Vec::from_slice(alloc, &GNU_KINDS)?),
+        _ => SEVEN.image(alloc),
     }
 }
 
-fn contents(alloc: Global, names: &'static [&'static str]) -> Result<Vec<Content>, AllocError> {
+fn files_of(alloc: Global, names: &'static [&'static str]) -> Result<Vec<ObjectFile>, Fail> {
     let mut files = Vec::new(alloc);
     for name in names {
-        files.push((*name, image(*name)))?;
+        files.push(ObjectFile {
+            name: *name,
+            bytes: bytes_of(alloc, *name)?,
+        })?;
     }
     Ok(files)
 }
@@ -196,7 +199,7 @@ fn contents(alloc: Global, names: &'static [&'static str]) -> Result<Vec<Content
 #[test]
 fn scripts(rt: HostRuntime) -> Result<(), Fail> {
     for case in &CASES {
-        let files = contents(rt.alloc(), case.files)?;
+        let files = files_of(rt.alloc(), case.files)?;
         let (status, sink) = outcome(rt.alloc(), &["d", "s"], case.script, &files)?;
         let text = std::str::from_utf8(sink.written()).ok().ok_or("UTF-8")?;
         assert!(rt; text == case.text, "{} gave {}", case.script, text);
@@ -207,7 +210,12 @@ fn scripts(rt: HostRuntime) -> Result<(), Fail> {
 
 #[test]
 fn a_file_cut_short(rt: HostRuntime) -> Result<(), Fail> {
-    let files = [("k#a.o", &SEVEN[..487])];
+    let mut bytes = SEVEN.image(rt.alloc())?;
+    bytes.truncate(487);
+    let files = [ObjectFile {
+        name: "k#a.o",
+        bytes,
+    }];
     let (status, sink) = outcome(rt.alloc(), &["d", "s"], "load k a", &files)?;
     assert!(rt; sink.written() == b"1 E7 object k#a.o rule 6 at 40\n".as_slice());
     assert!(rt; status == Status::SomeRefused);
