@@ -1,5 +1,5 @@
 -- The machine before the first command is sound.
-use Rattle.std.proofs.Common.{◌≡◌, refl, sym, ◌∙◌, ap, subst, arith, ℕ, zero, suc, ◌-◌, ◌^◌, ◌≤◌, Bool, false, List, [], ◌∷◌, map, replicate}
+use Rattle.std.proofs.Common.{◌≡◌, refl, sym, ◌∙◌, ap, subst, arith, ℕ, zero, suc, ◌-◌, ◌*◌, ◌^◌, ◌≤◌, Bool, false, List, [], ◌∷◌, map, replicate}
 use Rattle.cell_num.specs.Lists.{from_on}
 use Rattle.cell_world.specs.Pages.{IsSpace}
 use Rattle.cell_world.specs.declared.state.LinkRow.{LinkRow}
