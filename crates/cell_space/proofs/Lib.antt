@@ -4,4 +4,8 @@ pub mod Searches
 pub mod Crates
 pub mod Changes
 pub mod Apart
+pub mod Rising
+pub mod Holding
+pub mod Finding
+pub mod Keeping
 pub mod Machines

@@ -8,13 +8,17 @@ use Rattle.cell_space.specs.declared.cell.SpaceCell.{SpaceCell}
 use Rattle.cell_space.specs.declared.provider.Scope.{Scope}
 use Rattle.cell_space.specs.declared.provider.Scope.TheVariants.{Space, Cell}
 use Rattle.cell_space.specs.Named.{provider_for, cell_numbered, is_numbered, is_in, clash_stem, clash_name}
+use Rattle.cell_space.specs.declared.index.Holder.{Holder}
+use Rattle.cell_space.specs.Rising.{IsRising}
+use Rattle.cell_space.specs.Index.{IsWhole}
 use Rattle.cell_space.specs.Rooted.{AreRooted}
 
--- the namespaces by number, the cells by rising numbers, and how many more cells there is room for
+-- the namespaces by number, the cells by rising numbers, and how many more cells there is room for, and more stems and names
 pub record SpacesState : Type 0 where
   pub namespaces : List Namespace
   pub cells : List SpaceCell
   pub spare_cells : ℕ
+  pub spare_names : ℕ
 
 -- `k` alone
 abbrev pub kernel : List Namespace
@@ -44,6 +48,12 @@ pub record AreSound (spaces : List Namespace) (cells : List SpaceCell) : Type 0 
   pub rooted : AreRooted spaces
   pub few : length spaces ≤ 256
   pub inside : All (λ c. c.ns < length spaces) cells
+
+-- and the index of the cells answers for each
+pub record AreKept (spaces : List Namespace) (cells : List SpaceCell) (index : ℕ → ℕ → Option Holder) : Type 0 where
+  pub sound : AreSound spaces cells
+  pub rising : IsRising cells
+  pub whole : IsWhole index cells
 
 -- the namespace or the cell is there
 abbrev pub IsThere : SpacesState → Scope → Type 0

@@ -3,6 +3,8 @@
 
 mod cell;
 mod chain;
+mod hash;
+mod index;
 mod lookup;
 mod names;
 mod namespaces;
@@ -10,6 +12,7 @@ mod provider;
 mod rows;
 mod spaces;
 mod symbol_name;
+mod word;
 
 pub use cell::{CellState, SpaceCell};
 pub use cell_world::Namespace;

@@ -8,6 +8,7 @@ ghost use Rattle.cell_space.specs.Spaces.{IsThere, HasCell, HasDetached, HasAtta
 
 use crate::cell::{CellState, SpaceCell, copy_cells};
 use crate::chain::{Chain, chain_of};
+use crate::index::{Index, claim_again, index_of};
 use crate::lookup::{cell_at, cell_numbered, clash_name, clash_stem, provider_for};
 use crate::names::NameRows;
 use crate::namespaces::{copy_namespaces, first_namespace, place_of};
@@ -18,23 +19,26 @@ use cell_world::Namespace;
 use std::alloc::{AllocError, Global};
 use std::marker::Model;
 
-/// The namespaces, and the cells in them. Room for cells is reserved before, so that attaching takes
-/// no memory.
+/// The namespaces, and the cells in them. Room for cells and names is reserved before, so that attaching
+/// takes no memory. Attached cells are found by stem and name through an index.
 #[derive(Drop)]
 pub struct Spaces {
     namespaces: Vec<Namespace>,
     cells: Vec<SpaceCell>,
+    index: Index,
 }
 
 impl Model for Spaces {
     ghost use Rattle.std.specs.Prelude.{◌-◌, vec_capacity, vec_len};
-    ghost use Rattle.cell_space.specs.Spaces.{SpacesState, AreSound};
+    ghost use Rattle.indexmap.specs.IndexMap.{spare};
+    ghost use Rattle.cell_space.specs.Index.{held};
+    ghost use Rattle.cell_space.specs.Spaces.{SpacesState, AreKept};
 
     ghost Value = { SpacesState };
 
-    ghost view = { λ s. record { namespaces = s.namespaces.items; cells = s.cells.items; spare_cells = vec_capacity s.cells - vec_len s.cells } };
+    ghost view = { λ s. record { namespaces = s.namespaces.items; cells = s.cells.items; spare_cells = vec_capacity s.cells - vec_len s.cells; spare_names = spare s.index.holders } };
 
-    ghost invariant = { λ s. AreSound s.namespaces.items s.cells.items };
+    ghost invariant = { λ s. AreKept s.namespaces.items s.cells.items (held s.index) };
 }
 
 impl Spaces {
@@ -46,6 +50,7 @@ impl Spaces {
         Ok(Spaces {
             namespaces: first_namespace(alloc)?,
             cells: Vec::new(alloc),
+            index: Index::new(alloc),
         })
     }
 
@@ -69,6 +74,7 @@ impl Spaces {
         ensures unchanged { OnErr result (self.new.namespaces ≡ self.old.namespaces) }
         ensures same_cells { self.new.cells ≡ self.old.cells }
         ensures same_room { self.new.spare_cells ≡ self.old.spare_cells }
+        ensures same_names_room { self.new.spare_names ≡ self.old.spare_names }
     {
         let number = self.namespaces.len() as u16;
         self.namespaces.push(Namespace {
@@ -121,7 +127,7 @@ impl Spaces {
         requires { ns < length self.now.namespaces }
         ensures { option_map number_as result ≡ cell_in ns stem.now self.now.cells }
     {
-        cell_at(&self.cells, ns, stem)
+        cell_at(&self.index, &self.cells, ns, stem)
     }
 
     /// Who provides a name for a namespace, or for a cell.
@@ -131,11 +137,13 @@ impl Spaces {
     {
         match scope {
             Scope::Space(ns) => {
-                provider_for(&self.namespaces, ns, &self.cells, CellState::Attached, name)
+                let state = CellState::Attached;
+                provider_for(&self.namespaces, &self.index, &self.cells, ns, state, name)
             }
             Scope::Cell(cell) => match cell_numbered(&self.cells, cell.0) {
                 Some(found) => {
-                    provider_for(&self.namespaces, found.ns, &self.cells, found.state, name)
+                    let (ns, state) = (found.ns, found.state);
+                    provider_for(&self.namespaces, &self.index, &self.cells, ns, state, name)
                 }
                 None => None,
             },
@@ -147,7 +155,7 @@ impl Spaces {
         requires { ns < length self.now.namespaces }
         ensures { option_map number_as result ≡ stem_clash self.now.namespaces ns stem.now self.now.cells }
     {
-        clash_stem(&self.namespaces, ns, &self.cells, stem)
+        clash_stem(&self.namespaces, &self.index, &self.cells, ns, stem)
     }
 
     /// The lowest attached cell on one path with the namespace that has the name.
@@ -155,22 +163,26 @@ impl Spaces {
         requires { ns < length self.now.namespaces }
         ensures { option_map number_as result ≡ name_clash self.now.namespaces ns name.now self.now.cells }
     {
-        clash_name(&self.namespaces, ns, &self.cells, name)
+        clash_name(&self.namespaces, &self.index, &self.cells, ns, name)
     }
 
-    /// Makes room for so many more cells. Their names bring their own.
-    pub fn reserve(&mut self, cells: u32) -> Result<(), AllocError>
+    /// Makes room for so many more cells, which have so many names in all.
+    pub fn reserve(&mut self, cells: u32, names: u32) -> Result<(), AllocError>
         ensures room { OnOk result (cells ≤ self.new.spare_cells) }
+        ensures names_room { OnOk result (cells + names ≤ self.new.spare_names) }
         ensures more { self.old.spare_cells ≤ self.new.spare_cells }
+        ensures more_names { self.old.spare_names ≤ self.new.spare_names }
         ensures same_namespaces { self.new.namespaces ≡ self.old.namespaces }
         ensures same_cells { self.new.cells ≡ self.old.cells }
     {
+        self.index.reserve(cells as usize + names as usize)?;
         self.cells.reserve(cells as usize)
     }
 
     /// Adds an attached cell.
     pub fn attach(&mut self, cell: CellId, ns: u16, stem: Name, names: NameRows)
         requires room { 0 < self.old.spare_cells }
+        requires names_room { length names < self.old.spare_names }
         requires there { ns < length self.old.namespaces }
         requires new { numbered self.old.cells cell.0 ≡ None }
         requires stem_free { stem_clash self.old.namespaces ns stem self.old.cells ≡ None }
@@ -178,7 +190,11 @@ impl Spaces {
         ensures added { self.new.cells ≡ with_cell (record { cell = cell; ns = ns; stem = stem; state = Attached; names = names }) self.old.cells }
         ensures same_namespaces { self.new.namespaces ≡ self.old.namespaces }
         ensures room { self.old.spare_cells ≤ self.new.spare_cells + 1 }
+        ensures names_left { self.old.spare_names ≤ self.new.spare_names + length names + 1 }
     {
+        let bytes = stem.bytes();
+        self.index
+            .claim_reserved(&self.cells, ns, bytes, &names, cell.0);
         let row = SpaceCell {
             cell,
             ns,
@@ -195,6 +211,7 @@ impl Spaces {
         ensures state { self.new.cells ≡ with_state (Detached group) cell.0 self.old.cells }
         ensures same_namespaces { self.new.namespaces ≡ self.old.namespaces }
         ensures same_room { self.old.spare_cells ≤ self.new.spare_cells }
+        ensures same_names_room { self.old.spare_names ≤ self.new.spare_names }
     {
         set_state(&mut self.cells, cell.0, CellState::Detached(group));
     }
@@ -206,7 +223,9 @@ impl Spaces {
         ensures state { self.new.cells ≡ with_state Attached cell.0 self.old.cells }
         ensures same_namespaces { self.new.namespaces ≡ self.old.namespaces }
         ensures same_room { self.old.spare_cells ≤ self.new.spare_cells }
+        ensures names_left { (c : SpaceCell) → numbered self.old.cells cell.0 ≡ Some c → self.old.spare_names ≤ self.new.spare_names + length c.names + 1 }
     {
+        claim_again(&mut self.index, &self.cells, cell.0);
         set_state(&mut self.cells, cell.0, CellState::Attached);
     }
 
@@ -216,8 +235,21 @@ impl Spaces {
         ensures cells { self.new.cells ≡ without cell.0 self.old.cells }
         ensures same_namespaces { self.new.namespaces ≡ self.old.namespaces }
         ensures same_room { self.old.spare_cells ≤ self.new.spare_cells }
+        ensures same_names_room { self.old.spare_names ≤ self.new.spare_names }
     {
         remove_cell(&mut self.cells, cell.0);
+    }
+
+    /// The same namespaces, without a cell.
+    pub fn without_cells(&self, alloc: Global) -> Result<Spaces, AllocError>
+        ensures namespaces { IfOk result (λ copy. copy.namespaces ≡ self.now.namespaces) }
+        ensures cells { IfOk result (λ copy. copy.cells ≡ []) }
+    {
+        Ok(Spaces {
+            namespaces: copy_namespaces(alloc, &self.namespaces)?,
+            cells: Vec::new(alloc),
+            index: Index::new(alloc),
+        })
     }
 
     /// Equal spaces, with room of their own.
@@ -225,9 +257,12 @@ impl Spaces {
         ensures namespaces { IfOk result (λ copy. copy.namespaces ≡ self.now.namespaces) }
         ensures cells { IfOk result (λ copy. copy.cells ≡ self.now.cells) }
     {
+        let cells = copy_cells(alloc, &self.cells)?;
+        let index = index_of(alloc, &cells)?;
         Ok(Spaces {
             namespaces: copy_namespaces(alloc, &self.namespaces)?,
-            cells: copy_cells(alloc, &self.cells)?,
+            cells,
+            index,
         })
     }
 }

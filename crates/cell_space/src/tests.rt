@@ -39,7 +39,7 @@ fn siblings(rt: HostRuntime) -> Result<(), Fail> {
     let u = spaces.add_ns(Name::of(alloc, b"u")?, 0)?;
     let v = spaces.add_ns(Name::of(alloc, b"v")?, 0)?;
     let w = spaces.add_ns(Name::of(alloc, b"w")?, u)?;
-    spaces.reserve(2)?;
+    spaces.reserve(2, 2)?;
     spaces.attach(
         CellId(1),
         u,
@@ -60,7 +60,7 @@ fn siblings(rt: HostRuntime) -> Result<(), Fail> {
 fn group_partners(rt: HostRuntime) -> Result<(), Fail> {
     let alloc = rt.alloc();
     let mut spaces = Spaces::new(alloc)?;
-    spaces.reserve(2)?;
+    spaces.reserve(2, 2)?;
     spaces.attach(
         CellId(1),
         0,

@@ -8,9 +8,9 @@ use Rattle.cell_space.proofs.lookup.clash_stem.Goals as goal
 pub returns-in-Some : goal.returns-in-Some
 returns-in-Some c =
     ap (λ o. number_of (option_map (λ r. r.now) o)) (sym c.in-Some.is)
-    ∙ ap number_of (c.rival_of_stem.ensures ∙ sym (find-filter (λ x. equals x.stem c.args.stem.now) (is_rival c.args.namespaces.now c.args.ns) c.args.cells.now))
+    ∙ ap number_of (c.lowest_rival.ensures ∙ sym (find-filter (λ x. equals x.stem c.args.stem.now) (is_rival c.args.namespaces.now c.args.ns) c.args.cells.now))
 
 pub returns-in-None : goal.returns-in-None
 returns-in-None c =
     ap (λ o. number_of (option_map (λ r. r.now) o)) (sym c.in-None.is)
-    ∙ ap number_of (c.rival_of_stem.ensures ∙ sym (find-filter (λ x. equals x.stem c.args.stem.now) (is_rival c.args.namespaces.now c.args.ns) c.args.cells.now))
+    ∙ ap number_of (c.lowest_rival.ensures ∙ sym (find-filter (λ x. equals x.stem c.args.stem.now) (is_rival c.args.namespaces.now c.args.ns) c.args.cells.now))

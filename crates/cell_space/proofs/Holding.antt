@@ -1,0 +1,259 @@
+-- What the index answers for, after a change of it or of the cells.
+use Rattle.std.proofs.Common.{◌≡◌, ℕ, zero, suc, ◌+◌, ◌<◌, ◌≤◌, take, Bool, true, false, cond, List, [], ◌∷◌, ◌++◌, Some, None, length, get_or, inl, inr, refl, ap, sym, subst, ◌∙◌, arith}
+use Rattle.std.specs.Map.{lookup}
+use Rattle.std.specs.Prelude.{Option, Result, Ok, Err, OnOk, OnErr, ◌⊎◌, All, IsSome, is_some, slice_get, not, ◌&&◌, ◌||◌, ◌==◌, nat_eq}
+use Rattle.std.proofs.lemmas.List.Elements.{All-filter, All-map, All-head, All-tail, All-same, All-push, All-cons, All-weaker, All-take, All-more}
+use Rattle.std.proofs.lemmas.List.{take_all, length-map}
+use Rattle.cell_world.specs.World.{Alias}
+use Rattle.cell_space.specs.Hash.{stem_hash, name_hash}
+use Rattle.cell_space.proofs.Apart.{take_next}
+use Rattle.cell_space.specs.declared.cell.CellState.TheVariants.{Attached, Detached}
+use Rattle.cell_space.specs.declared.cell.SpaceCell.{SpaceCell}
+use Rattle.cell_space.specs.declared.index.Index.{Index}
+use Rattle.cell_space.specs.declared.index.Holder.{Holder}
+use Rattle.cell_space.specs.declared.index.Holder.TheVariants.{One, Many}
+use Rattle.cell_space.specs.Named.{is_numbered, is_in, put_into, with_cell, with_state, without, cell_numbered}
+use Rattle.cell_space.specs.Rising.{IsRising}
+use Rattle.cell_space.specs.Index.{held, attached_at, claimed, may_be, IsTaken, Grows, IsCellTaken, IsListed, IsWhole, hashes, name_hashes}
+use Rattle.cell_space.proofs.Changes.{All-with_cell, All-find}
+use Rattle.cell_space.proofs.Rising.{attached_there, numbered_there, same_number, itself, left, right}
+
+or_right : (b c : Bool) → c ≡ true → (b || c) ≡ true
+or_right true c e = refl
+or_right false c e = e
+
+or_left : (b c : Bool) → b ≡ true → (b || c) ≡ true
+or_left true c e = refl
+or_left false c e = absurd (cc e)
+
+pub grows_same : (cells : List SpaceCell) (n : ℕ) (f g : ℕ → ℕ → Option Holder) → ((m h : ℕ) → g m h ≡ f m h) → Grows cells n f g
+grows_same cells n f g e = record {
+  there = λ m h t. ap is_some (e m h) ∙ t;
+  answers = λ m h other speaks o. ap (may_be other) (e m h) ∙ o;
+}
+
+pub grows_more : (cells : List SpaceCell) (n : ℕ) (f g k : ℕ → ℕ → Option Holder) → Grows cells n f g → Grows cells n g k → Grows cells n f k
+grows_more cells n f g k a b = record {
+  there = λ m h t. b.there m h (a.there m h t);
+  answers = λ m h other speaks o. b.answers m h other speaks (a.answers m h other speaks o);
+}
+
+pub held_same : (old new : Index) → new.holders.entries ≡ old.holders.entries → (m h : ℕ) → held new m h ≡ held old m h
+held_same old new e m h = ap (λ es. lookup (λ k. nat_eq m k.0 && nat_eq h k.1) es) e
+
+module _ (cells : List SpaceCell) (n : ℕ) (attached : Bool) where
+  -- whether it is the cell itself, and whether the other one is attached
+  one_by : (a b : Bool) (e other : ℕ) → (other == n) ≡ a → (other == e) ≡ true → (e == n || b) ≡ true
+      → may_be e (Some (cond (a || not b) (One n) (cond attached Many (One other)))) ≡ true
+  one_by true b e other is own speaks = ap (λ m. m == e) (sym (same_number other n is)) ∙ own
+  one_by false true e other is own speaks = by attached
+    where
+      by : (c : Bool) → may_be e (Some (cond c Many (One other))) ≡ true
+      by true = refl
+      by false = own
+  one_by false false e other is own speaks = absurd (let on : (other == n) ≡ true = ap (λ m. m == n) (same_number other e own) ∙ only (e == n) speaks in cc (on, is))
+    where
+      only : (b : Bool) → (b || false) ≡ true → b ≡ true
+      only true h = refl
+      only false h = absurd (cc h)
+
+  open_claimed : (o : Option Holder) (e : ℕ) → (e == n || attached_at cells e) ≡ true → may_be e o ≡ true → may_be e (Some (claimed cells n attached o)) ≡ true
+  open_claimed None e speaks own = absurd (cc own)
+  open_claimed (Some Many) e speaks own = refl
+  open_claimed (Some (One other)) e speaks own =
+      one_by (other == n) (attached_at cells other) e other refl own (ap (λ m. e == n || attached_at cells m) (same_number other e own) ∙ speaks)
+
+  taken_by : (a b : Bool) (other : ℕ) → attached ≡ true → may_be n (Some (cond (a || not b) (One n) (cond attached Many (One other)))) ≡ true
+  taken_by true b other on = itself n
+  taken_by false true other on = ap (λ c. may_be n (Some (cond c Many (One other)))) on
+  taken_by false false other on = itself n
+
+  open_taken : (o : Option Holder) → attached ≡ true → may_be n (Some (claimed cells n attached o)) ≡ true
+  open_taken None on = itself n
+  open_taken (Some Many) on = refl
+  open_taken (Some (One other)) on = taken_by (other == n) (attached_at cells other) other on
+
+  pub taken_claimed : (o new : Option Holder) → new ≡ Some (claimed cells n attached o) → IsTaken n attached new
+  taken_claimed o new e = record { there = ap is_some e; answers = λ on. ap (may_be n) e ∙ open_taken o on }
+
+  module _ (f g : ℕ → ℕ → Option Holder) (ns hash : ℕ) where
+    there_by : (b : Bool) (m h : ℕ) → g m h ≡ cond b (Some (claimed cells n attached (f ns hash))) (f m h) → IsSome (f m h) → IsSome (g m h)
+    there_by true m h e t = ap is_some e
+    there_by false m h e t = ap is_some e ∙ t
+
+    open_by : (b : Bool) (m h e : ℕ) → (nat_eq ns m && nat_eq hash h) ≡ b → g m h ≡ cond b (Some (claimed cells n attached (f ns hash))) (f m h)
+        → (e == n || attached_at cells e) ≡ true → may_be e (f m h) ≡ true → may_be e (g m h) ≡ true
+    open_by true m h e is put speaks own =
+        ap (may_be e) put
+        ∙ open_claimed (f ns hash) e speaks
+        (ap (may_be e) (ap (λ a. f a hash) (same_number ns m (left (nat_eq ns m) (nat_eq hash h) is)) ∙ ap (f m) (same_number hash h (right (nat_eq ns m) (nat_eq hash h) is))) ∙ own)
+    open_by false m h e is put speaks own = ap (may_be e) put ∙ own
+
+    pub grows_claimed : ((m h : ℕ) → g m h ≡ cond (nat_eq ns m && nat_eq hash h) (Some (claimed cells n attached (f ns hash))) (f m h)) → Grows cells n f g
+    grows_claimed put = record {
+      there = λ m h t. there_by (nat_eq ns m && nat_eq hash h) m h (put m h) t;
+      answers = λ m h e speaks own. open_by (nat_eq ns m && nat_eq hash h) m h e refl (put m h) speaks own;
+    }
+
+    pub taken_put : ((m h : ℕ) → g m h ≡ cond (nat_eq ns m && nat_eq hash h) (Some (claimed cells n attached (f ns hash))) (f m h)) → IsTaken n attached (g ns hash)
+    taken_put put =
+        taken_claimed (f ns hash) (g ns hash)
+        (put ns hash ∙ ap (λ b. cond b (Some (claimed cells n attached (f ns hash))) (f ns hash)) (ap (λ b. b && nat_eq hash hash) (itself ns) ∙ itself hash))
+
+  -- the entry is put, or there is no memory and nothing changes
+  module _ (old new : Index) (ns hash : ℕ) (holder : Holder) (is : holder ≡ claimed cells n attached (held old ns hash)) where
+    abbrev Put : Type 0
+    Put = (m h : ℕ) → held new m h ≡ cond (nat_eq ns m && nat_eq hash h) (Some holder) (held old m h)
+
+    put_claimed : Put → (m h : ℕ) → held new m h ≡ cond (nat_eq ns m && nat_eq hash h) (Some (claimed cells n attached (held old ns hash))) (held old m h)
+    put_claimed put m h = put m h ∙ ap (λ x. cond (nat_eq ns m && nat_eq hash h) (Some x) (held old m h)) is
+
+    pub grows_put : {A E : Type 0} (r : Result A E) → OnOk r Put → OnErr r (new.holders.entries ≡ old.holders.entries) → Grows cells n (held old) (held new)
+    grows_put (Ok x) put unchanged = grows_claimed (held old) (held new) ns hash (put_claimed put)
+    grows_put (Err x) put unchanged = grows_same cells n (held old) (held new) (held_same old new unchanged)
+
+    pub taken_ok : {A E : Type 0} (r : Result A E) → OnOk r Put → OnOk r (IsTaken n attached (held new ns hash))
+    taken_ok (Ok x) put = taken_put (held old) (held new) ns hash (put_claimed put)
+    taken_ok (Err x) put = put
+
+  -- what is taken stays so
+  pub taken_more : (f g : ℕ → ℕ → Option Holder) (ns h : ℕ) → Grows cells n f g → IsTaken n attached (f ns h) → IsTaken n attached (g ns h)
+  taken_more f g ns h grows taken = record {
+    there = grows.there ns h taken.there;
+    answers = λ on. grows.answers ns h n (or_left (n == n) (attached_at cells n) (itself n)) (taken.answers on);
+  }
+
+module _ (cells : List SpaceCell) (rising : IsRising cells) where
+  listed_more : (n : ℕ) (f g : ℕ → ℕ → Option Holder) (c : SpaceCell) → (is_in Attached c ≡ true → attached_at cells c.cell.0 ≡ true) → Grows cells n f g → IsListed f c → IsListed g c
+  listed_more n f g c known grows listed = λ i h below.
+      let taken = listed i h below in
+      let hash = get_or (hashes c.stem c.names) i h in
+      record {
+        there = grows.there c.ns hash taken.there;
+        answers = λ on. grows.answers c.ns hash c.cell.0 (or_right (c.cell.0 == n) (attached_at cells c.cell.0) (known on)) (taken.answers on);
+      }
+
+  abbrev IsKnown : SpaceCell → Type 0
+  IsKnown c = is_in Attached c ≡ true → attached_at cells c.cell.0 ≡ true
+
+  all_known : All IsKnown cells
+  all_known = λ k d lt on. attached_there cells k d rising lt on
+
+  -- the cells that an index answers for, it answers for when it has grown
+  pub whole_more : (n : ℕ) (f g : ℕ → ℕ → Option Holder) → Grows cells n f g → IsWhole f cells → IsWhole g cells
+  whole_more n f g grows whole = record { each = λ k d lt. listed_more n f g (get_or cells k d) (all_known k d lt) grows (whole.each k d lt) }
+
+  -- one more of the cells is taken in
+  pub front_more : (n : ℕ) (f g : ℕ → ℕ → Option Holder) (i : ℕ) (d : SpaceCell) → i < length cells → Grows cells n f g → IsListed g (get_or cells i d) → All (IsListed f) (take i cells) → All (IsListed g) (take (i + 1) cells)
+  front_more n f g i d lt grows one front =
+      All-more (IsListed g) cells i d lt
+      (λ k e below. listed_more n f g (get_or (take i cells) k e) (All-take IsKnown i cells all_known k e below) grows (front k e below)) one
+
+  back_by : (f : ℕ → ℕ → Option Holder) (b : Bool) (c : SpaceCell) → (b ≡ true → IsCellTaken f true c) → IsListed f c → IsListed f (cond b (record c { state = Attached }) c)
+  back_by f true c again listed = again refl
+  back_by f false c again listed = listed
+
+  -- a cell comes back that the index answers for as attached
+  pub whole_back : (n : ℕ) (f : ℕ → ℕ → Option Holder) → ((c : SpaceCell) → cell_numbered cells n ≡ Some c → IsCellTaken f true c) → IsWhole f cells → IsWhole f (with_state Attached n cells)
+  whole_back n f again whole = record {
+    each =
+        All-map (IsListed f) (put_into Attached n) cells (λ k d lt.
+        let c = get_or cells k d in
+        back_by f (is_numbered n c) c (λ e. again c (numbered_there cells k d n rising lt e)) (whole.each k d lt));
+  }
+
+aside_by : (f : ℕ → ℕ → Option Holder) (b : Bool) (group : ℕ) (c : SpaceCell) → IsListed f c → IsListed f (cond b (record c { state = Detached group }) c)
+aside_by f true group c listed = λ i h below. record { there = (listed i h below).there; answers = λ on. absurd (cc on) }
+aside_by f false group c listed = listed
+
+pub whole_aside : (n group : ℕ) (f : ℕ → ℕ → Option Holder) (cells : List SpaceCell) → IsWhole f cells → IsWhole f (with_state (Detached group) n cells)
+whole_aside n group f cells whole = record {
+  each = All-map (IsListed f) (put_into (Detached group) n) cells (λ k d lt. aside_by f (is_numbered n (get_or cells k d)) group (get_or cells k d) (whole.each k d lt));
+}
+
+pub whole_with : (f : ℕ → ℕ → Option Holder) (c : SpaceCell) (cells : List SpaceCell) → IsListed f c → IsWhole f cells → IsWhole f (with_cell c cells)
+whole_with f c cells listed whole = record { each = All-with_cell (IsListed f) c cells listed whole.each }
+
+pub whole_without : (n : ℕ) (f : ℕ → ℕ → Option Holder) (cells : List SpaceCell) → IsWhole f cells → IsWhole f (without n cells)
+whole_without n f cells whole = record { each = All-filter (λ c. not (is_numbered n c)) (IsListed f) cells whole.each }
+
+-- a row at its place among the hashes
+at_mapped : (rows : List Alias) (i : ℕ) (row : Alias) → slice_get rows i ≡ Some row → slice_get (name_hashes rows) i ≡ Some (name_hash row.name)
+at_mapped [] i row e = absurd (cc e)
+at_mapped (a ∷ rows) zero row e = let same : a ≡ row = cc in ap (λ r. Some (name_hash r.name)) same
+at_mapped (a ∷ rows) (suc i) row e = at_mapped rows i row e
+
+module _ (P : ℕ → Type 0) (rows : List Alias) where
+  pub hashes_more : (i : ℕ) (row : Alias) → slice_get rows i ≡ Some row → All P (take i (name_hashes rows)) → P (name_hash row.name) → All P (take (i + 1) (name_hashes rows))
+  hashes_more i row at all one =
+      All-same P (take (i + 1) (name_hashes rows)) (take i (name_hashes rows) ++ name_hash row.name ∷ [])
+      (take_next (name_hashes rows) i (name_hash row.name) (at_mapped rows i row at))
+      (All-push P (take i (name_hashes rows)) (name_hash row.name) all one)
+
+  pub hashes_end : (i : ℕ) → length rows ≤ i → All P (take i (name_hashes rows)) → All P (name_hashes rows)
+  hashes_end i le all =
+      All-same P (name_hashes rows) (take i (name_hashes rows))
+      (sym (take_all i (name_hashes rows) (omega (arith, length-map rows (λ (a : Alias). name_hash a.name))))) all
+
+  pub hash_in : (i : ℕ) (row : Alias) → slice_get rows i ≡ Some row → All P (name_hashes rows) → P (name_hash row.name)
+  hash_in i row at all = by rows i row at all
+    where
+      by : (rs : List Alias) (j : ℕ) (r : Alias) → slice_get rs j ≡ Some r → All P (name_hashes rs) → P (name_hash r.name)
+      by [] j r e h = absurd (cc e)
+      by (a ∷ rs) zero r e h = let same : a ≡ r = cc in subst (λ (x : Alias). P (name_hash x.name)) same (All-head P (name_hash a.name) (name_hashes rs) h)
+      by (a ∷ rs) (suc j) r e h = by rs j r e (All-tail P (name_hash a.name) (name_hashes rs) h)
+
+module _ (cells : List SpaceCell) (n : ℕ) (f g : ℕ → ℕ → Option Holder) (ns : ℕ) (grows : Grows cells n f g) where
+  pub names_more : (attached : Bool) (rows : List Alias) (i : ℕ) (row : Alias) → slice_get rows i ≡ Some row → IsTaken n attached (g ns (name_hash row.name))
+      → All (λ h. IsTaken n attached (f ns h)) (take i (name_hashes rows)) → All (λ h. IsTaken n attached (g ns h)) (take (i + 1) (name_hashes rows))
+  names_more attached rows i row at one all =
+      hashes_more (λ h. IsTaken n attached (g ns h)) rows i row at
+      (All-weaker (λ h. IsTaken n attached (f ns h)) (λ h. IsTaken n attached (g ns h)) (λ h t. taken_more cells n attached f g ns h grows t) (take i (name_hashes rows)) all) one
+
+  -- the stem is taken in, and then the names
+  pub all_taken : (attached : Bool) (stem : List ℕ) (rows : List Alias) → IsTaken n attached (f ns (stem_hash stem)) → All (λ h. IsTaken n attached (g ns h)) (name_hashes rows) → All (λ h. IsTaken n attached (g ns h)) (hashes stem rows)
+  all_taken attached stem rows one all =
+      All-cons (λ h. IsTaken n attached (g ns h)) (stem_hash stem) (name_hashes rows) (taken_more cells n attached f g ns (stem_hash stem) grows one) all
+
+  -- there is room for the next name, or it is there
+  pub name_ready : (rows : List Alias) (i : ℕ) (row : Alias) (before now : ℕ) → slice_get rows i ≡ Some row → i < length rows → before ≤ now + i
+      → (length rows ≤ before) ⊎ All (λ h. IsSome (f ns h)) (name_hashes rows) → (0 < now) ⊎ IsSome (g ns (name_hash row.name))
+  name_ready rows i row before now at lt room (inl le) = inl (omega arith)
+  name_ready rows i row before now at lt room (inr all) = inr (grows.there ns (name_hash row.name) (hash_in (λ h. IsSome (f ns h)) rows i row at all))
+
+  pub names_ready : (stem : List ℕ) (rows : List Alias) (before now : ℕ) → before ≤ now + 1
+      → (length rows < before) ⊎ All (λ h. IsSome (f ns h)) (hashes stem rows) → (length rows ≤ now) ⊎ All (λ h. IsSome (g ns h)) (name_hashes rows)
+  names_ready stem rows before now room (inl lt) = inl (omega arith)
+  names_ready stem rows before now room (inr all) =
+      inr (All-weaker (λ h. IsSome (f ns h)) (λ h. IsSome (g ns h)) (λ h t. grows.there ns h t) (name_hashes rows) (All-tail (λ h. IsSome (f ns h)) (stem_hash stem) (name_hashes rows) all))
+
+pub stem_ready : (f : ℕ → ℕ → Option Holder) (ns : ℕ) (stem : List ℕ) (rows : List Alias) (before : ℕ)
+    → (length rows < before) ⊎ All (λ h. IsSome (f ns h)) (hashes stem rows) → (0 < before) ⊎ IsSome (f ns (stem_hash stem))
+stem_ready f ns stem rows before (inl lt) = inl (omega arith)
+stem_ready f ns stem rows before (inr all) = inr (All-head (λ h. IsSome (f ns h)) (stem_hash stem) (name_hashes rows) all)
+
+pub ok_more : {A E : Type 0} (r : Result A E) (P Q : Type 0) → (P → Q) → OnOk r P → OnOk r Q
+ok_more (Ok x) P Q more p = more p
+ok_more (Err e) P Q more p = p
+
+-- a cell that the index answers for has its hashes there
+pub again_ready : (f : ℕ → ℕ → Option Holder) (cells : List SpaceCell) (n : ℕ) (c : SpaceCell) → IsWhole f cells → cell_numbered cells n ≡ Some c → All (λ h. IsSome (f c.ns h)) (hashes c.stem c.names)
+again_ready f cells n c whole found =
+    let listed : IsListed f c = All-find (IsListed f) (is_numbered n) cells c whole.each found in
+    λ i h below. (listed i h below).there
+
+number_by : (b : Bool) (d c : SpaceCell) (n : ℕ) (rest : Option SpaceCell) → is_numbered n d ≡ b → (rest ≡ Some c → c.cell.0 ≡ n) → cond b (Some d) rest ≡ Some c → c.cell.0 ≡ n
+number_by true d c n rest is later e = let found : d ≡ c = cc in ap (λ (x : SpaceCell). x.cell.0) (sym found) ∙ same_number d.cell.0 n is
+number_by false d c n rest is later e = later e
+
+found_number : (cells : List SpaceCell) (n : ℕ) (c : SpaceCell) → cell_numbered cells n ≡ Some c → c.cell.0 ≡ n
+found_number [] n c e = absurd (cc e)
+found_number (d ∷ cells) n c e = number_by (is_numbered n d) d c n (cell_numbered cells n) refl (found_number cells n c) e
+
+pub again_taken : (g : ℕ → ℕ → Option Holder) (cells : List SpaceCell) (n : ℕ) (c : SpaceCell) (stem : List ℕ) → cell_numbered cells n ≡ Some c → stem ≡ c.stem
+    → All (λ h. IsTaken n true (g c.ns h)) (hashes stem c.names) → (d : SpaceCell) → cell_numbered cells n ≡ Some d → IsCellTaken g true d
+again_taken g cells n c stem found is all d other =
+    let same : c ≡ d = cc in
+    let OfStem : List ℕ → Type 0 = λ s. All (λ h. IsTaken n true (g c.ns h)) (hashes s c.names) in
+    let OfNumber : ℕ → Type 0 = λ m. All (λ h. IsTaken m true (g c.ns h)) (hashes c.stem c.names) in
+    subst (IsCellTaken g true) same (subst OfNumber (sym (found_number cells n c found)) (subst OfStem is all))

@@ -1,0 +1,67 @@
+-- The cells and their index after a change.
+use Rattle.std.proofs.Common.{◌≡◌, ℕ, ◌<◌, true, List, [], Some, None, length, sym, subst}
+use Rattle.std.specs.Prelude.{Option, not}
+use Rattle.std.proofs.lemmas.List.Elements.{All-nil}
+use Rattle.cell_world.specs.declared.state.Namespace.{Namespace}
+use Rattle.cell_space.specs.declared.cell.CellState.TheVariants.{Attached, Detached}
+use Rattle.cell_space.specs.declared.cell.SpaceCell.{SpaceCell}
+use Rattle.cell_space.specs.declared.index.Index.{Index}
+use Rattle.cell_space.specs.declared.index.Holder.{Holder}
+use Rattle.cell_space.specs.Named.{is_numbered, with_cell, with_state, without, cell_numbered}
+use Rattle.cell_space.specs.Rising.{IsRising}
+use Rattle.cell_space.specs.Index.{held, Grows, IsCellTaken, IsListed, IsWhole}
+use Rattle.cell_space.specs.Spaces.{AreSound, AreKept}
+use Rattle.cell_space.proofs.Changes.{sound-with_cell, sound-with_state, sound-without}
+use Rattle.cell_space.proofs.Rising.{rising-with_cell, rising-with_state, rising-filter}
+use Rattle.cell_space.proofs.Holding.{grows_same, held_same, whole_more, whole_with, whole_back, whole_aside, whole_without}
+
+module _ (spaces : List Namespace) (cells : List SpaceCell) (f : ℕ → ℕ → Option Holder) (kept : AreKept spaces cells f) where
+  pub kept_with : (g : ℕ → ℕ → Option Holder) (c : SpaceCell) → c.ns < length spaces → cell_numbered cells c.cell.0 ≡ None → Grows cells c.cell.0 f g → IsListed g c → AreKept spaces (with_cell c cells) g
+  kept_with g c there new grows listed = record {
+    sound = sound-with_cell spaces cells kept.sound c there;
+    rising = rising-with_cell c cells kept.rising new;
+    whole = whole_with g c cells listed (whole_more cells kept.rising c.cell.0 f g grows kept.whole);
+  }
+
+  pub kept_aside : (group n : ℕ) → AreKept spaces (with_state (Detached group) n cells) f
+  kept_aside group n = record {
+    sound = sound-with_state spaces cells kept.sound (Detached group) n;
+    rising = rising-with_state (Detached group) n cells kept.rising;
+    whole = whole_aside n group f cells kept.whole;
+  }
+
+  pub kept_back : (g : ℕ → ℕ → Option Holder) (n : ℕ) → Grows cells n f g → ((c : SpaceCell) → cell_numbered cells n ≡ Some c → IsCellTaken g true c) → AreKept spaces (with_state Attached n cells) g
+  kept_back g n grows again = record {
+    sound = sound-with_state spaces cells kept.sound Attached n;
+    rising = rising-with_state Attached n cells kept.rising;
+    whole = whole_back cells kept.rising n g again (whole_more cells kept.rising n f g grows kept.whole);
+  }
+
+  pub kept_without : (n : ℕ) → AreKept spaces (without n cells) f
+  kept_without n = record {
+    sound = sound-without spaces cells kept.sound n;
+    rising = rising-filter (λ c. not (is_numbered n c)) cells kept.rising;
+    whole = whole_without n f cells kept.whole;
+  }
+
+-- the index has room for more
+pub kept_entries : (spaces : List Namespace) (cells : List SpaceCell) (old new : Index) → new.holders.entries ≡ old.holders.entries → AreKept spaces cells (held old) → AreKept spaces cells (held new)
+kept_entries spaces cells old new same kept = record {
+  sound = kept.sound;
+  rising = kept.rising;
+  whole = whole_more cells kept.rising 0 (held old) (held new) (grows_same cells 0 (held old) (held new) (held_same old new same)) kept.whole;
+}
+
+-- there are no cells
+pub kept_none : (spaces : List Namespace) (f : ℕ → ℕ → Option Holder) → AreSound spaces [] → AreKept spaces [] f
+kept_none spaces f sound = record { sound = sound; rising = tt; whole = record { each = All-nil (IsListed f) } }
+
+-- equal cells, and an index of them
+pub kept_copy : (spaces other : List Namespace) (cells copies : List SpaceCell) (f g : ℕ → ℕ → Option Holder) → AreKept spaces cells f → other ≡ spaces → copies ≡ cells → IsWhole g copies → AreKept other copies g
+kept_copy spaces other cells copies f g kept same_spaces same_cells whole =
+    let Sound : List Namespace → Type 0 = λ s. AreSound s copies in
+    record {
+      sound = subst Sound (sym same_spaces) (subst (AreSound spaces) (sym same_cells) kept.sound);
+      rising = subst IsRising (sym same_cells) kept.rising;
+      whole = whole;
+    }

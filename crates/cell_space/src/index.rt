@@ -1,0 +1,215 @@
+//! Which cell may have a stem or a name, by namespace and hash, so that no look-up walks over the
+//! cells. An entry answers for the attached cells alone, and stays when its cell is put aside or
+//! goes: what is found is always asked whether it is right.
+
+ghost use Rattle.std.specs.Prelude.{◌≡◌, ◌<◌, ◌≤◌, ◌+◌, ◌⊎◌, ◌&&◌, ℕ, [], Some, true, nat_eq, length, All, IsOk, IsSome, IfOk, OnOk, OnErr, if◌then◌else◌};
+ghost use Rattle.indexmap.specs.IndexMap.{spare};
+ghost use Rattle.cell_space.specs.Rising.{IsRising};
+ghost use Rattle.cell_space.specs.Named.{cell_numbered as numbered};
+ghost use Rattle.cell_space.specs.Index.{held, claimed, attached_at, hashes, name_hashes, Grows, IsTaken, IsCellTaken, IsListed, IsWhole};
+
+use crate::cell::{CellState, SpaceCell};
+use crate::hash::{name_hash, stem_hash};
+use crate::lookup::cell_numbered;
+use crate::names::NameRows;
+use indexmap::IndexMap;
+use std::alloc::{AllocError, Global};
+
+/// Among the attached cells of a namespace only this one may have the hash, or any may.
+#[derive(Clone, Copy, Debug, PartialEq, Eq)]
+pub enum Holder {
+    One(u32),
+    Many,
+}
+
+/// The holders by namespace and hash.
+#[derive(Drop)]
+pub struct Index {
+    pub holders: IndexMap<(u16, u64), Holder>,
+}
+
+fn is_attached(cells: &[SpaceCell], number: u32) -> bool
+    requires { IsRising cells.now }
+    ensures { result ≡ attached_at cells.now number }
+{
+    match cell_numbered(cells, number) {
+        Some(cell) => cell.is_in(CellState::Attached),
+        None => false,
+    }
+}
+
+/// What is held once a cell has the hash too.
+fn claimed(cells: &[SpaceCell], cell: u32, attached: bool, now: Option<Holder>) -> Holder
+    requires { IsRising cells.now }
+    ensures { result ≡ claimed cells.now cell attached now }
+{
+    match now {
+        None => Holder::One(cell),
+        Some(Holder::Many) => Holder::Many,
+        Some(Holder::One(other)) => {
+            if other == cell || !is_attached(cells, other) {
+                Holder::One(cell)
+            } else if attached {
+                Holder::Many
+            } else {
+                Holder::One(other)
+            }
+        }
+    }
+}
+
+impl Index {
+    pub fn new(alloc: Global) -> Index
+        ensures { result.holders.entries ≡ [] }
+    {
+        Index {
+            holders: IndexMap::new(alloc),
+        }
+    }
+
+    /// What is held of the hash in the namespace.
+    pub fn get(&self, ns: u16, hash: u64) -> Option<Holder>
+        ensures { result ≡ held self.now ns hash }
+    {
+        self.holders.get(&(ns, hash)).copied()
+    }
+
+    /// Makes room for so many more hashes.
+    pub fn reserve(&mut self, more: usize) -> Result<(), AllocError>
+        ensures room { OnOk result (more ≤ spare self.new.holders) }
+        ensures same { self.new.holders.entries ≡ self.old.holders.entries }
+        ensures more { spare self.old.holders ≤ spare self.new.holders }
+    {
+        self.holders.reserve(more)
+    }
+
+    fn put(&mut self, ns: u16, hash: u64, holder: Holder) -> Result<(), AllocError>
+        ensures put { OnOk result ((m h : ℕ) → held self.new m h ≡ (if nat_eq ns m && nat_eq hash h then Some holder else held self.old m h)) }
+        ensures same { OnErr result (self.new.holders.entries ≡ self.old.holders.entries) }
+        ensures succeeds { (0 < spare self.old.holders) ⊎ IsSome (held self.old ns hash) → IsOk result }
+        ensures room { spare self.old.holders ≤ spare self.new.holders + 1 }
+    {
+        self.holders.insert((ns, hash), holder)?;
+        Ok(())
+    }
+
+    /// Takes a cell in that has the hash. The entries of the other attached cells stay right.
+    fn claim(
+        &mut self,
+        cells: &[SpaceCell],
+        ns: u16,
+        hash: u64,
+        cell: u32,
+        attached: bool,
+    ) -> Result<(), AllocError>
+        requires { IsRising cells.now }
+        ensures grows { Grows cells.now cell (held self.old) (held self.new) }
+        ensures taken { OnOk result (IsTaken cell attached (held self.new ns hash)) }
+        ensures succeeds { (0 < spare self.old.holders) ⊎ IsSome (held self.old ns hash) → IsOk result }
+        ensures room { spare self.old.holders ≤ spare self.new.holders + 1 }
+    {
+        let holder = claimed(cells, cell, attached, self.get(ns, hash));
+        self.put(ns, hash, holder)
+    }
+
+    /// Takes a cell in that has the names.
+    fn claim_names(
+        &mut self,
+        cells: &[SpaceCell],
+        ns: u16,
+        names: &NameRows,
+        cell: u32,
+        attached: bool,
+    ) -> Result<(), AllocError>
+        requires { IsRising cells.now }
+        ensures grows { Grows cells.now cell (held self.old) (held self.new) }
+        ensures taken { OnOk result (All (λ h. IsTaken cell attached (held self.new ns h)) (name_hashes names.now)) }
+        ensures succeeds { (length names.now ≤ spare self.old.holders) ⊎ All (λ h. IsSome (held self.old ns h)) (name_hashes names.now) → IsOk result }
+        ensures room { spare self.old.holders ≤ spare self.new.holders + length names.now }
+    {
+        for place in 0..names.len() {
+            let (name, _) = names.at(place);
+            self.claim(cells, ns, name_hash(name), cell, attached)?;
+        }
+        Ok(())
+    }
+
+    /// Takes a cell in that has the stem and the names.
+    pub fn claim_all(
+        &mut self,
+        cells: &[SpaceCell],
+        ns: u16,
+        stem: &[u8],
+        names: &NameRows,
+        cell: u32,
+        attached: bool,
+    ) -> Result<(), AllocError>
+        requires { IsRising cells.now }
+        ensures grows { Grows cells.now cell (held self.old) (held self.new) }
+        ensures taken { OnOk result (All (λ h. IsTaken cell attached (held self.new ns h)) (hashes stem.now names.now)) }
+        ensures succeeds { (length names.now < spare self.old.holders) ⊎ All (λ h. IsSome (held self.old ns h)) (hashes stem.now names.now) → IsOk result }
+        ensures room { spare self.old.holders ≤ spare self.new.holders + length names.now + 1 }
+    {
+        self.claim(cells, ns, stem_hash(stem), cell, attached)?;
+        self.claim_names(cells, ns, names, cell, attached)
+    }
+
+    /// Takes a cell in.
+    fn claim_cell(&mut self, cells: &[SpaceCell], cell: &SpaceCell) -> Result<(), AllocError>
+        requires { IsRising cells.now }
+        ensures grows { Grows cells.now cell.now.cell.0 (held self.old) (held self.new) }
+        ensures taken { OnOk result (IsListed (held self.new) cell.now) }
+    {
+        let attached = cell.is_in(CellState::Attached);
+        let stem = cell.stem.bytes();
+        self.claim_all(cells, cell.ns, stem, &cell.names, cell.cell.0, attached)
+    }
+
+    /// Takes an attached cell in where there is room for its stem and names, or all are held already. This takes no memory.
+    pub fn claim_reserved(
+        &mut self,
+        cells: &[SpaceCell],
+        ns: u16,
+        stem: &[u8],
+        names: &NameRows,
+        cell: u32,
+    )
+        requires rising { IsRising cells.now }
+        requires ready { (length names.now < spare self.old.holders) ⊎ All (λ h. IsSome (held self.old ns h)) (hashes stem.now names.now) }
+        ensures grows { Grows cells.now cell (held self.old) (held self.new) }
+        ensures taken { All (λ h. IsTaken cell true (held self.new ns h)) (hashes stem.now names.now) }
+        ensures room { spare self.old.holders ≤ spare self.new.holders + length names.now + 1 }
+    {
+        match self.claim_all(cells, ns, stem, names, cell, true) {
+            Ok(()) => {}
+            Err(_) => unreachable!(),
+        }
+    }
+}
+
+/// Takes the cell of a number in once more, which is put aside and comes back. This takes no memory,
+/// since its hashes are held still.
+pub fn claim_again(index: &mut Index, cells: &[SpaceCell], number: u32)
+    requires rising { IsRising cells.now }
+    requires whole { IsWhole (held index.old) cells.now }
+    ensures grows { Grows cells.now number (held index.old) (held index.new) }
+    ensures taken { (c : SpaceCell) → numbered cells.now number ≡ Some c → IsCellTaken (held index.new) true c }
+    ensures room { (c : SpaceCell) → numbered cells.now number ≡ Some c → spare index.old.holders ≤ spare index.new.holders + length c.names + 1 }
+{
+    if let Some(cell) = cell_numbered(cells, number) {
+        let stem = cell.stem.bytes();
+        index.claim_reserved(cells, cell.ns, stem, &cell.names, number);
+    }
+}
+
+/// The index of the cells.
+pub fn index_of(alloc: Global, cells: &[SpaceCell]) -> Result<Index, AllocError>
+    requires { IsRising cells.now }
+    ensures { IfOk result (λ index. IsWhole (held index) cells.now) }
+{
+    let mut index = Index::new(alloc);
+    for cell in cells {
+        index.claim_cell(cells, cell)?;
+    }
+    Ok(index)
+}
