@@ -1,0 +1,106 @@
+-- One line more behind those that are in their places.
+use Rattle.std.proofs.Common.{◌≡◌, ℕ, ◌+◌, ◌<◌, ◌≤◌, Bool, true, false, ◌||◌, List, [], ◌∷◌, ◌++◌, cond, Some, None, refl, sym, ap, subst, ◌∙◌, arith, append-nil, add-zero, zero-add}
+use Rattle.std.specs.Prelude.{Option, if◌then◌else◌, filter, filter_map, sum_by, count_by}
+use Rattle.std.specs.List.{list_any, cons_option}
+use Rattle.std.proofs.lemmas.List.Folds.{list_any-append}
+use Rattle.std.proofs.lemmas.List.Sums.{sum_by-append}
+use Rattle.std.proofs.lemmas.List.Elements.{filter-append, filter_map-append}
+use Rattle.cell_num.specs.Lists.{last, or_else, equals}
+use Rattle.cell_asm.specs.declared.statement.Part.{Part}
+use Rattle.cell_asm.specs.declared.statement.Part.TheVariants.{Text, Rodata, Data, Bss}
+use Rattle.cell_asm.specs.declared.statement.Line.{Line}
+use Rattle.cell_asm.specs.declared.laid.Laid.{Laid}
+use Rattle.cell_asm.specs.declared.place.Progress.{Progress}
+use Rattle.cell_asm.specs.declared.kind.AsmKind.{AsmKind}
+use Rattle.cell_asm.specs.Named.{is_named}
+use Rattle.cell_asm.specs.Places.{is_same_part, is_at, is_in, choice, choices, taken, size_in, size_at, makes_label, made_in, has_own, is_label, is_twice, placed, fault_at, fault_by}
+use Rattle.cell_asm.specs.Progress.{size_of, size_chosen, offset_of, twice_of, fault_after, laid_after, Adds, Follows}
+
+size_is : (p : Progress) (before : List Laid) (part : Option Part) → Follows p before → size_chosen p.sizes part ≡ size_at part before
+size_is p before None h = refl
+size_is p before (Some part) h = h.sizes part
+
+pub offset_is : (p : Progress) (before : List Laid) → Follows p before → offset_of p ≡ size_at (last (choices before)) before
+offset_is p before h = ap (size_chosen p.sizes) h.chosen ∙ size_is p before (last (choices before)) h
+
+twice_is : (p : Progress) (before : List Laid) (name : Option (List ℕ)) → Follows p before → twice_of p name ≡ is_twice before name
+twice_is p before None h = refl
+twice_is p before (Some name) h = h.names name
+
+pub fault_is : (p : Progress) (before : List Laid) (line : Line) → Follows p before → fault_after p line ≡ fault_at before line
+fault_is p before line h = rw (offset_is p before h, twice_is p before line.label h, h.chosen) refl
+
+pub laid_is : (p : Progress) (before : List Laid) (n : ℕ) (line : Line) → Follows p before → laid_after p n line ≡ placed before n line
+laid_is p before n line h = rw (offset_is p before h, h.made, h.chosen) refl
+
+last_push : {X : Type 0} (xs : List X) (x : X) → last (xs ++ x ∷ []) ≡ Some x
+last_push [] x = refl
+last_push (y ∷ []) x = refl
+last_push (y ∷ z ∷ zs) x = last_push (z ∷ zs) x
+
+last_more : {X : Type 0} (xs : List X) (o : Option X) → last (xs ++ cons_option o []) ≡ or_else o (last xs)
+last_more xs None = ap last (append-nil xs)
+last_more xs (Some x) = last_push xs x
+
+chosen_more : (before : List Laid) (l : Laid) → last (choices (before ++ l ∷ [])) ≡ or_else (choice l.line.statement) (last (choices before))
+chosen_more before l =
+    ap last (filter_map-append (λ m. choice m.line.statement) before (l ∷ [])) ∙ last_more (choices before) (choice l.line.statement)
+
+one_size : (part : Part) (l : Laid) (b : Bool) → sum_by (λ m. taken m.line.statement m.offset) (cond b (l ∷ []) []) ≡ (if b then taken l.line.statement l.offset else 0)
+one_size part l true = zero-add (taken l.line.statement l.offset)
+one_size part l false = refl
+
+size_more : (part : Part) (before : List Laid) (l : Laid) → size_in part (before ++ l ∷ []) ≡ size_in part before + (if is_in part l then taken l.line.statement l.offset else 0)
+size_more part before l =
+    ap (sum_by (λ m. taken m.line.statement m.offset)) (filter-append (is_in part) before (l ∷ []))
+    ∙ sum_by-append (λ m. taken m.line.statement m.offset) (filter (is_in part) before) (filter (is_in part) (l ∷ []))
+    ∙ ap (λ n. size_in part before + n) (one_size part l (is_in part l))
+
+made_more : (before : List Laid) (l : Laid) → made_in (before ++ l ∷ []) ≡ made_in before + (if makes_label l.line.statement then 1 else 0)
+made_more before l =
+    sum_by-append (λ m. cond (makes_label m.line.statement) 1 0) before (l ∷ []) ∙ ap (λ n. made_in before + n) (zero-add (cond (makes_label l.line.statement) 1 0))
+
+turned : (a b : Bool) → (a || (b || false)) ≡ (b || a)
+turned true true = refl
+turned true false = refl
+turned false true = refl
+turned false false = refl
+
+own_more : (q : List ℕ) (before : List Laid) (l : Laid) → list_any (has_own q) (before ++ l ∷ []) ≡ (has_own q l || list_any (has_own q) before)
+own_more q before l = list_any-append (has_own q) before (l ∷ []) ∙ turned (list_any (has_own q) before) (has_own q l)
+
+same_part : (p q : Part) → is_same_part p q ≡ true → p ≡ q
+same_part Text Text e = refl
+same_part Text Rodata e = absurd cc
+same_part Text Data e = absurd cc
+same_part Text Bss e = absurd cc
+same_part Rodata Text e = absurd cc
+same_part Rodata Rodata e = refl
+same_part Rodata Data e = absurd cc
+same_part Rodata Bss e = absurd cc
+same_part Data Text e = absurd cc
+same_part Data Rodata e = absurd cc
+same_part Data Data e = refl
+same_part Data Bss e = absurd cc
+same_part Bss Text e = absurd cc
+same_part Bss Rodata e = absurd cc
+same_part Bss Data e = absurd cc
+same_part Bss Bss e = refl
+
+-- where a line stands in a section, its offset is the section's size
+stands_at : (part : Part) (before : List Laid) (o : Option Part) → is_at part o ≡ true → size_at o before ≡ size_in part before
+stands_at part before None e = absurd cc
+stands_at part before (Some other) e = ap (λ p. size_in p before) (sym (same_part part other e))
+
+joined : (part : Part) (before : List Laid) (l : Laid) (b : Bool) (was : ℕ) → is_in part l ≡ b → l.offset ≡ size_at l.part before → was ≡ size_in part before
+    → (if b then l.offset + taken l.line.statement l.offset else was) ≡ size_in part before + (if b then taken l.line.statement l.offset else 0)
+joined part before l true was e at w = ap (λ n. n + taken l.line.statement l.offset) (at ∙ stands_at part before l.part e)
+joined part before l false was e at w = w ∙ sym (add-zero (size_in part before))
+
+pub follows_more : (p q : Progress) (before : List Laid) (l : Laid) → Follows p before → l.offset ≡ size_at l.part before → Adds p q l → Follows q (before ++ l ∷ [])
+follows_more p q before l h at a = record {
+  chosen = a.chosen ∙ ap (or_else (choice l.line.statement)) h.chosen ∙ sym (chosen_more before l);
+  sizes = λ part. a.sizes part ∙ joined part before l (is_in part l) (size_of p.sizes part) refl at (h.sizes part) ∙ sym (size_more part before l);
+  made = a.made ∙ ap (λ n. n + (if makes_label l.line.statement then 1 else 0)) h.made ∙ sym (made_more before l);
+  names = λ name. a.names name ∙ ap (λ b. has_own name l || b) (h.names name) ∙ sym (own_more name before l);
+}

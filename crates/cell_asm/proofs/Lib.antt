@@ -1,0 +1,19 @@
+pub mod Ends
+pub mod Positions
+pub mod Digits
+pub mod Tables
+pub mod Shapes
+pub mod Each
+pub mod LineLemmas
+pub mod NameLemmas
+pub mod SectionLemmas
+pub mod LabelLemmas
+pub mod Follow
+pub mod SourceLemmas
+pub mod KeyMaps
+pub mod KeyPlaces
+pub mod Mentioned
+pub mod Listing
+pub mod PartCounts
+pub mod Entered
+mod Rows

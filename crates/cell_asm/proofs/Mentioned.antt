@@ -1,0 +1,211 @@
+-- The names of symbols, as they are mentioned one after the other.
+use Rattle.std.proofs.Common.{◌≡◌, ℕ, ◌+◌, ◌<◌, Bool, true, false, ◌||◌, not, List, [], ◌∷◌, ◌++◌, cond, length, take, get_or, map, Some, None, refl, sym, ap, subst, ◌∙◌, append-nil}
+use Rattle.std.specs.Prelude.{Option, option_map, if◌then◌else◌, filter, filter_map, flat_map, fold, find}
+use Rattle.std.specs.Option.{option_map_or, unwrap_or}
+use Rattle.std.specs.List.{list_any, cons_option}
+use Rattle.std.specs.Str.{bytes_eq}
+use Rattle.std.proofs.lemmas.List.{take_more, map-append}
+use Rattle.std.proofs.lemmas.List.Folds.{list_any-append}
+use Rattle.std.proofs.lemmas.List.Sums.{fold-append}
+use Rattle.std.proofs.lemmas.List.Elements.{filter-append, filter_map-append}
+use Rattle.cell_num.specs.Lists.{equals, holds_name}
+use Rattle.cell_object.specs.declared.object.Symbol.{Symbol}
+use Rattle.cell_object.specs.declared.object.Bind.TheVariants.{Local}
+use Rattle.cell_object.specs.declared.object.Home.TheVariants.{Inside}
+use Rattle.cell_asm.specs.declared.statement.Part.{Part}
+use Rattle.cell_asm.specs.declared.statement.Statement.{Statement}
+use Rattle.cell_asm.specs.declared.statement.Statement.TheVariants.{Nothing, Choose, Global, Zeros, Align, Bytes}
+use Rattle.cell_asm.specs.declared.laid.Laid.{Laid}
+use Rattle.cell_asm.specs.declared.laid.Label.{Label}
+use Rattle.cell_asm.specs.declared.laid.Key.{Key}
+use Rattle.cell_asm.specs.declared.laid.Key.TheVariants.{Named, Made}
+use Rattle.cell_asm.specs.declared.names_taken.Names.{Names}
+use Rattle.cell_asm.specs.declared.spot.Spots.{Spots}
+use Rattle.cell_asm.specs.declared.symbol.Symbols.{Symbols}
+use Rattle.cell_asm.specs.Named.{is_named}
+use Rattle.cell_asm.specs.Places.{labels}
+use Rattle.cell_asm.specs.Objects.{is_key, is_global, globals, global_name, local_labels, holds_key, adds_name, other_names, mentions, parts_of, home_at, label_named, number_in, symbol, global_symbol, local_symbol, symbols, symbol_keys, symbol_number}
+use Rattle.cell_asm.specs.Numberings.{number_of, place_among, has_key, keys_with, mentioned, spot_of, spot_at, spot_among, home_in, other_in, local_in, Lists, Mentions}
+use Rattle.cell_asm.specs.Making.{declares, is_global_in, locals_in, Locals, Numbered}
+use Rattle.cell_asm.proofs.KeyMaps.{turned}
+use Rattle.cell_asm.proofs.KeyPlaces.{number_is}
+
+-- THE NAMES THAT A DIRECTIVE MAKES GLOBAL
+
+or_false : (b : Bool) → (b || false) ≡ b
+or_false true = refl
+or_false false = refl
+
+declared : (q : List ℕ) (s : Statement) → list_any (λ other. equals other q) (cons_option (global_name s) []) ≡ declares q s
+declared q Nothing = refl
+declared q (Choose part) = refl
+declared q (Global name) = or_false (bytes_eq name q) ∙ turned name q
+declared q (Zeros n) = refl
+declared q (Align unit) = refl
+declared q (Bytes content pieces) = refl
+
+swapped : (a b : Bool) → (a || b) ≡ (b || a)
+swapped true true = refl
+swapped true false = refl
+swapped false true = refl
+swapped false false = refl
+
+-- one line more
+pub globals_more : (lines : List Laid) (i : ℕ) (d : Laid) (q : List ℕ) → i < length lines
+    → holds_name (globals (take (i + 1) lines)) q ≡ (declares q (get_or lines i d).line.statement || holds_name (globals (take i lines)) q)
+globals_more lines i d q lt =
+    let s = (get_or lines i d).line.statement in
+    ap (λ ls. holds_name (globals ls) q) (take_more lines i d lt)
+    ∙ ap (λ names. holds_name names q) (filter_map-append (λ l. global_name l.line.statement) (take i lines) (get_or lines i d ∷ []))
+    ∙ list_any-append (λ other. equals other q) (globals (take i lines)) (cons_option (global_name s) [])
+    ∙ ap (λ b. holds_name (globals (take i lines)) q || b) (declared q s)
+    ∙ swapped (holds_name (globals (take i lines)) q) (declares q s)
+
+-- LOCAL LABELS
+
+filter_same : {X : Type 0} (p q : X → Bool) (xs : List X) → ((x : X) → p x ≡ q x) → filter p xs ≡ filter q xs
+filter_same p q [] same = refl
+filter_same p q (x ∷ xs) same = ap (λ b. cond b (x ∷ filter p xs) (filter p xs)) (same x) ∙ ap (λ ys. cond (q x) (x ∷ ys) ys) (filter_same p q xs same)
+
+global_same : (names : Names) (lines : List Laid) (key : Key) → ((q : List ℕ) → is_named names q ≡ holds_name (globals lines) q) → is_global_in names key ≡ is_global (globals lines) key
+global_same names lines (Named name) same = same name
+global_same names lines (Made n) same = refl
+
+pub locals_are : (names : Names) (lines : List Laid) → ((q : List ℕ) → is_named names q ≡ holds_name (globals lines) q) → locals_in names (labels lines) ≡ local_labels lines
+locals_are names lines same =
+    filter_same (λ l. not (is_global_in names l.key)) (λ l. not (is_global (globals lines) l.key)) (labels lines) (λ l. ap not (global_same names lines l.key same))
+
+one_left : (before : List Label) (l : Label) (global : Bool) (e : Bool) → global ≡ e → before ++ cond (not global) (l ∷ []) [] ≡ (if e then before else before ++ l ∷ [])
+one_left before l global true e = ap (λ b. before ++ cond (not b) (l ∷ []) []) e ∙ append-nil before
+one_left before l global false e = ap (λ b. before ++ cond (not b) (l ∷ []) []) e
+
+locals_more : (names : Names) (before : List Label) (l : Label) (e : Bool) → is_global_in names l.key ≡ e
+    → locals_in names (before ++ l ∷ []) ≡ (if e then locals_in names before else locals_in names before ++ l ∷ [])
+locals_more names before l e global =
+    filter-append (λ m. not (is_global_in names m.key)) before (l ∷ []) ∙ one_left (locals_in names before) l (is_global_in names l.key) e global
+
+not_true : (b : Bool) → not b ≡ true → b ≡ false
+not_true true e = cc
+not_true false e = refl
+
+not_false : (b : Bool) → not b ≡ false → b ≡ true
+not_false true e = refl
+not_false false e = cc
+
+-- a label that is GLOBAL
+pub local_same : (s : Symbols) (parts : List Part) (names : Names) (before : List Label) (l : Label) → not (is_global_in names l.key) ≡ false
+    → Locals s parts names before → Locals s parts names (before ++ l ∷ [])
+local_same s parts names before l e h =
+    subst (λ ls. Lists s (map (λ m. m.key) ls) (map (local_in parts) ls)) (sym (locals_more names before l true (not_false (is_global_in names l.key) e))) h
+
+-- a LOCAL label
+pub local_added : (s : Symbols) (parts : List Part) (names : Names) (before : List Label) (l : Label) (number : ℕ) → not (is_global_in names l.key) ≡ true → number ≡ number_in parts l.part
+    → Lists s (map (λ m. m.key) (locals_in names before) ++ l.key ∷ []) (map (local_in parts) (locals_in names before) ++ symbol l.key Local (Inside number) l.offset ∷ [])
+    → Locals s parts names (before ++ l ∷ [])
+local_added s parts names before l number e is h =
+    subst (λ ls. Lists s (map (λ m. m.key) ls) (map (local_in parts) ls)) (sym (locals_more names before l false (not_true (is_global_in names l.key) e)))
+    (subst (λ ks. Lists s ks (map (local_in parts) (locals_in names before ++ l ∷ []))) (sym (map-append (λ m. m.key) (locals_in names before) (l ∷ [])))
+    (subst (λ ss. Lists s (map (λ m. m.key) (locals_in names before) ++ l.key ∷ []) ss)
+    (ap (λ n. map (local_in parts) (locals_in names before) ++ symbol l.key Local (Inside n) l.offset ∷ []) is ∙ sym (map-append (local_in parts) (locals_in names before) (l ∷ []))) h))
+
+-- the same labels
+pub same_labels : (s : Symbols) (parts : List Part) (names : Names) (ls ms : List Label) → ls ≡ ms → Locals s parts names ls → Locals s parts names ms
+same_labels s parts names ls ms e h = subst (λ xs. Locals s parts names xs) e h
+
+-- OTHER NAMES
+
+any_map : {X Y : Type 0} (p : Y → Bool) (f : X → Y) (xs : List X) → list_any p (map f xs) ≡ list_any (λ x. p (f x)) xs
+any_map p f [] = refl
+any_map p f (x ∷ xs) = ap (λ b. p (f x) || b) (any_map p f xs)
+
+key_there : (locals : List Label) (names : List (List ℕ)) (name : List ℕ)
+    → has_key (keys_with (map (λ l. l.key) locals) names) (Named name) ≡ (holds_key locals (Named name) || holds_name names name)
+key_there locals names name =
+    list_any-append (λ k. is_key k (Named name)) (map (λ l. l.key) locals) (map (λ n. Named n) names)
+    ∙ ap (λ b. b || list_any (λ k. is_key k (Named name)) (map (λ n. Named n) names)) (any_map (λ k. is_key k (Named name)) (λ l. l.key) locals)
+    ∙ ap (λ b. holds_key locals (Named name) || b) (any_map (λ k. is_key k (Named name)) (λ n. Named n) names)
+
+by_test : {X : Type 0} (a b : Bool) (old new : X) → (if (a || b) then old else new) ≡ (if not a then (if b then old else new) else old)
+by_test true b old new = refl
+by_test false b old new = refl
+
+mentioned_is : (locals : List Label) (names : List (List ℕ)) (name : List ℕ)
+    → mentioned (map (λ l. l.key) locals) names name ≡ (if not (holds_key locals (Named name)) then adds_name names name else names)
+mentioned_is locals names name =
+    ap (λ b. if b then names else names ++ name ∷ []) (key_there locals names name)
+    ∙ by_test (holds_key locals (Named name)) (holds_name names name) names (names ++ name ∷ [])
+
+filter_step : {A B : Type 0} (f g : B → A → B) (p : A → Bool) (b : B) (x : A) (xs : List A) (t : Bool) → ((c : B) → fold f c (filter p xs) ≡ fold g c xs)
+    → fold f b (cond t (x ∷ filter p xs) (filter p xs)) ≡ fold g (if t then f b x else b) xs
+filter_step f g p b x xs true rest = rest (f b x)
+filter_step f g p b x xs false rest = rest b
+
+fold_filter : {A B : Type 0} (f : B → A → B) (p : A → Bool) (b : B) (xs : List A) → fold f b (filter p xs) ≡ fold (λ c x. if p x then f c x else c) b xs
+fold_filter f p b [] = refl
+fold_filter f p b (x ∷ xs) = filter_step f (λ c y. if p y then f c y else c) p b x xs (p x) (λ c. fold_filter f p c xs)
+
+fold_same : {A B : Type 0} (f g : B → A → B) (b : B) (xs : List A) → ((c : B) (x : A) → f c x ≡ g c x) → fold f b xs ≡ fold g b xs
+fold_same f g b [] same = refl
+fold_same f g b (x ∷ xs) same = ap (λ c. fold f c xs) (same b x) ∙ fold_same f g (g b x) xs same
+
+pub others_are : (lines : List Laid) → fold (mentioned (map (λ l. l.key) (local_labels lines))) [] (mentions lines) ≡ other_names lines
+others_are lines =
+    let locals = local_labels lines in
+    fold_same (mentioned (map (λ l. l.key) locals)) (λ names name. if not (holds_key locals (Named name)) then adds_name names name else names) [] (mentions lines) (mentioned_is locals)
+    ∙ sym (fold_filter adds_name (λ name. not (holds_key locals (Named name))) [] (mentions lines))
+
+-- THE SYMBOLS
+
+home_is : (lines : List Laid) (o : Option Label) → home_in (parts_of lines) (option_map spot_at o) ≡ home_at lines o
+home_is lines None = refl
+home_is lines (Some l) = refl
+
+offset_is : (o : Option Label) → option_map_or (λ s. s.offset) (option_map spot_at o) 0 ≡ option_map_or (λ l. l.offset) o 0
+offset_is None = refl
+offset_is (Some l) = refl
+
+map_same : {X Y : Type 0} (f g : X → Y) (xs : List X) → ((x : X) → f x ≡ g x) → map f xs ≡ map g xs
+map_same f g [] same = refl
+map_same f g (x ∷ xs) same = ap (λ y. y ∷ map f xs) (same x) ∙ ap (λ ys. g x ∷ ys) (map_same f g xs same)
+
+other_is : (lines : List Laid) (spots : Spots) (name : List ℕ) → spot_of spots name ≡ spot_among (labels lines) name → other_in (parts_of lines) spots name ≡ global_symbol lines name
+other_is lines spots name e = rw (e, home_is lines (label_named lines name), offset_is (label_named lines name)) refl
+
+pub symbols_are : (lines : List Laid) (spots : Spots) → ((q : List ℕ) → spot_of spots q ≡ spot_among (labels lines) q)
+    → map (local_in (parts_of lines)) (local_labels lines) ++ map (other_in (parts_of lines) spots) (other_names lines) ≡ symbols lines
+symbols_are lines spots e =
+    ap (λ ss. map (local_symbol lines) (local_labels lines) ++ ss) (map_same (other_in (parts_of lines) spots) (global_symbol lines) (other_names lines) (λ name. other_is lines spots name (e name)))
+
+pub numbered_by : (lines : List Laid) (s : Symbols) → ((key : Key) → number_of s.numbers key ≡ place_among (symbol_keys lines) key) → Numbered s lines
+numbered_by lines s e = λ key. ap (λ o. unwrap_or o 0) (e key) ∙ number_is _
+
+-- none is mentioned yet
+pub none_yet : (s : Symbols) (parts : List Part) (spots : Spots) (keys : List Key) (list : List Symbol) → Lists s keys list → Mentions s parts spots keys list []
+none_yet s parts spots keys list h =
+    subst (λ ks. Lists s ks (list ++ [])) (sym (append-nil keys)) (subst (λ ss. Lists s keys ss) (sym (append-nil list)) h)
+
+-- the symbols of the LOCAL labels and those of the names that the lines mention
+abbrev Whole : Symbols → List Laid → List Part → Spots → List Label → Type 0
+Whole s lines parts spots locals =
+    Mentions s parts spots (map (λ l. l.key) locals) (map (local_in parts) locals) (fold (mentioned (map (λ l. l.key) locals)) [] (mentions lines))
+
+whole_is : (s : Symbols) (lines : List Laid) (parts : List Part) (found : List Label) (names : Names) (spots : Spots) → parts ≡ parts_of lines → found ≡ labels lines
+    → ((q : List ℕ) → is_named names q ≡ holds_name (globals lines) q) → Whole s lines parts spots (locals_in names found)
+    → Mentions s (parts_of lines) spots (map (λ l. l.key) (local_labels lines)) (map (local_in (parts_of lines)) (local_labels lines)) (other_names lines)
+whole_is s lines parts found names spots chosen labelled named h =
+    subst (λ ns. Mentions s (parts_of lines) spots (map (λ l. l.key) (local_labels lines)) (map (local_in (parts_of lines)) (local_labels lines)) ns) (others_are lines)
+    (subst (λ locals. Whole s lines (parts_of lines) spots locals) (ap (locals_in names) labelled ∙ locals_are names lines named)
+    (subst (λ ps. Whole s lines ps spots (locals_in names found)) chosen h))
+
+pub list_is : (s : Symbols) (lines : List Laid) (parts : List Part) (found : List Label) (names : Names) (spots : Spots) → parts ≡ parts_of lines → found ≡ labels lines
+    → ((q : List ℕ) → is_named names q ≡ holds_name (globals lines) q) → ((q : List ℕ) → spot_of spots q ≡ spot_among found q)
+    → Whole s lines parts spots (locals_in names found) → s.list.items ≡ symbols lines
+list_is s lines parts found names spots chosen labelled named spotted h =
+    let whole = whole_is s lines parts found names spots chosen labelled named h in
+    whole.list ∙ symbols_are lines spots (λ q. spotted q ∙ ap (λ ls. spot_among ls q) labelled)
+
+pub numbers_are : (s : Symbols) (lines : List Laid) (parts : List Part) (found : List Label) (names : Names) (spots : Spots) → parts ≡ parts_of lines → found ≡ labels lines
+    → ((q : List ℕ) → is_named names q ≡ holds_name (globals lines) q)
+    → Whole s lines parts spots (locals_in names found) → Numbered s lines
+numbers_are s lines parts found names spots chosen labelled named h =
+    numbered_by lines s (whole_is s lines parts found names spots chosen labelled named h).numbers

@@ -1,0 +1,15 @@
+use Rattle.std.proofs.Common.{ℕ, ℤ, List, pos, ap, ◌∙◌}
+use Rattle.cell_num.specs.declared.kinds.RelKind.TheVariants.{Lo12I, PcrelLo12I, Lo12S, PcrelLo12S, Branch}
+use Rattle.cell_isa.specs.declared.insn.Op.{Op}
+use Rattle.cell_asm.specs.declared.statement.Field.{Field}
+use Rattle.cell_asm.specs.declared.statement.Pieces.{Pieces}
+use Rattle.cell_asm.specs.Instructions.{wanted, register, name, number_from, low_operand, memory, plain, under, refers, single}
+use Rattle.cell_asm.proofs.Shapes.{two_is, three_is, two_fault, two_value, three_fault, three_value}
+use Rattle.cell_asm.proofs.instruction.branch.Goals as goal
+
+abbrev make : Op → ℕ → ℕ → List ℕ → Pieces
+make op rs1 rs2 n = single op 0 rs1 rs2 (under Branch (refers n (pos 0)))
+
+pub returns-in-Err : goal.returns-in-Err
+returns-in-Err c =
+    three_fault (make c.args.op) c.in-Err.kind c.both-3.result _ (three_is register register name (make c.args.op) c.args.operands.now c.exactly.result c.register-rs1.result c.register-rs2.result c.name-target.result c.both.result c.both-2.result c.both-3.result c.exactly.ensures (c.register-rs1.ensures.number ∙ ap (wanted register) c.operand_at.ensures) (c.register-rs2.ensures.number ∙ ap (wanted register) c.operand_at-2.ensures) (c.name-target.ensures ∙ ap (wanted name) c.operand_at-3.ensures) c.both.ensures c.both-2.ensures c.both-3.ensures) c.in-Err.is

@@ -1,0 +1,8 @@
+use Rattle.std.proofs.Common.{◌≡◌, ◌+◌, take, not}
+use Rattle.std.specs.List.{suffix_len}
+use Rattle.cell_asm.specs.Lines.{is_blank}
+use Rattle.cell_asm.proofs.line.end_of_ink.Given as goal
+
+-- the bytes since then pass
+abbrev pub invariant-loop-i : goal.invariant-loop-i
+invariant-loop-i l = l.end + suffix_len (λ b. is_blank b) (take l.i l.text) ≡ l.i

@@ -1,0 +1,12 @@
+use Rattle.std.proofs.Common.{refl, ◌∙◌, subst, sym, ◌<◌}
+use Rattle.std.specs.Prelude.{IfSome, bytes_eq}
+use Rattle.cell_asm.specs.Names.{register_names}
+use Rattle.cell_asm.proofs.Positions.{position-below}
+use Rattle.cell_asm.proofs.names.named_register.Goals as goal
+
+pub returns-clause-place : goal.returns-clause-place
+returns-clause-place c = c.place_in.ensures ∙ refl
+
+pub returns-clause-small : goal.returns-clause-small
+returns-clause-small c =
+    subst (λ r. IfSome r (λ i. i < 32)) (sym (c.place_in.ensures ∙ refl)) (position-below (λ name. bytes_eq c.args.text.now name) register_names)

@@ -1,0 +1,13 @@
+use Rattle.std.proofs.Common.{◌≡◌, None, ap, ◌∙◌, rules, is_eq, nat_cmp}
+use Rattle.std.specs.Map.{lookup}
+use Rattle.std.specs.Cmp.Lexicographic.{slice_cmp}
+use Rattle.cell_asm.specs.declared.laid.Key.TheVariants.{Named}
+use Rattle.cell_asm.specs.Numberings.{number_of}
+use Rattle.cell_asm.proofs.KeyMaps.{insert_name}
+use Rattle.cell_asm.proofs.numbering.Numbering.add_name.Goals as goal
+
+pub returns-in_ok-insert-clause-names : goal.returns-in_ok-insert-clause-names
+returns-in_ok-insert-clause-names c = λ q.
+    let absent : number_of c.args.self.now (Named c.args.name.now) ≡ None = search rules in
+    ap (lookup (λ k. is_eq (slice_cmp nat_cmp q k.now))) c.in_ok-insert.ensures.entries
+    ∙ insert_name q (λ k. k.now) c.args.name c.args.number c.args.self.now.named.entries absent

@@ -1,0 +1,8 @@
+use Rattle.std.proofs.Common.{◌≡◌, ◌+◌, take, not}
+use Rattle.std.specs.List.{suffix_len}
+use Rattle.cell_asm.specs.Operands.{is_open}
+use Rattle.cell_asm.proofs.operand.after_open.Given as goal
+
+-- the bytes since then pass
+abbrev pub invariant-loop-i : goal.invariant-loop-i
+invariant-loop-i l = l.after + suffix_len (λ b. not (is_open b)) (take l.i l.text) ≡ l.i

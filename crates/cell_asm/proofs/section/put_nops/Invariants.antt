@@ -1,0 +1,8 @@
+use Rattle.std.proofs.Common.{◌≡◌, ◌++◌, ◌-◌, replicate}
+use Rattle.std.specs.Prelude.{flat_map}
+use Rattle.cell_num.specs.Bits.{bytes_of}
+use Rattle.cell_asm.proofs.section.put_nops.Given as goal
+
+-- the bytes so far
+abbrev pub invariant-loop : goal.invariant-loop
+invariant-loop l = l.bytes.items ≡ l.initial.bytes.items ++ flat_map (λ word. bytes_of 4 word) (replicate l.counter 0x13)

@@ -1,0 +1,35 @@
+-- Several faults at once: the earlier of the order Word, Operand, Range, Section, Twice, Long is the answer.
+--     earlier j k           the earlier of two faults
+--     both a b              the two values, or the earlier fault
+--     each xs               all values, or the earliest fault
+use Rattle.std.specs.Prelude.{ℕ, nat_le, List, [], ◌∷◌, if◌then◌else◌, Result, Ok, Err}
+use Rattle.cell_asm.specs.declared.kind.AsmKind.{AsmKind}
+use Rattle.cell_asm.specs.declared.kind.AsmKind.TheVariants.{Word, Operand, Range, Section, Twice, Label, Long}
+
+-- the place in that order; Label, which no line is tested for before all lines are read, stands last
+abbrev pub rank : AsmKind → ℕ
+rank Word = 0
+rank Operand = 1
+rank Range = 2
+rank Section = 3
+rank Twice = 4
+rank Long = 5
+rank Label = 6
+
+abbrev pub earlier : AsmKind → AsmKind → AsmKind
+earlier j k = if nat_le (rank j) (rank k) then j else k
+
+abbrev pub both : {A B : Type 0} → Result A AsmKind → Result B AsmKind → Result (A × B) AsmKind
+both (Ok a) (Ok b) = Ok (a, b)
+both (Ok a) (Err k) = Err k
+both (Err j) (Ok b) = Err j
+both (Err j) (Err k) = Err (earlier j k)
+
+-- what is made of the value, where there is one
+abbrev pub with_value : {A B : Type 0} → (A → B) → Result A AsmKind → Result B AsmKind
+with_value f (Ok a) = Ok (f a)
+with_value f (Err k) = Err k
+
+abbrev pub each : {A : Type 0} → List (Result A AsmKind) → Result (List A) AsmKind
+each [] = Ok []
+each (x ∷ xs) = with_value (λ p. p.0 ∷ p.1) (both x (each xs))

@@ -1,0 +1,79 @@
+-- A line of a source.
+--     line_of text      its label and its statement, or the earliest fault of their words and operands
+use Rattle.std.specs.Prelude.{ℕ, ◌==◌, ◌-◌, Bool, ◌||◌, not, List, [], ◌∷◌, map, take, drop, length, codes, Option, Some, None, ok_or, if◌then◌else◌, Result, Ok, Err}
+use Rattle.std.specs.List.{before_first, prefix_len, suffix_len, take_while, slice_split}
+use Rattle.cell_num.specs.Lists.{where_true}
+use Rattle.cell_asm.specs.declared.kind.AsmKind.{AsmKind}
+use Rattle.cell_asm.specs.declared.kind.AsmKind.TheVariants.{Word}
+use Rattle.cell_asm.specs.declared.operand.Operand.{Operand}
+use Rattle.cell_asm.specs.declared.statement.Statement.{Statement}
+use Rattle.cell_asm.specs.declared.statement.Statement.TheVariants.{Nothing}
+use Rattle.cell_asm.specs.declared.statement.Line.{Line}
+use Rattle.cell_asm.specs.Faults.{both, with_value, each}
+use Rattle.cell_asm.specs.Names.{is_name, ends}
+use Rattle.cell_asm.specs.Operands.{operand}
+use Rattle.cell_asm.specs.Statements.{statement}
+
+-- a space or a tab
+abbrev pub is_blank : ℕ → Bool
+is_blank b = b == 32 || b == 9
+
+abbrev pub is_inked : ℕ → Bool
+is_inked b = not (is_blank b)
+
+-- without the blanks at both ends
+abbrev pub trimmed : List ℕ → List ℕ
+trimmed text =
+    let rest = drop (prefix_len is_blank text) text in take (length rest - suffix_len is_blank rest) rest
+
+-- the line without its comment
+abbrev pub code_of : List ℕ → List ℕ
+code_of line = trimmed (before_first (λ b. b == 35) line)
+
+-- the first word of a trimmed text, and what follows it
+abbrev pub first_word : List ℕ → List ℕ
+first_word text = take_while is_inked text
+
+abbrev pub after_word : List ℕ → List ℕ
+after_word text = trimmed (drop (prefix_len is_inked text) text)
+
+-- the operands between the commas; there are none where nothing follows the word
+abbrev pub operand_texts : List ℕ → List (List ℕ)
+operand_texts [] = []
+operand_texts (b ∷ bs) = map trimmed (slice_split (λ c. c == 44) (b ∷ bs))
+
+abbrev pub spelled : List ℕ → Result Operand AsmKind
+spelled text = ok_or (operand text) Word
+
+-- what an operand that is misspelled hides doesn't count: no fault comes before Word
+abbrev pub read_with : (List Operand → Result Statement AsmKind) → Result (List Operand) AsmKind → Result Statement AsmKind
+read_with read (Ok operands) = read operands
+read_with read (Err k) = Err k
+
+abbrev pub statement_in : List ℕ → Result Statement AsmKind
+statement_in [] = Ok Nothing
+statement_in (b ∷ bs) =
+    read_with (statement (first_word (b ∷ bs))) (each (map spelled (operand_texts (after_word (b ∷ bs)))))
+
+-- a first word that ends in a colon is a label, or wrong
+abbrev pub has_label : List ℕ → Bool
+has_label code = ends (first_word code) (codes ":")
+
+abbrev pub label_name : List ℕ → Option (List ℕ)
+label_name word = let name = take (length word - 1) word in where_true (is_name name) name
+
+abbrev pub labelled : Option (List ℕ) → Result (Option (List ℕ)) AsmKind
+labelled None = Err Word
+labelled (Some name) = Ok (Some name)
+
+abbrev pub label_in : List ℕ → Result (Option (List ℕ)) AsmKind
+label_in word = labelled (label_name word)
+
+abbrev pub line_in : List ℕ → Result Line AsmKind
+line_in code =
+    with_value (λ p. record { label = p.0; statement = p.1 })
+    (if has_label code then both (label_in (first_word code)) (statement_in (after_word code))
+    else both (Ok None) (statement_in code))
+
+abbrev pub line_of : List ℕ → Result Line AsmKind
+line_of line = line_in (code_of line)

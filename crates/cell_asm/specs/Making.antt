@@ -1,0 +1,73 @@
+-- The parts of an object, by what they are made of.
+--     Numbered symbols lines      the symbols have the numbers that the definition gives them
+use Rattle.std.specs.Prelude.{◌≡◌, ℕ, ◌+◌, Bool, false, not, List, [], ◌∷◌, ◌++◌, map, Option, Some, None, filter, flat_map}
+use Rattle.std.specs.Option.{unwrap_or}
+use Rattle.std.specs.Str.{bytes_eq}
+use Rattle.cell_object.specs.declared.object.Entry.{Entry}
+use Rattle.cell_asm.specs.declared.statement.Part.{Part}
+use Rattle.cell_asm.specs.declared.statement.Fix.{Fix}
+use Rattle.cell_asm.specs.declared.statement.Piece.{Piece}
+use Rattle.cell_asm.specs.declared.statement.Statement.{Statement}
+use Rattle.cell_asm.specs.declared.statement.Statement.TheVariants.{Global}
+use Rattle.cell_asm.specs.declared.laid.Laid.{Laid}
+use Rattle.cell_asm.specs.declared.laid.Label.{Label}
+use Rattle.cell_asm.specs.declared.laid.Key.{Key}
+use Rattle.cell_asm.specs.declared.laid.Key.TheVariants.{Named, Made}
+use Rattle.cell_asm.specs.declared.names_taken.Names.{Names}
+use Rattle.cell_asm.specs.declared.symbol.Symbols.{Symbols}
+use Rattle.cell_asm.specs.Named.{is_named}
+use Rattle.cell_asm.specs.Places.{is_in}
+use Rattle.cell_asm.specs.Objects.{fix_names, label_names, statement_names, symbol_number, target_key, pieces_in, number_in}
+use Rattle.cell_asm.specs.Numberings.{number_of, local_in, Lists}
+
+-- the statement makes the name GLOBAL
+abbrev pub declares : List ℕ → Statement → Bool
+declares q (Global name) = bytes_eq q name
+declares q _ = false
+
+abbrev pub is_global_in : Names → Key → Bool
+is_global_in names (Named name) = is_named names name
+is_global_in names (Made n) = false
+
+-- the labels that are not in the set of GLOBAL names
+abbrev pub locals_in : Names → List Label → List Label
+locals_in names labels = filter (λ l. not (is_global_in names l.key)) labels
+
+-- the symbols are those of the LOCAL labels among these
+abbrev pub Locals : Symbols → List Part → Names → List Label → Type 0
+Locals symbols parts names labels =
+    Lists symbols (map (λ l. l.key) (locals_in names labels)) (map (local_in parts) (locals_in names labels))
+
+-- the names that a piece and a line mention
+abbrev pub piece_names : Piece → List (List ℕ)
+piece_names p = fix_names p.fix ++ fix_names p.second
+
+abbrev pub line_names : Laid → List (List ℕ)
+line_names l = label_names l.line.label ++ statement_names l.line.statement
+
+abbrev pub number_kept : Symbols → Key → ℕ
+number_kept symbols key = unwrap_or (number_of symbols.numbers key) 0
+
+abbrev pub Numbered : Symbols → List Laid → Type 0
+Numbered symbols lines = (key : Key) → number_kept symbols key ≡ symbol_number lines key
+
+-- the entries of a fix, of a piece, of pieces and of a line in a section with that number
+abbrev pub fix_entries : ℕ → Symbols → Laid → ℕ → Option Fix → List Entry
+fix_entries section symbols l offset None = []
+fix_entries section symbols l offset (Some f) =
+    record { section = section; offset = offset; kind = f.kind; symbol = number_kept symbols (target_key l f.target); addend = f.addend } ∷ []
+
+abbrev pub piece_entries : ℕ → Symbols → Laid → ℕ → Piece → List Entry
+piece_entries section symbols l offset p = fix_entries section symbols l offset p.fix ++ fix_entries section symbols l offset p.second
+
+abbrev pub pieces_entries : ℕ → Symbols → Laid → ℕ → List Piece → List Entry
+pieces_entries section symbols l offset [] = []
+pieces_entries section symbols l offset (p ∷ pieces) =
+    piece_entries section symbols l offset p ++ pieces_entries section symbols l (offset + p.width) pieces
+
+abbrev pub line_entries : ℕ → Symbols → Laid → List Entry
+line_entries section symbols l = pieces_entries section symbols l l.offset (pieces_in l.line.statement)
+
+-- the entries of a section
+abbrev pub part_entries : List Part → Symbols → List Laid → Part → List Entry
+part_entries parts symbols lines part = flat_map (line_entries (number_in parts part) symbols) (filter (is_in part) lines)

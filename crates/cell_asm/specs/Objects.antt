@@ -1,0 +1,238 @@
+-- The object of the lines in their places: sections, symbols and entries.
+use Rattle.std.specs.Prelude.{ℕ, ◌==◌, ◌+◌, ◌/◌, ◌^◌, max, Bool, true, false, not, List, [], ◌∷◌, ◌++◌, map, codes, decimal, Option, Some, None, if◌then◌else◌, filter, filter_map, flat_map, find, position, fold, replicate}
+use Rattle.std.specs.List.{list_any, cons_option}
+use Rattle.std.specs.Option.{option_map_or}
+use Rattle.cell_num.specs.Lists.{equals, holds_name}
+use Rattle.cell_num.specs.Bits.{bytes_of}
+use Rattle.cell_object.specs.declared.object.Object.{Object}
+use Rattle.cell_object.specs.declared.object.Section.{Section}
+use Rattle.cell_object.specs.declared.object.Symbol.{Symbol}
+use Rattle.cell_object.specs.declared.object.Entry.{Entry}
+use Rattle.cell_object.specs.declared.object.Fill.{Fill}
+use Rattle.cell_object.specs.declared.object.Fill.TheVariants.{Prog, Zero}
+use Rattle.cell_object.specs.declared.object.Bind.{Bind}
+use Rattle.cell_object.specs.declared.object.Bind.TheVariants as binds
+use Rattle.cell_object.specs.declared.object.Bind.TheVariants.{Local}
+use Rattle.cell_object.specs.declared.object.Sort.TheVariants.{NoType}
+use Rattle.cell_object.specs.declared.object.Home.{Home}
+use Rattle.cell_object.specs.declared.object.Home.TheVariants.{Undef, Inside}
+use Rattle.cell_asm.specs.declared.statement.Part.{Part}
+use Rattle.cell_asm.specs.declared.statement.Part.TheVariants.{Text, Rodata, Data, Bss}
+use Rattle.cell_asm.specs.declared.statement.Target.{Target}
+use Rattle.cell_asm.specs.declared.statement.Target.TheVariants as targets
+use Rattle.cell_asm.specs.declared.statement.Fix.{Fix}
+use Rattle.cell_asm.specs.declared.statement.Piece.{Piece}
+use Rattle.cell_asm.specs.declared.statement.Statement.{Statement}
+use Rattle.cell_asm.specs.declared.statement.Statement.TheVariants.{Global, Zeros, Align, Bytes}
+use Rattle.cell_asm.specs.declared.laid.Laid.{Laid}
+use Rattle.cell_asm.specs.declared.laid.Key.{Key}
+use Rattle.cell_asm.specs.declared.laid.Key.TheVariants.{Named, Made}
+use Rattle.cell_asm.specs.declared.laid.Label.{Label}
+use Rattle.cell_asm.specs.Places.{is_same_part, is_in, choice, choices, gap, size_in, labels}
+
+-- SECTIONS, by first use
+
+abbrev pub adds_part : List Part → Part → List Part
+adds_part parts part = if list_any (is_same_part part) parts then parts else parts ++ part ∷ []
+
+abbrev pub adds_choice : List Part → Statement → List Part
+adds_choice parts statement = fold adds_part parts (cons_option (choice statement) [])
+
+-- the sections that are chosen, each where it is chosen first
+abbrev pub parts_of : List Laid → List Part
+parts_of lines = fold adds_part [] (choices lines)
+
+-- the number of a section, from 1, among those that are chosen
+abbrev pub number_in : List Part → Part → ℕ
+number_in parts part = option_map_or (λ i. i + 1) (position (is_same_part part) parts) 0
+
+abbrev pub part_number : List Laid → Part → ℕ
+part_number lines part = number_in (parts_of lines) part
+
+abbrev pub part_name : Part → List ℕ
+part_name Text = codes ".text"
+part_name Rodata = codes ".rodata"
+part_name Data = codes ".data"
+part_name Bss = codes ".bss"
+
+abbrev pub is_text : Part → Bool
+is_text part = is_same_part Text part
+
+abbrev pub is_bss : Part → Bool
+is_bss part = is_same_part Bss part
+
+abbrev pub first_alignment : Part → ℕ
+first_alignment Text = 4
+first_alignment _ = 8
+
+abbrev pub alignment_asked : Statement → ℕ
+alignment_asked (Align unit) = unit
+alignment_asked _ = 1
+
+abbrev pub alignment : Part → List Laid → ℕ
+alignment part lines = fold max (first_alignment part) (map (λ l. alignment_asked l.line.statement) (filter (is_in part) lines))
+
+-- bytes up to a multiple: `addi zero,zero,0` again and again in `.text`, zeros elsewhere
+abbrev pub padding : Part → ℕ → List ℕ
+padding Text n = flat_map (λ word. bytes_of 4 word) (replicate (n / 4) 0x13)
+padding _ n = replicate n 0
+
+-- the bytes of a statement at an offset
+abbrev pub bytes_at : Part → ℕ → Statement → List ℕ
+bytes_at part offset (Zeros n) = replicate n 0
+bytes_at part offset (Align unit) = padding part (gap unit offset)
+bytes_at part offset (Bytes content pieces) = flat_map (λ p. bytes_of p.width p.value) pieces
+bytes_at part offset _ = []
+
+abbrev pub contents : Part → List Laid → List ℕ
+contents Bss lines = []
+contents part lines = flat_map (λ l. bytes_at part l.offset l.line.statement) (filter (is_in part) lines)
+
+abbrev pub fill_of : Part → Fill
+fill_of Bss = Zero
+fill_of _ = Prog
+
+abbrev pub may_write : Part → Bool
+may_write Data = true
+may_write Bss = true
+may_write _ = false
+
+abbrev pub section_of : List Laid → Part → Section
+section_of lines part =
+    record {
+      number = part_number lines part;
+      name = part_name part;
+      write = may_write part;
+      exec = is_text part;
+      fill = fill_of part;
+      align = alignment part lines;
+      size = size_in part lines;
+      bytes = contents part lines;
+    }
+
+abbrev pub sections : List Laid → List Section
+sections lines = map (section_of lines) (parts_of lines)
+
+-- SYMBOLS: the labels that no directive makes GLOBAL; then all other names
+
+abbrev pub global_name : Statement → Option (List ℕ)
+global_name (Global name) = Some name
+global_name _ = None
+
+-- the names that a directive makes GLOBAL
+abbrev pub globals : List Laid → List (List ℕ)
+globals lines = filter_map (λ l. global_name l.line.statement) lines
+
+abbrev pub is_global : List (List ℕ) → Key → Bool
+is_global names (Named name) = holds_name names name
+is_global names (Made n) = false
+
+abbrev pub local_labels : List Laid → List Label
+local_labels lines = filter (λ l. not (is_global (globals lines) l.key)) (labels lines)
+
+-- the names that a statement mentions, in order
+abbrev pub target_names : Target → List (List ℕ)
+target_names (targets.Named name) = name ∷ []
+target_names targets.Made = []
+
+abbrev pub fix_names : Option Fix → List (List ℕ)
+fix_names None = []
+fix_names (Some f) = target_names f.target
+
+abbrev pub statement_names : Statement → List (List ℕ)
+statement_names (Global name) = name ∷ []
+statement_names (Bytes content pieces) = flat_map (λ p. fix_names p.fix ++ fix_names p.second) pieces
+statement_names _ = []
+
+abbrev pub label_names : Option (List ℕ) → List (List ℕ)
+label_names None = []
+label_names (Some name) = name ∷ []
+
+-- the names that the lines mention, a label at its definition too
+abbrev pub mentions : List Laid → List (List ℕ)
+mentions lines = flat_map (λ l. label_names l.line.label ++ statement_names l.line.statement) lines
+
+abbrev pub adds_name : List (List ℕ) → List ℕ → List (List ℕ)
+adds_name names name = if holds_name names name then names else names ++ name ∷ []
+
+abbrev pub is_key : Key → Key → Bool
+is_key (Named a) (Named b) = equals a b
+is_key (Made m) (Made n) = m == n
+is_key _ _ = false
+
+abbrev pub holds_key : List Label → Key → Bool
+holds_key labels key = list_any (λ l. is_key l.key key) labels
+
+-- the other names, each where it is mentioned first
+abbrev pub other_names : List Laid → List (List ℕ)
+other_names lines = fold adds_name [] (filter (λ name. not (holds_key (local_labels lines) (Named name))) (mentions lines))
+
+-- the name of a symbol
+abbrev pub key_name : Key → List ℕ
+key_name (Named name) = name
+key_name (Made n) = codes ".La" ++ decimal n
+
+-- the label of that name
+abbrev pub label_named : List Laid → List ℕ → Option Label
+label_named lines name = find (λ l. is_key l.key (Named name)) (labels lines)
+
+abbrev pub home_at : List Laid → Option Label → Home
+home_at lines None = Undef
+home_at lines (Some l) = Inside (part_number lines l.part)
+
+abbrev pub symbol : Key → Bind → Home → ℕ → Symbol
+symbol key bind home value =
+    record { name = key_name key; bind = bind; sort = NoType; home = home; value = value; size = 0 }
+
+abbrev pub local_symbol : List Laid → Label → Symbol
+local_symbol lines l = symbol l.key Local (home_at lines (Some l)) l.offset
+
+abbrev pub global_symbol : List Laid → List ℕ → Symbol
+global_symbol lines name =
+    symbol (Named name) binds.Global (home_at lines (label_named lines name)) (option_map_or (λ l. l.offset) (label_named lines name) 0)
+
+abbrev pub symbols : List Laid → List Symbol
+symbols lines = map (local_symbol lines) (local_labels lines) ++ map (global_symbol lines) (other_names lines)
+
+-- what the symbols are known by, in their order
+abbrev pub symbol_keys : List Laid → List Key
+symbol_keys lines = map (λ l. l.key) (local_labels lines) ++ map (λ name. Named name) (other_names lines)
+
+-- the number of a symbol, from 1
+abbrev pub symbol_number : List Laid → Key → ℕ
+symbol_number lines key = option_map_or (λ i. i + 1) (position (λ k. is_key k key) (symbol_keys lines)) 0
+
+-- ENTRIES, by the number of their section and then in the order of the source
+
+abbrev pub target_key : Laid → Target → Key
+target_key l (targets.Named name) = Named name
+target_key l targets.Made = Made l.made
+
+abbrev pub entry_of : List Laid → Part → Laid → ℕ → Option Fix → List Entry
+entry_of lines part l offset None = []
+entry_of lines part l offset (Some f) =
+    record {
+      section = part_number lines part;
+      offset = offset;
+      kind = f.kind;
+      symbol = symbol_number lines (target_key l f.target);
+      addend = f.addend;
+    } ∷ []
+
+abbrev pub entries_from : List Laid → Part → Laid → ℕ → List Piece → List Entry
+entries_from lines part l offset [] = []
+entries_from lines part l offset (p ∷ pieces) =
+    entry_of lines part l offset p.fix ++ (entry_of lines part l offset p.second ++ entries_from lines part l (offset + p.width) pieces)
+
+abbrev pub pieces_in : Statement → List Piece
+pieces_in (Bytes content pieces) = pieces
+pieces_in _ = []
+
+abbrev pub entries_in : List Laid → Part → List Entry
+entries_in lines part = flat_map (λ l. entries_from lines part l l.offset (pieces_in l.line.statement)) (filter (is_in part) lines)
+
+abbrev pub entries : List Laid → List Entry
+entries lines = flat_map (entries_in lines) (parts_of lines)
+
+abbrev pub object_of : List Laid → Object
+object_of lines = record { sections = sections lines; symbols = symbols lines; entries = entries lines }

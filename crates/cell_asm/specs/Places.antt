@@ -1,0 +1,163 @@
+-- Where a line stands, by the lines before it; and what is wrong with it there.
+--     placed before n line      the line with its number, section and offset
+--     fault_at before line      the first of Section, Twice, Long that it has there
+use Rattle.std.specs.Prelude.{ℕ, ◌+◌, ◌-◌, ◌%◌, ◌^◌, nat_lt, nat_le, ◌==◌, Bool, true, false, not, ◌&&◌, List, [], ◌∷◌, ◌++◌, map, Option, Some, None, is_none, if◌then◌else◌, filter, filter_map, flat_map, sum_by, count_by}
+use Rattle.std.specs.List.{list_any}
+use Rattle.cell_num.specs.Lists.{equals, last, where_true, or_else}
+use Rattle.cell_asm.specs.declared.kind.AsmKind.{AsmKind}
+use Rattle.cell_asm.specs.declared.kind.AsmKind.TheVariants.{Section, Twice, Long}
+use Rattle.cell_asm.specs.declared.statement.Part.{Part}
+use Rattle.cell_asm.specs.declared.statement.Part.TheVariants.{Text, Rodata, Data, Bss}
+use Rattle.cell_asm.specs.declared.statement.Content.TheVariants.{Code, Narrow}
+use Rattle.cell_asm.specs.declared.statement.Target.{Target}
+use Rattle.cell_asm.specs.declared.statement.Target.TheVariants.{Named as Name, Made}
+use Rattle.cell_asm.specs.declared.statement.Fix.{Fix}
+use Rattle.cell_asm.specs.declared.statement.Statement.{Statement}
+use Rattle.cell_asm.specs.declared.statement.Statement.TheVariants.{Nothing, Choose, Global, Zeros, Align, Bytes}
+use Rattle.cell_asm.specs.declared.statement.Line.{Line}
+use Rattle.cell_asm.specs.declared.laid.Laid.{Laid}
+use Rattle.cell_asm.specs.declared.laid.Key.{Key}
+use Rattle.cell_asm.specs.declared.laid.Key.TheVariants.{Named, Made as KeyMade}
+use Rattle.cell_asm.specs.declared.laid.Label.{Label}
+
+abbrev pub is_same_part : Part → Part → Bool
+is_same_part Text Text = true
+is_same_part Rodata Rodata = true
+is_same_part Data Data = true
+is_same_part Bss Bss = true
+is_same_part _ _ = false
+
+-- the line stands in that section
+abbrev pub is_at : Part → Option Part → Bool
+is_at part None = false
+is_at part (Some other) = is_same_part part other
+
+abbrev pub is_in : Part → Laid → Bool
+is_in part l = is_at part l.part
+
+-- the section that a statement chooses
+abbrev pub choice : Statement → Option Part
+choice (Choose part) = Some part
+choice _ = None
+
+abbrev pub choices : List Laid → List Part
+choices lines = filter_map (λ l. choice l.line.statement) lines
+
+-- how many bytes lack to a multiple
+abbrev pub gap : ℕ → ℕ → ℕ
+gap unit offset = if offset % unit == 0 then 0 else unit - offset % unit
+
+-- how many bytes a statement takes there
+abbrev pub taken : Statement → ℕ → ℕ
+taken (Zeros n) offset = n
+taken (Align unit) offset = gap unit offset
+taken (Bytes content pieces) offset = sum_by (λ p. p.width) pieces
+taken _ offset = 0
+
+-- how many bytes the lines lay in a section
+abbrev pub size_in : Part → List Laid → ℕ
+size_in part lines = sum_by (λ l. taken l.line.statement l.offset) (filter (is_in part) lines)
+
+abbrev pub size_at : Option Part → List Laid → ℕ
+size_at None lines = 0
+size_at (Some part) lines = size_in part lines
+
+-- a statement whose second instruction names the first: it makes a label
+abbrev pub is_made : Target → Bool
+is_made Made = true
+is_made (Name name) = false
+
+abbrev pub names_made : Option Fix → Bool
+names_made None = false
+names_made (Some f) = is_made f.target
+
+abbrev pub makes_label : Statement → Bool
+makes_label (Bytes content pieces) = list_any (λ p. names_made p.fix) pieces
+makes_label _ = false
+
+abbrev pub made_in : List Laid → ℕ
+made_in lines = count_by (λ l. makes_label l.line.statement) lines
+
+abbrev pub placed : List Laid → ℕ → Line → Laid
+placed before n line =
+    let part = last (choices before) in
+    record { number = n; part = part; offset = size_at part before; made = made_in before + 1; line = line }
+
+-- the labels of a line: its own, and the one that it makes
+abbrev pub own_key : Option (List ℕ) → List Key
+own_key None = []
+own_key (Some name) = Named name ∷ []
+
+abbrev pub made_key : Statement → ℕ → List Key
+made_key statement n = if makes_label statement then KeyMade n ∷ [] else []
+
+abbrev pub keys_of : Laid → List Key
+keys_of l = own_key l.line.label ++ made_key l.line.statement l.made
+
+abbrev pub label : Part → ℕ → Key → Label
+label part offset key = record { key = key; part = part; offset = offset }
+
+abbrev pub labels_at : Option Part → ℕ → List Key → List Label
+labels_at None offset keys = []
+labels_at (Some part) offset keys = map (label part offset) keys
+
+-- all labels, in order of definition
+abbrev pub labels : List Laid → List Label
+labels lines = flat_map (λ l. labels_at l.part l.offset (keys_of l)) lines
+
+-- which statements a section takes
+abbrev pub takes : Part → Statement → Bool
+takes Text (Zeros n) = n % 4 == 0
+takes Text (Align unit) = nat_le 4 unit
+takes Text (Bytes Narrow pieces) = false
+takes Rodata (Bytes Code pieces) = false
+takes Data (Bytes Code pieces) = false
+takes Bss (Bytes content pieces) = false
+takes part statement = true
+
+-- a statement that lays nothing needs no section
+abbrev pub lays_nothing : Statement → Bool
+lays_nothing Nothing = true
+lays_nothing (Choose part) = true
+lays_nothing (Global name) = true
+lays_nothing _ = false
+
+abbrev pub may_stand : Option Part → Line → Bool
+may_stand None line = is_none line.label && lays_nothing line.statement
+may_stand (Some part) line = takes part line.statement
+
+-- the line has that label
+abbrev pub is_label : List ℕ → Option (List ℕ) → Bool
+is_label name None = false
+is_label name (Some own) = equals name own
+
+abbrev pub has_own : List ℕ → Laid → Bool
+has_own name l = is_label name l.line.label
+
+-- an earlier line has the label
+abbrev pub is_twice : List Laid → Option (List ℕ) → Bool
+is_twice before None = false
+is_twice before (Some name) = list_any (has_own name) before
+
+abbrev pub largest : Part → ℕ
+largest Bss = 16777216
+largest _ = 1048576
+
+abbrev pub is_long : Option Part → ℕ → Bool
+is_long None size = false
+is_long (Some part) size = nat_lt (largest part) size
+
+-- what is wrong with a line, by the section that is chosen, its size, and whether the label is taken
+abbrev pub fault_by : Option Part → ℕ → Bool → Line → Option AsmKind
+fault_by part offset twice line =
+    or_else (where_true (not (may_stand part line)) Section)
+    (or_else (where_true twice Twice)
+    (where_true (is_long part (offset + taken line.statement offset)) Long))
+
+-- the section has room for the bytes of the line
+abbrev pub is_inside : Laid → Bool
+is_inside l = not (is_long l.part (l.offset + taken l.line.statement l.offset))
+
+abbrev pub fault_at : List Laid → Line → Option AsmKind
+fault_at before line =
+    let part = last (choices before) in fault_by part (size_at part before) (is_twice before line.label) line

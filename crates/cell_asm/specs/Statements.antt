@@ -1,0 +1,121 @@
+-- What a statement says, from its word and its operands.
+--     statement word operands      the statement, or the earliest fault
+use Rattle.std.specs.Prelude.{ℕ, ◌^◌, ◌*◌, ◌-◌, nat_le, List, [], ◌∷◌, map, Option, Some, None, if◌then◌else◌, ℤ, pos, negsuc, Result, Ok, Err}
+use Rattle.cell_num.specs.Bits.{modulo_2}
+use Rattle.cell_num.specs.declared.kinds.RelKind.{RelKind}
+use Rattle.cell_num.specs.declared.kinds.RelKind.TheVariants as kinds
+use Rattle.cell_asm.specs.declared.kind.AsmKind.{AsmKind}
+use Rattle.cell_asm.specs.declared.kind.AsmKind.TheVariants as faults
+use Rattle.cell_asm.specs.declared.mnemonic.Width.{Width}
+use Rattle.cell_asm.specs.declared.mnemonic.Width.TheVariants.{Byte, Half, Word, Quad}
+use Rattle.cell_asm.specs.declared.mnemonic.Mnemonic.{Mnemonic}
+use Rattle.cell_asm.specs.declared.mnemonic.Directive.{Directive}
+use Rattle.cell_asm.specs.declared.mnemonic.Directive.TheVariants as directives
+use Rattle.cell_asm.specs.declared.operand.Expression.{Expression}
+use Rattle.cell_asm.specs.declared.operand.Expression.TheVariants.{Difference}
+use Rattle.cell_asm.specs.declared.operand.Immediate.TheVariants.{Number}
+use Rattle.cell_asm.specs.declared.operand.Operand.{Operand}
+use Rattle.cell_asm.specs.declared.operand.Operand.TheVariants.{Value, Plain}
+use Rattle.cell_asm.specs.declared.statement.Content.{Content}
+use Rattle.cell_asm.specs.declared.statement.Content.TheVariants.{Code, Narrow, Wide}
+use Rattle.cell_asm.specs.declared.statement.Piece.{Piece}
+use Rattle.cell_asm.specs.declared.statement.Fix.{Fix}
+use Rattle.cell_asm.specs.declared.statement.Pieces.{Pieces}
+use Rattle.cell_asm.specs.declared.statement.Pieces.TheVariants.{One, Two}
+use Rattle.cell_asm.specs.declared.statement.Statement.{Statement}
+use Rattle.cell_asm.specs.declared.statement.Statement.TheVariants.{Choose, Global, Zeros, Align, Bytes}
+use Rattle.cell_asm.specs.Faults.{with_value, each}
+use Rattle.cell_asm.specs.Mnemonics.{directive, mnemonic}
+use Rattle.cell_asm.specs.Instructions.{none, one, name, within, reference, refers, fix, instruction}
+
+abbrev pub bytes_in : Width → ℕ
+bytes_in Byte = 1
+bytes_in Half = 2
+bytes_in Word = 4
+bytes_in Quad = 8
+
+-- the kind of an address; one or two bytes hold none
+abbrev pub address_kind : Width → Option RelKind
+address_kind Byte = None
+address_kind Half = None
+address_kind Word = Some kinds.Abs32
+address_kind Quad = Some kinds.Abs64
+
+abbrev pub add_kind : Width → RelKind
+add_kind Byte = kinds.Add8
+add_kind Half = kinds.Add16
+add_kind Word = kinds.Add32
+add_kind Quad = kinds.Add64
+
+abbrev pub sub_kind : Width → RelKind
+sub_kind Byte = kinds.Sub8
+sub_kind Half = kinds.Sub16
+sub_kind Word = kinds.Sub32
+sub_kind Quad = kinds.Sub64
+
+abbrev pub content : Width → Content
+content Byte = Narrow
+content Half = Narrow
+content Word = Wide
+content Quad = Wide
+
+-- a number that fits as a signed or as an unsigned one
+abbrev pub stored : Width → ℤ → Result ℕ AsmKind
+stored w n =
+    let bits = 8 * bytes_in w in
+    with_value (modulo_2 bits) (within (negsuc (2 ^ (bits - 1) - 1)) (pos (2 ^ bits - 1)) n)
+
+abbrev pub filled : Width → ℕ → Option Fix → Option Fix → Piece
+filled w value first second = record { width = bytes_in w; value = value; fix = first; second = second }
+
+-- the address of an expression, where there is a kind for it
+abbrev pub addressed : Width → Option RelKind → Expression → Result Piece AsmKind
+addressed w None e = Err faults.Operand
+addressed w (Some kind) e = with_value (λ r. filled w 0 (Some (fix kind r)) None) (reference e)
+
+-- one of a list of numbers: a number, an address, or the difference of two
+abbrev pub datum : Width → Operand → Result Piece AsmKind
+datum w (Value (Number n)) = with_value (λ value. filled w value None None) (stored w n)
+datum w (Plain (Difference m n)) = Ok (filled w 0 (Some (fix (add_kind w) (refers m (pos 0)))) (Some (fix (sub_kind w) (refers n (pos 0)))))
+datum w (Plain e) = addressed w (address_kind w) e
+datum w _ = Err faults.Operand
+
+-- one number or more
+abbrev pub numbers : Width → List Operand → Result (List Piece) AsmKind
+numbers w [] = Err faults.Operand
+numbers w (o ∷ operands) = each (map (datum w) (o ∷ operands))
+
+abbrev pub count : Operand → Result ℕ AsmKind
+count (Value (Number (pos n))) = Ok n
+count (Value (Number (negsuc n))) = Err faults.Range
+count _ = Err faults.Operand
+
+-- the multiple of an alignment, of which the power of two is given
+abbrev pub unit_of : Result ℕ AsmKind → Result ℕ AsmKind
+unit_of (Ok k) = if nat_le k 12 then Ok (2 ^ k) else Err faults.Range
+unit_of (Err kind) = Err kind
+
+abbrev pub unit : Operand → Result ℕ AsmKind
+unit o = unit_of (count o)
+
+abbrev pub directed : Directive → List Operand → Result Statement AsmKind
+directed (directives.Choose part) operands = none (Choose part) operands
+directed directives.Global operands = one name (λ n. Global n) operands
+directed (directives.Numbers w) operands = with_value (λ pieces. Bytes (content w) pieces) (numbers w operands)
+directed directives.Zeros operands = one count (λ n. Zeros n) operands
+directed directives.Align operands = one unit (λ n. Align n) operands
+
+abbrev pub listed : Pieces → List Piece
+listed (One p) = p ∷ []
+listed (Two p q) = p ∷ q ∷ []
+
+abbrev pub instructed : Option Mnemonic → List Operand → Result Statement AsmKind
+instructed None operands = Err faults.Word
+instructed (Some m) operands = with_value (λ pieces. Bytes Code (listed pieces)) (instruction m operands)
+
+abbrev pub worded : Option Directive → Option Mnemonic → List Operand → Result Statement AsmKind
+worded (Some d) m operands = directed d operands
+worded None m operands = instructed m operands
+
+abbrev pub statement : List ℕ → List Operand → Result Statement AsmKind
+statement text operands = worded (directive text) (mnemonic text) operands

@@ -1,0 +1,197 @@
+//! The labels of a source.
+
+ghost use Rattle.std.specs.Prelude.{◌≡◌, ◌++◌, ◌==◌, ◌&&◌, ◌||◌, ℕ, List, Option, option_map, find, IfOk, OnOk};
+ghost use Rattle.std.specs.List.{list_any};
+ghost use Rattle.std.specs.Ordering.{nat_cmp};
+ghost use Rattle.std.specs.BTreeSet.{contains};
+ghost use Rattle.cell_asm.specs.Named.{is_named};
+ghost use Rattle.cell_asm.specs.Places.{is_same_part, is_in, keys_of, labels_at, labels as labels_of};
+ghost use Rattle.cell_asm.specs.Objects.{pieces_in as pieces_of};
+ghost use Rattle.cell_asm.specs.Assembled.{is_upper, has_upper as upper_in, has_lost as lost_in};
+ghost use Rattle.cell_asm.specs.Uppers.{is_upper_at, target_lost_by, fix_lost_by, lost_by};
+ghost use Rattle.cell_asm.specs.declared.statement.Part.TheVariants as parts;
+
+use crate::laid::{Key, Label, Laid};
+use crate::names_taken::Names;
+use crate::place::makes_label;
+use crate::statement::{Fix, Part, Piece, Statement, Target};
+use cell_num::{is_pcrel_hi20, is_pcrel_lo12};
+use std::alloc::{AllocError, Global};
+use std::collections::BTreeSet;
+
+/// All labels, in order of definition.
+pub fn labels<'a>(alloc: Global, lines: &[Laid<'a>]) -> Result<Vec<Label<'a>>, AllocError>
+    ensures { IfOk result (λ labels. labels.items ≡ labels_of lines.now) }
+{
+    let mut labels = Vec::new(alloc);
+    for laid in lines {
+        put_labels(&mut labels, laid)?;
+    }
+    Ok(labels)
+}
+
+/// Appends the labels of a line: its own, and the one that it makes.
+fn put_labels<'a>(labels: &mut Vec<Label<'a>>, laid: &Laid<'a>) -> Result<(), AllocError>
+    ensures { OnOk result (labels.new.items ≡ labels.old.items ++ labels_at laid.now.part laid.now.offset (keys_of laid.now)) }
+{
+    let Some(part) = laid.part else {
+        return Ok(());
+    };
+    if let Some(name) = &laid.line.label {
+        labels.push(Label {
+            key: Key::Named(name.again()),
+            part,
+            offset: laid.offset,
+        })?;
+    }
+    if makes_label(&laid.line.statement) {
+        labels.push(Label {
+            key: Key::Made(laid.made),
+            part,
+            offset: laid.offset,
+        })?;
+    }
+    Ok(())
+}
+
+pub fn pieces_in<'b, 'a>(statement: &'b Statement<'a>) -> &'b [Piece<'a>]
+    ensures { result.now ≡ pieces_of statement.now }
+{
+    match statement {
+        Statement::Bytes(_, pieces) => pieces.as_slice(),
+        _ => &[],
+    }
+}
+
+/// The number of the first line with `%pcrel_lo` of a name that is no label of an instruction with
+/// `%pcrel_hi`.
+pub fn first_lost<'a>(
+    alloc: Global,
+    lines: &[Laid<'a>],
+    labels: &[Label<'a>],
+) -> Result<Option<u32>, AllocError>
+    requires { labels.now ≡ labels_of lines.now }
+    ensures { IfOk result (λ number. number ≡ option_map (λ l. l.number) (find (lost_in lines.now) lines.now)) }
+{
+    let offsets = upper_offsets(alloc, lines)?;
+    let names = upper_names(alloc, labels, &offsets)?;
+    Ok(first_with_lost(&names, lines))
+}
+
+fn first_with_lost<'a>(names: &Names<'a>, lines: &[Laid<'a>]) -> Option<u32>
+    ensures { result ≡ option_map (λ l. l.number) (find (lost_by names.now) lines.now) }
+{
+    for laid in lines {
+        if has_lost(names, laid) {
+            return Some(laid.number);
+        }
+    }
+    None
+}
+
+/// The offsets in `.text` of instructions with `%pcrel_hi`.
+fn upper_offsets(alloc: Global, lines: &[Laid<'_>]) -> Result<BTreeSet<u32>, AllocError>
+    ensures { IfOk result (λ set. (q : ℕ) → contains nat_cmp set q ≡ list_any (λ l. is_in parts.Text l && l.offset == q && upper_in l) lines.now) }
+{
+    let mut offsets = BTreeSet::new(alloc);
+    for laid in lines {
+        if is_upper_in_text(laid) {
+            offsets.insert(laid.offset)?;
+        }
+    }
+    Ok(offsets)
+}
+
+fn is_upper_in_text(laid: &Laid<'_>) -> bool
+    ensures { result ≡ (is_in parts.Text laid.now && upper_in laid.now) }
+{
+    matches!(laid.part, Some(Part::Text)) && has_upper(pieces_in(&laid.line.statement))
+}
+
+fn has_upper(pieces: &[Piece<'_>]) -> bool
+    ensures { result ≡ list_any (λ p. is_upper p.fix) pieces.now }
+{
+    pieces.iter().any(|piece| is_upper(&piece.fix))
+}
+
+fn is_upper(fix: &Option<Fix<'_>>) -> bool
+    ensures { result ≡ is_upper fix.now }
+{
+    match fix {
+        Some(fix) => is_pcrel_hi20(fix.kind),
+        None => false,
+    }
+}
+
+/// The names of the labels in `.text` at these offsets.
+fn upper_names<'a>(
+    alloc: Global,
+    labels: &[Label<'a>],
+    offsets: &BTreeSet<u32>,
+) -> Result<Names<'a>, AllocError>
+    ensures { IfOk result (λ names. (q : List ℕ) → is_named names q ≡ list_any (is_upper_at offsets.now q) labels.now) }
+{
+    let mut names = Names::new(alloc);
+    for label in labels {
+        add_upper(&mut names, label, offsets)?;
+    }
+    Ok(names)
+}
+
+/// Adds the name of the label, where it stands in `.text` at one of these offsets.
+fn add_upper<'a>(
+    names: &mut Names<'a>,
+    label: &Label<'a>,
+    offsets: &BTreeSet<u32>,
+) -> Result<(), AllocError>
+    ensures { OnOk result ((q : List ℕ) → is_named names.new q ≡ (is_upper_at offsets.now q label.now || is_named names.old q)) }
+{
+    let Key::Named(name) = &label.key else {
+        return Ok(());
+    };
+    if !is_text(label.part) || !offsets.contains(&label.offset) {
+        return Ok(());
+    }
+    names.add(name.bytes())
+}
+
+fn is_text(part: Part) -> bool
+    ensures { result ≡ is_same_part parts.Text part }
+{
+    matches!(part, Part::Text)
+}
+
+fn has_lost<'a>(names: &Names<'a>, laid: &Laid<'a>) -> bool
+    ensures { result ≡ lost_by names.now laid.now }
+{
+    any_lost(names, pieces_in(&laid.line.statement))
+}
+
+fn any_lost<'a>(names: &Names<'a>, pieces: &[Piece<'a>]) -> bool
+    ensures { result ≡ list_any (λ p. fix_lost_by names.now p.fix) pieces.now }
+{
+    for piece in pieces {
+        if is_lost_fix(names, &piece.fix) {
+            return true;
+        }
+    }
+    false
+}
+
+fn is_lost_fix<'a>(names: &Names<'a>, fix: &Option<Fix<'a>>) -> bool
+    ensures { result ≡ fix_lost_by names.now fix.now }
+{
+    match fix {
+        Some(fix) => is_pcrel_lo12(fix.kind) && is_lost(names, &fix.target),
+        None => false,
+    }
+}
+
+fn is_lost<'a>(names: &Names<'a>, target: &Target<'a>) -> bool
+    ensures { result ≡ target_lost_by names.now target.now }
+{
+    match target {
+        Target::Named(name) => !names.has(name.bytes()),
+        Target::Made => false,
+    }
+}

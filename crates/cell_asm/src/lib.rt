@@ -1,0 +1,41 @@
+//! The assembler: a source in, an object or the first fault out.
+#![tactic(auto)]
+
+mod directive;
+mod entry;
+mod fault;
+mod instruction;
+mod kind;
+mod label;
+mod laid;
+mod line;
+mod mnemonic;
+mod names;
+mod names_taken;
+mod number;
+mod numbering;
+mod operand;
+mod place;
+mod section;
+mod source;
+mod spot;
+mod statement;
+mod symbol;
+mod text;
+mod wanted;
+
+pub use kind::{AsmFail, AsmKind};
+pub use source::assemble;
+
+// What the definitions speak of, so that laws over them can name it.
+pub use laid::{Key, Label, Laid};
+pub use mnemonic::{Directive, Mnemonic, Shape, Width};
+pub use operand::{Expression, Immediate, Modifier, Operand};
+pub use statement::{Content, Field, Fix, Line, Part, Piece, Pieces, Reference, Statement, Target};
+
+#[cfg(test)]
+mod encodings;
+#[cfg(test)]
+mod refused;
+#[cfg(test)]
+mod tests;

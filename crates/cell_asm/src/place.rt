@@ -1,0 +1,290 @@
+//! Lines in their places, one after the other.
+
+ghost use Rattle.std.specs.Prelude.{◌≡◌, ◌+◌, ◌-◌, ◌^◌, ◌<◌, ◌≤◌, [], ◌∷◌, ◌++◌, ◌||◌, true, false, ℕ, List, min, sum_by, Ok, IfOk, OnOk, if◌then◌else◌};
+ghost use Rattle.std.specs.List.{list_any};
+ghost use Rattle.cell_asm.specs.Assembled.{placed_line};
+ghost use Rattle.cell_asm.specs.Named.{is_named};
+ghost use Rattle.cell_asm.specs.Outcome.{Gives};
+ghost use Rattle.cell_asm.specs.Places.{is_same_part, is_label, is_inside, gap as gap_of, taken as taken_of, names_made as makes_name, makes_label as label_made, may_stand as may_stand_of, takes as takes_of, lays_nothing as lays_none, is_long as long_of};
+ghost use Rattle.cell_asm.specs.Progress.{size_of, offset_of, twice_of, fault_after, laid_after, Adds, Follows};
+ghost use Rattle.cell_asm.specs.declared.laid.Laid.{Laid as LaidValue};
+ghost use Rattle.cell_asm.specs.declared.statement.Part.{Part as PartValue};
+
+use crate::fault::Stop;
+use crate::kind::AsmKind;
+use crate::laid::Laid;
+use crate::names_taken::Names;
+use crate::statement::{Content, Fix, Line, Part, Piece, Statement, Target};
+use crate::text::Text;
+use std::alloc::{AllocError, Global};
+
+/// How large `.bss` may be, and any other section.
+const LARGEST_BSS: u128 = 0x100_0000;
+
+const LARGEST: u128 = 0x10_0000;
+
+/// How many bytes each section has so far.
+#[derive(Clone, Copy, Debug, PartialEq, Eq)]
+pub struct Sizes {
+    pub text: u32,
+    pub rodata: u32,
+    pub data: u32,
+    pub bss: u32,
+}
+
+impl Sizes {
+    pub fn of(&self, part: Part) -> u32
+        ensures { result ≡ size_of self.now part }
+    {
+        match part {
+            Part::Text => self.text,
+            Part::Rodata => self.rodata,
+            Part::Data => self.data,
+            Part::Bss => self.bss,
+        }
+    }
+
+    fn set(&mut self, part: Part, size: u32)
+        ensures { (other : PartValue) → size_of self.new other ≡ (if is_same_part part other then size else size_of self.old other) }
+    {
+        match part {
+            Part::Text => self.text = size,
+            Part::Rodata => self.rodata = size,
+            Part::Data => self.data = size,
+            Part::Bss => self.bss = size,
+        }
+    }
+}
+
+/// What the lines so far come to: the section that is chosen, the sizes of all, how many labels
+/// were made, and the names of the labels.
+#[derive(Drop)]
+pub struct Progress<'a> {
+    pub chosen: Option<Part>,
+    pub sizes: Sizes,
+    pub made: u32,
+    pub names: Names<'a>,
+}
+
+impl<'a> Progress<'a> {
+    pub fn new(alloc: Global) -> Progress<'a>
+        ensures { Follows result [] }
+    {
+        Progress {
+            chosen: None,
+            sizes: Sizes {
+                text: 0,
+                rodata: 0,
+                data: 0,
+                bss: 0,
+            },
+            made: 0,
+            names: Names::new(alloc),
+        }
+    }
+
+    /// The line in its place behind those before it, or the first of Section, Twice, Long that is
+    /// wrong with it.
+    pub fn place(&mut self, number: u32, line: Line<'a>) -> Result<Laid<'a>, Stop>
+        requires { self.old.made < number }
+        ensures line { (before : List LaidValue) → Follows self.old before → Gives result (placed_line before number (Ok line.entry)) }
+        ensures goes_on { (before : List LaidValue) → Follows self.old before → IfOk result (λ l. Follows self.new (before ++ l ∷ [])) }
+        ensures made { self.new.made ≤ number }
+        ensures inside { IfOk result (λ l. is_inside l ≡ true) }
+    {
+        if let Some(kind) = self.fault_at(&line) {
+            return Err(Stop::Fault(kind));
+        }
+        let laid = self.laid(number, line);
+        self.add(&laid)?;
+        Ok(laid)
+    }
+
+    /// The line in its place.
+    fn laid(&self, number: u32, line: Line<'a>) -> Laid<'a>
+        requires { self.now.made < 2 ^ 32 - 1 }
+        ensures { result ≡ laid_after self.now number line.entry }
+    {
+        Laid {
+            number,
+            part: self.chosen,
+            offset: self.offset(),
+            made: self.made + 1,
+            line,
+        }
+    }
+
+    /// The size of the section that is chosen.
+    fn offset(&self) -> u32
+        ensures { result ≡ offset_of self.now }
+    {
+        match self.chosen {
+            Some(part) => self.sizes.of(part),
+            None => 0,
+        }
+    }
+
+    /// What is wrong with the line behind those before it.
+    fn fault_at(&self, line: &Line<'a>) -> Option<AsmKind>
+        ensures { result ≡ fault_after self.now line.now }
+    {
+        if !may_stand(self.chosen, line) {
+            Some(AsmKind::Section)
+        } else if self.is_twice(&line.label) {
+            Some(AsmKind::Twice)
+        } else if is_long(self.chosen, end(&line.statement, self.offset())) {
+            Some(AsmKind::Long)
+        } else {
+            None
+        }
+    }
+
+    /// Whether an earlier line has the label.
+    fn is_twice(&self, label: &Option<Text<'a>>) -> bool
+        ensures { result ≡ twice_of self.now label.now }
+    {
+        match label {
+            Some(name) => self.names.has(name.bytes()),
+            None => false,
+        }
+    }
+
+    /// Goes on behind a line.
+    fn add(&mut self, laid: &Laid<'a>) -> Result<(), AllocError>
+        requires made { self.old.made < 2 ^ 32 - 1 }
+        requires fits { long_of laid.now.part (laid.now.offset + taken_of laid.now.line.statement laid.now.offset) ≡ false }
+        ensures adds { OnOk result (Adds self.old self.new laid.now) }
+        ensures made { self.new.made ≤ self.old.made + 1 }
+    {
+        if makes_label(&laid.line.statement) {
+            self.made += 1;
+        }
+        self.add_label(&laid.line.label)?;
+        if let Some(part) = laid.part {
+            let size = end(&laid.line.statement, laid.offset) as u32;
+            self.sizes.set(part, size);
+        }
+        if let Statement::Choose(part) = &laid.line.statement {
+            self.chosen = Some(*part);
+        }
+        Ok(())
+    }
+
+    fn add_label(&mut self, label: &Option<Text<'a>>) -> Result<(), AllocError>
+        ensures names { OnOk result ((q : List ℕ) → is_named self.new.names q ≡ (is_label q label.now || is_named self.old.names q)) }
+        ensures others { self.new ≡ record self.old { names = self.new.names } }
+    {
+        if let Some(name) = label {
+            self.names.add(name.bytes())?;
+        }
+        Ok(())
+    }
+}
+
+fn may_stand(part: Option<Part>, line: &Line<'_>) -> bool
+    ensures { result ≡ may_stand_of part line.now }
+{
+    match part {
+        Some(part) => takes(part, &line.statement),
+        None => line.label.is_none() && lays_nothing(&line.statement),
+    }
+}
+
+/// Whether the statement may stand in that section.
+fn takes(part: Part, statement: &Statement<'_>) -> bool
+    ensures { result ≡ takes_of part statement.now }
+{
+    match (part, statement) {
+        (Part::Text, Statement::Zeros(count)) => *count % 4 == 0,
+        (Part::Text, Statement::Align(unit)) => *unit >= 4,
+        (Part::Text, Statement::Bytes(Content::Narrow, _)) => false,
+        (Part::Rodata | Part::Data, Statement::Bytes(Content::Code, _)) => false,
+        (Part::Bss, Statement::Bytes(_, _)) => false,
+        _ => true,
+    }
+}
+
+fn lays_nothing(statement: &Statement<'_>) -> bool
+    ensures { result ≡ lays_none statement.now }
+{
+    matches!(
+        statement,
+        Statement::Nothing | Statement::Choose(_) | Statement::Global(_)
+    )
+}
+
+/// Where the bytes of the statement end, from that offset on; or as far as numbers go.
+fn end(statement: &Statement<'_>, offset: u32) -> u128
+    ensures { result ≡ min (offset + taken_of statement.now offset) u128.MAX }
+{
+    u128::from(offset).saturating_add(taken(statement, offset))
+}
+
+/// How many bytes the statement takes at that offset.
+fn taken(statement: &Statement<'_>, offset: u32) -> u128
+    ensures { result ≡ taken_of statement.now offset }
+{
+    match statement {
+        Statement::Zeros(count) => *count,
+        Statement::Align(unit) => u128::from(gap(*unit, offset)),
+        Statement::Bytes(_, pieces) => width_of(pieces.as_slice()),
+        _ => 0,
+    }
+}
+
+/// How many bytes lack to a multiple of that many.
+pub fn gap(unit: u16, offset: u32) -> u32
+    ensures value { result ≡ gap_of unit offset }
+{
+    let unit = u32::from(unit);
+    if unit == 0 || offset % unit == 0 {
+        0
+    } else {
+        unit - offset % unit
+    }
+}
+
+fn width_of(pieces: &[Piece<'_>]) -> u128
+    ensures { result ≡ sum_by (λ p. p.width) pieces.now }
+{
+    let mut width = 0;
+    for piece in pieces {
+        width += u128::from(piece.width);
+    }
+    width
+}
+
+/// Whether the statement makes a label.
+pub fn makes_label(statement: &Statement<'_>) -> bool
+    ensures { result ≡ label_made statement.now }
+{
+    match statement {
+        Statement::Bytes(_, pieces) => make_label(pieces.as_slice()),
+        _ => false,
+    }
+}
+
+fn make_label(pieces: &[Piece<'_>]) -> bool
+    ensures { result ≡ list_any (λ p. makes_name p.fix) pieces.now }
+{
+    pieces.iter().any(|piece| names_made(&piece.fix))
+}
+
+fn names_made(fix: &Option<Fix<'_>>) -> bool
+    ensures { result ≡ makes_name fix.now }
+{
+    match fix {
+        Some(fix) => matches!(fix.target, Target::Made),
+        None => false,
+    }
+}
+
+fn is_long(part: Option<Part>, size: u128) -> bool
+    ensures { result ≡ long_of part size }
+{
+    match part {
+        Some(Part::Bss) => size > LARGEST_BSS,
+        Some(_) => size > LARGEST,
+        None => false,
+    }
+}

@@ -1,0 +1,358 @@
+//! The symbols of an object.
+
+ghost use Rattle.std.specs.Prelude.{◌≡◌, ◌≤◌, ◌+◌, ◌||◌, [], ◌∷◌, ◌++◌, flat_map, fold, length, not, is_some, ℕ, List, IfOk, OnOk};
+ghost use Rattle.std.specs.Option.{option_map_or};
+ghost use Rattle.cell_num.specs.Lists.{holds_name};
+ghost use Rattle.cell_asm.specs.Named.{is_named};
+ghost use Rattle.cell_asm.specs.Places.{labels as labels_of};
+ghost use Rattle.cell_asm.specs.Objects.{key_name as name_of, globals as globals_of, target_names, fix_names, label_names, statement_names, mentions as mentions_of, parts_of, symbol as symbol_of, symbols as symbols_of};
+ghost use Rattle.cell_asm.specs.Numberings.{number_of, Lists, Mentions, mentioned, home_in};
+ghost use Rattle.cell_asm.specs.Making.{declares, is_global_in, Locals, piece_names, line_names, number_kept, Numbered};
+ghost use Rattle.cell_object.specs.declared.object.Bind.TheVariants as binds;
+ghost use Rattle.cell_asm.specs.declared.laid.Key.{Key as KeyValue};
+ghost use Rattle.cell_asm.specs.declared.laid.Key.TheVariants as keys;
+ghost use Rattle.cell_asm.specs.declared.laid.Label.{Label as LabelValue};
+ghost use Rattle.cell_object.specs.declared.object.Symbol.{Symbol as SymbolValue};
+
+use crate::label::pieces_in;
+use crate::laid::{Key, Label, Laid};
+use crate::names_taken::Names;
+use crate::numbering::Numbering;
+use crate::section::part_number;
+use crate::spot::{Spot, Spots};
+use crate::statement::{Fix, Part, Piece, Statement, Target};
+use crate::text::Text;
+use cell_num::{Bytes, Listed};
+use cell_object::{Bind, Home, Sort, Symbol};
+use cell_text::put_dec;
+use std::alloc::{AllocError, Global};
+
+/// The symbols, and their numbers.
+#[derive(Drop)]
+pub struct Symbols<'a> {
+    pub list: Vec<Symbol>,
+    pub numbers: Numbering<'a>,
+}
+
+/// The symbols: the labels that no directive makes GLOBAL, then all other names.
+pub fn make_symbols<'a>(
+    alloc: Global,
+    lines: &[Laid<'a>],
+    labels: &[Label<'a>],
+    parts: &[Part],
+) -> Result<Symbols<'a>, AllocError>
+    requires few { length parts.now ≤ 4 }
+    requires parts { parts.now ≡ parts_of lines.now }
+    requires labels { labels.now ≡ labels_of lines.now }
+    ensures list { IfOk result (λ s. s.list.items ≡ symbols_of lines.now) }
+    ensures numbers { IfOk result (λ s. Numbered s lines.now) }
+{
+    let globals = globals(alloc, lines)?;
+    let spots = Spots::of(alloc, labels)?;
+    let mut symbols = Symbols::new(alloc);
+    symbols.add_locals(alloc, labels, &globals, parts)?;
+    symbols.mention_lines(alloc, lines, &spots, parts)?;
+    Ok(symbols)
+}
+
+/// The names that a directive makes GLOBAL.
+fn globals<'a>(alloc: Global, lines: &[Laid<'a>]) -> Result<Names<'a>, AllocError>
+    ensures { IfOk result (λ names. (q : List ℕ) → is_named names q ≡ holds_name (globals_of lines.now) q) }
+{
+    let mut names = Names::new(alloc);
+    for laid in lines {
+        add_global(&mut names, &laid.line.statement)?;
+    }
+    Ok(names)
+}
+
+fn add_global<'a>(names: &mut Names<'a>, statement: &Statement<'a>) -> Result<(), AllocError>
+    ensures { OnOk result ((q : List ℕ) → is_named names.new q ≡ (declares q statement.now || is_named names.old q)) }
+{
+    if let Statement::Global(name) = statement {
+        names.add(name.bytes())?;
+    }
+    Ok(())
+}
+
+/// Whether no directive makes the label GLOBAL.
+fn is_local<'a>(globals: &Names<'a>, key: &Key<'a>) -> bool
+    ensures { result ≡ not (is_global_in globals.now key.now) }
+{
+    match key {
+        Key::Named(name) => !globals.has(name.bytes()),
+        Key::Made(_) => true,
+    }
+}
+
+/// The name of a symbol.
+fn key_name(alloc: Global, key: &Key<'_>) -> Result<Bytes, AllocError>
+    ensures { IfOk result (λ name. name ≡ name_of key.now) }
+{
+    let mut name = Vec::new(alloc);
+    match key {
+        Key::Named(text) => name.extend_from_slice(text.bytes())?,
+        Key::Made(number) => {
+            name.extend_from_slice(b".La")?;
+            put_dec(u64::from(*number), &mut name)?;
+        }
+    }
+    Ok(Bytes::from_vec(name))
+}
+
+impl<'a> Symbols<'a> {
+    fn new(alloc: Global) -> Symbols<'a>
+        ensures { Lists result [] [] }
+    {
+        Symbols {
+            list: Vec::new(alloc),
+            numbers: Numbering::new(alloc),
+        }
+    }
+
+    /// The number of a symbol, from 1.
+    pub fn number(&self, key: &Key<'a>) -> u32
+        ensures { result ≡ number_kept self.now key.now }
+    {
+        self.numbers.get(key).unwrap_or(0)
+    }
+
+    pub fn into_list(self) -> Listed<Symbol>
+        ensures { result ≡ self.entry.list.items }
+    {
+        Listed::from_vec(self.list)
+    }
+
+    /// The number of the next symbol. So many symbols that their number is past a `u32` are past all
+    /// memory too.
+    fn next_number(&self) -> Result<u32, AllocError>
+        ensures { IfOk result (λ n. n ≡ length self.now.list.items + 1) }
+    {
+        let count = self.list.len();
+        if count >= u32::MAX as usize {
+            return Err(AllocError);
+        }
+        Ok(count as u32 + 1)
+    }
+
+    /// Appends a symbol, and keeps its number.
+    fn add(
+        &mut self,
+        alloc: Global,
+        key: &Key<'a>,
+        bind: Bind,
+        home: Home,
+        value: u32,
+    ) -> Result<(), AllocError>
+        ensures { OnOk result ((keys : List KeyValue) → (list : List SymbolValue) → Lists self.old keys list → Lists self.new (keys ++ key.now ∷ []) (list ++ symbol_of key.now bind home value ∷ [])) }
+    {
+        let number = self.next_number()?;
+        let name = key_name(alloc, key)?;
+        self.list.push(Symbol {
+            name,
+            bind,
+            sort: Sort::NoType,
+            home,
+            value: u64::from(value),
+            size: 0,
+        })?;
+        self.numbers.add(key, number)?;
+        Ok(())
+    }
+
+    fn add_locals(
+        &mut self,
+        alloc: Global,
+        labels: &[Label<'a>],
+        globals: &Names<'a>,
+        parts: &[Part],
+    ) -> Result<(), AllocError>
+        requires few { length parts.now ≤ 4 }
+        requires none { Locals self.old parts.now globals.now [] }
+        ensures { OnOk result (Locals self.new parts.now globals.now labels.now) }
+    {
+        for label in labels {
+            self.add_local(alloc, label, globals, parts)?;
+        }
+        Ok(())
+    }
+
+    /// Appends the symbol of a label, where no directive makes it GLOBAL.
+    fn add_local(
+        &mut self,
+        alloc: Global,
+        label: &Label<'a>,
+        globals: &Names<'a>,
+        parts: &[Part],
+    ) -> Result<(), AllocError>
+        requires { length parts.now ≤ 4 }
+        ensures { OnOk result ((before : List LabelValue) → Locals self.old parts.now globals.now before → Locals self.new parts.now globals.now (before ++ label.now ∷ [])) }
+    {
+        if is_local(globals, &label.key) {
+            let home = Home::Inside(part_number(parts, label.part));
+            self.add(alloc, &label.key, Bind::Local, home, label.offset)?;
+        }
+        Ok(())
+    }
+
+    /// The names that are mentioned and no LOCAL label.
+    fn mention_lines(
+        &mut self,
+        alloc: Global,
+        lines: &[Laid<'a>],
+        spots: &Spots<'a>,
+        parts: &[Part],
+    ) -> Result<(), AllocError>
+        requires { length parts.now ≤ 4 }
+        ensures { OnOk result ((locals : List KeyValue) → (list : List SymbolValue) → Mentions self.old parts.now spots.now locals list [] → Mentions self.new parts.now spots.now locals list (fold (mentioned locals) [] (mentions_of lines.now))) }
+    {
+        for laid in lines {
+            self.mention_line(alloc, laid, spots, parts)?;
+        }
+        Ok(())
+    }
+
+    fn mention_line(
+        &mut self,
+        alloc: Global,
+        laid: &Laid<'a>,
+        spots: &Spots<'a>,
+        parts: &[Part],
+    ) -> Result<(), AllocError>
+        requires { length parts.now ≤ 4 }
+        ensures { OnOk result ((locals : List KeyValue) → (list : List SymbolValue) → (names : List (List ℕ)) → Mentions self.old parts.now spots.now locals list names → Mentions self.new parts.now spots.now locals list (fold (mentioned locals) names (line_names laid.now))) }
+    {
+        self.mention_label(alloc, &laid.line.label, spots, parts)?;
+        self.mention_statement(alloc, &laid.line.statement, spots, parts)?;
+        Ok(())
+    }
+
+    fn mention_label(
+        &mut self,
+        alloc: Global,
+        label: &Option<Text<'a>>,
+        spots: &Spots<'a>,
+        parts: &[Part],
+    ) -> Result<(), AllocError>
+        requires { length parts.now ≤ 4 }
+        ensures { OnOk result ((locals : List KeyValue) → (list : List SymbolValue) → (names : List (List ℕ)) → Mentions self.old parts.now spots.now locals list names → Mentions self.new parts.now spots.now locals list (fold (mentioned locals) names (label_names label.now))) }
+    {
+        match label {
+            Some(name) => self.mention(alloc, name, spots, parts),
+            None => Ok(()),
+        }
+    }
+
+    fn mention_statement(
+        &mut self,
+        alloc: Global,
+        statement: &Statement<'a>,
+        spots: &Spots<'a>,
+        parts: &[Part],
+    ) -> Result<(), AllocError>
+        requires { length parts.now ≤ 4 }
+        ensures { OnOk result ((locals : List KeyValue) → (list : List SymbolValue) → (names : List (List ℕ)) → Mentions self.old parts.now spots.now locals list names → Mentions self.new parts.now spots.now locals list (fold (mentioned locals) names (statement_names statement.now))) }
+    {
+        match statement {
+            Statement::Global(name) => self.mention(alloc, name, spots, parts),
+            Statement::Bytes(_, pieces) => {
+                self.mention_pieces(alloc, pieces.as_slice(), spots, parts)
+            }
+            _ => Ok(()),
+        }
+    }
+
+    fn mention_pieces(
+        &mut self,
+        alloc: Global,
+        pieces: &[Piece<'a>],
+        spots: &Spots<'a>,
+        parts: &[Part],
+    ) -> Result<(), AllocError>
+        requires { length parts.now ≤ 4 }
+        ensures { OnOk result ((locals : List KeyValue) → (list : List SymbolValue) → (names : List (List ℕ)) → Mentions self.old parts.now spots.now locals list names → Mentions self.new parts.now spots.now locals list (fold (mentioned locals) names (flat_map piece_names pieces.now))) }
+    {
+        for piece in pieces {
+            self.mention_fix(alloc, &piece.fix, spots, parts)?;
+            self.mention_fix(alloc, &piece.second, spots, parts)?;
+        }
+        Ok(())
+    }
+
+    fn mention_fix(
+        &mut self,
+        alloc: Global,
+        fix: &Option<Fix<'a>>,
+        spots: &Spots<'a>,
+        parts: &[Part],
+    ) -> Result<(), AllocError>
+        requires { length parts.now ≤ 4 }
+        ensures { OnOk result ((locals : List KeyValue) → (list : List SymbolValue) → (names : List (List ℕ)) → Mentions self.old parts.now spots.now locals list names → Mentions self.new parts.now spots.now locals list (fold (mentioned locals) names (fix_names fix.now))) }
+    {
+        match fix {
+            Some(fix) => self.mention_target(alloc, &fix.target, spots, parts),
+            None => Ok(()),
+        }
+    }
+
+    fn mention_target(
+        &mut self,
+        alloc: Global,
+        target: &Target<'a>,
+        spots: &Spots<'a>,
+        parts: &[Part],
+    ) -> Result<(), AllocError>
+        requires { length parts.now ≤ 4 }
+        ensures { OnOk result ((locals : List KeyValue) → (list : List SymbolValue) → (names : List (List ℕ)) → Mentions self.old parts.now spots.now locals list names → Mentions self.new parts.now spots.now locals list (fold (mentioned locals) names (target_names target.now))) }
+    {
+        match target {
+            Target::Named(name) => self.mention(alloc, name, spots, parts),
+            Target::Made => Ok(()),
+        }
+    }
+
+    /// Whether the name has no symbol yet.
+    fn is_new(&self, name: &Text<'a>) -> bool
+        ensures { result ≡ not (is_some (number_of self.now.numbers (keys.Named name.now))) }
+    {
+        !self.numbers.get(&Key::Named(name.again())).is_some()
+    }
+
+    /// Adds a name as GLOBAL where it has no symbol yet.
+    fn mention(
+        &mut self,
+        alloc: Global,
+        name: &Text<'a>,
+        spots: &Spots<'a>,
+        parts: &[Part],
+    ) -> Result<(), AllocError>
+        requires { length parts.now ≤ 4 }
+        ensures { OnOk result ((locals : List KeyValue) → (list : List SymbolValue) → (names : List (List ℕ)) → Mentions self.old parts.now spots.now locals list names → Mentions self.new parts.now spots.now locals list (mentioned locals names name.now)) }
+    {
+        if self.is_new(name) {
+            let spot = spots.get(name.bytes());
+            self.add_other(alloc, &Key::Named(name.again()), spot, parts)?;
+        }
+        Ok(())
+    }
+
+    /// Appends the GLOBAL symbol of a name: that of its label, or an undefined one.
+    fn add_other(
+        &mut self,
+        alloc: Global,
+        key: &Key<'a>,
+        spot: Option<Spot>,
+        parts: &[Part],
+    ) -> Result<(), AllocError>
+        requires { length parts.now ≤ 4 }
+        ensures { OnOk result ((keys : List KeyValue) → (list : List SymbolValue) → Lists self.old keys list → Lists self.new (keys ++ key.now ∷ []) (list ++ symbol_of key.now binds.Global (home_in parts.now spot) (option_map_or (λ s. s.offset) spot 0) ∷ [])) }
+    {
+        match spot {
+            Some(spot) => {
+                let home = Home::Inside(part_number(parts, spot.part));
+                self.add(alloc, key, Bind::Global, home, spot.offset)
+            }
+            None => self.add(alloc, key, Bind::Global, Home::Undef, 0),
+        }
+    }
+}

@@ -1,0 +1,3 @@
+pub mod Binds
+pub mod Listing
+pub mod Making

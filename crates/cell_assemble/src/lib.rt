@@ -1,0 +1,15 @@
+//! A source in a folder is assembled, and its object written, over any host and any sink.
+#![tactic(auto)]
+
+mod make;
+mod refusal;
+mod status;
+mod top;
+
+pub use status::AsStatus;
+pub use top::cellas;
+
+#[cfg(test)]
+mod object;
+#[cfg(test)]
+mod tests;

@@ -1,0 +1,54 @@
+//! How a call ends.
+
+ghost use Rattle.std.specs.Prelude.{◌≡◌};
+ghost use Rattle.cell_assemble.specs.Assembling.{status_of};
+
+use cell_asm::AsmKind;
+
+/// The names that a folder may have.
+pub const MAX_NAMES: u32 = 65536;
+
+/// The bytes that a source may have.
+pub const MAX_SOURCE_BYTES: u32 = 1048576;
+
+/// Why there is no object, if nothing failed.
+#[derive(Clone, Copy, Debug, PartialEq, Eq)]
+pub enum Refusal {
+    Usage,
+    TooManyNames,
+    NoSource,
+    TooLong,
+    Fault { line: u32, kind: AsmKind },
+}
+
+/// How a call ended.
+#[derive(Clone, Copy, Debug, PartialEq, Eq)]
+pub enum AsStatus {
+    /// The object was written.
+    Done,
+    /// There aren't two words.
+    Usage,
+    /// The folder has no such name.
+    NoSource,
+    /// The folder has more than 65536 names.
+    TooManyNames,
+    /// The source has more than 1048576 bytes.
+    TooLong,
+    /// The first line of the source that has a fault, from 1, and what is wrong with it.
+    Fault { line: u32, kind: AsmKind },
+    ReadFault,
+    WriteFault,
+    OutOfMemory,
+}
+
+pub fn status_of(refusal: Refusal) -> AsStatus
+    ensures { result ≡ status_of refusal }
+{
+    match refusal {
+        Refusal::Usage => AsStatus::Usage,
+        Refusal::TooManyNames => AsStatus::TooManyNames,
+        Refusal::NoSource => AsStatus::NoSource,
+        Refusal::TooLong => AsStatus::TooLong,
+        Refusal::Fault { line, kind } => AsStatus::Fault { line, kind },
+    }
+}

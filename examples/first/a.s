@@ -1,0 +1,3 @@
+.data
+.globl a::n
+a::n: .quad 7

@@ -1,0 +1,3 @@
+.rodata
+.globl b::p
+b::p: .quad a::n+4, 1
