@@ -23,12 +23,14 @@ import sys
 import tempfile
 
 PROGBITS, SYMTAB, STRTAB, RELA, NOTE, NOBITS = 1, 2, 3, 4, 7, 8
+RISCV_ATTRIBUTES = 0x70000003
 WRITE, ALLOC, EXECINSTR, INFO_LINK = 1, 2, 4, 0x40
 LOCAL, GLOBAL, WEAK = 0, 1, 2
 NOTYPE = 0
 UNDEFINED = 0
 
 R_32, R_64 = 1, 2
+R_CALL_PLT = 19
 R_PCREL_HI20, R_PCREL_LO12_I = 23, 24
 R_ADD8 = 33
 
@@ -166,6 +168,55 @@ def lone_low():
     """`.text` with a PCREL_LO12_I whose label has no PCREL_HI20."""
     text = Section(".text", EXECINSTR, bytes(8), [(4, R_PCREL_LO12_I, 1, 0)], align=4)
     return image([text], [Symbol("", 1, 0, LOCAL)])
+
+
+def crowded():
+    """`m::go` calls `o::f` between two calls of the system, among sections and symbols that nothing uses.
+
+    The sections stand as GNU as has them: each table where its number says, two empty sections, and
+    the attributes of the processor.
+    """
+    code = struct.pack("<6I", 0x00300893, 0x73, 0x97, 0x80E7, 0x893, 0x73)
+    attributes = b"A" + struct.pack("<I", 19) + b"riscv\0" + b"\1" + struct.pack("<I", 8) + b"\4\x10\0"
+    strings, names = string_table(["$x", "m::go", "o::f"])
+    section = 3
+    rows = bytes(24)
+    for name, binding, sort, home, value in [
+        (0, LOCAL, section, 1, 0),
+        (0, LOCAL, section, 3, 0),
+        (0, LOCAL, section, 4, 0),
+        (names[0], LOCAL, NOTYPE, 1, 0),
+        (0, LOCAL, section, 5, 0),
+        (names[1], GLOBAL, NOTYPE, 1, 0),
+        (names[2], GLOBAL, NOTYPE, UNDEFINED, 0),
+    ]:
+        rows += struct.pack("<IBBHQQ", name, 16 * binding + sort, 0, home, value, 0)
+    entry = struct.pack("<QIIq", 8, R_CALL_PLT, 7, 0)
+    titles = [".text", ".rela.text", ".data", ".bss", ".riscv.attributes", ".symtab", ".strtab", ".shstrtab"]
+    title_strings, title_offsets = string_table(titles)
+    parts = [
+        (PROGBITS, ALLOC | EXECINSTR, code, 0, 0, 4, 0),
+        (RELA, INFO_LINK, entry, 6, 1, 8, 24),
+        (PROGBITS, ALLOC | WRITE, b"", 0, 0, 1, 0),
+        (NOBITS, ALLOC | WRITE, b"", 0, 0, 1, 0),
+        (RISCV_ATTRIBUTES, 0, attributes, 0, 0, 1, 0),
+        (SYMTAB, 0, rows, 7, 6, 8, 24),
+        (STRTAB, 0, strings, 0, 0, 1, 0),
+        (STRTAB, 0, title_strings, 0, 0, 1, 0),
+    ]
+    out = bytearray(64)
+    headers = bytes(64)
+    for title, (kind, flags, data, link, info, align, size) in zip(title_offsets, parts):
+        out.extend(bytes(-len(out) % 8))
+        headers += struct.pack("<IIQQQQIIQQ", title, kind, flags, 0, len(out), len(data), link, info, align, size)
+        out.extend(data)
+    out.extend(bytes(-len(out) % 8))
+    out[0:64] = struct.pack(
+        "<16sHHIQQQIHHHHHH",
+        b"\x7fELF\x02\x01\x01",
+        1, 243, 1, 0, 0, len(out), 0, 64, 0, 0, 64, 9, 8,
+    )
+    return bytes(out + headers)
 
 
 def zeros(pages):
@@ -354,8 +405,14 @@ def images(folder):
             ("SEVEN", "`.data`: `a::n` is 7.", seven()),
             ("POINTER", "`.rodata`: `b::p` is the address of `a::n` and 4, then 1.", pointer()),
         ]),
+        ("cell_assemble/src/object.rt", "An object whose layout was worked out by hand, as bench/objects.py writes it.", [
+            ("OBJECT", "`.data`: `a::n` is 7.", seven()),
+        ]),
         ("cell_tests/src/broken.rt", "A broken object, as bench/objects.py writes it.", [
             ("LONE_LOW", "`.text` with a PCREL_LO12_I whose label has no PCREL_HI20.", lone_low()),
+        ]),
+        ("cell_tests/src/crowded.rt", "An object with more than is loaded, as bench/objects.py writes it.", [
+            ("CROWDED", "`m::go` calls `o::f`, among sections and symbols that nothing uses.", crowded()),
         ]),
         ("cell_tests/src/gnu.rt", "Objects of GNU as, as bench/objects.py has them made.", [
             ("GNU_POINTER", "What GNU as makes of `GNU_POINTER` in bench/objects.py.", assembled(GNU_POINTER)),
@@ -478,6 +535,14 @@ def one_of_many(n):
     return image([Section(".data", WRITE, bytes(8), rows)], names)
 
 
+def crate_of_many(n, count):
+    """Crate `cN` of a load that brings `count`: it has the addresses of names of the next three crates."""
+    wanted = ["c%d::x" % ((n + step) % count) for step in (1, 2, 3)]
+    entries = [(8 * place, R_64, 2 + place, 0) for place in range(3)]
+    symbols = [Symbol("c%d::x" % n, 1)] + [Symbol(name, UNDEFINED) for name in wanted]
+    return image([Section(".rodata", 0, bytes(24), entries)], symbols)
+
+
 def large(folder):
     """For each kind a folder, with the whole size and with half of it."""
     loads = "load k a\n"
@@ -500,6 +565,8 @@ def large(folder):
         files = {"k#m%d.o" % n: one_of_many(n) for n in range(500 * size)}
         text = "".join("load k m%d\n" % n for n in range(500 * size))
         write_folder(folder, "cells-" + part, files, text)
+        files = {"k#c%d.o" % n: crate_of_many(n, 400 * size) for n in range(400 * size)}
+        write_folder(folder, "one-load-" + part, files, "load k c0\n")
         files = {"k#a.o": zeros(512 * size)}
         write_folder(folder, "dump-" + part, files, loads + "dump 1 1\n")
         files = {"k#a.o": seven()}

@@ -15,7 +15,7 @@ use Rattle.cell_coherent.proofs.Supplied.{same_target}
 use Rattle.cell_coherent.proofs.OldRegions.{grows}
 
 -- the link to a target, where there is one
-abbrev link_with : Cell → ℕ × Entry → Option Target → Option LinkRow
+abbrev pub link_with : Cell → ℕ × Entry → Option Target → Option LinkRow
 link_with c p o = elim o [ None ↦ None | Some target ↦ link_to c p.0 p.1 target ]
 
 module _ (v w : World) (new : List Cell) (coherent : IsCoherent v) (g : IsGrown v w new) where

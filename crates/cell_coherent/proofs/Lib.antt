@@ -23,6 +23,8 @@ pub mod OwnPlaces
 pub mod NewPlaced
 pub mod Ready
 pub mod LoadCoherent
+pub mod Spaces
+pub mod NamespaceAdded
 pub mod NextCoherent
 pub mod Tables
 pub mod Present

@@ -76,7 +76,7 @@ module _ (v : World) (ready : IsReady v) (new : List Cell) (next : ℕ) where
 
 -- what holds of the machine with the cells of a load, before they are placed
 module _ (sources : List Source) (v : World) (name stem : List ℕ) (a g : World) (sound : AreSound sources) (ready : IsReady v) (appended : append_named sources v name stem ≡ Ok a) (brought : bring sources v.next_cell a ≡ Ok g) where
-  all_gathered : (Ranks g × Extends v g) × (first_lack g (fresh_cells v.next_cell g) ≡ None)
+  pub all_gathered : (Ranks g × Extends v g) × (first_lack g (fresh_cells v.next_cell g) ≡ None)
   all_gathered =
       let s = bind_ok (space_of v name) _ a appended in
       let f = bind_ok (one_file (depot_files sources name stem) (NoObject stem)) _ a s.2 in

@@ -17,7 +17,9 @@ ghost use Rattle.cell_world.specs.Fit.{first_misfit};
 ghost use Rattle.cell_world.specs.Gather.{Source, fresh_cells};
 ghost use Rattle.cell_world.specs.LoadCommand.{field_count, next_load};
 ghost use Rattle.cell_world.specs.Memory.{end_of};
+ghost use Rattle.cell_world.specs.Names.{chain, provider_of};
 ghost use Rattle.cell_world.specs.Next.{next};
+ghost use Rattle.cell_world.specs.NsCommand.{next_ns};
 ghost use Rattle.cell_world.specs.Pages.{IsSpace, filled, lowest_run};
 ghost use Rattle.cell_world.specs.Place.{Placing, page_table, place_class, with_region};
 ghost use Rattle.cell_world.specs.Relink.{Class, relink};
@@ -42,6 +44,12 @@ pub fn load_keeps_coherent()
 /// Each command keeps the machine coherent, be it accepted or refused.
 pub fn next_keeps_coherent()
     ensures { (sources : List Source) (w : World) (command : Command) → AreSound sources → IsCoherent w → IsCoherent (next sources w command).world }
+{}
+
+/// A namespace that is added changes the chain of no other, and present cells keep the provider of each name.
+pub fn namespaces_only_add()
+    ensures chains { (w : World) (name : List ℕ) (parent : List ℕ) (d : Done) → IsCoherent w → next_ns w name parent ≡ Ok d → (ns : ℕ) → ns < length w.namespaces → chain d.world.namespaces ns ≡ chain w.namespaces ns }
+    ensures providers { (w : World) (name : List ℕ) (parent : List ℕ) (d : Done) → IsCoherent w → next_ns w name parent ≡ Ok d → All (λ c. (symbol : List ℕ) → provider_of d.world c symbol ≡ provider_of w c symbol) w.cells }
 {}
 
 /// Linking makes a ready machine coherent.

@@ -6,3 +6,5 @@ pub mod Mapping
 pub mod Writing
 pub mod Sealing
 pub mod Pair
+pub mod SectionsLeft
+pub mod NewcomersLeft

@@ -1,16 +1,21 @@
-//! What a commit is made of: regions are mapped, fields are written and sealed, and links are bound.
+//! What a commit is made of: regions are mapped, fields are written and sealed, sections are added,
+//! links are bound, and cells are attached.
 //! None of these calls takes memory or fails.
 #![tactic(auto)]
 
+mod attach;
 mod bind;
 mod fields;
 mod laws;
 mod regions;
+mod sections;
 
+pub use attach::{Newcomer, attach_cells};
 pub use bind::bind_rows;
 pub use fields::write_fields;
 pub use laws::{mapping_adds, writing_adds, writing_seals};
 pub use regions::map_regions;
+pub use sections::{CellSections, add_sections};
 
 #[cfg(test)]
 mod tests;

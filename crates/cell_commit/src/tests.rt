@@ -1,12 +1,13 @@
-ghost use Rattle.std.specs.Prelude.{◌≡◌, IfOk, length, Contains};
+ghost use Rattle.std.specs.Prelude.{◌≡◌, ◌≤◌, ◌∷◌, [], Some, None, IfOk, length, Contains};
 
 use super::*;
 use cell_graph::{Graph, LinkRow};
 use cell_link::FieldValue;
 use cell_mem::{MemFault, Memory};
-use cell_num::{Bytes, CellId, SecKey};
+use cell_num::{Bytes, CellId, Name, SecKey};
+use cell_space::{NameRows, Provider, Scope, Spaces};
 use cell_world::{Permission, Region};
-use std::alloc::Global;
+use std::alloc::{AllocError, Global};
 use std::test::*;
 
 const BASE: u64 = 0x10000000;
@@ -95,5 +96,95 @@ fn links(rt: HostRuntime) -> Result<(), Fail> {
     assert_eq!(rt; deps.as_slice(), [rows[0]].as_slice());
     let users: Vec<LinkRow> = graph.users_of(user).collect(alloc)?;
     assert_eq!(rt; users.as_slice(), [rows[1]].as_slice());
+    Ok(())
+}
+
+/// A cell's sections.
+fn cell_sections(alloc: Global, cell: u32, sections: &[u16]) -> Result<CellSections, AllocError>
+    ensures cell { IfOk result (λ c. c.cell.0 ≡ cell) }
+    ensures sections { IfOk result (λ c. c.sections.items ≡ sections.now) }
+{
+    Ok(CellSections {
+        cell: CellId(cell),
+        sections: Vec::from_slice(alloc, sections)?,
+    })
+}
+
+/// A section of the first of two new cells needs one of the second.
+#[test]
+fn sections_of_two_cells(rt: HostRuntime) -> Result<(), Fail> {
+    let alloc = rt.alloc();
+    let mut graph = Graph::new(alloc);
+    graph.reserve(3, 1)?;
+    let cells = [
+        cell_sections(alloc, 4, &[1, 3])?,
+        cell_sections(alloc, 5, &[2])?,
+    ];
+    add_sections(&mut graph, &cells);
+    let user = SecKey {
+        cell: CellId(4),
+        section: 3,
+    };
+    let target = SecKey {
+        cell: CellId(5),
+        section: 2,
+    };
+    let row = LinkRow {
+        user,
+        entry: 0,
+        target,
+    };
+    graph.bind(row);
+    let users: Vec<LinkRow> = graph.users_of(target).collect(alloc)?;
+    assert_eq!(rt; users.as_slice(), [row].as_slice());
+    Ok(())
+}
+
+/// `u` and `v`, siblings under `k`, with room for two cells of a name each.
+fn siblings(alloc: Global) -> Result<Spaces, AllocError>
+    ensures namespaces { IfOk result (λ s. s.namespaces ≡ record { name = 107 ∷ []; parent = None } ∷ record { name = 117 ∷ []; parent = Some 0 } ∷ record { name = 118 ∷ []; parent = Some 0 } ∷ []) }
+    ensures cells { IfOk result (λ s. s.cells ≡ []) }
+    ensures room { IfOk result (λ s. 2 ≤ s.spare_cells) }
+    ensures room_for_names { IfOk result (λ s. 4 ≤ s.spare_names) }
+{
+    let mut spaces = Spaces::new(alloc)?;
+    spaces.add_ns(Name::of(alloc, b"u")?, 0)?;
+    spaces.add_ns(Name::of(alloc, b"v")?, 0)?;
+    spaces.reserve(2, 2)?;
+    Ok(spaces)
+}
+
+/// A new cell `a` with the name `a::x`.
+fn newcomer(alloc: Global, cell: u32, ns: u16) -> Result<Newcomer, AllocError>
+    ensures cell { IfOk result (λ c. c.cell.0 ≡ cell) }
+    ensures ns { IfOk result (λ c. c.ns ≡ ns) }
+    ensures names { IfOk result (λ c. length c.names ≡ 1) }
+{
+    let mut names = NameRows::new(alloc);
+    names.add(alloc, b"a::x", 1)?;
+    Ok(Newcomer {
+        cell: CellId(cell),
+        ns,
+        stem: Name::of(alloc, b"a")?,
+        names,
+    })
+}
+
+/// Siblings may have cells of the same stem and names.
+#[test]
+fn two_newcomers(rt: HostRuntime) -> Result<(), Fail> {
+    let alloc = rt.alloc();
+    let mut spaces = siblings(alloc)?;
+    let newcomers = vec![in alloc; newcomer(alloc, 6, 1)?, newcomer(alloc, 7, 2)?]?;
+    attach_cells(&mut spaces, newcomers);
+    assert_eq!(rt; spaces.cell_at(1, b"a"), Some(CellId(6)));
+    assert_eq!(rt; spaces.cell_at(2, b"a"), Some(CellId(7)));
+    assert_eq!(rt; spaces.clash_name(0, b"a::x"), Some(CellId(6)));
+    let provider = Provider {
+        cell: CellId(7),
+        symbol: 1,
+    };
+    assert_eq!(rt; spaces.provider(Scope::Space(2), b"a::x"), Some(provider));
+    assert_eq!(rt; spaces.provider(Scope::Space(0), b"a::x"), None);
     Ok(())
 }

@@ -3,6 +3,4 @@ pub mod Offsets
 pub mod Tables
 pub mod Binds
 pub mod Placing
-pub mod Fresh
-pub mod Plain
 pub mod Loads

@@ -1,123 +1,99 @@
--- What a load answers where one cell is appended to a settled machine: case by case, by what the cell lacks, its room and its fields.
-use Rattle.std.proofs.Common.{◌≡◌, refl, ◌∙◌, ap, arith, ℕ, zero, suc, ◌+◌, true, List, [], ◌∷◌, length, Option, Some, None, Ok, Err}
-use Rattle.std.specs.Prelude.{if◌then◌else◌, option_map}
-use Rattle.cell_world.specs.declared.command.Command.TheVariants.{Load}
-use Rattle.cell_world.specs.declared.reply.Reply.TheVariants.{Load as LoadDone}
+-- What a load comes to, by what it has gathered: the cells are in their places, or no run is long enough.
+use Rattle.std.proofs.Common.{◌≡◌, refl, sym, ◌∙◌, ap, ap₂, subst, arith, ℕ, ◌≤◌, ◌<◌, Bool, true, false, ◌&&◌, List, [], ◌∷◌, ◌++◌, Ok, Err}
+use Rattle.std.specs.Prelude.{nat_le, filter}
+use Rattle.std.specs.List.{list_all}
+use Rattle.std.proofs.lemmas.Bool.{ltb-true}
+use Rattle.std.proofs.lemmas.Bool.Decides.{nat_tests}
+use Rattle.std.proofs.lemmas.List.Elements.{filter-append}
 use Rattle.cell_world.specs.declared.refusal.Refusal.{Refusal}
-use Rattle.cell_world.specs.declared.refusal.Refusal.TheVariants.{Later, Missing}
-use Rattle.cell_num.specs.declared.ids.CellId.{CellId}
-use Rattle.cell_num.specs.Lists.{or_else}
 use Rattle.cell_world.specs.World.{World, Cell}
-use Rattle.cell_world.specs.Outcome.{Outcome, ◌>>=◌, refused_by}
-use Rattle.cell_world.specs.Answer.{done, ids, numbers_of}
-use Rattle.cell_world.specs.Field.{Bound, fields_of, misfit_of}
-use Rattle.cell_world.specs.Relink.{bound_entries, relink}
-use Rattle.cell_world.specs.Place.{page_table, place_all}
-use Rattle.cell_world.specs.Gather.{Source, Need, first_lack, fresh_cells, bring_one, bring_within, bring}
-use Rattle.cell_world.specs.Fit.{overflow_at, misfit_in, first_misfit}
-use Rattle.cell_world.specs.LoadCommand.{append_named, field_count, link_fresh, next_load}
-use Rattle.cell_world.specs.Later.{until_built, or_later, has_file, brings_for, brings_after, outcome_now}
-use Rattle.cell_law.specs.Settled.{IsSettled}
-use Rattle.cell_law.specs.Loading.{appended_with, placed_cell, placed_at, AllTaken, take_runs, IsNewCell}
-use Rattle.cell_law.proofs.Binds.{bind_is, bind_err, then_is, then_err}
-use Rattle.cell_law.proofs.Fresh.{fresh_appended, fresh_placed, other}
-use Rattle.cell_law.proofs.Placing.{place_is}
+use Rattle.cell_world.specs.Coherent.{AreSound}
+use Rattle.cell_world.specs.Gather.{Source, bring, fresh_cells}
+use Rattle.cell_world.specs.LoadCommand.{append_named, link_fresh, next_load}
+use Rattle.cell_world.specs.Outcome.{Outcome, ◌>>=◌}
+use Rattle.cell_world.specs.Place.{Starts, page_table, place_all}
+use Rattle.cell_coherent.specs.Loading.{HasPlaced}
+use Rattle.cell_coherent.proofs.Gathered.{Ranks, Extends}
+use Rattle.cell_coherent.proofs.Known.{known_parts}
+use Rattle.cell_coherent.proofs.LoadGrown.{all_gathered}
+use Rattle.cell_coherent.proofs.Ready.{append_same}
+use Rattle.cell_law.specs.Settled.{In, IsSettled}
+use Rattle.cell_law.specs.Loading.{ManyTaken, gathered_by, grown, objects_of, placed_after, placed_cell, placed_cells, take_all}
+use Rattle.cell_law.proofs.Binds.{bind_assoc, bind_err, bind_is, bind_ok}
+use Rattle.cell_law.proofs.Elements.{all-In, filter_all, filter_none}
+use Rattle.cell_law.proofs.Placing.{all_is}
 
--- nothing is brought where nothing is lacking
-none_brought : (turns : ℕ) (sources : List Source) (from : ℕ) (w : World) → first_lack w (fresh_cells from w) ≡ None → bring_within turns sources from w ≡ Ok w
-none_brought zero sources from w h = refl
-none_brought (suc turns) sources from w h =
-    ap (λ (o : Option Need). elim o as (λ _. Outcome World) [ None ↦ Ok w | Some lack ↦ bring_one sources w lack >>= (λ more. bring_within turns sources from more) ]) h
+-- gathering is refused
+pub load_refused : (sources : List Source) (w : World) (ns stem : List ℕ) (r : Refusal) → gathered_by sources w ns stem ≡ Err r → next_load sources w ns stem ≡ Err r
+load_refused sources w ns stem r e =
+    sym (bind_assoc (append_named sources w ns stem) (λ a. bring sources w.next_cell a) (link_fresh w.next_cell))
+    ∙ bind_err (gathered_by sources w ns stem) (link_fresh w.next_cell) r e
 
-lack_refused : (turns : ℕ) (sources : List Source) (from : ℕ) (w : World) (lack : Need) (r : Refusal) → first_lack w (fresh_cells from w) ≡ Some lack → bring_one sources w lack ≡ Err r → bring_within (suc turns) sources from w ≡ Err r
-lack_refused turns sources from w lack r h e =
-    ap (λ (o : Option Need). elim o as (λ _. Outcome World) [ None ↦ Ok w | Some lack ↦ bring_one sources w lack >>= (λ more. bring_within turns sources from more) ]) h
-    ∙ bind_err (bring_one sources w lack) (λ more. bring_within turns sources from more) r e
+-- places don't change numbers
+numbers_placed : (n : ℕ) (starts : List Starts) (cells : List Cell) → list_all (λ (c : Cell). nat_le n c.id.0) (placed_cells starts cells) ≡ list_all (λ (c : Cell). nat_le n c.id.0) cells
+numbers_placed n [] cells = refl
+numbers_placed n (s ∷ starts) [] = refl
+numbers_placed n (s ∷ starts) (c ∷ cells) = ap (λ b. nat_le n c.id.0 && b) (numbers_placed n starts cells)
 
--- the appending is refused
-pub load_refused : (sources : List Source) (w : World) (name stem : List ℕ) (r : Refusal) → append_named sources w name stem ≡ Err r → outcome_now sources w (Load name stem) ≡ Err (until_built r)
-load_refused sources w name stem r e =
-    ap (λ b. if b then Err Later else or_later (next_load sources w name stem)) (ap (brings_after sources w.next_cell) e)
-    ∙ ap or_later (bind_err (append_named sources w name stem) _ r e)
+-- each present cell has an older number
+pub older : (w : World) → IsSettled w → (d : Cell) → In d w.cells → d.id.0 < w.next_cell
+older w settled d k = ltb-true d.id.0 w.next_cell (known_parts w d (all-In _ w.cells settled.coherent.ready.cells d k)).number
 
-module _ (sources : List Source) (w : World) (name stem : List ℕ) (c : Cell) (settled : IsSettled w) (new : IsNewCell w c) (appended : append_named sources w name stem ≡ Ok (appended_with w c)) where
-  brings_is : brings_after sources w.next_cell (append_named sources w name stem) ≡ brings_for sources (appended_with w c) (first_lack (appended_with w c) (c ∷ []))
-  brings_is =
-      ap (brings_after sources w.next_cell) appended
-      ∙ ap (λ (cs : List Cell). brings_for sources (appended_with w c) (first_lack (appended_with w c) cs)) (fresh_appended w c settled new)
+fresh_after : (w : World) → IsSettled w → (cells : List Cell) → list_all (λ (c : Cell). nat_le w.next_cell c.id.0) cells ≡ true → filter (λ (c : Cell). nat_le w.next_cell c.id.0) (w.cells ++ cells) ≡ cells
+fresh_after w settled cells all =
+    filter-append (λ (c : Cell). nat_le w.next_cell c.id.0) w.cells cells
+    ∙ ap₂ (λ (xs ys : List Cell). xs ++ ys)
+    (filter_none (λ (c : Cell). nat_le w.next_cell c.id.0) w.cells (λ d k. old d.id.0 w.next_cell (older w settled d k)))
+    (filter_all (λ (c : Cell). nat_le w.next_cell c.id.0) cells (λ c k. all-In (λ (c : Cell). nat_le w.next_cell c.id.0) cells all c k))
+  where
+    old : (k n : ℕ) → k < n → nat_le n k ≡ false
+    old k n l = grind (arith, l, nat_tests)
 
-  lack_is : first_lack (appended_with w c) (fresh_cells w.next_cell (appended_with w c)) ≡ first_lack (appended_with w c) (c ∷ [])
-  lack_is = ap (first_lack (appended_with w c)) (fresh_appended w c settled new)
+module _ (sources : List Source) (w : World) (ns stem : List ℕ) (settled : IsSettled w) (sound : AreSound sources) (cells : List Cell) (gathered : gathered_by sources w ns stem ≡ Ok (grown w cells)) where
+  steps : (a : World) × (append_named sources w ns stem ≡ Ok a) × (bring sources w.next_cell a ≡ Ok (grown w cells))
+  steps = bind_ok (append_named sources w ns stem) (λ a. bring sources w.next_cell a) (grown w cells) gathered
 
-  load_is : next_load sources w name stem ≡ (bring sources w.next_cell (appended_with w c) >>= (λ gathered. link_fresh w.next_cell gathered))
-  load_is = bind_is (append_named sources w name stem) (λ v. bring sources w.next_cell v >>= (λ gathered. link_fresh w.next_cell gathered)) (appended_with w c) _ appended refl
+  reached : Ranks (grown w cells) × Extends w (grown w cells)
+  reached = (all_gathered sources w ns stem steps.0 (grown w cells) sound settled.coherent.ready steps.1 steps.2).0
 
-  module _ (lack : Need) (lacks : first_lack (appended_with w c) (c ∷ []) ≡ Some lack) where
-    -- the cell lacks a name whose crate has a file
-    pub load_brings : has_file (bring_one sources (appended_with w c) lack) ≡ true → outcome_now sources w (Load name stem) ≡ Err Later
-    load_brings h =
-        ap (λ b. if b then Err Later else or_later (next_load sources w name stem)) (brings_is ∙ (ap (brings_for sources (appended_with w c)) lacks ∙ h))
+  pub ranks : Ranks (grown w cells)
+  ranks = reached.0
 
-    -- the cell lacks a name that no file would bring
-    pub load_misses : (missed : List ℕ) (cell : CellId) → bring_one sources (appended_with w c) lack ≡ Err (Missing missed cell) → outcome_now sources w (Load name stem) ≡ Err (Missing missed cell)
-    load_misses missed cell h =
-        ap (λ b. if b then Err Later else or_later (next_load sources w name stem)) (brings_is ∙ (ap (brings_for sources (appended_with w c)) lacks ∙ ap has_file h))
-        ∙ ap or_later (load_is ∙ bind_err (bring sources w.next_cell (appended_with w c)) _ (Missing missed cell) (lack_refused 1024 sources w.next_cell (appended_with w c) lack (Missing missed cell) (lack_is ∙ lacks) h))
+  new_are : reached.1.new ≡ cells
+  new_are = append_same w.cells reached.1.new cells (ap (λ (u : World). u.cells) reached.1.is)
 
-  module _ (lacks : first_lack (appended_with w c) (c ∷ []) ≡ None) where
-    -- nothing more is brought
-    pub brought : bring sources w.next_cell (appended_with w c) ≡ Ok (appended_with w c)
-    brought = none_brought 1025 sources w.next_cell (appended_with w c) (lack_is ∙ lacks)
+  -- the new cells have new numbers
+  pub all_new : list_all (λ (c : Cell). nat_le w.next_cell c.id.0) cells ≡ true
+  all_new = subst (λ (cs : List Cell). list_all (λ (c : Cell). nat_le w.next_cell c.id.0) cs ≡ true) new_are reached.1.fresh
 
-    gathered_is : next_load sources w name stem ≡ link_fresh w.next_cell (appended_with w c)
-    gathered_is = load_is ∙ bind_is (bring sources w.next_cell (appended_with w c)) (λ gathered. link_fresh w.next_cell gathered) (appended_with w c) _ brought refl
+  fresh : fresh_cells w.next_cell (grown w cells) ≡ cells
+  fresh = fresh_after w settled cells all_new
 
-    link_is : outcome_now sources w (Load name stem) ≡ or_later (link_fresh w.next_cell (appended_with w c))
-    link_is =
-        ap (λ b. if b then Err Later else or_later (next_load sources w name stem)) (brings_is ∙ ap (brings_for sources (appended_with w c)) lacks)
-        ∙ ap or_later gathered_is
+  places_are : place_all (grown w cells) (fresh_cells w.next_cell (grown w cells)) ≡ (take_all w.base (page_table w) (objects_of cells) >>= (λ t. Ok (placed_after t.starts w cells)))
+  places_are = ap (place_all (grown w cells)) fresh ∙ all_is cells w.cells (grown w cells) refl ranks.order
 
-    runs_are : place_all (appended_with w c) (fresh_cells w.next_cell (appended_with w c)) ≡ (take_runs w.base (page_table w) c.object >>= (λ t. Ok (placed_at t.starts w c)))
-    runs_are = ap (place_all (appended_with w c)) (fresh_appended w c settled new) ∙ place_is w c (other w c settled new)
+  load_is : next_load sources w ns stem ≡ link_fresh w.next_cell (grown w cells)
+  load_is =
+      sym (bind_assoc (append_named sources w ns stem) (λ a. bring sources w.next_cell a) (link_fresh w.next_cell))
+      ∙ ap (λ o. o >>= link_fresh w.next_cell) gathered
 
-    -- no run is long enough
-    pub load_full : (r : Refusal) → take_runs w.base (page_table w) c.object ≡ Err r → outcome_now sources w (Load name stem) ≡ Err (until_built r)
-    load_full r h = link_is ∙ ap or_later (bind_err (place_all (appended_with w c) (fresh_cells w.next_cell (appended_with w c))) _ r (runs_are ∙ ap (λ o. o >>= (λ t. Ok (placed_at t.starts w c))) h))
+  -- no run is long enough
+  pub load_full : (r : Refusal) → take_all w.base (page_table w) (objects_of cells) ≡ Err r → next_load sources w ns stem ≡ Err r
+  load_full r e =
+      load_is
+      ∙ bind_err (place_all (grown w cells) (fresh_cells w.next_cell (grown w cells))) _ r
+      (places_are ∙ ap (λ o. o >>= (λ t. Ok (placed_after t.starts w cells))) e)
 
-    module _ (t : AllTaken) (runs : take_runs w.base (page_table w) c.object ≡ Ok t) where
-      abbrev placed : World
-      placed = placed_at t.starts w c
+  module _ (t : ManyTaken) (runs : take_all w.base (page_table w) (objects_of cells) ≡ Ok t) where
+    -- the cells are in their places
+    pub has_placed : HasPlaced sources w ns stem (placed_after t.starts w cells)
+    has_placed = record {
+      appended = steps.0;
+      gathered = grown w cells;
+      append = steps.1;
+      bring_all = steps.2;
+      place = places_are ∙ ap (λ o. o >>= (λ t. Ok (placed_after t.starts w cells))) runs;
+    }
 
-      pub place_done : place_all (appended_with w c) (fresh_cells w.next_cell (appended_with w c)) ≡ Ok placed
-      place_done = runs_are ∙ ap (λ o. o >>= (λ t. Ok (placed_at t.starts w c))) runs
-
-      misfit_is : first_misfit placed (fresh_cells w.next_cell placed) ≡ or_else (misfit_in placed (placed_cell t.starts c)) None
-      misfit_is = ap (first_misfit placed) (fresh_placed w c settled new t.starts)
-
-      -- an entry of the cell doesn't fit
-      pub load_overflows : (b : Bound) → misfit_of (placed_cell t.starts c).placed (bound_entries placed (placed_cell t.starts c)) ≡ Some b → outcome_now sources w (Load name stem) ≡ Err (overflow_at (placed_cell t.starts c) b)
-      load_overflows b h =
-          link_is
-          ∙ ap or_later
-          (bind_is (place_all (appended_with w c) (fresh_cells w.next_cell (appended_with w c))) _ placed _ place_done
-          (then_err _ _ (overflow_at (placed_cell t.starts c) b)
-          (ap refused_by (misfit_is ∙ ap (λ (o : Option Bound). or_else (option_map (overflow_at (placed_cell t.starts c)) o) None) h))))
-
-      module _ (fit : misfit_of (placed_cell t.starts c).placed (bound_entries placed (placed_cell t.starts c)) ≡ None) where
-        linked_is : link_fresh w.next_cell (appended_with w c) ≡ done (LoadDone (c.id ∷ []) (length (fields_of c.object))) (relink placed)
-        linked_is =
-            bind_is (place_all (appended_with w c) (fresh_cells w.next_cell (appended_with w c))) _ placed _ place_done
-            (then_is _ _ _ tt (ap refused_by (misfit_is ∙ ap (λ (o : Option Bound). or_else (option_map (overflow_at (placed_cell t.starts c)) o) None) fit))
-            (ap (λ (cs : List Cell). done (LoadDone (ids (numbers_of cs)) (field_count cs)) (relink placed)) (fresh_placed w c settled new t.starts)
-            ∙ ap (λ (n : ℕ). done (LoadDone (c.id ∷ []) n) (relink placed)) fields_counted))
-          where
-            fields_counted : 0 + length (fields_of c.object) ≡ length (fields_of c.object)
-            fields_counted = omega arith
-
-        -- the cell is loaded
-        pub load_done : outcome_now sources w (Load name stem) ≡ done (LoadDone (c.id ∷ []) (length (fields_of c.object))) (relink placed)
-        load_done = link_is ∙ ap or_later linked_is
-
-        -- the same of the full step
-        pub full_done : next_load sources w name stem ≡ done (LoadDone (c.id ∷ []) (length (fields_of c.object))) (relink placed)
-        full_done = gathered_is ∙ linked_is
+    pub fresh_placed : fresh_cells w.next_cell (placed_after t.starts w cells) ≡ placed_cells t.starts cells
+    fresh_placed = fresh_after w settled (placed_cells t.starts cells) (numbers_placed w.next_cell t.starts cells ∙ all_new)

@@ -1,7 +1,7 @@
--- The classes of a new cell take the runs that the page table gives, one after another.
-use Rattle.std.proofs.Common.{◌≡◌, refl, sym, ◌∙◌, ap, ap₂, subst, arith, ℕ, zero, suc, ◌+◌, ◌*◌, ◌≤◌, ◌<◌, ◌⊎◌, inl, inr, Bool, true, false, cond, not, List, [], ◌∷◌, ◌++◌, map, length, true≢false, Option, Some, None, Ok, Err}
-use Rattle.std.specs.Prelude.{◌/◌, ◌%◌, ◌==◌, slice_index_or}
-use Rattle.std.proofs.lemmas.Bool.{cases_lt, eq-eqb}
+-- The classes of new cells take the runs that the page table gives, one after another.
+use Rattle.std.proofs.Common.{◌≡◌, refl, sym, ◌∙◌, ap, subst, arith, ℕ, zero, suc, ◌+◌, ◌*◌, ◌≤◌, ◌<◌, ◌⊎◌, inl, inr, Bool, true, false, cond, not, List, [], ◌∷◌, ◌++◌, map, length, append_assoc, true≢false, Option, Some, None, Ok, Err}
+use Rattle.std.specs.Prelude.{◌/◌, ◌%◌, nat_lt, slice_index_or}
+use Rattle.std.proofs.lemmas.Bool.{cases_lt}
 use Rattle.std.proofs.lemmas.List.{map-append, length-map}
 use Rattle.cell_num.specs.Lists.{from_on, upto}
 use Rattle.cell_object.specs.declared.object.Object.{Object}
@@ -12,8 +12,10 @@ use Rattle.cell_world.specs.Relink.{Class, Text, ReadOnly, Writable, sections_in
 use Rattle.cell_world.specs.Pages.{is_free, is_free_run, lowest_run, longest_run, filled}
 use Rattle.cell_world.specs.Place.{Placing, Starts, is_taken, page_table, with_run, with_places, places_in, place_sections, place_class, place_cell, place_all}
 use Rattle.cell_world.specs.declared.refusal.Refusal.TheVariants.{Exhausted}
+use Rattle.cell_coherent.proofs.NewPlaced.{in_order, one_changes}
+use Rattle.cell_coherent.proofs.Renamed.{bare, pairs_bare}
 use Rattle.cell_law.specs.Settled.{In}
-use Rattle.cell_law.specs.Loading.{Taken, take_for, take_class, AllTaken, take_runs, with_run_of, with_classes, appended_with, placed_cell, placed_at}
+use Rattle.cell_law.specs.Loading.{Taken, take_for, take_class, AllTaken, ManyTaken, take_runs, take_all, with_run_of, with_classes, with_all, objects_of, placed_cell, placed_cells}
 use Rattle.cell_law.proofs.Binds.{bind_map, bind_assoc, bind_same, bind_ok, ok_same}
 use Rattle.cell_law.proofs.Elements.{all-In, found-In}
 use Rattle.cell_law.proofs.Offsets.{image_pages}
@@ -143,31 +145,6 @@ module _ (v : World) (number : ℕ) (o : Object) where
       ∙ bind_same (take_class u.base t.table ReadOnly o) _ _ (λ r f.
       bind_map (take_class u.base r.table Writable o) _ _)))
 
-one_placed : (v w : World) (o : Outcome World) → (o >>= (λ y. Ok y)) ≡ o
-one_placed v w (Ok y) = refl
-one_placed v w (Err r) = refl
-
-module _ (w : World) (c : Cell) (older : (d : Cell) → In d w.cells → (d.id.0 == c.id.0) ≡ false) where
-  kept_places : (starts : Starts) (cells : List Cell) → ((d : Cell) → In d cells → (d.id.0 == c.id.0) ≡ false) → map (with_places c.id.0 starts) cells ≡ cells
-  kept_places starts [] f = refl
-  kept_places starts (d ∷ cells) f =
-      ap₂ (λ (x : Cell) xs. x ∷ xs) (ap (λ b. cond b (record d { placed = record d.placed { places = places_in starts d.object } }) d) (f d (inl refl)))
-      (kept_places starts cells (λ x k. f x (inr k)))
-
-  cells_placed : (starts : Starts) → map (with_places c.id.0 starts) (w.cells ++ c ∷ []) ≡ w.cells ++ placed_cell starts c ∷ []
-  cells_placed starts =
-      map-append (with_places c.id.0 starts) w.cells (c ∷ [])
-      ∙ ap₂ (λ (xs ys : List Cell). xs ++ ys) (kept_places starts w.cells older) (ap (λ b. cond b (placed_cell starts c) c ∷ []) (eq-eqb c.id.0 c.id.0 refl))
-
-  -- the new cell comes to stand where its classes' runs are, or no run is long enough
-  pub place_is : place_all (appended_with w c) (c ∷ []) ≡ (take_runs w.base (page_table w) c.object >>= (λ t. Ok (placed_at t.starts w c)))
-  place_is =
-      one_placed w w (place_cell (appended_with w c) c)
-      ∙ (first_class (appended_with w c) c.id.0 c.object (appended_with w c)
-      ∙ (runs_first (appended_with w c) c.id.0 c.object (appended_with w c)
-      ∙ bind_same (take_runs w.base (page_table w) c.object) _ _ (λ t e.
-      ap (λ (cells : List Cell). Ok (record (appended_with w c) { cells = cells; regions = with_classes t.starts c.object w.regions })) (cells_placed t.starts))))
-
 -- the page table with the runs of all classes
 module _ (o : Object) where
   pub runs_table : (u : World) (t : AllTaken) → take_runs u.base (page_table u) o ≡ Ok t → page_table (record u { regions = with_classes t.starts o u.regions }) ≡ t.table
@@ -183,3 +160,88 @@ module _ (o : Object) where
       let e3 : page_table u3 ≡ z.0.table = class_table u2 Writable (sections_in Writable o) z.0 (ap (λ table. take_class u.base table Writable o) e2 ∙ z.1) in
       let same = ok_same (record { starts = three_starts x.0.start y.0.start z.0.start; table = z.0.table }) t z.2 in
       subst (λ (t : AllTaken). page_table (record u { regions = with_classes t.starts o u.regions }) ≡ t.table) same e3
+
+-- numbers of cells don't change by places
+order_placed : (before rest : List Cell) (starts : Starts) (c : Cell) → in_order (before ++ c ∷ rest) ≡ true → in_order (before ++ placed_cell starts c ∷ rest) ≡ true
+order_placed before rest starts c order =
+    pairs_bare (λ a b. nat_lt a.id.0 b.id.0) (λ a b. refl) (before ++ placed_cell starts c ∷ rest) (before ++ c ∷ rest)
+    (map-append bare before (placed_cell starts c ∷ rest) ∙ sym (map-append bare before (c ∷ rest))) order
+
+-- one cell comes to stand where its classes' runs are, or no run is long enough
+abbrev one_after : List Cell → List Cell → World → Cell → AllTaken → World
+one_after before rest u c t = record u { cells = before ++ placed_cell t.starts c ∷ rest; regions = with_classes t.starts c.object u.regions }
+
+one_is : (before rest : List Cell) (u : World) (c : Cell) → u.cells ≡ before ++ c ∷ rest → in_order u.cells ≡ true
+    → place_cell u c ≡ (take_runs u.base (page_table u) c.object >>= (λ t. Ok (one_after before rest u c t)))
+one_is before rest u c e order =
+    first_class u c.id.0 c.object u
+    ∙ (runs_first u c.id.0 c.object u
+    ∙ bind_same (take_runs u.base (page_table u) c.object) _ _ (λ t k.
+    ap (λ (cells : List Cell). Ok (record u { cells = cells; regions = with_classes t.starts c.object u.regions }))
+    (ap (map (with_places c.id.0 t.starts)) e ∙ one_changes before rest c t.starts (subst (λ (cs : List Cell). in_order cs ≡ true) e order))))
+
+abbrev all_after : List Cell → List Cell → World → ManyTaken → World
+all_after before cells u t = record u { cells = before ++ placed_cells t.starts cells; regions = with_all t.starts (objects_of cells) u.regions }
+
+abbrev rest_taken : AllTaken → ManyTaken → ManyTaken
+rest_taken t m = record { starts = t.starts ∷ m.starts; table = m.table }
+
+module _ (before rest : List Cell) (u : World) (c : Cell) (t : AllTaken) where
+  abbrev next : World
+  next = one_after before rest u c t
+
+  abbrev so_far : List Cell
+  so_far = before ++ placed_cell t.starts c ∷ []
+
+  -- the others after it
+  rest_is : take_runs u.base (page_table u) c.object ≡ Ok t
+      → place_all next rest ≡ (take_all next.base (page_table next) (objects_of rest) >>= (λ m. Ok (all_after so_far rest next m)))
+      → place_all next rest ≡ ((take_all u.base t.table (objects_of rest) >>= (λ m. Ok (rest_taken t m))) >>= (λ t. Ok (all_after before (c ∷ rest) u t)))
+  rest_is k more =
+      more
+      ∙ (ap (λ table. take_all u.base table (objects_of rest) >>= (λ m. Ok (all_after so_far rest next m))) (runs_table c.object u t k)
+      ∙ (bind_same (take_all u.base t.table (objects_of rest)) _ _ (λ m h.
+      ap (λ (cells : List Cell). Ok (record u { cells = cells; regions = with_all m.starts (objects_of rest) (with_classes t.starts c.object u.regions) })) (append_assoc before (placed_cell t.starts c ∷ []) (placed_cells m.starts rest)))
+      ∙ sym (bind_map (take_all u.base t.table (objects_of rest)) (rest_taken t) (λ t. Ok (all_after before (c ∷ rest) u t)))))
+
+-- the cells come to stand one after another, or for one of them no run is long enough
+pub all_is : (cells before : List Cell) (u : World) → u.cells ≡ before ++ cells → in_order u.cells ≡ true
+    → place_all u cells ≡ (take_all u.base (page_table u) (objects_of cells) >>= (λ t. Ok (all_after before cells u t)))
+all_is [] before u e order = ap (λ (cells : List Cell). Ok (record u { cells = cells })) e
+all_is (c ∷ rest) before u e order =
+    ap (λ o. o >>= (λ y. place_all y rest)) (one_is before rest u c e order)
+    ∙ (bind_map (take_runs u.base (page_table u) c.object) (one_after before rest u c) (λ y. place_all y rest)
+    ∙ (bind_same (take_runs u.base (page_table u) c.object) _ _ (λ t k.
+    rest_is before rest u c t k
+    (all_is rest (before ++ placed_cell t.starts c ∷ []) (one_after before rest u c t) (sym (append_assoc before (placed_cell t.starts c ∷ []) rest))
+    (order_placed before rest t.starts c (subst (λ (cs : List Cell). in_order cs ≡ true) e order))))
+    ∙ sym (bind_assoc (take_runs u.base (page_table u) c.object) _ _)))
+
+-- the page table with the runs of all objects
+pub all_table : (objects : List Object) (u : World) (t : ManyTaken) → take_all u.base (page_table u) objects ≡ Ok t → page_table (record u { regions = with_all t.starts objects u.regions }) ≡ t.table
+all_table [] u t e = subst (λ (t : ManyTaken). page_table (record u { regions = with_all t.starts [] u.regions }) ≡ t.table) (ok_same (record { starts = []; table = page_table u }) t e) refl
+all_table (o ∷ rest) u t e =
+    let a = bind_ok (take_runs u.base (page_table u) o) _ t e in
+    let v : World = record u { regions = with_classes a.0.starts o u.regions } in
+    let table : page_table v ≡ a.0.table = runs_table o u a.0 a.1 in
+    let b = bind_ok (take_all u.base a.0.table rest) _ t a.2 in
+    let more = all_table rest v b.0 (ap (λ table. take_all u.base table rest) table ∙ b.1) in
+    subst (λ (t : ManyTaken). page_table (record u { regions = with_all t.starts (o ∷ rest) u.regions }) ≡ t.table) (ok_same (rest_taken a.0 b.0) t b.2) more
+
+-- the objects before come first
+pub all_append : (base : ℕ) (table : List Bool) (xs ys : List Object)
+    → take_all base table (xs ++ ys)
+    ≡ (take_all base table xs >>= (λ m. take_all base m.table ys >>= (λ k. Ok (record { starts = m.starts ++ k.starts; table = k.table }))))
+all_append base table [] ys = sym (all_again (take_all base table ys))
+  where
+    all_again : (o : Outcome ManyTaken) → (o >>= (λ k. Ok (record { starts = k.starts; table = k.table }))) ≡ o
+    all_again (Ok k) = refl
+    all_again (Err r) = refl
+all_append base table (x ∷ xs) ys =
+    bind_same (take_runs base table x) _ _ (λ t e.
+    ap (λ o. o >>= (λ k. Ok (rest_taken t k))) (all_append base t.table xs ys)
+    ∙ (bind_assoc (take_all base t.table xs) _ _
+    ∙ bind_same (take_all base t.table xs) _ _ (λ m h.
+    bind_map (take_all base m.table ys) _ _)
+    ∙ sym (bind_map (take_all base t.table xs) (rest_taken t) _)))
+    ∙ sym (bind_assoc (take_runs base table x) _ _)

@@ -1,20 +1,22 @@
--- One more cell after the others: the runs that its classes take, and the machine with it before it is linked.
+-- New cells after the others: the runs that their classes take, and the machine with them before it is linked.
 --     laid_end sections             how many bytes the sections of a class have, one after another
 --     run_size sections             how many bytes the run of a class has
 --     take_runs base table object   where the classes start, each in the lowest run that is free by then, and the page table with them
 --     regions_at starts object      the classes' regions there
---     appended_with w c             the machine with the cell, which has no places yet
---     placed_at starts w c          the machine with the cell in its places
---     IsNewCell w c                 the cell may come after the others of w
-use Rattle.std.specs.Prelude.{ℕ, suc, ◌+◌, ◌*◌, ◌/◌, ◌≡◌, Bool, true, List, [], ◌∷◌, ◌++◌, Some, None, Ok, Err, length}
+--     take_all base table objects   where the classes of each object start, one object after another
+--     grown w cells                 the machine with the cells, which have no places yet
+--     placed_after starts w cells   the machine with the cells in their places
+--     gathered_by sources w ns stem the machine with the cells that a load brings, not placed yet
+use Rattle.std.specs.Prelude.{ℕ, ◌+◌, ◌*◌, ◌/◌, Bool, true, List, [], ◌∷◌, ◌++◌, Some, None, Ok, Err, length, map}
 use Rattle.cell_object.specs.declared.object.Object.{Object}
 use Rattle.cell_object.specs.declared.object.Section.{Section as ObjectSection}
 use Rattle.cell_world.specs.declared.refusal.Refusal.TheVariants.{Exhausted}
-use Rattle.cell_world.specs.World.{World, Cell, Region, Attached}
+use Rattle.cell_world.specs.World.{World, Cell, Region}
 use Rattle.cell_world.specs.Relink.{Class, Text, ReadOnly, Writable, sections_in, image_of, permission_of, gap}
 use Rattle.cell_world.specs.Pages.{lowest_run, longest_run, filled}
 use Rattle.cell_world.specs.Place.{Starts, places_in, with_region}
-use Rattle.cell_object.specs.Sound.{IsSoundObject}
+use Rattle.cell_world.specs.Gather.{Source, bring}
+use Rattle.cell_world.specs.LoadCommand.{append_named}
 use Rattle.cell_world.specs.Outcome.{Outcome, ◌>>=◌}
 
 -- n bytes stand before the sections
@@ -89,26 +91,53 @@ with_classes starts object regions =
     with_class starts.writable Writable object
     (with_class starts.read_only ReadOnly object (with_class starts.text Text object regions))
 
--- the machine with a cell after the others, which has no places yet
-abbrev pub appended_with : World → Cell → World
-appended_with w c = record w { cells = w.cells ++ c ∷ []; next_cell = suc w.next_cell }
+-- where the classes of each cell start, and the page table with all runs
+pub record ManyTaken : Type 0 where
+  pub starts : List Starts
+  pub table : List Bool
 
--- the new cell with its places
+abbrev pub take_all : ℕ → List Bool → List Object → Outcome ManyTaken
+take_all base table [] = Ok (record { starts = []; table = table })
+take_all base table (o ∷ objects) = do
+  first ← take_runs base table o
+  rest ← take_all base first.table objects
+  Ok (record { starts = first.starts ∷ rest.starts; table = rest.table })
+
+-- the regions with those of the classes of each object
+abbrev pub with_all : List Starts → List Object → List Region → List Region
+with_all [] objects regions = regions
+with_all (s ∷ starts) [] regions = regions
+with_all (s ∷ starts) (o ∷ objects) regions = with_all starts objects (with_classes s o regions)
+
+-- the regions of the classes of each object
+abbrev pub all_regions : List Starts → List Object → List Region
+all_regions [] objects = []
+all_regions (s ∷ starts) [] = []
+all_regions (s ∷ starts) (o ∷ objects) = regions_at s o ++ all_regions starts objects
+
+abbrev pub objects_of : List Cell → List Object
+objects_of cells = map (λ c. c.object) cells
+
+-- a cell with its places
 abbrev pub placed_cell : Starts → Cell → Cell
 placed_cell starts c = record c { placed = record c.placed { places = places_in starts c.object } }
 
-abbrev pub placed_at : Starts → World → Cell → World
-placed_at starts w c =
+-- each cell with its places
+abbrev pub placed_cells : List Starts → List Cell → List Cell
+placed_cells [] cells = cells
+placed_cells (s ∷ starts) [] = []
+placed_cells (s ∷ starts) (c ∷ cells) = placed_cell s c ∷ placed_cells starts cells
+
+abbrev pub grown : World → List Cell → World
+grown w cells = record w { cells = w.cells ++ cells; next_cell = w.next_cell + length cells }
+
+abbrev pub placed_after : List Starts → World → List Cell → World
+placed_after starts w cells =
     record w {
-      cells = w.cells ++ placed_cell starts c ∷ [];
-      next_cell = suc w.next_cell;
-      regions = with_classes starts c.object w.regions;
+      cells = w.cells ++ placed_cells starts cells;
+      next_cell = w.next_cell + length cells;
+      regions = with_all starts (objects_of cells) w.regions;
     }
 
--- the cell may come after the others: as it is when its file has just been read
-pub record IsNewCell (w : World) (c : Cell) : Type 0 where
-  pub number : c.id.0 ≡ w.next_cell
-  pub attached : c.standing ≡ Attached
-  pub in_k : c.ns ≡ 0
-  pub unaliased : c.aliases ≡ []
-  pub object : IsSoundObject c.object
+abbrev pub gathered_by : List Source → World → List ℕ → List ℕ → Outcome World
+gathered_by sources w ns stem = append_named sources w ns stem >>= (λ appended. bring sources w.next_cell appended)

@@ -2,3 +2,4 @@ pub mod Bounds
 pub mod Layouts
 pub mod Runs
 pub mod Placings
+pub mod ManyCells

@@ -1,3 +1,4 @@
 pub mod Classes
 pub mod Layout
 pub mod Placing
+pub mod Many

@@ -1,6 +1,7 @@
 //! Where a new cell comes to stand, and what its pages hold before its fields are written.
 #![tactic(auto)]
 
+mod cells;
 mod class;
 mod image;
 mod layout;
@@ -9,4 +10,8 @@ mod places;
 mod regions;
 mod starts;
 
+pub use cells::{PlacedCells, place_cells};
 pub use placement::{PlaceFail, Placement, place};
+
+#[cfg(test)]
+mod tests;

@@ -1,6 +1,6 @@
 -- The lines that a run writes for an answer.
 --     lines_of n answer      the lines of the answer to the command of line n
-use Rattle.std.specs.Prelude.{◌≡◌, ℕ, zero, suc, ◌+◌, ◌/◌, ◌%◌, ◌^◌, List, [], ◌∷◌, ◌++◌, length, take, drop, Result, Ok, Err, codes, ◌==◌, if◌then◌else◌}
+use Rattle.std.specs.Prelude.{◌≡◌, ℕ, zero, suc, ◌+◌, ◌/◌, ◌%◌, ◌^◌, List, [], ◌∷◌, ◌++◌, length, take, drop, Option, Some, None, Result, Ok, Err, codes, ◌==◌, if◌then◌else◌}
 use Rattle.std.specs.List.{concat, flat_map}
 use Rattle.std.specs.Fmt.{decimal}
 use Rattle.cell_num.specs.declared.ids.CellId.{CellId}
@@ -8,18 +8,22 @@ use Rattle.cell_num.specs.declared.ids.SecKey.{SecKey}
 use Rattle.cell_num.specs.declared.kinds.RelKind.{RelKind}
 use Rattle.cell_num.specs.declared.kinds.RelKind.TheVariants.{Abs32, Abs64, Branch, Jal, Call, CallPlt, GotHi20, PcrelHi20, PcrelLo12I, PcrelLo12S, Hi20, Lo12I, Lo12S, Add8, Add16, Add32, Add64, Sub8, Sub16, Sub32, Sub64, Sub6, Set6, Set8, Set16, Set32, Pcrel32}
 use Rattle.cell_text.specs.Number.{hex, hex_byte}
+use Rattle.cell_world.specs.declared.reply.Found.{Found}
+use Rattle.cell_world.specs.declared.reply.MapCell.{MapCell}
+use Rattle.cell_world.specs.declared.reply.MapSection.{MapSection}
 use Rattle.cell_world.specs.declared.reply.Reply.{Reply}
-use Rattle.cell_world.specs.declared.reply.Reply.TheVariants.{Load, Dump}
+use Rattle.cell_world.specs.declared.reply.Reply.TheVariants.{Ns, Load, Find, Map, Dump}
 use Rattle.cell_world.specs.declared.refusal.Many.{Many}
-use Rattle.cell_world.specs.declared.refusal.Many.TheVariants.{Cells, CellNumbers}
+use Rattle.cell_world.specs.declared.refusal.Many.TheVariants.{Namespaces, Cells, CellNumbers}
 use Rattle.cell_world.specs.declared.refusal.Refusal.{Refusal}
-use Rattle.cell_world.specs.declared.refusal.Refusal.TheVariants.{Later, Unknown, TooMany, NoObject, Ambiguous, BadObject, Duplicate, Missing, Exhausted, Overflow}
+use Rattle.cell_world.specs.declared.refusal.Refusal.TheVariants.{Unknown, NameTaken, TooMany, NoObject, Ambiguous, BadObject, Duplicate, Missing, Exhausted, Overflow}
 
 -- the parts of a line, and a line feed
 abbrev pub line : List (List ℕ) → List ℕ
 line parts = concat parts ++ 10 ∷ []
 
 abbrev pub many_word : Many → List ℕ
+many_word Namespaces = codes "namespaces"
 many_word Cells = codes "cells"
 many_word CellNumbers = codes "cell-numbers"
 
@@ -78,13 +82,42 @@ rows addr bytes = rows_within ((length bytes + 15) / 16) addr bytes
 abbrev pub key_word : SecKey → List ℕ
 key_word key = concat (codes "#" ∷ decimal key.cell.0 ∷ codes "." ∷ decimal key.section ∷ [])
 
+-- a place in a section and its address, or a dash
+abbrev pub found_word : Option Found → List ℕ
+found_word None = codes "-"
+found_word (Some found) = concat (key_word found.key ∷ codes "+" ∷ hex found.offset ∷ codes " " ∷ hex found.addr ∷ [])
+
+-- what a section may be used for
+abbrev pub permission_word : MapSection → List ℕ
+permission_word s = if s.exec then codes "rx" else if s.write then codes "rw" else codes "ro"
+
+abbrev pub section_line : MapSection → List ℕ
+section_line s =
+    line (codes "    " ∷ decimal s.section ∷ codes " " ∷ permission_word s ∷ codes " " ∷ hex s.start ∷ codes " " ∷ decimal s.size ∷ [])
+
+-- attached, or put aside by the swap of that number
+abbrev pub standing_word : Option ℕ → List ℕ
+standing_word None = codes "attached"
+standing_word (Some swap) = codes "detached " ++ decimal swap
+
+abbrev pub cell_line : MapCell → List ℕ
+cell_line c =
+    line (codes "  #" ∷ decimal c.cell.0 ∷ codes " " ∷ c.ns ∷ codes "/" ∷ c.stem ∷ codes " " ∷ standing_word c.group ∷ codes " " ∷ c.file ∷ [])
+
+-- a cell, and then its sections
+abbrev pub cell_lines : MapCell → List ℕ
+cell_lines c = cell_line c ++ flat_map section_line c.sections
+
 abbrev pub reply_lines : ℕ → Reply → List ℕ
+reply_lines n (Ns name) = line (decimal n ∷ codes " ok ns " ∷ name ∷ [])
 reply_lines n (Load fresh patched) = line (decimal n ∷ codes " ok load" ∷ cells_word fresh ∷ codes " patched " ∷ decimal patched ∷ [])
+reply_lines n (Find found) = line (decimal n ∷ codes " ok find " ∷ found_word found ∷ [])
+reply_lines n (Map cells) = line (decimal n ∷ codes " ok map" ∷ []) ++ flat_map cell_lines cells
 reply_lines n (Dump key start bytes) = line (decimal n ∷ codes " ok dump " ∷ key_word key ∷ []) ++ rows start bytes
 
 abbrev pub refusal_line : ℕ → Refusal → List ℕ
-refusal_line n Later = line (decimal n ∷ codes " E0 later" ∷ [])
 refusal_line n (Unknown word) = line (decimal n ∷ codes " E1 unknown " ∷ word ∷ [])
+refusal_line n (NameTaken word) = line (decimal n ∷ codes " E2 taken " ∷ word ∷ [])
 refusal_line n (TooMany kind limit) = line (decimal n ∷ codes " E4 too-many " ∷ many_word kind ∷ codes " " ∷ decimal limit ∷ [])
 refusal_line n (NoObject stem) = line (decimal n ∷ codes " E5 no-object " ∷ stem ∷ [])
 refusal_line n (Ambiguous one two) = line (decimal n ∷ codes " E6 ambiguous " ∷ one ∷ codes " " ∷ two ∷ [])

@@ -2,6 +2,7 @@
 #![tactic(auto)]
 
 mod line;
+mod map;
 mod refusal;
 mod reply;
 

@@ -19,8 +19,8 @@ pub fn put_refusal(line: u32, refusal: &Refusal, into: &mut Vec<u8>) -> Result<(
     let mut number = Buffer::new();
     let number = number.format(line).as_bytes();
     match refusal {
-        Refusal::Later => put_line(&[number, b" E0 later"], into),
         Refusal::Unknown { word } => put_line(&[number, b" E1 unknown ", word.bytes()], into),
+        Refusal::NameTaken { word } => put_line(&[number, b" E2 taken ", word.bytes()], into),
         Refusal::TooMany { kind, limit } => {
             let mut most = Buffer::new();
             let most = most.format(*limit).as_bytes();
@@ -124,6 +124,7 @@ fn many_word(kind: Many) -> &'static [u8]
     ensures { result.now ≡ many_word kind }
 {
     match kind {
+        Many::Namespaces => b"namespaces",
         Many::Cells => b"cells",
         Many::CellNumbers => b"cell-numbers",
     }

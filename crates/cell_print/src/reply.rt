@@ -1,12 +1,13 @@
 //! Lines of replies.
 
 ghost use Rattle.std.specs.Prelude.{◌≡◌, ◌++◌, ◌≤◌, Ok, length, IfOk, OnOk};
-ghost use Rattle.cell_print.specs.Lines.{cells_word, key_word, row, rows, lines_of, Extends};
+ghost use Rattle.cell_print.specs.Lines.{cells_word, found_word, key_word, row, rows, lines_of, Extends};
 
+use crate::map::put_cells;
 use crate::put_line;
 use cell_num::{CellId, SecKey};
 use cell_text::{put_dec, put_hex, put_hex_byte};
-use cell_world::Reply;
+use cell_world::{Found, Reply};
 use itoa::Buffer;
 use std::alloc::{AllocError, Global};
 
@@ -18,6 +19,7 @@ pub fn put_reply(line: u32, reply: &Reply, into: &mut Vec<u8>) -> Result<(), All
     let mut number = Buffer::new();
     let number = number.format(line).as_bytes();
     match reply {
+        Reply::Ns { name } => put_line(&[number, b" ok ns ", name.bytes()], into),
         Reply::Load { fresh, patched } => {
             let cells = cells_word(*into.allocator(), fresh.as_slice())?;
             let mut fields = Buffer::new();
@@ -26,6 +28,14 @@ pub fn put_reply(line: u32, reply: &Reply, into: &mut Vec<u8>) -> Result<(), All
                 &[number, b" ok load", cells.as_slice(), b" patched ", fields],
                 into,
             )
+        }
+        Reply::Find { found } => {
+            let place = found_word(*into.allocator(), *found)?;
+            put_line(&[number, b" ok find ", place.as_slice()], into)
+        }
+        Reply::Map { cells } => {
+            put_line(&[number, b" ok map"], into)?;
+            put_cells(cells.as_slice(), into)
         }
         Reply::Dump { key, start, bytes } => {
             let section = key_word(*into.allocator(), *key)?;
@@ -47,6 +57,21 @@ fn cells_word(alloc: Global, cells: &[CellId]) -> Result<Vec<u8>, AllocError>
         word.extend_from_slice(b" #")?;
         put_dec(u64::from(cell.0), &mut word)?;
     }
+    Ok(word)
+}
+
+/// The place and its address, or a dash where there is none.
+fn found_word(alloc: Global, found: Option<Found>) -> Result<Vec<u8>, AllocError>
+    ensures { IfOk result (λ word. word.items ≡ found_word found) }
+{
+    let Some(found) = found else {
+        return Vec::from_slice(alloc, b"-");
+    };
+    let mut word = key_word(alloc, found.key)?;
+    word.extend_from_slice(b"+")?;
+    put_hex(found.offset, &mut word)?;
+    word.extend_from_slice(b" ")?;
+    put_hex(found.addr, &mut word)?;
     Ok(word)
 }
 

@@ -1,6 +1,6 @@
 use super::*;
 use cell_num::{Bytes, CellId, Listed, Name, RelKind, SecKey};
-use cell_world::{Many, Refusal, Reply};
+use cell_world::{Found, Many, MapCell, MapSection, Refusal, Reply};
 use std::alloc::{AllocError, Global};
 use std::test::*;
 
@@ -44,6 +44,84 @@ fn dumps(rt: HostRuntime) -> Result<(), Fail> {
     Ok(())
 }
 
+#[test]
+fn namespaces(rt: HostRuntime) -> Result<(), Fail> {
+    let alloc = rt.alloc();
+    let name = Name::of(alloc, b"a_1")?;
+    let lines = lines_of(alloc, &Reply::Ns { name })?;
+    assert!(rt; lines.as_slice() == b"9 ok ns a_1\n".as_slice());
+    Ok(())
+}
+
+#[test]
+fn finds(rt: HostRuntime) -> Result<(), Fail> {
+    let alloc = rt.alloc();
+    let key = SecKey {
+        cell: CellId(12),
+        section: 3,
+    };
+    let found = Some(Found {
+        key,
+        offset: 0x1c,
+        addr: 0x1000_0a1c,
+    });
+    let place = lines_of(alloc, &Reply::Find { found })?;
+    assert!(rt; place.as_slice() == b"9 ok find #12.3+1c 10000a1c\n".as_slice());
+    let none = lines_of(alloc, &Reply::Find { found: None })?;
+    assert!(rt; none.as_slice() == b"9 ok find -\n".as_slice());
+    Ok(())
+}
+
+/// A section of 300 bytes at 0x10002000.
+fn section(number: u16, write: bool, exec: bool) -> MapSection {
+    MapSection {
+        section: number,
+        write,
+        exec,
+        start: 0x1000_2000,
+        size: 300,
+    }
+}
+
+#[test]
+fn maps(rt: HostRuntime) -> Result<(), Fail> {
+    let alloc = rt.alloc();
+    let sections = [
+        section(1, false, true),
+        section(4, true, false),
+        section(15, false, false),
+        section(16, true, true),
+    ];
+    let first = MapCell {
+        cell: CellId(1),
+        ns: Name::of(alloc, b"k")?,
+        stem: Name::of(alloc, b"a")?,
+        file: Name::of(alloc, b"k#a-0.o")?,
+        group: None,
+        sections: Listed::from_vec(Vec::from_slice(alloc, &sections)?),
+    };
+    let second = MapCell {
+        cell: CellId(10),
+        ns: Name::of(alloc, b"b")?,
+        stem: Name::of(alloc, b"c")?,
+        file: Name::of(alloc, b"b#c.o")?,
+        group: Some(12),
+        sections: Listed::from_vec(Vec::new(alloc)),
+    };
+    let mut cells = Vec::new(alloc);
+    cells.push(first)?;
+    cells.push(second)?;
+    let cells = Listed::from_vec(cells);
+    let lines = lines_of(alloc, &Reply::Map { cells })?;
+    let want =
+        b"9 ok map\n  #1 k/a attached k#a-0.o\n    1 rx 10002000 300\n    4 rw 10002000 300\n    15 ro 10002000 300\n    16 rx 10002000 300\n  #10 b/c detached 12 b#c.o\n";
+    assert!(rt; lines.as_slice() == want.as_slice());
+    let cells = Listed::from_vec(Vec::new(alloc));
+    let none = lines_of(alloc, &Reply::Map { cells })?;
+    assert!(rt; none.as_slice() == b"9 ok map\n".as_slice());
+    Ok(())
+}
+
 /// The line of a refusal to the command of line 7.
 fn line_of(alloc: Global, refusal: &Refusal) -> Result<Vec<u8>, AllocError> {
     let mut text = Vec::new(alloc);
@@ -58,6 +136,9 @@ fn refusals_of_words(rt: HostRuntime) -> Result<(), Fail> {
     let word = a.copy(alloc)?;
     let unknown = line_of(alloc, &Refusal::Unknown { word })?;
     assert!(rt; unknown.as_slice() == b"7 E1 unknown a\n".as_slice());
+    let word = a.copy(alloc)?;
+    let taken = line_of(alloc, &Refusal::NameTaken { word })?;
+    assert!(rt; taken.as_slice() == b"7 E2 taken a\n".as_slice());
     let stem = a.copy(alloc)?;
     let no_object = line_of(alloc, &Refusal::NoObject { stem })?;
     assert!(rt; no_object.as_slice() == b"7 E5 no-object a\n".as_slice());
@@ -78,14 +159,18 @@ fn refusals_of_words(rt: HostRuntime) -> Result<(), Fail> {
 #[test]
 fn refusals_of_numbers(rt: HostRuntime) -> Result<(), Fail> {
     let alloc = rt.alloc();
-    let later = line_of(alloc, &Refusal::Later)?;
-    assert!(rt; later.as_slice() == b"7 E0 later\n".as_slice());
     let too_many = Refusal::TooMany {
         kind: Many::CellNumbers,
         limit: 65535,
     };
     let too_many = line_of(alloc, &too_many)?;
     assert!(rt; too_many.as_slice() == b"7 E4 too-many cell-numbers 65535\n".as_slice());
+    let too_many = Refusal::TooMany {
+        kind: Many::Namespaces,
+        limit: 256,
+    };
+    let too_many = line_of(alloc, &too_many)?;
+    assert!(rt; too_many.as_slice() == b"7 E4 too-many namespaces 256\n".as_slice());
     let bad_object = Refusal::BadObject {
         file: Name::of(alloc, b"a")?,
         rule: 20,

@@ -4,9 +4,9 @@ use Rattle.cell_world.specs.declared.command.Command.{Command}
 use Rattle.cell_world.specs.declared.refusal.Refusal.{Refusal}
 use Rattle.cell_world.specs.declared.reply.Reply.{Reply}
 use Rattle.cell_world.specs.Gather.{Source}
-use Rattle.cell_world.specs.Later.{next_now}
+use Rattle.cell_world.specs.Next.{next}
 use Rattle.cell_world.specs.World.{World}
 
 abbrev pub answers : List Source → World → List Command → List (Result Reply Refusal)
 answers sources w [] = []
-answers sources w (command ∷ rest) = (next_now sources w command).answer ∷ answers sources (next_now sources w command).world rest
+answers sources w (command ∷ rest) = (next sources w command).answer ∷ answers sources (next sources w command).world rest

@@ -3,3 +3,4 @@ pub mod Pieces
 pub mod Loads
 pub mod Refusals
 pub mod Reach
+pub mod Spaces

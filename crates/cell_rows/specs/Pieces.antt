@@ -1,5 +1,5 @@
 -- Small objects, piece by piece.
-use Rattle.std.specs.Prelude.{ℕ, ℤ, true, false, List, [], ◌∷◌, Ok, codes, length}
+use Rattle.std.specs.Prelude.{ℕ, ℤ, true, false, List, Ok, codes, length}
 use Rattle.cell_num.specs.declared.kinds.RelKind.{RelKind}
 use Rattle.cell_object.specs.declared.object.Section.{Section}
 use Rattle.cell_object.specs.declared.object.Symbol.{Symbol}

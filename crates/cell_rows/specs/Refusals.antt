@@ -1,10 +1,10 @@
--- Words that name nothing, a name without a provider, and what is not built yet.
+-- Words that name nothing, stems without a file or with two, and a name without a provider.
 use Rattle.std.specs.Prelude.{List, [], ◌∷◌, Err, Result, codes, pos}
 use Rattle.cell_num.specs.declared.kinds.RelKind.TheVariants.{Abs64}
 use Rattle.cell_world.specs.declared.command.Command.{Command}
 use Rattle.cell_world.specs.declared.command.Command.TheVariants.{Load, Dump}
 use Rattle.cell_world.specs.declared.refusal.Refusal.{Refusal}
-use Rattle.cell_world.specs.declared.refusal.Refusal.TheVariants.{Later, Missing, Unknown}
+use Rattle.cell_world.specs.declared.refusal.Refusal.TheVariants.{Unknown, NoObject, Ambiguous, Missing}
 use Rattle.cell_world.specs.declared.reply.Reply.{Reply}
 use Rattle.cell_world.specs.Gather.{Source}
 use Rattle.cell_rows.specs.Pieces.{read_only, defined, undefined, entry, source}
@@ -24,5 +24,5 @@ script =
 
 abbrev pub answered : List (Result Reply Refusal)
 answered =
-    Err Later ∷ Err Later ∷ Err (Unknown (codes "q")) ∷ Err (Missing (codes "a::n") (record { 0 = 1 })) ∷ Err Later
-    ∷ Err (Unknown (codes "1")) ∷ []
+    Err (NoObject (codes "yy")) ∷ Err (Ambiguous (codes "k#zz-1.o") (codes "k#zz-2.o")) ∷ Err (Unknown (codes "q"))
+    ∷ Err (Missing (codes "a::n") (record { 0 = 1 })) ∷ Err (Ambiguous (codes "k#zz-1.o") (codes "k#zz-2.o")) ∷ Err (Unknown (codes "1")) ∷ []

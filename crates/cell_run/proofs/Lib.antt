@@ -1,8 +1,3 @@
-pub mod Binds
-pub mod Intake
-pub mod Listing
-pub mod ObjectFiles
-pub mod Sizes
 pub mod Transcript
 pub mod Words
 pub mod Whole

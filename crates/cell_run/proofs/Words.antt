@@ -5,7 +5,7 @@ use Rattle.std.specs.Prelude.{IfSome}
 use Rattle.cell_io.specs.Files.{File as HostFile}
 use Rattle.cell_arguments.specs.Arguments.{Said, arguments_of}
 use Rattle.cell_run.specs.declared.status.Status.{Status}
-use Rattle.cell_run.specs.declared.status.Reason.TheVariants.{Usage}
+use Rattle.cell_input.specs.declared.reason.Reason.TheVariants.{Usage}
 use Rattle.cell_run.specs.Run.{WritesRun, run_in, run_of, refused_run}
 
 pub read_words : (told : Option (List HostFile)) (words : List (List ℕ)) (said : Option Said) (status : Status) (old new : Option (List ℕ)) → arguments_of words ≡ said

@@ -12,17 +12,16 @@ use Rattle.cell_world.specs.declared.refusal.Refusal.{Refusal}
 use Rattle.cell_world.specs.declared.file.File.{File}
 use Rattle.cell_world.specs.World.{World, empty_world}
 use Rattle.cell_world.specs.Gather.{source_of}
-use Rattle.cell_world.specs.Later.{next_now}
-use Rattle.cell_world.specs.Next.{Answered}
+use Rattle.cell_world.specs.Next.{Answered, next}
 use Rattle.cell_script.specs.declared.line.Line.{Line}
 use Rattle.cell_print.specs.Lines.{lines_of}
 use Rattle.cell_system.specs.State.{State}
 use Rattle.cell_run.specs.declared.status.Status.{Status}
 use Rattle.cell_run.specs.declared.status.Status.TheVariants.{Done, SomeRefused, Usage as UsageStatus, NoScript as NoScriptStatus, BadScript as BadScriptStatus, TooLarge as TooLargeStatus, ReadFault, WriteFault, OutOfMemory}
-use Rattle.cell_run.specs.declared.status.Reason.{Reason}
-use Rattle.cell_run.specs.declared.status.Reason.TheVariants.{Usage, NoScript, BadScript, TooLarge}
-use Rattle.cell_run.specs.declared.take.Input.{Input}
-use Rattle.cell_run.specs.Taking.{input_from}
+use Rattle.cell_input.specs.declared.reason.Reason.{Reason}
+use Rattle.cell_input.specs.declared.reason.Reason.TheVariants.{Usage, NoScript, BadScript, TooLarge}
+use Rattle.cell_input.specs.declared.take.Input.{Input}
+use Rattle.cell_input.specs.Taking.{input_from}
 use Rattle.cell_run.specs.StatusLine.{reason_line}
 
 pub record Run : Type 0 where
@@ -39,7 +38,7 @@ plain_of s = record { files = s.files; world = s.world }
 
 -- the plain machine's answer to a command, and the machine after it
 unfoldable pub answered : Plain → Command → Answered
-answered p command = next_now (map source_of p.files) p.world command
+answered p command = next (map source_of p.files) p.world command
 
 abbrev pub after : Plain → Command → Plain
 after p command = record { files = p.files; world = (answered p command).world }

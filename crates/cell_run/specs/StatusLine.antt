@@ -2,10 +2,10 @@
 use Rattle.std.specs.Prelude.{ℕ, List, [], ◌∷◌, codes}
 use Rattle.std.specs.Fmt.{decimal}
 use Rattle.cell_print.specs.Lines.{line}
-use Rattle.cell_run.specs.declared.status.What.{What}
-use Rattle.cell_run.specs.declared.status.What.TheVariants.{Names, Files, FileBytes, AllBytes, ScriptBytes}
-use Rattle.cell_run.specs.declared.status.Reason.{Reason}
-use Rattle.cell_run.specs.declared.status.Reason.TheVariants.{Usage, NoScript, BadScript, TooLarge}
+use Rattle.cell_input.specs.declared.reason.What.{What}
+use Rattle.cell_input.specs.declared.reason.What.TheVariants.{Names, Files, FileBytes, AllBytes, ScriptBytes}
+use Rattle.cell_input.specs.declared.reason.Reason.{Reason}
+use Rattle.cell_input.specs.declared.reason.Reason.TheVariants.{Usage, NoScript, BadScript, TooLarge}
 
 abbrev pub what_word : What → List ℕ
 what_word Names = codes "names"

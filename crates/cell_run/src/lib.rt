@@ -2,14 +2,13 @@
 #![tactic(auto)]
 
 mod in_memory;
-mod object_name;
 mod refuse;
 mod status;
-mod take;
 mod top;
 
+pub use cell_input::What;
 pub use in_memory::cells_in_memory;
-pub use status::{Status, What};
+pub use status::Status;
 pub use top::cells;
 
 #[cfg(test)]

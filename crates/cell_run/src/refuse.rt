@@ -3,8 +3,7 @@
 ghost use Rattle.std.specs.Prelude.{◌≡◌, IfOk};
 ghost use Rattle.cell_run.specs.StatusLine.{what_word, reason_line};
 
-use crate::What;
-use crate::status::Reason;
+use cell_input::{Reason, What};
 use cell_print::put_line;
 use itoa::Buffer;
 use std::alloc::{AllocError, Global};

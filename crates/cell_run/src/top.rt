@@ -6,13 +6,14 @@ ghost use Rattle.cell_io.specs.Causes.{Rose, HasCause};
 ghost use Rattle.cell_io.specs.Written.{AppendsPartOf, IsFull};
 ghost use Rattle.cell_print.specs.Lines.{lines_of};
 ghost use Rattle.cell_arguments.specs.Arguments.{IsInRange, arguments_of, said};
+ghost use Rattle.cell_input.specs.Objects.{AreObjectFiles};
 ghost use Rattle.cell_run.specs.Run.{IsCut, WritesRun, Answers, DoesLine, answered, run_of, run_in, run_from, plain_of, first_plain, refused_run};
 
 use crate::Status;
 use crate::refuse::reason_line;
-use crate::status::{Reason, status_of};
-use crate::take::{Input, TakeFail, take_from};
+use crate::status::status_of;
 use cell_arguments::{Arguments, ArgumentsFault, read_arguments};
+use cell_input::{Input, Reason, TakeFail, take_from};
 use cell_io::{Host, Sink};
 use cell_print::{put_refusal, put_reply};
 use cell_script::Line;
@@ -95,7 +96,7 @@ fn refuse<K: Sink>(alloc: Global, script: &str, reason: Reason, out: &mut K) -> 
 /// Does the commands of a script on a machine without a cell.
 fn run_script<K: Sink>(alloc: Global, base: u64, pages: u32, input: Input, out: &mut K) -> Status
     requires range { IsInRange base pages }
-    requires small { All (λ f. length f.bytes ≤ 1048576) input.files }
+    requires files { AreObjectFiles input.files }
     ensures transcript { WritesRun (run_from (first_plain base pages input) input.script) result (K.written out.old) (K.written out.new) }
     ensures cause { HasCause (K.faults out.old) (K.faults out.new) (result ≡ Status.WriteFault) }
     ensures full { result ≡ Status.WriteFault → IsFull (K.room out.old) (K.written out.new) }

@@ -39,6 +39,36 @@ fn a_script(rt: HostRuntime) -> Result<(), Fail> {
 }
 
 #[test]
+fn names_and_places(rt: HostRuntime) -> Result<(), Fail> {
+    let text = b"ns a under k\nfind a b::c~!\nmap\n map\t\nns under under under\n";
+    let script = read_script(rt.alloc(), text)
+        .ok()
+        .ok_or("it has a reading")?;
+    let lines = script.as_slice();
+    assert_eq!(rt; lines.len(), 5);
+    assert!(rt;
+        matches!(&lines[0].command, Command::Ns { name, parent } if name.bytes() == b"a".as_slice() && parent.bytes() == b"k".as_slice())
+    );
+    assert!(rt;
+        matches!(&lines[1].command, Command::Find { ns, symbol } if ns.bytes() == b"a".as_slice() && symbol.bytes() == b"b::c~!".as_slice())
+    );
+    assert!(rt; matches!(&lines[2].command, Command::Map));
+    assert!(rt; matches!(&lines[3].command, Command::Map));
+    assert!(rt;
+        matches!(&lines[4].command, Command::Ns { name, parent } if name.bytes() == b"under".as_slice() && parent.bytes() == b"under".as_slice())
+    );
+    Ok(())
+}
+
+#[test]
+fn long_symbols(rt: HostRuntime) {
+    let mut text = [b'a'; 1032];
+    text[..7].copy_from_slice(b"find k ");
+    assert_eq!(rt; bad_line(&rt, &text[..1031]), None);
+    assert_eq!(rt; bad_line(&rt, &text[..1032]), Some(1));
+}
+
+#[test]
 fn bad_lines(rt: HostRuntime) {
     for (text, want) in [
         (b"load k".as_slice(), 1),
@@ -59,6 +89,41 @@ fn bad_lines(rt: HostRuntime) {
         (b"dump 4294967296 0", 1),
         (b"dump 01 0", 1),
         (b"load k a\nfrob\nfrob", 2),
+    ] {
+        assert_eq!(rt; bad_line(&rt, text), Some(want));
+    }
+}
+
+#[test]
+fn bad_lines_with_ns(rt: HostRuntime) {
+    for (text, want) in [
+        (b"ns a".as_slice(), 1),
+        (b"ns a k", 1),
+        (b"ns a k under", 1),
+        (b"ns under a k", 1),
+        (b"ns a below k", 1),
+        (b"ns a Under k", 1),
+        (b"ns a under", 1),
+        (b"ns a under k k", 1),
+        (b"ns A under k", 1),
+        (b"ns a under k#", 1),
+    ] {
+        assert_eq!(rt; bad_line(&rt, text), Some(want));
+    }
+}
+
+#[test]
+fn bad_lines_with_find_and_map(rt: HostRuntime) {
+    for (text, want) in [
+        (b"find k".as_slice(), 1),
+        (b"find k a b", 1),
+        (b"find K a", 1),
+        (b"find k \x7f", 1),
+        (b"find k a\r\n", 1),
+        (b"find k \xc3\xa9", 1),
+        (b"map k", 1),
+        (b"map\r", 1),
+        (b"maps", 1),
     ] {
         assert_eq!(rt; bad_line(&rt, text), Some(want));
     }

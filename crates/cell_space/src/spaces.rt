@@ -64,6 +64,13 @@ impl Spaces {
         }
     }
 
+    /// How many namespaces there are.
+    pub fn namespace_count(&self) -> usize
+        ensures { result ≡ length self.now.namespaces }
+    {
+        self.namespaces.len()
+    }
+
     /// Adds a namespace, and gives its number.
     pub fn add_ns(&mut self, name: Name, parent: u16) -> Result<u16, AllocError>
         requires new { namespace_named self.old.namespaces name ≡ None }

@@ -1,107 +1,206 @@
--- What the calls of a commit ask holds of each cell that was staged for the machine.
-use Rattle.std.proofs.Common.{◌≡◌, refl, sym, ◌∙◌, ap, subst, arith, ℕ, ◌<◌, ◌≤◌, ◌^◌, List, [], ◌∷◌, ◌++◌, map, length}
-use Rattle.std.specs.Prelude.{All, Contains}
-use Rattle.std.specs.List.Sorted.{IsStrictlyIncreasing}
+-- What the calls of a commit ask holds of the cells that were staged for the machine.
+use Rattle.std.proofs.Common.{◌≡◌, refl, sym, ◌∙◌, ap, subst, arith, ℕ, ◌+◌, ◌%◌, ◌≤◌, ◌<◌, true, List, ◌++◌, length, Vec, Global}
+use Rattle.std.specs.Prelude.{All, Contains, nat_lt}
+use Rattle.std.proofs.lemmas.Bool.{eqb-true, leb-true}
+use Rattle.std.proofs.lemmas.List.{map-append}
+use Rattle.std.proofs.lemmas.List.Concat.{flat_map-append}
 use Rattle.cell_num.specs.declared.ids.SecKey.{SecKey}
+use Rattle.cell_num.specs.Lists.{each_pair}
+use Rattle.cell_object.specs.declared.object.Object.{Object}
 use Rattle.cell_object.specs.declared.object.Section.{Section as ObjectSection}
 use Rattle.cell_world.specs.declared.state.LinkRow.{LinkRow}
 use Rattle.cell_world.specs.declared.state.NewCell.{NewCell}
-use Rattle.cell_world.specs.declared.state.Target.{Target}
-use Rattle.cell_world.specs.World.{World, Region, key_of}
-use Rattle.cell_law.specs.Loading.{AllTaken}
+use Rattle.cell_world.specs.World.{Alias, World, Cell, Region, attached, is_attached}
+use Rattle.cell_world.specs.Coherent.{IsCoherent, IsLoadable, is_known_cell, may_both_stand}
+use Rattle.cell_coherent.specs.Grown.{In, links_from}
+use Rattle.cell_coherent.proofs.Elements.{all-In, All-In, In-map, In-right, map-In}
+use Rattle.cell_coherent.proofs.Ready.{limit_parts}
+use Rattle.cell_law.specs.Loading.{objects_of}
 use Rattle.cell_link.specs.declared.value.FieldValue.{FieldValue}
+use Rattle.cell_space.specs.declared.cell.SpaceCell.{SpaceCell}
+use Rattle.cell_commit.specs.Cells.{AreAbove, AreFree}
 use Rattle.cell_commit.specs.Commit.{AreRoom, AreUnbound, IsMapped, all_mapped}
-use Rattle.cell_system.specs.declared.machine.Machine.{Machine}
-use Rattle.cell_system.specs.declared.stage.Staged.{Staged}
-use Rattle.cell_system.specs.Adding.{HasRoomFor, IsCommittable, IsReadyToAdd, IsSame, new_keys}
-use Rattle.cell_system.specs.Linking.{rows_by, targets_among}
-use Rattle.cell_system.specs.Machine.{keys_of, world_of}
-use Rattle.cell_system.specs.Staging.{placed_cell}
-use Rattle.cell_system.specs.Targets.{all_cells}
-use Rattle.cell_system.specs.View.{attached, cells_of}
-use Rattle.cell_system.proofs.Added.{fields_are, rows_are, next_coherent, next_world}
-use Rattle.cell_system.proofs.NewCells.{W, aligned, here, linkable}
-use Rattle.cell_system.proofs.Presence.{keys_after, keys_below, links_below, numbers_rise, rows_present, rows_short, rows_unbound}
-use Rattle.cell_system.proofs.Rooms.{fields_mapped, mapped_regions, mapped_undo, rooms}
+use Rattle.cell_commit.proofs.Mapping.{mapped_undo}
+use Rattle.cell_machine.specs.declared.machine.Machine.{Machine}
+use Rattle.cell_machine.specs.declared.staged.Staged.{Staged}
+use Rattle.cell_machine.specs.Machine.{cells_of, keys_of, section_keys, world_of}
+use Rattle.cell_machine.specs.Staged.{IsStaged}
+use Rattle.cell_machine.proofs.Above.{are_above}
+use Rattle.cell_machine.proofs.FieldsMapped.{fields_mapped}
+use Rattle.cell_machine.proofs.Free.{are_free}
+use Rattle.cell_machine.proofs.Presence.{keys_below, links_below, rows_present}
+use Rattle.cell_machine.proofs.Rooms.{IsSpaced, regions_mapped, rooms}
+use Rattle.cell_machine.proofs.StagedWorld.{F, W, linkable, next_coherent, next_number, next_world, numbers_new, numbers_rise, ready, taken}
+use Rattle.cell_machine.proofs.Unbound.{rows_unbound}
+use Rattle.cell_system.specs.declared.prepared.Prepared.{Prepared}
+use Rattle.cell_system.specs.Adding.{HasRoomFor, IsCommittable, IsPrepared, IsReadyToAdd, IsSame}
 use Rattle.cell_system.proofs.Same.{ready_same}
 
-module _ (m : Machine) (s : Staged) (r : IsReadyToAdd m s) where
+module _ (m : Machine) (s : Staged) (p : Prepared) (r : IsReadyToAdd m s) (prepared : IsPrepared s p) (room : HasRoomFor m s p) where
   abbrev w : World
   w = world_of m
 
-  abbrev new : NewCell
-  new = r.loaded.cell
+  abbrev st : IsStaged r.sources w r.ns r.stem s
+  st = r.staged
 
-  abbrev taken : AllTaken
-  taken = record { starts = r.staged.starts; table = s.space.taken }
+  abbrev coherent : IsCoherent w
+  coherent = r.sound.settled.coherent
 
-  abbrev p : NewCell
-  p = placed_cell r.staged.starts new
+  abbrev later : World
+  later = W r.sources w r.ns r.stem s r.sound.settled r.files st
 
-  abbrev T : List Target
-  T = targets_among (all_cells m.cells.items p) p
+  abbrev new : List Cell
+  new = F r.sources w r.ns r.stem s r.sound.settled r.files st
 
-  number : s.loaded.cell.id.0 ≡ w.next_cell
-  number = ap (λ (c : NewCell). c.id.0) r.staged.cell ∙ r.addable.gathered.new.number
+  abbrev next : World
+  next = next_world r.sources w r.ns r.stem s r.sound.settled r.files st
 
-  pub rows_few : length s.rows.items < 2 ^ 32
-  rows_few =
-      let a : length s.rows.items ≡ length (rows_by p T) = ap length (rows_are m s r) in
-      let b = rows_short p 0 new.object.entries T in
-      let c = r.few in
-      omega (arith, a, b, c)
+  abbrev objects : List Object
+  objects = objects_of (cells_of st.new)
 
-  module _ (room : HasRoomFor m s) where
-    regions_room : AreRoom m.memory s.regions.items
-    regions_room =
-        subst (λ (rs : List Region). AreRoom m.memory rs) (sym r.staged.regions)
-        (rooms m.memory w refl refl refl (aligned w r.sound.settled.coherent.ready.limits) r.sound.settled.coherent.ready.in_space r.sound.settled.coherent.ready.apart new.object taken r.staged.runs
-        (subst (λ (rs : List Region). length rs ≤ m.memory.spare) r.staged.regions room.regions))
+  spaced : IsSpaced m.memory w
+  spaced = record {
+    base = refl;
+    pages = refl;
+    regions = refl;
+    aligned = eqb-true (w.base % 4096) 0 (limit_parts w coherent.ready.limits).aligned;
+    in_space = coherent.ready.in_space;
+    apart = coherent.ready.apart;
+  }
 
-    mapped_are : (all_mapped m.memory s.regions.items).regions ≡ (W w r.sound.settled new r.addable taken r.staged.runs).regions
-    mapped_are = ap (λ (rs : List Region). (all_mapped m.memory rs).regions) r.staged.regions ∙ mapped_regions m.memory r.staged.starts new.object
+  regions_room : AreRoom m.memory s.regions.items
+  regions_room =
+      subst (λ (rs : List Region). AreRoom m.memory rs) (sym st.regions)
+      (rooms objects m.memory w spaced (taken r.sources w r.ns r.stem s r.sound.settled r.files st) st.runs (subst (λ (rs : List Region). length rs ≤ m.memory.spare) st.regions room.regions))
 
-    all_fields : All (IsMapped (all_mapped m.memory s.regions.items)) s.fields
-    all_fields =
-        subst (λ (fs : List FieldValue). All (IsMapped (all_mapped m.memory s.regions.items)) fs) (sym (fields_are m s r))
-        (fields_mapped (all_mapped m.memory s.regions.items) (W w r.sound.settled new r.addable taken r.staged.runs) mapped_are p (here w r.sound.settled new r.addable taken r.staged.runs) (linkable w r.sound.settled new r.addable taken r.staged.runs) T)
+  mapped_are : (all_mapped m.memory s.regions.items).regions ≡ later.regions
+  mapped_are = ap (λ (rs : List Region). (all_mapped m.memory rs).regions) st.regions ∙ regions_mapped m.memory st.starts objects
 
-    keys_now : m.graph.sections ++ new_keys s ≡ keys_of (cells_of m.cells.items ++ attached p ∷ [])
-    keys_now =
-        ap (λ (keys : List SecKey). keys ++ new_keys s) r.sound.sections
-        ∙ (ap (λ (ns : List ℕ). keys_of (cells_of m.cells.items) ++ map (key_of s.loaded.cell.id.0) ns) r.staged.sections
-        ∙ (ap (λ (x : NewCell). keys_of (cells_of m.cells.items) ++ map (key_of x.id.0) (map (λ (t : ObjectSection). t.number) new.object.sections)) r.staged.cell
-        ∙ sym (keys_after (cells_of m.cells.items) p)))
+  cells_are : later.cells ≡ w.cells ++ new
+  cells_are = ap (λ (cs : List Cell). w.cells ++ cs) (sym st.cells)
 
-    all_above : All (λ (k : SecKey). k.cell.0 < s.loaded.cell.id.0) m.graph.sections
-    all_above =
-        subst (λ (n : ℕ). All (λ (k : SecKey). k.cell.0 < n) m.graph.sections) (sym number)
-        (subst (λ (keys : List SecKey). All (λ (k : SecKey). k.cell.0 < w.next_cell) keys) (sym r.sound.sections) (keys_below w r.sound.settled.coherent))
+  there : (c : Cell) → In c new → In c later.cells
+  there c k = subst (λ (cs : List Cell). In c cs) (sym cells_are) (In-right w.cells new c k)
 
-    all_present : All (λ (x : LinkRow). Contains (m.graph.sections ++ new_keys s) x.user × Contains (m.graph.sections ++ new_keys s) x.target) s.rows.items
-    all_present =
-        subst (λ (keys : List SecKey). All (λ (x : LinkRow). Contains keys x.user × Contains keys x.target) s.rows.items) (sym keys_now)
-        (rows_present (next_world m s r) (next_coherent m s r) m.graph.rows s.rows.items (ap (λ (rows : List LinkRow). m.graph.rows ++ rows) (sym (rows_are m s r))))
+  one_there : (c : NewCell) → In c s.cells.items → In (attached c) later.cells
+  one_there c k = there (attached c) (map-In attached s.cells.items c k)
 
-    none_bound : AreUnbound m.graph.rows s.rows.items
-    none_bound =
-        subst (λ (rows : List LinkRow). AreUnbound m.graph.rows rows) (sym (rows_are m s r))
-        (rows_unbound m.graph.rows p new.object.entries T
-        (subst (λ (n : ℕ). All (λ (x : LinkRow). x.user.cell.0 < n) m.graph.rows) (sym r.addable.gathered.new.number) (links_below w r.sound.settled.coherent)))
+  fields_are_mapped : All (IsMapped (all_mapped m.memory s.regions.items)) s.fields.items
+  fields_are_mapped =
+      subst (λ (fs : List FieldValue). All (IsMapped (all_mapped m.memory s.regions.items)) fs) (sym st.fields)
+      (fields_mapped (all_mapped m.memory s.regions.items) later mapped_are (linkable r.sources w r.ns r.stem s r.sound.settled r.files st) s.cells.items one_there)
 
-    pub committable : IsCommittable m s
-    committable = record {
-      room = room;
-      regions = regions_room;
-      mapped = all_fields;
-      undo = mapped_undo m.memory s.regions.items ∙ r.sound.undo;
-      above = all_above;
-      rising = subst IsStrictlyIncreasing (sym r.staged.sections) (numbers_rise new.object.sections r.addable.gathered.new.object.numbers);
-      present = all_present;
-      unbound = none_bound;
-      next = r.next;
-    }
+  -- the numbers of the new cells are not below those that were given
+  new_above : (c : Cell) → In c new → w.next_cell ≤ c.id.0
+  new_above = numbers_new r.sources w r.ns r.stem s r.sound.settled r.files st
 
--- once there is room
-pub committable_then : (old new : Machine) (s : Staged) → IsSame old new → IsReadyToAdd old s → HasRoomFor new s → IsCommittable new s
-committable_then old new s same r room = committable new s (ready_same old new same s r) room
+  new_rise : each_pair (λ (a b : Cell). nat_lt a.id.0 b.id.0) new ≡ true
+  new_rise = numbers_rise r.sources w r.ns r.stem s r.sound.settled r.files st
+
+  sections_rise : (c : NewCell) → In c s.cells.items → each_pair (λ (a b : ObjectSection). nat_lt a.number b.number) c.object.sections ≡ true
+  sections_rise c k = (All-In (λ (c : Cell). IsLoadable c.object) later.cells (ready r.sources w r.ns r.stem s r.sound.settled r.files st).objects (attached c) (one_there c k)).sound.numbers
+
+  keys_lower : (k : SecKey) → In k m.graph.sections → (c : NewCell) → In c s.cells.items → k.cell.0 < c.id.0
+  keys_lower k i c j =
+      let low = keys_below w coherent m.cells.items refl k (subst (λ (keys : List SecKey). In k keys) r.sound.sections i) in
+      let high = new_above (attached c) (map-In attached s.cells.items c j) in
+      omega (arith, low, high)
+
+  all_above : AreAbove m.graph.sections p.sections.items
+  all_above = are_above p.sections.items s.cells.items m.graph.sections prepared.sections new_rise sections_rise keys_lower
+
+  all_cells : next.cells ≡ cells_of (m.cells.items ++ s.cells.items)
+  all_cells = cells_are ∙ sym (map-append attached m.cells.items s.cells.items)
+
+  all_keys : keys_of (m.cells.items ++ s.cells.items) ≡ m.graph.sections ++ keys_of s.cells.items
+  all_keys = flat_map-append section_keys m.cells.items s.cells.items ∙ ap (λ (keys : List SecKey). keys ++ keys_of s.cells.items) (sym r.sound.sections)
+
+  rows_are : next.links ≡ m.graph.rows ++ s.rows.items
+  rows_are = ap (λ (rows : List LinkRow). m.graph.rows ++ rows) (links_new ∙ sym st.rows)
+    where
+      links_new : links_from later new ≡ links_from later (cells_of s.cells.items)
+      links_new = refl
+
+  all_present : All (λ (x : LinkRow). Contains (m.graph.sections ++ keys_of s.cells.items) x.user × Contains (m.graph.sections ++ keys_of s.cells.items) x.target) s.rows.items
+  all_present =
+      subst (λ (keys : List SecKey). All (λ (x : LinkRow). Contains keys x.user × Contains keys x.target) s.rows.items) all_keys
+      (rows_present next (next_coherent r.sources w r.ns r.stem s r.sound.settled r.files st) (m.cells.items ++ s.cells.items) all_cells m.graph.rows s.rows.items rows_are)
+
+  none_bound : AreUnbound m.graph.rows s.rows.items
+  none_bound =
+      subst (λ (rows : List LinkRow). AreUnbound m.graph.rows rows) (sym st.rows)
+      (rows_unbound later new m.graph.rows new_rise (λ x i c j.
+      let low = links_below w coherent x i in
+      let high = new_above c j in
+      omega (arith, low, high)))
+
+  known : (c : Cell) → In c new → (is_attached c.standing ≡ true) × (is_known_cell later c ≡ true)
+  known c k =
+      let at = In-map attached s.cells.items c k in
+      (ap (λ (c : Cell). is_attached c.standing) at.2, all-In (is_known_cell later) later.cells (ready r.sources w r.ns r.stem s r.sound.settled r.files st).cells c (there c k))
+
+  all_free : AreFree m.spaces.namespaces m.spaces.cells p.newcomers.items
+  all_free =
+      let now = ready r.sources w r.ns r.stem s r.sound.settled r.files st in
+      subst (λ (cs : List SpaceCell). AreFree m.spaces.namespaces cs p.newcomers.items) (sym r.sound.known)
+      (are_free later new w.cells p.newcomers.items prepared.newcomers
+      (record {
+        names = subst (λ (cs : List Cell). each_pair (may_both_stand later) cs ≡ true) cells_are now.names;
+        order = subst (λ (cs : List Cell). each_pair (λ (a b : Cell). nat_lt a.id.0 b.id.0) cs ≡ true) cells_are now.cell_order;
+      })
+      known)
+
+  number_left : m.next + length s.cells.items ≤ 65536
+  number_left =
+      let limits = limit_parts next (next_coherent r.sources w r.ns r.stem s r.sound.settled r.files st).ready.limits in
+      subst (λ (n : ℕ). n ≤ 65536) (next_number r.sources w r.ns r.stem s r.sound.settled r.files st) (leb-true next.next_cell 65536 limits.next_cell)
+
+  pub committable : IsCommittable m s p
+  committable = record {
+    prepared = prepared;
+    room = room;
+    regions = regions_room;
+    mapped = fields_are_mapped;
+    undo = mapped_undo m.memory s.regions.items ∙ r.sound.undo;
+    above = all_above;
+    present = all_present;
+    unbound = none_bound;
+    free = all_free;
+    next = number_left;
+  }
+
+-- the names don't matter any more
+without_names : (m : Machine) (s : Staged) (p : Prepared) (names : Vec (List Alias) Global) → IsCommittable m s p → IsCommittable m (record s { names = names }) p
+without_names m s p names c = record {
+  prepared = record { newcomers = c.prepared.newcomers; sections = c.prepared.sections };
+  room = record {
+    cells = c.room.cells;
+    regions = c.room.regions;
+    sections = c.room.sections;
+    rows = c.room.rows;
+    newcomers = c.room.newcomers;
+    names = c.room.names;
+  };
+  regions = c.regions;
+  mapped = c.mapped;
+  undo = c.undo;
+  above = c.above;
+  present = c.present;
+  unbound = c.unbound;
+  free = c.free;
+  next = c.next;
+}
+
+-- once there is room, and the names have been taken out of what was staged
+pub committable_then : (old new : Machine) (s : Staged) (p : Prepared) (names : Vec (List Alias) Global) → IsSame old new → IsReadyToAdd old s → IsPrepared s p → HasRoomFor new (record s { names = names }) p
+    → IsCommittable new (record s { names = names }) p
+committable_then old new s p names same r prepared room =
+    without_names new s p names
+    (committable new s p (ready_same old new same s r) prepared (record {
+      cells = room.cells;
+      regions = room.regions;
+      sections = room.sections;
+      rows = room.rows;
+      newcomers = room.newcomers;
+      names = room.names;
+    }))

@@ -1,15 +1,4 @@
+pub mod Adding
+pub mod Namespaces
 pub mod State
 pub mod Step
-pub mod Names
-pub mod Files
-pub mod View
-pub mod Providers
-pub mod Gathered
-pub mod Targets
-pub mod Highs
-pub mod Gathering
-pub mod Linking
-pub mod Machine
-pub mod Staging
-pub mod Dumps
-pub mod Adding

@@ -1,23 +1,12 @@
-//! The machine that runs: cells in memory, placed, linked and shown.
+//! The machine that runs: the cells in memory, and the commands.
 #![tactic(auto)]
 
-mod append;
-mod bring;
-mod dump;
-mod fail;
-mod files;
-mod gather;
-mod highs;
-mod link;
-mod loaded;
-mod machine;
-mod names;
-mod needs;
-mod providers;
-mod stage;
+mod add;
+mod namespaces;
+mod prepared;
+mod room;
 mod system;
-mod targets;
 
+pub use cell_gather::LoadFail as Fail;
 pub use cell_world::{Command, File, Refusal, Reply};
-pub use fail::Fail;
 pub use system::System;

@@ -1,19 +1,25 @@
 //! The system.
 
-ghost use Rattle.std.specs.Prelude.{◌≡◌, ◌≤◌, IfOk, All, length, [], ◌∷◌};
+ghost use Rattle.std.specs.Prelude.{◌≡◌, ◌≤◌, IfOk, All, length, map, true};
+ghost use Rattle.std.specs.List.{list_all};
+ghost use Rattle.cell_depot.specs.Files.{are_in_order};
+ghost use Rattle.cell_depot.specs.ObjectName.{is_object_name};
 ghost use Rattle.cell_world.specs.Coherent.{IsCoherent};
 ghost use Rattle.cell_world.specs.Pages.{IsSpace};
-ghost use Rattle.cell_world.specs.declared.command.Command.TheVariants.{Dump, Load};
+ghost use Rattle.cell_world.specs.declared.command.Command.TheVariants.{Dump, Find, Load, Map, Ns};
 ghost use Rattle.cell_world.specs.World.{empty_world};
 ghost use Rattle.cell_system.specs.Step.{IsStep};
 
 use crate::Fail;
-use crate::dump::dump;
-use crate::gather::gather;
-use crate::machine::Machine;
-use crate::stage::stage;
+use crate::add::add;
+use crate::namespaces::add_namespace;
+use crate::room::count;
+use cell_depot::Depot;
+use cell_machine::Machine;
 use cell_num::{CellId, Listed};
-use cell_world::{Command, File, Reply};
+use cell_stage::stage;
+use cell_view::{dump, find, map};
+use cell_world::{Command, File, NewCell, Reply};
 use std::alloc::{AllocError, Global};
 use std::marker::Model;
 
@@ -21,28 +27,32 @@ use std::marker::Model;
 #[derive(Drop)]
 pub struct System {
     alloc: Global,
-    files: Vec<File>,
+    depot: Depot,
     machine: Machine,
 }
 
 impl Model for System {
-    ghost use Rattle.std.specs.Prelude.{All, ◌≤◌, length};
-    ghost use Rattle.cell_system.specs.Machine.{IsSound, state_of};
+    ghost use Rattle.std.specs.Prelude.{All, ◌≡◌, ◌≤◌, length, true};
+    ghost use Rattle.cell_depot.specs.Files.{are_in_order};
+    ghost use Rattle.cell_machine.specs.Machine.{IsSound};
     ghost use Rattle.cell_system.specs.State.{State};
+    ghost use Rattle.cell_system.specs.Step.{state_of};
 
     ghost Value = { State };
 
-    ghost view = { λ s. state_of s.files.items s.machine };
+    ghost view = { λ s. state_of s.depot s.machine };
 
-    ghost invariant = { λ s. IsSound s.machine × All (λ f. length f.bytes ≤ 1048576) s.files.items };
+    ghost invariant = { λ s. IsSound s.machine × All (λ f. length f.bytes ≤ 1048576) s.depot × (are_in_order s.depot ≡ true) };
 }
 
-/// A list of one cell's number.
-fn one(alloc: Global, id: CellId) -> Result<Listed<CellId>, AllocError>
-    ensures { IfOk result (λ ids. ids ≡ id ∷ []) }
+/// The numbers of the cells.
+fn numbers(alloc: Global, cells: &[NewCell]) -> Result<Listed<CellId>, AllocError>
+    ensures { IfOk result (λ ids. ids ≡ map (λ c. c.id) cells.now) }
 {
     let mut ids = Vec::new(alloc);
-    ids.push(id)?;
+    for cell in cells {
+        ids.push(cell.id)?;
+    }
     Ok(Listed::from_vec(ids))
 }
 
@@ -50,35 +60,49 @@ impl System {
     /// A machine without a cell, whose memory is `pages` pages of 4096 bytes from `base` on.
     pub fn new(alloc: Global, base: u64, pages: u32, files: Vec<File>) -> Result<System, AllocError>
         requires space { IsSpace base pages }
+        requires few { length files.items ≤ 1024 }
         requires small { All (λ f. length f.bytes ≤ 1048576) files.items }
+        requires named { list_all (λ f. is_object_name f.name) files.items ≡ true }
+        requires ordered { are_in_order files.items ≡ true }
         ensures { IfOk result (λ s. s ≡ record { files = files.items; world = empty_world base pages; patches = 0; maps = 0 }) }
     {
         Ok(System {
             alloc,
-            files,
+            depot: Depot::of_files(alloc, files)?,
             machine: Machine::new(alloc, base, pages)?,
         })
     }
 
-    /// Loads the one file of a stem in a namespace.
+    /// Adds a namespace.
+    fn add_namespace(&mut self, name: &[u8], parent: &[u8]) -> Result<Reply, Fail>
+        ensures { IsStep self.old (Ns name.now parent.now) result self.new }
+    {
+        add_namespace(self.alloc, &mut self.machine, name, parent)
+    }
+
+    /// Loads the one file of a stem in a namespace, and what it needs.
     fn load(&mut self, ns: &[u8], stem: &[u8]) -> Result<Reply, Fail>
         ensures { IsStep self.old (Load ns.now stem.now) result self.new }
     {
-        let machine = &self.machine;
-        let loaded = gather(
-            self.alloc,
-            &self.files,
-            &machine.cells,
-            machine.next,
-            ns,
-            stem,
-        )?;
-        let id = loaded.cell.id;
-        let staged = stage(self.alloc, machine, loaded)?;
-        let patched = staged.fields.as_slice().len() as u32;
-        let fresh = one(self.alloc, id)?;
-        self.machine.add(staged)?;
+        let staged = stage(self.alloc, &self.depot, &self.machine, ns, stem)?;
+        let patched = count(staged.fields.len())?;
+        let fresh = numbers(self.alloc, &staged.cells)?;
+        add(self.alloc, &mut self.machine, staged)?;
         Ok(Reply::Load { fresh, patched })
+    }
+
+    /// Shows where the provider of a name has it.
+    fn find(&mut self, ns: &[u8], symbol: &[u8]) -> Result<Reply, Fail>
+        ensures { IsStep self.old (Find ns.now symbol.now) result self.new }
+    {
+        find(self.alloc, &self.machine, ns, symbol)
+    }
+
+    /// Shows all cells.
+    fn map(&mut self) -> Result<Reply, Fail>
+        ensures { IsStep self.old Map result self.new }
+    {
+        map(self.alloc, &self.machine)
     }
 
     /// Shows a section.
@@ -100,7 +124,10 @@ impl System {
         ensures { IsStep self.old command.now result self.new }
     {
         match command {
+            Command::Ns { name, parent } => self.add_namespace(name.bytes(), parent.bytes()),
             Command::Load { ns, stem } => self.load(ns.bytes(), stem.bytes()),
+            Command::Find { ns, symbol } => self.find(ns.bytes(), symbol.bytes()),
+            Command::Map => self.map(),
             Command::Dump { cell, section } => self.dump(*cell, *section),
         }
     }

@@ -1,7 +1,8 @@
 //! Command lines, and what comes of them.
 
-use crate::folder::{ObjectFile, outcome};
-use crate::samples::{first_example, upper_half};
+use crate::folder::outcome;
+use crate::samples::first_example;
+use crate::sources::{SourceFile, object_file};
 use cell_run::Status;
 use std::alloc::{AllocError, Global};
 use std::test::Fail;
@@ -76,20 +77,39 @@ fn another_base(rt: HostRuntime) -> Result<(), Fail> {
     Ok(())
 }
 
+/// A source at the end of the memory that HI20 reaches, and what comes of it.
+struct Upper {
+    source: &'static str,
+    status: Status,
+    text: &'static str,
+}
+
+const UPPERS: [Upper; 2] = [
+    // The address is 0x7ffff7ff, so its upper part is 0x7ffff: lui a0,0x7ffff.
+    Upper {
+        source: ".text\nlui a0,%hi(h::x)\n.data\n.zero 2047\n.globl h::x\nh::x: .byte 1",
+        status: Status::Done,
+        text: "1 ok load #1 patched 1\n2 ok dump #1.1\n  7fffe000 37 f5 ff 7f\n",
+    },
+    Upper {
+        source: ".text\nlui a0,%hi(h::x)\n.data\n.zero 2048\n.globl h::x\nh::x: .byte 1",
+        status: Status::SomeRefused,
+        text: "1 E12 overflow #1.1+0 HI20\n2 E1 unknown 1\n",
+    },
+];
+
 #[test]
 fn the_end_of_the_range(rt: HostRuntime) -> Result<(), Fail> {
     let words = ["d", "s", "--base", "0x7fffe000", "--pages", "16"];
-    for (zeros, want, text) in [
-        (2047, Status::Done, b"1 ok load #1 patched 1\n".as_slice()),
-        (2048, Status::SomeRefused, b"1 E12 overflow #1.1+0 HI20\n"),
-    ] {
-        let files = [ObjectFile {
+    for upper in &UPPERS {
+        let file = SourceFile {
             name: "k#h.o",
-            bytes: upper_half(rt.alloc(), zeros)?,
-        }];
-        let (status, sink) = outcome(rt.alloc(), &words, "load k h", &files)?;
-        assert!(rt; status == want);
-        assert!(rt; sink.written() == text);
+            source: upper.source,
+        };
+        let files = [object_file(rt.alloc(), &file)?];
+        let (status, sink) = outcome(rt.alloc(), &words, "load k h\ndump 1 1", &files)?;
+        assert!(rt; status == upper.status);
+        assert!(rt; sink.written() == upper.text.as_bytes());
     }
     Ok(())
 }

@@ -6,18 +6,24 @@ mod broken;
 #[cfg(test)]
 mod command_line;
 #[cfg(test)]
+mod crowded;
+#[cfg(test)]
 mod faults;
 #[cfg(test)]
 mod folder;
 #[cfg(test)]
 mod gnu;
 #[cfg(test)]
-mod objects;
+mod layouts;
 #[cfg(test)]
-mod overflow;
+mod objects;
 #[cfg(test)]
 mod places;
 #[cfg(test)]
 mod samples;
+#[cfg(test)]
+mod sources;
+#[cfg(test)]
+mod spaces;
 #[cfg(test)]
 mod transcripts;

@@ -57,30 +57,3 @@ pub const ZEROS_OVER: PlainObject<'static> = PlainObject {
     symbols: &[],
     entries: &[],
 };
-
-/// lui a0,0
-const LUI: [u8; 4] = [0x37, 5, 0, 0];
-
-/// The file of `lui a0,%hi(h::x)`, where `h::x` is a 1 in `.data` behind so many zeros.
-pub fn upper_half(alloc: Global, zeros: usize) -> Result<Vec<u8>, Fail> {
-    let mut bytes = Vec::new(alloc);
-    for _ in 0..zeros {
-        bytes.push(0)?;
-    }
-    bytes.push(1)?;
-    let object = PlainObject {
-        sections: &[
-            PlainSection::Text(4, &LUI),
-            PlainSection::Data(8, bytes.as_slice()),
-        ],
-        symbols: &[PlainSymbol::Global("h::x", 2, zeros as u64)],
-        entries: &[Entry {
-            section: 1,
-            offset: 0,
-            kind: RelKind::Hi20,
-            symbol: 1,
-            addend: 0,
-        }],
-    };
-    object.image(alloc)
-}

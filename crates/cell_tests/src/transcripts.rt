@@ -16,7 +16,7 @@ struct Case {
     text: &'static str,
 }
 
-const CASES: [Case; 20] = [
+const CASES: [Case; 19] = [
     Case {
         script: "load k a\nload k b\ndump 2 1\n",
         files: &["k#a.o", "k#b.o"],
@@ -42,13 +42,13 @@ const CASES: [Case; 20] = [
         script: "load k c",
         files: &["k#a.o"],
         status: Status::SomeRefused,
-        text: "1 E0 later\n",
+        text: "1 E5 no-object c\n",
     },
     Case {
         script: "load k b\ndump 2 1",
         files: &["k#a.o", "k#b.o"],
-        status: Status::SomeRefused,
-        text: "1 E0 later\n2 E1 unknown 2\n",
+        status: Status::Done,
+        text: "1 ok load #1 #2 patched 1\n2 ok dump #2.1\n  10001000 07 00 00 00 00 00 00 00\n",
     },
     Case {
         script: "load k b\ndump 2 1",
@@ -60,13 +60,7 @@ const CASES: [Case; 20] = [
         script: "load k a\nload k a",
         files: &["k#a.o"],
         status: Status::SomeRefused,
-        text: "1 ok load #1 patched 0\n2 E0 later\n",
-    },
-    Case {
-        script: "load k zz",
-        files: &["k#zz-1.o", "k#zz-2.o"],
-        status: Status::SomeRefused,
-        text: "1 E0 later\n",
+        text: "1 ok load #1 patched 0\n2 E8 duplicate a #1\n",
     },
     Case {
         script: "load q a",

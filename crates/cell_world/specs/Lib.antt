@@ -10,8 +10,10 @@ pub mod Place
 pub mod Gather
 pub mod Fit
 pub mod Answer
+pub mod NsCommand
 pub mod LoadCommand
+pub mod FindCommand
+pub mod MapCommand
 pub mod DumpCommand
 pub mod Next
-pub mod Later
 pub mod Coherent

@@ -3,18 +3,24 @@
 use Rattle.std.specs.Prelude.{List, Result, Ok, Err}
 use Rattle.cell_world.specs.declared.refusal.Refusal.{Refusal}
 use Rattle.cell_world.specs.declared.command.Command.{Command}
-use Rattle.cell_world.specs.declared.command.Command.TheVariants.{Load, Dump}
+use Rattle.cell_world.specs.declared.command.Command.TheVariants.{Ns, Load, Find, Map, Dump}
 use Rattle.cell_world.specs.declared.reply.Reply.{Reply}
 use Rattle.cell_world.specs.World.{World}
 use Rattle.cell_world.specs.Gather.{Source}
 use Rattle.cell_world.specs.Outcome.{Outcome}
 use Rattle.cell_world.specs.Answer.{Done}
+use Rattle.cell_world.specs.NsCommand.{next_ns}
 use Rattle.cell_world.specs.LoadCommand.{next_load}
+use Rattle.cell_world.specs.FindCommand.{next_find}
+use Rattle.cell_world.specs.MapCommand.{next_map}
 use Rattle.cell_world.specs.DumpCommand.{next_dump}
 
 -- the command's reply and the world after it, or its first refusal
 abbrev pub outcome_of : List Source → World → Command → Outcome Done
+outcome_of sources w (Ns name parent) = next_ns w name parent
 outcome_of sources w (Load ns stem) = next_load sources w ns stem
+outcome_of sources w (Find ns symbol) = next_find w ns symbol
+outcome_of sources w Map = next_map w
 outcome_of sources w (Dump cell section) = next_dump w cell section
 
 pub record Answered : Type 0 where

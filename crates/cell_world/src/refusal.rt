@@ -5,6 +5,7 @@ use cell_num::{CellId, Name, RelKind};
 /// What there may be only so much of.
 #[derive(Clone, Copy, Debug, PartialEq, Eq)]
 pub enum Many {
+    Namespaces,
     Cells,
     CellNumbers,
 }
@@ -12,10 +13,12 @@ pub enum Many {
 /// Why a command was not done.
 #[derive(Drop)]
 pub enum Refusal {
-    /// What the command asks for is not built yet.
-    Later,
     /// The word names nothing.
     Unknown {
+        word: Name,
+    },
+    /// There is a namespace of that name.
+    NameTaken {
         word: Name,
     },
     /// One more of the kind would pass its limit.

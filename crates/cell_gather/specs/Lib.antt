@@ -1,0 +1,7 @@
+pub mod Gathering
+pub mod Layers
+pub mod Following
+pub mod Appending
+pub mod Choosing
+pub mod Growing
+pub mod Reading

@@ -1,0 +1,54 @@
+//! The cells of a load.
+
+ghost use Rattle.std.specs.Prelude.{◌≡◌, ◌<◌, ◌≤◌, All, length, true};
+ghost use Rattle.cell_depot.specs.Files.{are_in_order};
+ghost use Rattle.cell_gather.specs.Gathering.{Gathers};
+
+use crate::load::Load;
+use crate::{LoadFail, Want};
+use cell_depot::Depot;
+use cell_space::{NameRows, Spaces};
+use cell_world::NewCell;
+use std::alloc::Global;
+
+/// New cells, attached to spaces of their own, and what each of them defines. They have no places yet.
+#[derive(Drop)]
+pub struct Gathered {
+    pub cells: Vec<NewCell>,
+    pub names: Vec<NameRows>,
+    pub spaces: Spaces,
+}
+
+/// Appends the wanted cells in order. Then, while a new cell needs a name that nobody provides, appends
+/// the one file of the name's crate in the nearest depot of that cell's chain that has one. `present`
+/// is the number of present cells, `next` the number of the next cell.
+///
+/// Refusals, of which the first that holds is answered: too many cells or cell numbers, a file that is
+/// no object, a stem or a name that is taken, several files of one crate, and a name that nobody
+/// provides and no file brings.
+pub fn gather(
+    alloc: Global,
+    depot: &Depot,
+    spaces: &Spaces,
+    present: u32,
+    next: u32,
+    wants: &[Want],
+) -> Result<Gathered, LoadFail>
+    requires present { present ≡ length spaces.now.cells }
+    requires given { All (λ c. c.cell.0 < next) spaces.now.cells }
+    requires there { All (λ want. want.ns < length spaces.now.namespaces) wants.now }
+    requires small { All (λ f. length f.bytes ≤ 1048576) depot.now }
+    requires ordered { are_in_order depot.now ≡ true }
+    ensures { Gathers depot.now spaces.now next wants.now result }
+{
+    let load = Load {
+        depot,
+        spaces,
+        present,
+        next,
+    };
+    let mut gathered = load.start(alloc)?;
+    load.append_all(alloc, &mut gathered, wants)?;
+    load.bring(alloc, &mut gathered)?;
+    Ok(gathered)
+}

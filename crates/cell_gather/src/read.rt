@@ -1,0 +1,38 @@
+//! The object of a file.
+
+ghost use Rattle.std.specs.Prelude.{◌≡◌, ◌≤◌, IfOk, length};
+ghost use Rattle.cell_world.specs.Coherent.{IsLoadable};
+ghost use Rattle.cell_world.specs.Gather.{source_of, object_in};
+ghost use Rattle.cell_gather.specs.Reading.{FailsToRead};
+ghost use Rattle.cell_gather.specs.Following.{Follows};
+
+use crate::LoadFail;
+use cell_elf::{ReadFail, read_object};
+use cell_object::Object;
+use cell_world::{File, Refusal};
+use std::alloc::Global;
+
+/// Why the file is not read.
+fn read_failed(alloc: Global, file: &File, fail: ReadFail) -> LoadFail
+    ensures { FailsToRead file.now fail result }
+{
+    match fail {
+        ReadFail::BadObject { rule, at } => match file.name.copy(alloc) {
+            Ok(file) => LoadFail::Refused(Refusal::BadObject { file, rule, at }),
+            Err(_) => LoadFail::OutOfMemory,
+        },
+        ReadFail::OutOfMemory => LoadFail::OutOfMemory,
+    }
+}
+
+/// The object of a file.
+pub fn read(alloc: Global, file: &File) -> Result<Object, LoadFail>
+    requires { length file.now.bytes ≤ 1048576 }
+    ensures object { Follows (λ object. object) result (object_in (source_of file.now)) }
+    ensures loadable { IfOk result IsLoadable }
+{
+    match read_object(alloc, file.bytes.as_slice()) {
+        Ok(object) => Ok(object),
+        Err(fail) => Err(read_failed(alloc, file, fail)),
+    }
+}

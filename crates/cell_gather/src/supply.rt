@@ -1,0 +1,107 @@
+//! Bringing what new cells need.
+
+ghost use Rattle.std.specs.Prelude.{◌≡◌, ◌<◌, ◌+◌, ◌++◌, OnOk, is_some, length, map};
+ghost use Rattle.cell_world.specs.Gather.{source_of, bring};
+ghost use Rattle.cell_world.specs.Names.{chain};
+ghost use Rattle.cell_space.specs.Named.{provider_for};
+ghost use Rattle.cell_space.specs.declared.cell.CellState.TheVariants.{Attached};
+ghost use Rattle.cell_gather.specs.Gathering.{grown};
+ghost use Rattle.cell_gather.specs.Growing.{AreSupplied, Ends, IsGrowing, IsNext, IsProvided, IsTurnOf, Leads, called_new};
+
+use crate::load::Load;
+use crate::needs::needs;
+use crate::{Gathered, LoadFail};
+use cell_num::{CellId, Name};
+use std::alloc::Global;
+
+impl<'a> Load<'a> {
+    /// Whether an attached or a new cell in the namespace's chain has the name.
+    fn is_provided(&self, gathered: &Gathered, ns: u16, name: &[u8]) -> bool
+        requires growing { IsGrowing self.now.spaces.now self.now.next gathered.now }
+        requires there { ns < length self.now.spaces.now.namespaces }
+        ensures { result ≡ is_some (provider_for (chain self.now.spaces.now.namespaces ns) Attached name.now (self.now.spaces.now.cells ++ map called_new gathered.now.cells.items)) }
+    {
+        self.layers(gathered).provider(ns, name).is_some()
+    }
+
+    /// Brings what a new cell needs under a name, where nothing before that is lacking. Where the file
+    /// of the name's crate lacks the name, the second turn refuses.
+    fn supply(
+        &self,
+        alloc: Global,
+        gathered: &mut Gathered,
+        place: usize,
+        ns: u16,
+        needed_by: CellId,
+        name: &[u8],
+    ) -> Result<(), LoadFail>
+        requires growing { IsGrowing self.now.spaces.now self.now.next gathered.old }
+        requires there { ns < length self.now.spaces.now.namespaces }
+        requires next { IsNext self.now.spaces.now gathered.old.cells.items place ns needed_by name.now }
+        ensures growing { OnOk result (IsGrowing self.now.spaces.now self.now.next gathered.new) }
+        ensures leads { Leads self.now.depot.now self.now.spaces.now self.now.next gathered.old.cells.items result gathered.new.cells.items }
+        ensures provided { OnOk result (IsProvided self.now.spaces.now gathered.new.cells.items ns name.now) }
+    {
+        while !self.is_provided(gathered, ns, name) {
+            self.bring_one(alloc, gathered, ns, needed_by, name)?;
+        }
+        Ok(())
+    }
+
+    /// Brings what a new cell needs, need by need, where no cell before it lacks anything.
+    fn supply_needs(
+        &self,
+        alloc: Global,
+        gathered: &mut Gathered,
+        place: usize,
+        ns: u16,
+        needed_by: CellId,
+        needs: &[Name],
+    ) -> Result<(), LoadFail>
+        requires growing { IsGrowing self.now.spaces.now self.now.next gathered.old }
+        requires there { ns < length self.now.spaces.now.namespaces }
+        requires turn { IsTurnOf self.now.spaces.now gathered.old.cells.items place ns needed_by needs.now }
+        ensures growing { OnOk result (IsGrowing self.now.spaces.now self.now.next gathered.new) }
+        ensures leads { Leads self.now.depot.now self.now.spaces.now self.now.next gathered.old.cells.items result gathered.new.cells.items }
+        ensures supplied { OnOk result (AreSupplied self.now.spaces.now gathered.new.cells.items (place + 1)) }
+    {
+        for need in needs {
+            self.supply(alloc, gathered, place, ns, needed_by, need.bytes())?;
+        }
+        Ok(())
+    }
+
+    /// Brings what the new cell at a place needs, where no cell before it lacks anything.
+    fn supply_cell(
+        &self,
+        alloc: Global,
+        gathered: &mut Gathered,
+        place: usize,
+    ) -> Result<(), LoadFail>
+        requires growing { IsGrowing self.now.spaces.now self.now.next gathered.old }
+        requires there { place < length gathered.old.cells.items }
+        requires supplied { AreSupplied self.now.spaces.now gathered.old.cells.items place }
+        ensures growing { OnOk result (IsGrowing self.now.spaces.now self.now.next gathered.new) }
+        ensures leads { Leads self.now.depot.now self.now.spaces.now self.now.next gathered.old.cells.items result gathered.new.cells.items }
+        ensures supplied { OnOk result (AreSupplied self.now.spaces.now gathered.new.cells.items (place + 1)) }
+    {
+        let cell = &gathered.cells[place];
+        let (ns, id) = (cell.ns, cell.id);
+        let needs = needs(alloc, &cell.object)?;
+        self.supply_needs(alloc, gathered, place, ns, id, &needs)
+    }
+
+    /// Brings what the new cells need, and what those need that are brought.
+    pub fn bring(&self, alloc: Global, gathered: &mut Gathered) -> Result<(), LoadFail>
+        requires { IsGrowing self.now.spaces.now self.now.next gathered.old }
+        ensures growing { OnOk result (IsGrowing self.now.spaces.now self.now.next gathered.new) }
+        ensures ends { Ends self.now.spaces.now self.now.next (λ w. bring (map source_of self.now.depot.now) self.now.next (grown w gathered.old.cells.items)) result gathered.new.cells.items }
+    {
+        let mut place = 0;
+        while place < gathered.cells.len() {
+            self.supply_cell(alloc, gathered, place)?;
+            place += 1;
+        }
+        Ok(())
+    }
+}

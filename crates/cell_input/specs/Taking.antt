@@ -1,0 +1,64 @@
+-- What stands before the first command: the folder, the script and the object files.
+--     input_from script files      the object files and the commands, or the first refusal
+use Rattle.std.specs.Prelude.{ℕ, ◌+◌, nat_lt, List, [], ◌∷◌, length, map, if◌then◌else◌, bytes_eq, Result, Ok, Err}
+use Rattle.std.specs.List.{list_any}
+use Rattle.cell_io.specs.Files.{File as HostFile, bytes_named}
+use Rattle.cell_world.specs.declared.file.File.{File}
+use Rattle.cell_script.specs.declared.line.Line.{Line}
+use Rattle.cell_script.specs.Script.{script_of}
+use Rattle.cell_input.specs.declared.reason.What.{What}
+use Rattle.cell_input.specs.declared.reason.What.TheVariants.{Names, Files, FileBytes, AllBytes, ScriptBytes}
+use Rattle.cell_input.specs.declared.reason.Reason.{Reason}
+use Rattle.cell_input.specs.declared.reason.Reason.TheVariants.{NoScript, BadScript, TooLarge}
+use Rattle.cell_input.specs.declared.take.Input.{Input}
+use Rattle.cell_input.specs.Objects.{objects_of}
+use Rattle.cell_input.specs.Gives.{◌>>=◌}
+
+-- at most that many files
+abbrev pub few_objects : List (List ℕ) → Result (List (List ℕ)) Reason
+few_objects objects = if nat_lt 1024 (length objects) then Err (TooLarge Files 1024) else Ok objects
+
+-- the object files of a folder with the script
+unfoldable pub listing : List ℕ → List (List ℕ) → Result (List (List ℕ)) Reason
+listing script names =
+    if nat_lt 65536 (length names) then Err (TooLarge Names 65536)
+    else (if list_any (bytes_eq script) names then few_objects (objects_of names) else Err NoScript)
+
+-- bytes of at most that length
+abbrev pub within : What → ℕ → List ℕ → Result (List ℕ) Reason
+within what limit bytes = if nat_lt limit (length bytes) then Err (TooLarge what limit) else Ok bytes
+
+-- so many bytes, with those of the files before
+abbrev pub within_all : ℕ → List ℕ → Result (List ℕ) Reason
+within_all total bytes = if nat_lt 67108864 (total + length bytes) then Err (TooLarge AllBytes 67108864) else Ok bytes
+
+-- the bytes of one more file
+unfoldable pub bytes_after : ℕ → List ℕ → Result (List ℕ) Reason
+bytes_after total bytes = within FileBytes 1048576 bytes >>= within_all total
+
+abbrev pub file_after : ℕ → List ℕ → List HostFile → Result File Reason
+file_after total name files = bytes_after total (bytes_named name files) >>= λ bytes. Ok (record { name = name; bytes = bytes })
+
+-- the files of these names in order
+abbrev pub files_after : ℕ → List (List ℕ) → List HostFile → Result (List File) Reason
+files_after total [] files = Ok []
+files_after total (name ∷ names) files =
+    file_after total name files >>= λ file.
+    files_after (total + length file.bytes) names files >>= λ later.
+    Ok (file ∷ later)
+
+abbrev pub readable : Result (List Line) ℕ → Result (List Line) Reason
+readable (Ok lines) = Ok lines
+readable (Err n) = Err (BadScript n)
+
+unfoldable pub commands_of : List ℕ → Result (List Line) Reason
+commands_of text = readable (script_of text)
+
+-- what a run in a folder works on
+unfoldable pub input_from : List ℕ → List HostFile → Result Input Reason
+input_from script files =
+    listing script (map (λ f. f.name) files) >>= λ objects.
+    within ScriptBytes 1048576 (bytes_named script files) >>= λ text.
+    files_after 0 objects files >>= λ taken.
+    commands_of text >>= λ lines.
+    Ok (record { files = taken; script = lines })

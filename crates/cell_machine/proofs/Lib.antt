@@ -1,0 +1,11 @@
+pub mod Begins
+pub mod NewFields
+pub mod NewRuns
+pub mod StagedWorld
+pub mod StagedAdded
+pub mod Rooms
+pub mod FieldsMapped
+pub mod Presence
+pub mod Unbound
+pub mod Above
+pub mod Free

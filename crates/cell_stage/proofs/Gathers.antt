@@ -1,0 +1,109 @@
+-- What `load NS STEM` gathers, by its one wanted file.
+use Rattle.std.proofs.Common.{◌≡◌, refl, sym, ◌∙◌, ap, subst, arith, ℕ, ◌+◌, ◌<◌, ◌≤◌, true, List, [], ◌∷◌, ◌++◌, map, length}
+use Rattle.std.specs.Prelude.{Option, Some, Result, Ok, Err, All}
+use Rattle.std.proofs.lemmas.List.{length-map}
+use Rattle.cell_world.specs.declared.file.File.{File}
+use Rattle.cell_world.specs.declared.refusal.Refusal.{Refusal}
+use Rattle.cell_world.specs.declared.refusal.Refusal.TheVariants.{NoObject, Unknown}
+use Rattle.cell_world.specs.World.{World, Cell, attached}
+use Rattle.cell_world.specs.Answer.{space_of}
+use Rattle.cell_world.specs.Gather.{Source, append_cell, bring, depot_files, file_named, one_file, source_of}
+use Rattle.cell_world.specs.Outcome.{Outcome, ◌>>=◌, found}
+use Rattle.cell_coherent.specs.Grown.{In}
+use Rattle.cell_coherent.proofs.Elements.{In-All}
+use Rattle.cell_depot.specs.Files.{are_in_order, files_for}
+use Rattle.cell_law.specs.Loading.{gathered_by}
+use Rattle.cell_law.proofs.Elements.{In-map}
+use Rattle.cell_law.proofs.Loads.{older}
+use Rattle.cell_space.specs.Machine.{called}
+use Rattle.cell_space.specs.declared.cell.SpaceCell.{SpaceCell}
+use Rattle.cell_gather.specs.declared.fail.LoadFail.{LoadFail}
+use Rattle.cell_gather.specs.declared.fail.LoadFail.TheVariants.{Refused, OutOfMemory}
+use Rattle.cell_gather.specs.declared.gathering.Gathered.{Gathered}
+use Rattle.cell_gather.specs.Following.{FailsAs}
+use Rattle.cell_gather.specs.Gathering.{Gathers, IsOf, append_wanted, gather}
+use Rattle.cell_machine.specs.declared.machine.Machine.{Machine}
+use Rattle.cell_machine.specs.Machine.{IsSound, cells_of, world_of}
+use Rattle.cell_stage.specs.Loads.{Loads}
+use Rattle.cell_stage.proofs.Files.{one_found, only_named}
+use Rattle.cell_stage.proofs.Lists.{map-map}
+use Rattle.cell_stage.proofs.Low.{limits_of}
+
+passed : {X : Type 0} (o : Outcome X) → (o >>= (λ x. Ok x)) ≡ o
+passed (Ok x) = refl
+passed (Err r) = refl
+
+module _ (sources : List Source) (w : World) (ns stem : List ℕ) where
+  abbrev only : Outcome Source
+  only = one_file (depot_files sources ns stem) (NoObject stem)
+
+  abbrev on : ℕ → Outcome World
+  on number = only >>= (λ f. append_cell w f number)
+
+  -- no such namespace
+  pub space_refused : (r : Refusal) → space_of w ns ≡ Err r → gathered_by sources w ns stem ≡ Err r
+  space_refused r e = ap (λ o. o >>= on >>= (λ a. bring sources w.next_cell a)) e
+
+  -- no file, or several
+  pub file_refused : (number : ℕ) (r : Refusal) → space_of w ns ≡ Ok number → only ≡ Err r → gathered_by sources w ns stem ≡ Err r
+  file_refused number r there e =
+      ap (λ o. o >>= on >>= (λ a. bring sources w.next_cell a)) there
+      ∙ ap (λ o. o >>= (λ f. append_cell w f number) >>= (λ a. bring sources w.next_cell a)) e
+
+  -- the one file is wanted
+  pub one_wanted : (number : ℕ) (f : Source) → space_of w ns ≡ Ok number → only ≡ Ok f → file_named sources f.name ≡ Some f
+      → gather sources w (record { ns = number; file = f.name } ∷ []) ≡ gathered_by sources w ns stem
+  one_wanted number f there is named =
+      ap (λ o. o >>= (λ a. bring sources w.next_cell a))
+      (passed (append_wanted sources w (record { ns = number; file = f.name }))
+      ∙ (ap (λ (o : Option Source). found o (Unknown f.name) >>= (λ s. append_cell w s number)) named
+      ∙ sym (ap (λ o. o >>= on) there ∙ ap (λ o. o >>= (λ f. append_cell w f number)) is)))
+
+module _ (m : Machine) (sound : IsSound m) where
+  pub is_of : IsOf m.spaces m.next (world_of m)
+  is_of = record { namespaces = refl; cells = sym sound.known; number = refl }
+
+  pub as_many : length m.cells.items ≡ length m.spaces.cells
+  as_many = sym (ap length sound.known ∙ (length-map (cells_of m.cells.items) called ∙ length-map m.cells.items attached))
+
+  pub few_cells : length m.cells.items ≤ 1024
+  few_cells = let few = (limits_of (world_of m) sound.settled.coherent.ready.limits).cells in let same = length-map m.cells.items attached in omega (arith, few, same)
+
+  pub numbers_given : All (λ (c : SpaceCell). c.cell.0 < m.next) m.spaces.cells
+  numbers_given =
+      subst (λ (cs : List SpaceCell). All (λ (c : SpaceCell). c.cell.0 < m.next) cs) (sym sound.known)
+      (In-All (λ (c : SpaceCell). c.cell.0 < m.next) (map called (cells_of m.cells.items)) (λ c k. given c (In-map called (cells_of m.cells.items) c k)))
+    where
+      given : (c : SpaceCell) → (d : Cell) × In d (cells_of m.cells.items) × (c ≡ called d) → c.cell.0 < m.next
+      given c d = subst (λ (x : SpaceCell). x.cell.0 < m.next) (sym d.2) (older (world_of m) sound.settled d.0 d.1)
+
+  module _ (files : List File) (ordered : are_in_order files ≡ true) (ns stem : List ℕ) where
+    -- what fails before the gathering begins
+    pub space_failed : (fail : LoadFail) → FailsAs fail (space_of (world_of m) ns) → Loads files m ns stem (Err fail)
+    space_failed (Refused r) e = space_refused (map source_of files) (world_of m) ns stem r e
+    space_failed OutOfMemory e = tt
+
+    module _ (number : ℕ) (there : space_of (world_of m) ns ≡ Ok number) where
+      pub file_failed : (fail : LoadFail) → FailsAs fail (one_file (depot_files (map source_of files) ns stem) (NoObject stem)) → Loads files m ns stem (Err fail)
+      file_failed (Refused r) e = file_refused (map source_of files) (world_of m) ns stem number r there e
+      file_failed OutOfMemory e = tt
+
+      module _ (f : File) (is : files_for ns stem files ≡ f ∷ []) where
+        wanted : gather (map source_of files) (world_of m) (record { ns = number; file = f.name } ∷ []) ≡ gathered_by (map source_of files) (world_of m) ns stem
+        wanted =
+            one_wanted (map source_of files) (world_of m) ns stem number (source_of f) there
+            (one_found files ns stem ordered (NoObject stem) f is) (only_named files ordered ns stem f is)
+
+        pub gathers : (r : Result Gathered LoadFail) → Gathers files m.spaces m.next (record { ns = number; file = f.name } ∷ []) r → Loads files m ns stem r
+        gathers (Ok g) h = record {
+          gathered =
+              sym wanted
+              ∙ (h.gathered (world_of m) is_of
+              ∙ ap (λ (n : ℕ). let u : World = record (world_of m) { cells = (world_of m).cells ++ cells_of g.cells.items; next_cell = m.next + n } in let o : Outcome World = Ok u in o) (sym (length-map g.cells.items attached)));
+          namespaces = h.namespaces;
+          cells = h.cells ∙ sym (map-map called attached g.cells.items);
+          names = h.names;
+          loadable = h.loadable;
+        }
+        gathers (Err (Refused r)) h = sym wanted ∙ h (world_of m) is_of
+        gathers (Err OutOfMemory) h = tt

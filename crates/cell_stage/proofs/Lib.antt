@@ -1,0 +1,11 @@
+pub mod Files
+pub mod Gathers
+pub mod Sources
+pub mod Lists
+pub mod Low
+pub mod Misfits
+pub mod RowLemmas
+pub mod Linked
+pub mod Places
+pub mod Refusals
+pub mod Stagings

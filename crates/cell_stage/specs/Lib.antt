@@ -1,0 +1,4 @@
+pub mod Linking
+pub mod Loads
+pub mod Places
+pub mod Stages

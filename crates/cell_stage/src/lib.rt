@@ -1,0 +1,13 @@
+//! All that a load adds to a machine: its cells, placed and linked. Nothing is changed.
+#![tactic(auto)]
+
+mod link;
+mod load;
+mod misfit;
+mod names;
+mod place;
+mod rows;
+mod staging;
+
+pub use names::{namespace, unknown};
+pub use staging::stage;

@@ -1,0 +1,35 @@
+//! Words that name namespaces, and words that name nothing.
+
+ghost use Rattle.std.specs.Prelude.{◌<◌, IfOk, length};
+ghost use Rattle.cell_world.specs.Outcome.{found};
+ghost use Rattle.cell_world.specs.declared.refusal.Refusal.TheVariants.{Unknown};
+ghost use Rattle.cell_gather.specs.Following.{Follows};
+ghost use Rattle.cell_space.specs.Spaces.{namespace_named};
+ghost use Rattle.cell_stage.specs.Loads.{IsUnknown};
+
+use cell_gather::LoadFail;
+use cell_num::Name;
+use cell_space::Spaces;
+use cell_world::Refusal;
+use std::alloc::Global;
+
+/// The word names nothing.
+pub fn unknown(alloc: Global, word: &[u8]) -> LoadFail
+    ensures { IsUnknown word.now result }
+{
+    match Name::of(alloc, word) {
+        Ok(word) => LoadFail::Refused(Refusal::Unknown { word }),
+        Err(_) => LoadFail::OutOfMemory,
+    }
+}
+
+/// The number of a namespace.
+pub fn namespace(alloc: Global, spaces: &Spaces, name: &[u8]) -> Result<u16, LoadFail>
+    ensures number { Follows (λ ns. ns) result (found (namespace_named spaces.now.namespaces name.now) (Unknown name.now)) }
+    ensures there { IfOk result (λ ns. ns < length spaces.now.namespaces) }
+{
+    match spaces.find_ns(name) {
+        Some(ns) => Ok(ns),
+        None => Err(unknown(alloc, name)),
+    }
+}

@@ -1,0 +1,75 @@
+//! All that a load adds, before anything is changed.
+
+ghost use Rattle.std.specs.Prelude.{◌≡◌, ◌≤◌, ◌++◌, All, length, true};
+ghost use Rattle.cell_depot.specs.Files.{are_in_order};
+ghost use Rattle.cell_gather.specs.Layers.{AreAlike};
+ghost use Rattle.cell_machine.specs.Machine.{IsSound};
+ghost use Rattle.cell_target.specs.Scene.{AreCells, seen};
+ghost use Rattle.cell_stage.specs.Linking.{CanLink, LinksAll};
+ghost use Rattle.cell_stage.specs.Stages.{Stages};
+
+use crate::link::{Linked, link_new};
+use crate::load::load_cells;
+use crate::place::place_in_copy;
+use cell_depot::Depot;
+use cell_gather::{Gathered, Layers, LoadFail};
+use cell_machine::{Machine, Staged};
+use cell_space::Spaces;
+use cell_target::Scene;
+use cell_world::NewCell;
+use std::alloc::Global;
+
+/// Links new cells in their places, which have those spaces, among the present ones.
+fn link_among(
+    alloc: Global,
+    machine: &Machine,
+    spaces: &Spaces,
+    cells: &[NewCell],
+) -> Result<Linked, LoadFail>
+    requires alike { AreAlike machine.now.spaces spaces.now }
+    requires cells { AreCells (machine.now.spaces.cells ++ spaces.now.cells) (machine.now.cells.items ++ cells.now) }
+    requires can { All (CanLink machine.now.spaces.namespaces) cells.now }
+    ensures { LinksAll (seen machine.now.spaces.namespaces (machine.now.cells.items ++ cells.now)) cells.now result }
+{
+    let scene = Scene {
+        layers: Layers::of(&machine.spaces, spaces),
+        present: &machine.cells,
+        fresh: cells,
+    };
+    link_new(alloc, &scene)
+}
+
+/// Gathers the cells of `load NS STEM`, places them and links them. The machine stays as it is.
+///
+/// Refusals, of which the first that holds is answered: a namespace that isn't there, no file or
+/// several files of the stem, those of gathering, too few free pages in a row, and an entry whose
+/// number is outside its kind's range.
+pub fn stage(
+    alloc: Global,
+    depot: &Depot,
+    machine: &Machine,
+    ns: &[u8],
+    stem: &[u8],
+) -> Result<Staged, LoadFail>
+    requires sound { IsSound machine.now }
+    requires small { All (λ f. length f.bytes ≤ 1048576) depot.now }
+    requires ordered { are_in_order depot.now ≡ true }
+    ensures { Stages depot.now machine.now ns.now stem.now result }
+{
+    let gathered = load_cells(alloc, depot, machine, ns, stem)?;
+    let Gathered {
+        cells,
+        names,
+        spaces,
+    } = gathered;
+    let (space, placed) = place_in_copy(alloc, &machine.space, cells)?;
+    let linked = link_among(alloc, machine, &spaces, &placed.cells)?;
+    Ok(Staged {
+        cells: placed.cells,
+        names,
+        space,
+        regions: placed.regions,
+        fields: linked.fields,
+        rows: linked.rows,
+    })
+}

@@ -1,0 +1,17 @@
+-- A machine to which nothing was done.
+use Rattle.std.proofs.Common.{refl}
+use Rattle.cell_machine.specs.declared.machine.Machine.{Machine}
+use Rattle.cell_system.specs.Adding.{IsSame}
+
+pub same_itself : (m : Machine) → IsSame m m
+same_itself m = record {
+  cells = refl;
+  next = refl;
+  namespaces = refl;
+  known = refl;
+  space = refl;
+  spare = m.memory.spare;
+  memory = refl;
+  sections = refl;
+  rows = refl;
+}

@@ -1,7 +1,0 @@
-use Rattle.std.proofs.Common.{take}
-use Rattle.cell_system.specs.Highs.{IsHighs}
-use Rattle.cell_system.proofs.highs.highs_of.Given as goal
-
--- those of the entries so far
-abbrev pub invariant-loop-index : goal.invariant-loop-index
-invariant-loop-index l = IsHighs (take l.index l.entries) l.highs

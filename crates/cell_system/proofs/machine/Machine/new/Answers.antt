@@ -1,7 +1,0 @@
-use Rattle.std.proofs.Common.{refl}
-use Rattle.cell_system.proofs.Begins.{begins_sound}
-use Rattle.cell_system.proofs.machine.Machine.new.Goals as goal
-
-pub returns-clause-sound : goal.returns-clause-sound
-returns-clause-sound c =
-    begins_sound c.args.base c.args.pages c.requires _ c.new.ensures.items refl (c.in_ok-new.ensures {u = tt}) (c.in_ok-new-2.ensures {u = tt}) c.new-4.ensures.sections c.new-4.ensures.rows

@@ -1,0 +1,61 @@
+//! The command that adds a namespace.
+
+ghost use Rattle.std.specs.Prelude.{◌≡◌, IfOk};
+ghost use Rattle.cell_world.specs.declared.refusal.Refusal.TheVariants.{NameTaken};
+ghost use Rattle.cell_gather.specs.Following.{Follows};
+ghost use Rattle.cell_machine.specs.Machine.{IsSound};
+ghost use Rattle.cell_system.specs.Namespaces.{AddsNamespace, may_add};
+
+use cell_gather::LoadFail;
+use cell_machine::Machine;
+use cell_num::Name;
+use cell_space::Spaces;
+use cell_stage::namespace;
+use cell_world::{Many, Refusal, Reply};
+use std::alloc::{AllocError, Global};
+
+/// The most namespaces that there may be.
+const MAX_NAMESPACES: usize = 256;
+
+/// The name is taken.
+fn taken(alloc: Global, name: &[u8]) -> Result<Refusal, AllocError>
+    ensures { IfOk result (λ refusal. refusal ≡ NameTaken name.now) }
+{
+    Ok(Refusal::NameTaken {
+        word: Name::of(alloc, name)?,
+    })
+}
+
+/// Sees that the name is free and that one more namespace may come.
+fn check(alloc: Global, spaces: &Spaces, name: &[u8]) -> Result<(), LoadFail>
+    ensures { Follows (λ _. tt) result (may_add spaces.now.namespaces name.now) }
+{
+    if spaces.find_ns(name).is_some() {
+        return Err(LoadFail::Refused(taken(alloc, name)?));
+    }
+    if spaces.namespace_count() >= MAX_NAMESPACES {
+        return Err(LoadFail::Refused(Refusal::TooMany {
+            kind: Many::Namespaces,
+            limit: MAX_NAMESPACES as u32,
+        }));
+    }
+    Ok(())
+}
+
+/// Adds a namespace under another one.
+pub fn add_namespace(
+    alloc: Global,
+    machine: &mut Machine,
+    name: &[u8],
+    parent: &[u8],
+) -> Result<Reply, LoadFail>
+    requires { IsSound machine.old }
+    ensures { AddsNamespace machine.old name.now parent.now result machine.new }
+{
+    let up = namespace(alloc, &machine.spaces, parent)?;
+    check(alloc, &machine.spaces, name)?;
+    let shown = Name::of(alloc, name)?;
+    let own = Name::of(alloc, name)?;
+    machine.spaces.add_ns(own, up)?;
+    Ok(Reply::Ns { name: shown })
+}

@@ -1,0 +1,94 @@
+//! What the parts of the machine take over from staged cells.
+
+ghost use Rattle.std.specs.Prelude.{◌≡◌, IfOk, map};
+ghost use Rattle.cell_commit.specs.Cells.{arrived};
+ghost use Rattle.cell_machine.specs.Machine.{cells_of};
+ghost use Rattle.cell_space.specs.Machine.{called};
+ghost use Rattle.cell_system.specs.Adding.{listed, numbers_in};
+ghost use Rattle.cell_world.specs.Names.{definitions_of};
+ghost use Rattle.cell_world.specs.World.{attached};
+
+use cell_commit::{CellSections, Newcomer};
+use cell_space::NameRows;
+use cell_world::NewCell;
+use std::alloc::{AllocError, Global};
+
+/// What the staged cells are called, and their sections.
+#[derive(Drop)]
+pub struct Prepared {
+    pub newcomers: Vec<Newcomer>,
+    pub sections: Vec<CellSections>,
+}
+
+impl Prepared {
+    /// By the cells, and what each of them defines.
+    pub fn of(
+        alloc: Global,
+        cells: &[NewCell],
+        names: Vec<NameRows>,
+    ) -> Result<Prepared, AllocError>
+        requires { names.items ≡ map (λ c. definitions_of c.object) cells.now }
+        ensures newcomers { IfOk result (λ p. map arrived p.newcomers.items ≡ map called (cells_of cells.now)) }
+        ensures sections { IfOk result (λ p. map listed p.sections.items ≡ map numbers_in cells.now) }
+    {
+        Ok(Prepared {
+            newcomers: newcomers(alloc, cells, names)?,
+            sections: all_sections(alloc, cells)?,
+        })
+    }
+}
+
+/// What each of the cells is called.
+fn newcomers(
+    alloc: Global,
+    cells: &[NewCell],
+    names: Vec<NameRows>,
+) -> Result<Vec<Newcomer>, AllocError>
+    requires { names.items ≡ map (λ c. definitions_of c.object) cells.now }
+    ensures { IfOk result (λ new. map arrived new.items ≡ map called (cells_of cells.now)) }
+{
+    let mut newcomers = Vec::new(alloc);
+    for names in names {
+        let cell = &cells[newcomers.len()];
+        newcomers.push(newcomer(alloc, cell, names)?)?;
+    }
+    Ok(newcomers)
+}
+
+/// What the cell is called.
+fn newcomer(alloc: Global, cell: &NewCell, names: NameRows) -> Result<Newcomer, AllocError>
+    requires { names ≡ definitions_of cell.now.object }
+    ensures { IfOk result (λ new. arrived new ≡ called (attached cell.now)) }
+{
+    Ok(Newcomer {
+        cell: cell.id,
+        ns: cell.ns,
+        stem: cell.stem.copy(alloc)?,
+        names,
+    })
+}
+
+/// The numbers of each cell's sections.
+fn all_sections(alloc: Global, cells: &[NewCell]) -> Result<Vec<CellSections>, AllocError>
+    ensures { IfOk result (λ list. map listed list.items ≡ map numbers_in cells.now) }
+{
+    let mut sections = Vec::new(alloc);
+    for cell in cells {
+        sections.push(sections_of(alloc, cell)?)?;
+    }
+    Ok(sections)
+}
+
+/// The numbers of the cell's sections.
+fn sections_of(alloc: Global, cell: &NewCell) -> Result<CellSections, AllocError>
+    ensures { IfOk result (λ s. listed s ≡ numbers_in cell.now) }
+{
+    let mut sections = Vec::new(alloc);
+    for section in cell.object.sections.as_slice() {
+        sections.push(section.number)?;
+    }
+    Ok(CellSections {
+        cell: cell.id,
+        sections,
+    })
+}

@@ -1,0 +1,6 @@
+pub mod InOrder
+pub mod Lookups
+pub mod Tabled
+pub mod Seen
+pub mod HighEntries
+pub mod Pair

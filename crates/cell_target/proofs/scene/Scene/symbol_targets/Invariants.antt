@@ -1,0 +1,9 @@
+use Rattle.std.proofs.Common.{◌≡◌, ◌++◌, map, take}
+use Rattle.cell_world.specs.Target.{symbol_target}
+use Rattle.cell_world.specs.World.{attached}
+use Rattle.cell_target.specs.Scene.{seen}
+use Rattle.cell_target.proofs.scene.Scene.symbol_targets.Given as goal
+
+-- the targets of the symbols so far
+abbrev pub invariant-loop-index : goal.invariant-loop-index
+invariant-loop-index l = l.targets.items ≡ map (λ s. symbol_target (seen l.self.layers.namespaces (l.self.present.now ++ l.self.fresh.now)) (attached l.cell) s s.home) (take l.index l.cell.object.symbols)

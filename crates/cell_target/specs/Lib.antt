@@ -1,0 +1,4 @@
+pub mod Scene
+pub mod Before
+pub mod Entries
+pub mod Highs

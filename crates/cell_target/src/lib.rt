@@ -1,0 +1,21 @@
+//! What each entry of a cell names, and where a name's provider has it: over the present cells and
+//! those of a load, which is not done yet.
+#![tactic(auto)]
+
+mod cells;
+mod entries;
+mod highs;
+mod own;
+mod places;
+mod provided;
+mod scene;
+mod symbols;
+mod targets;
+
+pub use cell_gather::Layers;
+pub use cell_world::{NewCell, Target};
+pub use places::start_of;
+pub use scene::Scene;
+
+#[cfg(test)]
+mod tests;

@@ -1,0 +1,27 @@
+//! What the entries of a cell name.
+
+ghost use Rattle.std.specs.Prelude.{◌≡◌, ◌<◌, ◌++◌, IfOk, length};
+ghost use Rattle.cell_world.specs.Target.{targets_of};
+ghost use Rattle.cell_coherent.specs.Grown.{In};
+ghost use Rattle.cell_world.specs.World.{attached};
+ghost use Rattle.cell_target.specs.Scene.{seen};
+
+use crate::entries::entry_targets;
+use crate::highs::Highs;
+use crate::scene::Scene;
+use cell_world::{NewCell, Target};
+use std::alloc::{AllocError, Global};
+
+impl<'a> Scene<'a> {
+    /// What each entry of the cell names, in table order. A name that nobody provides is the number 0.
+    #[tactic(auto, using(crate::proofs::Tabled::targets_tabled))]
+    pub fn targets(&self, alloc: Global, cell: &NewCell) -> Result<Vec<Target>, AllocError>
+        requires there { In cell.now (self.now.present.now ++ self.now.fresh.now) }
+        requires ns { cell.now.ns < length self.now.layers.namespaces }
+        ensures { IfOk result (λ targets. targets.items ≡ targets_of (seen self.now.layers.namespaces (self.now.present.now ++ self.now.fresh.now)) (attached cell.now)) }
+    {
+        let symbols = self.symbol_targets(alloc, cell)?;
+        let highs = Highs::of(alloc, &cell.object)?;
+        entry_targets(alloc, &symbols, &highs)
+    }
+}

@@ -1,0 +1,2 @@
+pub mod PresentCells
+pub mod Showing

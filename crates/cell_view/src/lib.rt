@@ -1,0 +1,11 @@
+//! What commands show of the machine, which they leave as it is.
+#![tactic(auto)]
+
+mod overview;
+mod present;
+mod provider;
+mod section;
+
+pub use overview::map;
+pub use provider::find;
+pub use section::dump;
