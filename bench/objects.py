@@ -3,11 +3,11 @@
 
 As a library: `image(sections, symbols)` gives the bytes of an object.
 As a program:
-    objects.py images CRATES     the files of byte tables in cell_elfw and cell_tests, into the folder `crates`
+    objects.py images CRATES     the files of byte tables in cell_elfw, cell_assemble and cell_tests, into the folder `crates`
     objects.py example FOLDER    the two objects of examples/first, into a folder
     objects.py large FOLDER      folders with large objects and their scripts, for bench/read.sh
     objects.py links             the dumps that cells has to show of the GNU objects, as GNU ld links them
-    objects.py check             looks at the offsets of two objects that were worked out by hand
+    objects.py check             looks at the offsets of three objects that were worked out by hand
 
 The sections of the file, in order: 0, which is zeros; the object's own; `.symtab`, `.strtab`,
 `.shstrtab`; and a RELA section for each own section that has entries. The parts of the file, in

@@ -1,5 +1,5 @@
 #!/bin/bash
-# Prints how long `cells` takes to write a transcript of about 10 MB, by many short answers and by a
+# Prints how long `cells` takes to write a transcript of some 6 MB of many short answers, and one of some 9 MB of a
 # few long ones.
 #
 #     bench/transcript.sh [PROGRAM]

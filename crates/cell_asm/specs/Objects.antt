@@ -58,9 +58,6 @@ part_name Bss = codes ".bss"
 abbrev pub is_text : Part → Bool
 is_text part = is_same_part Text part
 
-abbrev pub is_bss : Part → Bool
-is_bss part = is_same_part Bss part
-
 abbrev pub first_alignment : Part → ℕ
 first_alignment Text = 4
 first_alignment _ = 8

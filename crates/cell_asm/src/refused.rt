@@ -7,18 +7,20 @@ use std::process::Abort;
 use std::test::*;
 
 /// A source, and the line of its first fault.
-struct Faulty {
-    source: &'static [u8],
-    line: u32,
-}
+type Faulty = (&'static [u8], u32);
 
 /// Assembles each source, whose fault is of that kind.
 fn try_each(rt: &impl Abort, alloc: Global, kind: AsmKind, cases: &[Faulty]) -> Result<(), Fail> {
-    for case in cases {
-        match assemble_short(alloc, case.source) {
-            Err(AsmFail::Fault { line, kind: found }) => {
-                assert_eq!(rt; line, case.line);
-                assert_eq!(rt; found, kind);
+    for (source, line) in cases {
+        match assemble_short(alloc, source) {
+            Err(
+                AsmFail::Fault {
+                    line: found,
+                    kind: of,
+                },
+            ) => {
+                assert_eq!(rt; found, *line);
+                assert_eq!(rt; of, kind);
             }
             _ => return Err("it has a fault")?,
         }
@@ -28,54 +30,18 @@ fn try_each(rt: &impl Abort, alloc: Global, kind: AsmKind, cases: &[Faulty]) -> 
 
 /// Labels, statements and lines that are not read, also where there are other faults.
 const UNKNOWN: [Faulty; 12] = [
-    Faulty {
-        source: b".text\nfoo: frob 5000",
-        line: 2,
-    },
-    Faulty {
-        source: b".text\nx: nop\nx: frob a0",
-        line: 3,
-    },
-    Faulty {
-        source: b".text\nfrob\nnop a0\nli a0,5000",
-        line: 2,
-    },
-    Faulty {
-        source: b".data\n.byte 256,y z",
-        line: 2,
-    },
-    Faulty {
-        source: b"frob",
-        line: 1,
-    },
-    Faulty {
-        source: b"foo:: nop",
-        line: 1,
-    },
-    Faulty {
-        source: b"1: nop",
-        line: 1,
-    },
-    Faulty {
-        source: b".La1: nop",
-        line: 1,
-    },
-    Faulty {
-        source: b".weak x",
-        line: 1,
-    },
-    Faulty {
-        source: b".text\nnop\r",
-        line: 2,
-    },
-    Faulty {
-        source: b".text\nadd 5,foo",
-        line: 2,
-    },
-    Faulty {
-        source: b".text\nlw a0,%pcrel_lo(x)(a0)\nfrob",
-        line: 3,
-    },
+    (b".text\nfoo: frob 5000", 2),
+    (b".text\nx: nop\nx: frob a0", 3),
+    (b".text\nfrob\nnop a0\nli a0,5000", 2),
+    (b".data\n.byte 256,y z", 2),
+    (b"frob", 1),
+    (b"foo:: nop", 1),
+    (b"1: nop", 1),
+    (b".La1: nop", 1),
+    (b".weak x", 1),
+    (b".text\nnop\r", 2),
+    (b".text\nadd 5,foo", 2),
+    (b".text\nlw a0,%pcrel_lo(x)(a0)\nfrob", 3),
 ];
 
 #[test]
@@ -85,50 +51,17 @@ fn unknown_words(rt: HostRuntime) -> Result<(), Fail> {
 
 /// Operands that are not read.
 const UNREAD_OPERANDS: [Faulty; 11] = [
-    Faulty {
-        source: b".text\nadd foo,a1,a2",
-        line: 2,
-    },
-    Faulty {
-        source: b".text\nadd a0,foo,a2",
-        line: 2,
-    },
-    Faulty {
-        source: b".text\nadd a0,a1,",
-        line: 2,
-    },
-    Faulty {
-        source: b".text\nlw a0,4 (sp)",
-        line: 2,
-    },
-    Faulty {
-        source: b".text\nli a0,007",
-        line: 2,
-    },
-    Faulty {
-        source: b".text\nli a0,0X1",
-        line: 2,
-    },
-    Faulty {
-        source: b".text\nli a0,-0x1",
-        line: 2,
-    },
-    Faulty {
-        source: b".text\nadd a0,a1,foo",
-        line: 2,
-    },
-    Faulty {
-        source: b".text\nlw a0,%foo(x)(a1)",
-        line: 2,
-    },
-    Faulty {
-        source: b".text\nlw a0,4(foo)",
-        line: 2,
-    },
-    Faulty {
-        source: b".text\nli a0,%lo(.La1)",
-        line: 2,
-    },
+    (b".text\nadd foo,a1,a2", 2),
+    (b".text\nadd a0,foo,a2", 2),
+    (b".text\nadd a0,a1,", 2),
+    (b".text\nlw a0,4 (sp)", 2),
+    (b".text\nli a0,007", 2),
+    (b".text\nli a0,0X1", 2),
+    (b".text\nli a0,-0x1", 2),
+    (b".text\nadd a0,a1,foo", 2),
+    (b".text\nlw a0,%foo(x)(a1)", 2),
+    (b".text\nlw a0,4(foo)", 2),
+    (b".text\nli a0,%lo(.La1)", 2),
 ];
 
 #[test]
@@ -138,66 +71,21 @@ fn unread_operands(rt: HostRuntime) -> Result<(), Fail> {
 
 /// Operands of the wrong number or kind.
 const WRONG_OPERANDS: [Faulty; 15] = [
-    Faulty {
-        source: b"nop a0",
-        line: 1,
-    },
-    Faulty {
-        source: b".text\nadd 5,a1,a2",
-        line: 2,
-    },
-    Faulty {
-        source: b".text\nadd a0,5,a2",
-        line: 2,
-    },
-    Faulty {
-        source: b".data\n.byte 256,y",
-        line: 2,
-    },
-    Faulty {
-        source: b".text\nadd a0,a1",
-        line: 2,
-    },
-    Faulty {
-        source: b".text\nadd a0,a1,5",
-        line: 2,
-    },
-    Faulty {
-        source: b".text\nnop a0",
-        line: 2,
-    },
-    Faulty {
-        source: b".text\nli a0,5000,1",
-        line: 2,
-    },
-    Faulty {
-        source: b".text\nj x+4",
-        line: 2,
-    },
-    Faulty {
-        source: b".text\naddi a0,a1,%hi(x)",
-        line: 2,
-    },
-    Faulty {
-        source: b".text\nslli a0,a1,%lo(x)",
-        line: 2,
-    },
-    Faulty {
-        source: b".text\nlw a0,%pcrel_lo(x+4)(a1)",
-        line: 2,
-    },
-    Faulty {
-        source: b".data\n.byte x",
-        line: 2,
-    },
-    Faulty {
-        source: b".data\n.word",
-        line: 2,
-    },
-    Faulty {
-        source: b"x: add a0,a1,5",
-        line: 1,
-    },
+    (b"nop a0", 1),
+    (b".text\nadd 5,a1,a2", 2),
+    (b".text\nadd a0,5,a2", 2),
+    (b".data\n.byte 256,y", 2),
+    (b".text\nadd a0,a1", 2),
+    (b".text\nadd a0,a1,5", 2),
+    (b".text\nnop a0", 2),
+    (b".text\nli a0,5000,1", 2),
+    (b".text\nj x+4", 2),
+    (b".text\naddi a0,a1,%hi(x)", 2),
+    (b".text\nslli a0,a1,%lo(x)", 2),
+    (b".text\nlw a0,%pcrel_lo(x+4)(a1)", 2),
+    (b".data\n.byte x", 2),
+    (b".data\n.word", 2),
+    (b"x: add a0,a1,5", 1),
 ];
 
 #[test]
@@ -207,50 +95,17 @@ fn wrong_operands(rt: HostRuntime) -> Result<(), Fail> {
 
 /// Numbers that are too far for an instruction.
 const FAR_NUMBERS: [Faulty; 11] = [
-    Faulty {
-        source: b"li a0,2048",
-        line: 1,
-    },
-    Faulty {
-        source: b".text\nli a0,-2049",
-        line: 2,
-    },
-    Faulty {
-        source: b".text\nlw a0,2048(sp)",
-        line: 2,
-    },
-    Faulty {
-        source: b".text\nsd a0,-2049(sp)",
-        line: 2,
-    },
-    Faulty {
-        source: b".text\njalr ra,2048(a0)",
-        line: 2,
-    },
-    Faulty {
-        source: b".text\nauipc a0,1048576",
-        line: 2,
-    },
-    Faulty {
-        source: b".text\nlui a0,-1",
-        line: 2,
-    },
-    Faulty {
-        source: b".text\nli a0,2048",
-        line: 2,
-    },
-    Faulty {
-        source: b".text\nslli a0,a0,64",
-        line: 2,
-    },
-    Faulty {
-        source: b".text\nslliw a0,a0,32",
-        line: 2,
-    },
-    Faulty {
-        source: b".text\nlui a0,1048576",
-        line: 2,
-    },
+    (b"li a0,2048", 1),
+    (b".text\nli a0,-2049", 2),
+    (b".text\nlw a0,2048(sp)", 2),
+    (b".text\nsd a0,-2049(sp)", 2),
+    (b".text\njalr ra,2048(a0)", 2),
+    (b".text\nauipc a0,1048576", 2),
+    (b".text\nlui a0,-1", 2),
+    (b".text\nli a0,2048", 2),
+    (b".text\nslli a0,a0,64", 2),
+    (b".text\nslliw a0,a0,32", 2),
+    (b".text\nlui a0,1048576", 2),
 ];
 
 #[test]
@@ -260,50 +115,17 @@ fn numbers_in_instructions(rt: HostRuntime) -> Result<(), Fail> {
 
 /// Numbers that are too far for a directive.
 const FAR_DATA: [Faulty; 11] = [
-    Faulty {
-        source: b".text\nx:\n.byte 256",
-        line: 3,
-    },
-    Faulty {
-        source: b".data\nx: .byte -129\nx: nop",
-        line: 2,
-    },
-    Faulty {
-        source: b".data\n.half 65536",
-        line: 2,
-    },
-    Faulty {
-        source: b".data\n.half 1,-32769",
-        line: 2,
-    },
-    Faulty {
-        source: b".data\n.word 4294967296",
-        line: 2,
-    },
-    Faulty {
-        source: b".data\n.byte 256",
-        line: 2,
-    },
-    Faulty {
-        source: b".data\n.quad 18446744073709551616",
-        line: 2,
-    },
-    Faulty {
-        source: b".data\n.quad x-9223372036854775809",
-        line: 2,
-    },
-    Faulty {
-        source: b".data\n.quad x+9223372036854775808",
-        line: 2,
-    },
-    Faulty {
-        source: b".align 13",
-        line: 1,
-    },
-    Faulty {
-        source: b".zero -1",
-        line: 1,
-    },
+    (b".text\nx:\n.byte 256", 3),
+    (b".data\nx: .byte -129\nx: nop", 2),
+    (b".data\n.half 65536", 2),
+    (b".data\n.half 1,-32769", 2),
+    (b".data\n.word 4294967296", 2),
+    (b".data\n.byte 256", 2),
+    (b".data\n.quad 18446744073709551616", 2),
+    (b".data\n.quad x-9223372036854775809", 2),
+    (b".data\n.quad x+9223372036854775808", 2),
+    (b".align 13", 1),
+    (b".zero -1", 1),
 ];
 
 #[test]
@@ -313,46 +135,19 @@ fn numbers_in_directives(rt: HostRuntime) -> Result<(), Fail> {
 
 /// Statements in no section or a wrong one.
 const MISPLACED: [Faulty; 10] = [
-    Faulty {
-        source: b".text\nx:\nx: .byte 1",
-        line: 3,
-    },
-    Faulty {
-        source: b"nop",
-        line: 1,
-    },
-    Faulty {
-        source: b"x:",
-        line: 1,
-    },
-    Faulty {
-        source: b"x: .text",
-        line: 1,
-    },
-    Faulty {
-        source: b".text\n.zero 3",
-        line: 2,
-    },
-    Faulty {
-        source: b".text\n.align 1",
-        line: 2,
-    },
-    Faulty {
-        source: b".text\n.half 1",
-        line: 2,
-    },
-    Faulty {
-        source: b".data\nnop",
-        line: 2,
-    },
-    Faulty {
-        source: b".bss\n.quad 0",
-        line: 2,
-    },
-    Faulty {
-        source: b".text\n.zero 99999999999999999999999999999999999999999998",
-        line: 2,
-    },
+    (b".text\nx:\nx: .byte 1", 3),
+    (b"nop", 1),
+    (b"x:", 1),
+    (b"x: .text", 1),
+    (b".text\n.zero 3", 2),
+    (b".text\n.align 1", 2),
+    (b".text\n.half 1", 2),
+    (b".data\nnop", 2),
+    (b".bss\n.quad 0", 2),
+    (
+        b".text\n.zero 99999999999999999999999999999999999999999998",
+        2,
+    ),
 ];
 
 #[test]
@@ -362,18 +157,9 @@ fn sections(rt: HostRuntime) -> Result<(), Fail> {
 
 /// Names that are defined twice.
 const REPEATED: [Faulty; 3] = [
-    Faulty {
-        source: b".data\nx:\nx: .zero 1048577",
-        line: 3,
-    },
-    Faulty {
-        source: b".text\nx: nop\nlw a0,%pcrel_lo(x)(a0)\nx: nop",
-        line: 4,
-    },
-    Faulty {
-        source: b".text\nx:\nx: nop",
-        line: 3,
-    },
+    (b".data\nx:\nx: .zero 1048577", 3),
+    (b".text\nx: nop\nlw a0,%pcrel_lo(x)(a0)\nx: nop", 4),
+    (b".text\nx:\nx: nop", 3),
 ];
 
 #[test]
@@ -383,18 +169,12 @@ fn names_defined_twice(rt: HostRuntime) -> Result<(), Fail> {
 
 /// Sections that grow above their limit.
 const TOO_LONG: [Faulty; 3] = [
-    Faulty {
-        source: b".bss\n.zero 16777217",
-        line: 2,
-    },
-    Faulty {
-        source: b".data\n.zero 1048576\n.byte 1",
-        line: 3,
-    },
-    Faulty {
-        source: b".text\n.zero 99999999999999999999999999999999999999999996",
-        line: 2,
-    },
+    (b".bss\n.zero 16777217", 2),
+    (b".data\n.zero 1048576\n.byte 1", 3),
+    (
+        b".text\n.zero 99999999999999999999999999999999999999999996",
+        2,
+    ),
 ];
 
 #[test]
@@ -404,18 +184,15 @@ fn long_sections(rt: HostRuntime) -> Result<(), Fail> {
 
 /// References to labels that are none of an upper part.
 const NO_UPPER: [Faulty; 3] = [
-    Faulty {
-        source: b".text\naddi a0,a1,%pcrel_lo(x)\naddi a0,a1,%pcrel_lo(y)",
-        line: 2,
-    },
-    Faulty {
-        source: b".text\nlw a0,%pcrel_lo(x)(a0)\nx: nop",
-        line: 2,
-    },
-    Faulty {
-        source: b".data\nx:\n.text\nauipc a0,%pcrel_hi(y)\naddi a0,a0,%pcrel_lo(x)",
-        line: 5,
-    },
+    (
+        b".text\naddi a0,a1,%pcrel_lo(x)\naddi a0,a1,%pcrel_lo(y)",
+        2,
+    ),
+    (b".text\nlw a0,%pcrel_lo(x)(a0)\nx: nop", 2),
+    (
+        b".data\nx:\n.text\nauipc a0,%pcrel_hi(y)\naddi a0,a0,%pcrel_lo(x)",
+        5,
+    ),
 ];
 
 #[test]

@@ -18,12 +18,46 @@ pub fn object_of(alloc: Global, source: &[u8]) -> Result<Object, Fail> {
     Ok(object)
 }
 
-static GOOD: [&[u8]; 16] = [
+/// Sources, and by hand the bytes of their first section.
+static CONTENTS: [(&[u8], &[u8]); 7] = [
+    (b".data\n.byte -128 , 255,0xff,-0", b"\x80\xff\xff\0"),
+    (
+        b".data\n.half -32768,65535,0x102",
+        b"\0\x80\xff\xff\x02\x01",
+    ),
+    (
+        b".data\n.word -2147483648,4294967295,0x1020304",
+        b"\0\0\0\x80\xff\xff\xff\xff\x04\x03\x02\x01",
+    ),
+    (
+        b".data\n.quad 18446744073709551615,-9223372036854775808",
+        b"\xff\xff\xff\xff\xff\xff\xff\xff\0\0\0\0\0\0\0\x80",
+    ),
+    (
+        b".data\n.byte 1\n.align 2\n.byte 2\n.zero 2",
+        b"\x01\0\0\0\x02\0\0",
+    ),
+    (b".text\nret\n.align 3", b"\x67\x80\0\0\x13\0\0\0"),
+    (b".data\n.half x-y\n.byte y-x,7", b"\0\0\0\x07"),
+];
+
+#[test]
+fn contents(rt: HostRuntime) -> Result<(), Fail> {
+    for (source, bytes) in CONTENTS {
+        let object = object_of(rt.alloc(), source)?;
+        let [section, ..] = object.sections.as_slice() else {
+            return Err("a section")?;
+        };
+        assert!(rt; section.bytes.as_slice() == bytes);
+    }
+    Ok(())
+}
+
+static GOOD: [&[u8]; 14] = [
     b"",
     b"  # nothing",
     b"\t .text",
     b".text\nx: # here\n x2: nop",
-    b".data\n.byte -128 , 255,0xff,-0",
     b".data\n.quad 18446744073709551615,-9223372036854775808,0xffffffffffffffff",
     b".data\n.quad x-9223372036854775808,x+9223372036854775807,x+-4,x--4",
     b".data\n.zero 1048576",
@@ -34,7 +68,6 @@ static GOOD: [&[u8]; 16] = [
     b".text\nx: la a0,y\nld a0,%pcrel_lo(x)(a0)",
     b".text\nx:\nauipc a0,%pcrel_hi(y)\nsd a0,%pcrel_lo(x)(a0)",
     b".text\n.align 12\nnop\n.align 2",
-    b".data\n.half x-y\n.byte y-x",
 ];
 
 #[test]

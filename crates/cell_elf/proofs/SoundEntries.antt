@@ -6,7 +6,7 @@ use Rattle.std.specs.List.{find, list_any, list_all}
 use Rattle.std.proofs.lemmas.Bool.{and_parts}
 use Rattle.std.proofs.lemmas.Bool.Decides.{nat_tests}
 use Rattle.cell_num.specs.declared.kinds.RelKind.{RelKind}
-use Rattle.cell_num.specs.Kinds.{kinds, kind_of, width_of, is_instruction, is_pcrel_lo12, is_pcrel_hi20}
+use Rattle.cell_num.specs.Kinds.{kinds, kind_of, row_of, width_of, is_instruction, is_pcrel_lo12, is_pcrel_hi20}
 use Rattle.cell_object.specs.declared.headers.SectionHeader.{SectionHeader}
 use Rattle.cell_object.specs.declared.object.Object.{Object}
 use Rattle.cell_object.specs.declared.object.Symbol.{Symbol}
@@ -28,16 +28,10 @@ use Rattle.cell_elf.proofs.Elements.{In, In-all, In-range, all-In, any-In, find-
 use Rattle.cell_elf.proofs.SoundSections.{yes_or_no, and_three, and_four, section_found}
 use Rattle.cell_elf.proofs.EntryFacts.{IsTable, IsRow, one_entry, entry_at, entry_there, entry_kind, table_fit, entry_fit, entry_paired}
 
-from_second : {A B : Type 0} (p : A × B → Bool) (rows : List (A × B)) (n : B) (q : B → Bool) → list_all (λ row. q row.1) rows ≡ true → option_map (λ row. row.1) (find p rows) ≡ Some n → q n ≡ true
-from_second {A} {B} p rows n q all e = go (find p rows) refl e
-  where
-    go : (o : Option (A × B)) → find p rows ≡ o → option_map (λ row. row.1) o ≡ Some n → q n ≡ true
-    go None is e = absurd cc
-    go (Some row) is e = let same : row.1 ≡ n = cc in subst (λ (b : B). q b ≡ true) same (all-In (λ (r : A × B). q r.1) rows all row (find-In p rows row is))
-
 -- a kind that has a number is known
 known_kind : (number : ℕ) (kind : RelKind) → kind_of number ≡ Some kind → is_known_kind kind ≡ true
-known_kind number kind e = from_second (λ (row : ℕ × RelKind). row.0 == number) kinds kind is_known_kind refl e
+known_kind number kind e =
+    all-In is_known_kind kinds refl kind (find-In (λ kind. (row_of kind).number == number) kinds kind e)
 
 not_zero : (h : SectionHeader) → is_nobits h ≡ false → not (is_zero (fill_of h)) ≡ true
 not_zero h e = rw e (go (is_note h))

@@ -1,13 +1,11 @@
 -- The bytes of a header, a symbol and a relocation entry. gABI, "ELF Header", "Sections", "Symbol
 -- Table", "Relocation". A number that doesn't fit its bytes is stored modulo their size.
-use denote.Enum.Bare.{sameb}
-use Rattle.std.specs.Prelude.{ℕ, ◌+◌, ◌*◌, Bool, List, [], ◌∷◌, ◌++◌, replicate, option_map, unwrap_or}
-use Rattle.std.specs.List.{flat_map, find}
+use Rattle.std.specs.Prelude.{ℕ, ◌+◌, ◌*◌, Bool, List, [], ◌∷◌, ◌++◌, replicate}
+use Rattle.std.specs.List.{flat_map}
 use Rattle.std.specs.Int.{w64, cast_unsigned}
 use Rattle.cell_num.specs.Bits.{bytes_of}
 use Rattle.cell_num.specs.declared.kinds.RelKind.{RelKind}
-use Rattle.cell_num.specs.contracts.kinds.RelKind.{the_type}
-use Rattle.cell_num.specs.Kinds.{kinds}
+use Rattle.cell_num.specs.Kinds.{row_of}
 use Rattle.cell_object.specs.declared.object.Bind.{Bind}
 use Rattle.cell_object.specs.declared.object.Bind.TheVariants.{Local, Global, Weak}
 use Rattle.cell_object.specs.declared.object.Sort.{Sort}
@@ -95,14 +93,9 @@ symbol_bytes symtab name s =
     ∷ (s.value, 8)
     ∷ (s.size, 8) ∷ [])
 
--- whether two kinds are the same, as `==` tells
-unfoldable pub same_kind : RelKind → RelKind → Bool
-same_kind = sameb the_type
-
--- The number of a kind is the one that has this kind in the table of the psABI's numbers. R_RISCV_GOT_HI20,
--- which object files may not have, is 20. RISC-V ELF psABI, "Relocations"
+-- the number of a kind, as the table of kinds has it
 unfoldable pub kind_number : RelKind → ℕ
-kind_number kind = unwrap_or (option_map (λ row. row.0) (find (λ row. same_kind row.1 kind) kinds)) 20
+kind_number kind = (row_of kind).number
 
 -- a relocation entry: the kind is the low half of r_info and the symbol the high half
 unfoldable pub entry_bytes : Entry → List ℕ

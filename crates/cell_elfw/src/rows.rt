@@ -5,7 +5,7 @@ ghost use Rattle.cell_elfw.specs.Image.{null_row};
 ghost use Rattle.cell_elfw.specs.Rows.{header_bytes, section_row_bytes, bind_number as number_of_bind, sort_number as number_of_sort, home_number as number_of_home, kind_number as number_of_kind, symbol_bytes, entry_bytes};
 
 use crate::number::put_fields;
-use cell_num::RelKind;
+use cell_num::{RelKind, kind_row};
 use cell_object::{Bind, Entry, Home, Sort, Symbol};
 use std::alloc::AllocError;
 
@@ -165,39 +165,11 @@ pub fn put_symbol(
     put_fields(&fields, into)
 }
 
-#[tactic(auto, unfolding(crate::specs::Rows::kind_number, crate::specs::Rows::same_kind))]
+#[tactic(auto, unfolding(crate::specs::Rows::kind_number))]
 fn kind_number(kind: RelKind) -> u64
     ensures { result ≡ number_of_kind kind }
 {
-    match kind {
-        RelKind::Abs32 => 1,
-        RelKind::Abs64 => 2,
-        RelKind::Branch => 16,
-        RelKind::Jal => 17,
-        RelKind::Call => 18,
-        RelKind::CallPlt => 19,
-        RelKind::GotHi20 => 20,
-        RelKind::PcrelHi20 => 23,
-        RelKind::PcrelLo12I => 24,
-        RelKind::PcrelLo12S => 25,
-        RelKind::Hi20 => 26,
-        RelKind::Lo12I => 27,
-        RelKind::Lo12S => 28,
-        RelKind::Add8 => 33,
-        RelKind::Add16 => 34,
-        RelKind::Add32 => 35,
-        RelKind::Add64 => 36,
-        RelKind::Sub8 => 37,
-        RelKind::Sub16 => 38,
-        RelKind::Sub32 => 39,
-        RelKind::Sub64 => 40,
-        RelKind::Sub6 => 52,
-        RelKind::Set6 => 53,
-        RelKind::Set8 => 54,
-        RelKind::Set16 => 55,
-        RelKind::Set32 => 56,
-        RelKind::Pcrel32 => 57,
-    }
+    u64::from(kind_row(kind).number)
 }
 
 /// Appends a relocation entry.

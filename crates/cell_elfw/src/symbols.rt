@@ -12,7 +12,7 @@ use crate::strings::put_string;
 use cell_object::{Bind, Symbol};
 use std::alloc::{AllocError, Global};
 
-/// How long symbol 0 is, which is all zeros.
+/// The bytes of symbol 0.
 const SYMBOL_0: [u8; 24] = [0; 24];
 
 /// The bytes of the symbol table and of its string table.

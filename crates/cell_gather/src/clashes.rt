@@ -1,6 +1,6 @@
 //! Stems and names that are taken.
 
-ghost use Rattle.std.specs.Prelude.{◌≡◌, ◌<◌, length, option_map, IfOk};
+ghost use Rattle.std.specs.Prelude.{◌<◌, length, option_map};
 ghost use Rattle.cell_world.specs.Gather.{duplicate};
 ghost use Rattle.cell_world.specs.Outcome.{refused_by};
 ghost use Rattle.cell_space.specs.Named.{number_as};

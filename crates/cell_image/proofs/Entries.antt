@@ -18,7 +18,7 @@ use Rattle.cell_object.specs.Header.{section_header}
 use Rattle.cell_object.specs.Sections.{is_alloc}
 use Rattle.cell_object.specs.Relocations.{is_rela, is_for_loaded, rela_row, rela_row_at, entry_of_kind, entry_of, entries_below, entry_count, section_entries, entries_of}
 use Rattle.cell_object.specs.Sound.{is_known_kind}
-use Rattle.cell_elfw.specs.Rows.{same_kind, kind_number, entry_bytes}
+use Rattle.cell_elfw.specs.Rows.{kind_number, entry_bytes}
 use Rattle.cell_elfw.specs.Parts.{offset_after, parts_before_tables, table, entries_for, has_entries, relocated}
 use Rattle.cell_elfw.specs.Image.{null_row, table_row, fill_type, section_rows, image}
 use Rattle.cell_image.proofs.Rows.{read_row, FitsEntry, read_entry}
@@ -30,7 +30,7 @@ use Rattle.cell_image.proofs.Symbols.{own_alloc}
 use Rattle.cell_image.proofs.Stands.{part_stands, element_stands, entry_stands, entry_length}
 
 pub kind_back : (k : RelKind) → is_known_kind k ≡ true → kind_of (kind_number k) ≡ Some k
-unfolding kind_number same_kind
+unfolding kind_number
 kind_back Abs32 h = refl
 kind_back Abs64 h = refl
 kind_back Branch h = refl

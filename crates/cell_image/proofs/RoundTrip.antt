@@ -22,7 +22,7 @@ use Rattle.cell_object.specs.declared.object.Fill.TheVariants.{Prog, Note, Zero}
 use Rattle.cell_object.specs.Parts.{is_local, is_global}
 use Rattle.cell_object.specs.Reads.{reads, broken, object_unless}
 use Rattle.cell_elfw.specs.Strings.{string_table, name_place}
-use Rattle.cell_elfw.specs.Rows.{same_kind, kind_number}
+use Rattle.cell_elfw.specs.Rows.{kind_number}
 use Rattle.cell_elfw.specs.Parts.{filled, symbol_strings, entries_for}
 use Rattle.cell_elfw.specs.Image.{fill_type, image}
 use Rattle.cell_image.specs.Writable.{IsWhole, IsWritableSection, IsWritableHome, IsWritableSymbol, IsWritable}
@@ -82,7 +82,7 @@ home_right sections d b value (Inside n) h =
 home_right sections d b value Elsewhere h = h
 
 few_kinds : (k : RelKind) → kind_number k < 256 ^ 4
-unfolding kind_number same_kind
+unfolding kind_number
 few_kinds Abs32 = lit< tt
 few_kinds Abs64 = lit< tt
 few_kinds Branch = lit< tt

@@ -1,3 +1,3 @@
-//! What a load comes to in a machine whose cells all are attached in `k`, as definitions and lemmas
-//! over them. There is no code.
+//! What a load comes to in a machine whose cells all are attached under their own names alone, as
+//! definitions and lemmas over them. There is no code.
 #![tactic(auto)]

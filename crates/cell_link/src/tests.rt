@@ -85,6 +85,15 @@ const fn number(value: u64) -> Target {
     Target::Number { value }
 }
 
+/// A word of the section at an offset.
+fn word(offset: u32, value: u64) -> FieldValue {
+    FieldValue {
+        addr: START + u64::from(offset),
+        width: 4,
+        value,
+    }
+}
+
 /// `lui a0, %hi(x)` and `addi a0, a0, %lo(x)` for x at 0x10000800.
 const UPPER_AND_LOWER: [u8; 8] = [0x37, 0x05, 0, 0, 0x13, 0x05, 0x05, 0];
 
@@ -105,6 +114,9 @@ fn fields_of_cells(rt: HostRuntime) -> Result<(), Fail> {
             &[0x1000_1537, 0x8005_0513]
         ) == Ok(true)
     );
+    let cell = cell(alloc, &UPPER_AND_LOWER, &absolute)?;
+    assert!(rt; field_value(&cell, &[x, x], 0) == Ok(word(0, 0x1000_1537)));
+    assert!(rt; field_value(&cell, &[x, x], 1) == Ok(word(4, 0x8005_0513)));
     let difference = [entry(0, RelKind::Add32), entry(0, RelKind::Sub32)];
     let ends = [number(0x1014), number(0x1000)];
     assert!(rt; holds(alloc, &[7, 0, 0, 0], &difference, &ends, &[0x1b]) == Ok(true));
@@ -151,11 +163,6 @@ fn an_entry_that_does_not_fit(rt: HostRuntime) -> Result<(), Fail> {
     );
     let cell = cell(alloc, &UPPER_AND_LOWER, &entries)?;
     assert!(rt; field_value(&cell, &targets, 1) == Err(Overflow { entry: 1 }));
-    let first = FieldValue {
-        addr: START,
-        width: 4,
-        value: 0x7fff_f537,
-    };
-    assert!(rt; field_value(&cell, &targets, 0) == Ok(first));
+    assert!(rt; field_value(&cell, &targets, 0) == Ok(word(0, 0x7fff_f537)));
     Ok(())
 }

@@ -1,6 +1,6 @@
 //! The memory and its calls.
 
-ghost use Rattle.std.specs.Prelude.{◌≡◌, ◌≢◌, ◌+◌, ◌*◌, ◌-◌, ◌≤◌, nat_lt, Some, None, Ok, Err, [], true, false, length, find, replicate, is_some, option_map, IfSome, IfOk, IfErr, OnOk, OnErr};
+ghost use Rattle.std.specs.Prelude.{◌≡◌, ◌≢◌, ◌+◌, ◌*◌, ◌-◌, ◌≤◌, nat_lt, Some, None, Ok, Err, [], true, false, length, is_some, option_map, IfSome, IfOk, IfErr, OnOk, OnErr};
 ghost use Rattle.std.specs.List.{position_or_len};
 ghost use Rattle.std.specs.Result.{result_map_both};
 ghost use Rattle.cell_num.specs.Bits.{bytes_of};

@@ -125,7 +125,7 @@ is_stack e f = e.offset == f.offset && width_of e.kind == width_of f.kind && is_
 abbrev pub is_clash : Entry → Entry → Bool
 is_clash e f = is_shared e f && not (is_stack e f)
 
--- Rule 23: the field shares no byte with the field of an entry before.
+-- Rule 23: the field shares no byte with the field of an entry before, but for one that it may stack on.
 abbrev pub rule_23 : List Entry → ℕ → Entry → List Broken
 rule_23 before at e = broken_where (list_any (is_clash e) before) 23 at
 

@@ -45,7 +45,7 @@ is_sound_home object s (Inside n) =
     unwrap_or (option_map (λ section. nat_le s.value section.size) (section_of object n)) false
 is_sound_home object s Elsewhere = not (is_global s.bind)
 
--- the bindings that there are
+-- the bindings that an object may have
 abbrev pub is_known_bind : Bind → Bool
 is_known_bind Local = true
 is_known_bind Global = true
@@ -67,7 +67,7 @@ is_sound_entry_in e s =
     not (is_zero s.fill) && nat_le (e.offset + width_of e.kind) s.size
     && (not (is_instruction e.kind) || s.exec && (e.offset % 4 == 0))
 
--- the kinds that there are
+-- the kinds that an object may have
 abbrev pub is_known_kind : RelKind → Bool
 is_known_kind GotHi20 = false
 is_known_kind _ = true

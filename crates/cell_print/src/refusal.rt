@@ -1,11 +1,11 @@
 //! Lines of refusals.
 
 ghost use Rattle.std.specs.Prelude.{◌≡◌, ◌++◌, Err, OnOk};
-ghost use Rattle.cell_world.specs.declared.refusal.Refusal.TheVariants.{Overflow};
+ghost use Rattle.cell_world.specs.declared.refusal.Refusal.TheVariants.{BadObject, Overflow};
 ghost use Rattle.cell_print.specs.Lines.{many_word, kind_word, refusal_line, lines_of, Extends};
 
 use crate::put_line;
-use cell_num::{CellId, RelKind};
+use cell_num::{CellId, Name, RelKind};
 use cell_text::put_hex;
 use cell_world::{Many, Refusal};
 use itoa::Buffer;
@@ -36,24 +36,7 @@ pub fn put_refusal(line: u32, refusal: &Refusal, into: &mut Vec<u8>) -> Result<(
                 into,
             )
         }
-        Refusal::BadObject { file, rule, at } => {
-            let mut which = Buffer::new();
-            let which = which.format(*rule).as_bytes();
-            let mut place = Buffer::new();
-            let place = place.format(*at).as_bytes();
-            put_line(
-                &[
-                    number,
-                    b" E7 object ",
-                    file.bytes(),
-                    b" rule ",
-                    which,
-                    b" at ",
-                    place,
-                ],
-                into,
-            )
-        }
+        Refusal::BadObject { file, rule, at } => put_bad_object(line, file, *rule, *at, into),
         Refusal::Duplicate { name, holder } => {
             let mut cell = Buffer::new();
             let cell = cell.format(holder.0).as_bytes();
@@ -81,6 +64,37 @@ pub fn put_refusal(line: u32, refusal: &Refusal, into: &mut Vec<u8>) -> Result<(
             kind,
         } => put_overflow(line, *cell, *section, *offset, *kind, into),
     }
+}
+
+/// Appends the line of a refusal for a file that breaks a rule.
+fn put_bad_object(
+    line: u32,
+    file: &Name,
+    rule: u8,
+    at: u64,
+    into: &mut Vec<u8>,
+) -> Result<(), AllocError>
+    ensures ok { OnOk result (into.new.items ≡ into.old.items ++ refusal_line line (BadObject file.now rule at)) }
+    ensures extends { Extends into.old.items into.new.items }
+{
+    let mut number = Buffer::new();
+    let number = number.format(line).as_bytes();
+    let mut which = Buffer::new();
+    let which = which.format(rule).as_bytes();
+    let mut place = Buffer::new();
+    let place = place.format(at).as_bytes();
+    put_line(
+        &[
+            number,
+            b" E7 object ",
+            file.bytes(),
+            b" rule ",
+            which,
+            b" at ",
+            place,
+        ],
+        into,
+    )
 }
 
 /// Appends the line of a refusal for an entry that doesn't fit.

@@ -3,8 +3,8 @@
 
 ghost use Rattle.std.specs.Prelude.{◌≡◌, ◌<◌, ◌≤◌, ◌&&◌, ◌==◌, All, filter_map, find, length, option_map};
 ghost use Rattle.cell_num.specs.Lists.{first};
-ghost use Rattle.cell_world.specs.Names.{chain, are_on_one_path as on_one_path};
-ghost use Rattle.cell_space.specs.Named.{cell_numbered, provider_for, provider_at, first_provider, offer, provider_as, number_as, clash_stem, clash_name, cell_at, is_rival, is_holder, is_in};
+ghost use Rattle.cell_world.specs.Names.{chain};
+ghost use Rattle.cell_space.specs.Named.{cell_numbered, provider_for, first_provider, offer, provider_as, number_as, clash_stem, clash_name, cell_at, is_rival, is_holder, is_in};
 ghost use Rattle.cell_space.specs.Index.{held, has_word, is_at as at, kept_if, IsWhole};
 ghost use Rattle.cell_space.specs.Rising.{IsRising, lower};
 ghost use Rattle.cell_space.specs.Rooted.{AreRooted};

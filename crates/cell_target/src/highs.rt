@@ -1,6 +1,6 @@
 //! The PCREL_HI20 entries of an object by their places.
 
-ghost use Rattle.std.specs.Prelude.{◌≡◌, ℕ, IfOk, IfErr, OnOk, cond, Some, None, find};
+ghost use Rattle.std.specs.Prelude.{◌≡◌, ℕ, IfOk, OnOk, cond, Some, None};
 ghost use Rattle.std.specs.Option.{option_or};
 ghost use Rattle.std.specs.BTreeMap.{get};
 ghost use Rattle.cell_object.specs.Parts.{high_of as high};

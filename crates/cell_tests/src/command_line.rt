@@ -2,7 +2,7 @@
 
 use crate::folder::outcome;
 use crate::samples::first_example;
-use crate::sources::{SourceFile, object_file};
+use crate::sources::{SourceFile, object_file, object_files};
 use cell_run::Status;
 use std::alloc::{AllocError, Global};
 use std::test::Fail;
@@ -111,5 +111,43 @@ fn the_end_of_the_range(rt: HostRuntime) -> Result<(), Fail> {
         assert!(rt; status == upper.status);
         assert!(rt; sink.written() == upper.text.as_bytes());
     }
+    Ok(())
+}
+
+/// `h` and `g` bring `i`, whose data is out of reach. The numbers of `h` come before those of `i`,
+/// and of `h` the second is the first that doesn't fit; in `g` all fit.
+const OUT_OF_REACH: [SourceFile; 4] = [
+    SourceFile {
+        name: "k#h.o",
+        source: ".text\n.globl h::go\nh::go: lui a0,%hi(h::go)\nlui a0,%hi(i::y)",
+    },
+    SourceFile {
+        name: "k#g.o",
+        source: ".text\nlui a0,%hi(i::go)",
+    },
+    SourceFile {
+        name: "k#i.o",
+        source: ".text\n.globl i::go\ni::go: lui a0,%hi(i::y)\n.data\n.globl i::y\ni::y: .byte 1",
+    },
+    SourceFile {
+        name: "k#e.o",
+        source: ".data\n.quad 7",
+    },
+];
+
+#[test]
+fn the_first_that_does_not_fit(rt: HostRuntime) -> Result<(), Fail> {
+    let files = object_files(rt.alloc(), &OUT_OF_REACH)?;
+    let words = ["d", "s", "--base", "0x7fffe000", "--pages", "16"];
+    let script = "load k h\nload k g\nload k e\nmap";
+    let (status, sink) = outcome(rt.alloc(), &words, script, files.as_slice())?;
+    assert!(rt; status == Status::SomeRefused);
+    let text = b"1 E12 overflow #1.1+4 HI20\n\
+        2 E12 overflow #2.1+0 HI20\n\
+        3 ok load #1 patched 0\n\
+        4 ok map\n  \
+        #1 k/e attached k#e.o\n    \
+        1 rw 7fffe000 8\n";
+    assert!(rt; sink.written() == text.as_slice());
     Ok(())
 }

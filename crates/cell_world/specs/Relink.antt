@@ -1,5 +1,5 @@
 -- The machine with all code and all links made anew from the objects: no history is in it.
---     Class, class_of s          text, read-only and writable sections
+--     is_in_class class s        the section is one of text, of read-only or of writable ones
 --     image_of sections          the sections' own bytes, each at the next multiple of its alignment, up to whole pages
 --     patches_of w c             what linking writes for the cell, field by field
 --     remade w r                 the region with its own bytes again, where it isn't writable, and with all fields

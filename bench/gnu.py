@@ -1,0 +1,187 @@
+#!/usr/bin/env python3
+"""Compares what `cells` links with what GNU ld links, outside the gate.
+
+The sources of bench/gnu are compiled by gcc and assembled by GNU as; `cells` loads the objects and
+says where each section is; ld links the same objects at those places; then the bytes of each loaded
+section have to be equal.
+
+    gnu.py compare [PROGRAM]    both code models, -O0 and -O2
+    gnu.py store [PROGRAM]      writes the stored run of crates/cells, with the bytes that ld has
+
+PROGRAM is a built `cells`, crates/cells/out/cells unless it is said. It needs Debian's packages
+gcc-riscv64-unknown-elf and binutils-riscv64-unknown-elf.
+"""
+import os
+import re
+import shutil
+import struct
+import subprocess
+import sys
+import tempfile
+
+HERE = os.path.dirname(os.path.abspath(__file__))
+TOP = os.path.dirname(HERE)
+SOURCES = os.path.join(HERE, "gnu")
+STORED = os.path.join(TOP, "crates", "cells")
+TOOL = "riscv64-unknown-elf-"
+TARGET = ["-march=rv64im", "-mabi=lp64", "-mno-relax"]
+C_FLAGS = ["-ffreestanding", "-fno-common", "-fno-pic", "-fno-section-anchors", "-fno-stack-protector"]
+STEMS = ["queue", "shop", "kinds"]
+NOBITS = 8
+ALLOC = 2
+
+
+def run(words, **more):
+    done = subprocess.run(words, stdout=subprocess.PIPE, stderr=subprocess.PIPE, **more)
+    if done.returncode not in (0, 1):
+        sys.exit("%s\n%s" % (" ".join(words), done.stderr.decode()))
+    return done.stdout.decode()
+
+
+def compile_c(stem, model, level, file):
+    """An object of gcc. Names with :: come from the declarations of bench/gnu."""
+    source = os.path.join(SOURCES, stem + ".c")
+    subprocess.run([TOOL + "gcc"] + TARGET + C_FLAGS + ["-mcmodel=" + model, level, "-c", source, "-o", file], check=True)
+
+
+def assemble(stem, file):
+    """An object of GNU as."""
+    source = os.path.join(SOURCES, stem + ".s")
+    subprocess.run([TOOL + "as"] + TARGET + [source, "-o", file], check=True)
+
+
+def sections(path):
+    """The sections of an object by number: name, type, flags, offset, size."""
+    with open(path, "rb") as file:
+        data = file.read()
+    offset, = struct.unpack_from("<Q", data, 40)
+    count, names = struct.unpack_from("<HH", data, 60)
+    rows = [struct.unpack_from("<IIQQQQIIQQ", data, offset + 64 * i) for i in range(count)]
+    table = rows[names][4]
+
+    def name(at):
+        return data[table + at : data.index(b"\0", table + at)].decode()
+
+    return {i: (name(r[0]), r[1], r[2], r[4], r[5]) for i, r in enumerate(rows)}
+
+
+def transcript(program, folder, lines):
+    with open(os.path.join(folder, "script"), "w") as file:
+        file.write("\n".join(lines) + "\n")
+    return run([program, folder, "script"])
+
+
+def places(text):
+    """What `map` shows: cell, file, section, start, for each section that isn't empty."""
+    rows = []
+    for line in text.split("\n"):
+        cell = re.fullmatch(r"  #(\d+) \S+ attached (\S+)", line)
+        if cell:
+            number, file = int(cell[1]), cell[2]
+        section = re.fullmatch(r"    (\d+) r[xwo] ([0-9a-f]+) (\d+)", line)
+        if section and int(section[3]):
+            rows.append((number, file, int(section[1]), int(section[2], 16)))
+    return rows
+
+
+def link(folder, rows):
+    """The bytes that ld has in each section that isn't zeros, at the same places."""
+    script, objects = [], []
+    for cell, file, section, start in rows:
+        name = sections(os.path.join(folder, file))[section][0]
+        script.append('  .c%ds%d 0x%x : { KEEP("%s"(%s)) }' % (cell, section, start, file, name))
+        if file not in objects:
+            objects.append(file)
+    with open(os.path.join(folder, "places.ld"), "w") as file:
+        file.write("SECTIONS {\n%s\n}\n" % "\n".join(script))
+    words = [TOOL + "ld", "--no-relax", "-nostdlib", "-e", "0", "--no-warn-rwx-segments", "-T", "places.ld", "-o", "out"]
+    subprocess.run(words + objects, cwd=folder, check=True)
+    linked = {name: row for name, *row in sections(os.path.join(folder, "out")).values()}
+    with open(os.path.join(folder, "out"), "rb") as file:
+        data = file.read()
+    found = {}
+    for cell, _, section, _ in rows:
+        kind, _, offset, size = linked[".c%ds%d" % (cell, section)]
+        if kind != NOBITS:
+            found[cell, section] = data[offset : offset + size]
+    return found
+
+
+def dump_lines(start, data):
+    """The lines of `dump` for these bytes."""
+    for at in range(0, len(data), 16):
+        yield "  %08x %s" % (start + at, data[at : at + 16].hex(" "))
+
+
+def dumped(number, cell, section, start, data):
+    """What `dump` answers on a line of the script."""
+    return ["%d ok dump #%d.%d" % (number, cell, section)] + list(dump_lines(start, data))
+
+
+def with_dumps(program, folder, lines):
+    """The script that also maps and dumps, and the transcript that ld's bytes ask for."""
+    lines = lines + ["map"]
+    begun = transcript(program, folder, lines)
+    rows = places(begun)
+    found = link(folder, [row for row in rows if row[1] in os.listdir(folder)])
+    expected = begun.splitlines()
+    for cell, _, section, start in rows:
+        if (cell, section) in found:
+            lines = lines + ["dump %d %d" % (cell, section)]
+            expected += dumped(len(lines), cell, section, start, found[cell, section])
+    return lines, "\n".join(expected) + "\n"
+
+
+def build(folder, stem, model, level):
+    file = os.path.join(folder, "k#%s.o" % stem)
+    if os.path.exists(os.path.join(SOURCES, stem + ".c")):
+        compile_c(stem, model, level, file)
+    else:
+        assemble(stem, file)
+
+
+def compare(program):
+    """Prints a line for each way of making the objects. It fails where a transcript differs."""
+    failed = False
+    for model in ("medany", "medlow"):
+        for level in ("-O0", "-O2"):
+            with tempfile.TemporaryDirectory() as folder:
+                for stem in STEMS:
+                    build(folder, stem, model, level)
+                lines, expected = with_dumps(program, folder, ["load k kinds"])
+                count = sum(line.startswith("dump") for line in lines)
+                equal = transcript(program, folder, lines) == expected and count > 0
+                failed |= not equal
+                print(model, level, count, "sections", "equal" if equal else "DIFFERENT")
+    return failed
+
+
+def store(program):
+    """Writes the objects, the script and the wanted transcript of the stored run of crates/cells."""
+    with tempfile.TemporaryDirectory() as folder:
+        data = os.path.join(STORED, "data", "d")
+        for stem in ("a", "b"):
+            shutil.copy(os.path.join(data, "k#%s.o" % stem), folder)
+        build(folder, "queue", "medany", "-O2")
+        build(folder, "shop", "medlow", "-O0")
+        build(folder, "kinds", None, None)
+        lines, expected = with_dumps(program, folder, ["load k a", "load k b", "dump 2 1", "load k kinds"])
+        for stem in STEMS:
+            shutil.copy(os.path.join(folder, "k#%s.o" % stem), data)
+    with open(os.path.join(data, "s"), "w") as file:
+        file.write("\n".join(lines) + "\n")
+    with open(os.path.join(STORED, "stdout"), "w") as file:
+        file.write(expected)
+
+
+def main():
+    program = os.path.abspath(sys.argv[2]) if len(sys.argv) > 2 else os.path.join(STORED, "out", "cells")
+    if sys.argv[1:2] == ["compare"]:
+        sys.exit(compare(program))
+    if sys.argv[1:2] == ["store"]:
+        sys.exit(store(program))
+    sys.exit(__doc__)
+
+
+if __name__ == "__main__":
+    main()
