@@ -31,15 +31,8 @@ NOBITS = 8
 ALLOC = 2
 
 
-def run(words, **more):
-    done = subprocess.run(words, stdout=subprocess.PIPE, stderr=subprocess.PIPE, **more)
-    if done.returncode not in (0, 1):
-        sys.exit("%s\n%s" % (" ".join(words), done.stderr.decode()))
-    return done.stdout.decode()
-
-
 def compile_c(stem, model, level, file):
-    """An object of gcc. Names with :: come from the declarations of bench/gnu."""
+    """An object of gcc."""
     source = os.path.join(SOURCES, stem + ".c")
     subprocess.run([TOOL + "gcc"] + TARGET + C_FLAGS + ["-mcmodel=" + model, level, "-c", source, "-o", file], check=True)
 
@@ -68,7 +61,8 @@ def sections(path):
 def transcript(program, folder, lines):
     with open(os.path.join(folder, "script"), "w") as file:
         file.write("\n".join(lines) + "\n")
-    return run([program, folder, "script"])
+    done = subprocess.run([program, folder, "script"], stdout=subprocess.PIPE, check=True)
+    return done.stdout.decode()
 
 
 def places(text):
@@ -123,7 +117,7 @@ def with_dumps(program, folder, lines):
     lines = lines + ["map"]
     begun = transcript(program, folder, lines)
     rows = places(begun)
-    found = link(folder, [row for row in rows if row[1] in os.listdir(folder)])
+    found = link(folder, rows)
     expected = begun.splitlines()
     for cell, _, section, start in rows:
         if (cell, section) in found:
