@@ -1,0 +1,14 @@
+//! What one instruction computes, from numbers alone: no registers, no memory.
+#![tactic(auto)]
+
+mod arithmetic;
+mod meaning;
+mod memory;
+
+pub use meaning::{access, aim, is_taken, result};
+pub use memory::Access;
+
+#[cfg(test)]
+mod cases;
+#[cfg(test)]
+mod tests;
