@@ -3,7 +3,7 @@
 
 The sources of bench/gnu are compiled by gcc and assembled by GNU as; `cells` loads the objects and
 says where each section is; ld links the same objects at those places; then the bytes of each loaded
-section have to be equal.
+section have to be equal, but for sections of zeros that have none in the file.
 
     gnu.py compare [PROGRAM]    both code models, -O0 and -O2
     gnu.py store [PROGRAM]      writes the stored run of crates/cells, with the bytes that ld has
@@ -28,7 +28,6 @@ TARGET = ["-march=rv64im", "-mabi=lp64", "-mno-relax"]
 C_FLAGS = ["-ffreestanding", "-fno-common", "-fno-pic", "-fno-section-anchors", "-fno-stack-protector"]
 STEMS = ["queue", "shop", "kinds"]
 NOBITS = 8
-ALLOC = 2
 
 
 def compile_c(stem, model, level, file):
