@@ -1,52 +1,37 @@
--- Each command keeps the machine coherent, and the first machine is coherent.
-use Rattle.std.proofs.Common.{◌≡◌, refl, ap, subst, arith, ℕ, true, List, Ok, Err}
+-- A machine stays coherent over an answer whose world is; `find`, `map` and `dump` change nothing; the first machine is coherent.
+use Rattle.std.proofs.Common.{◌≡◌, refl, ap, arith, ℕ, true, List, Ok, Err}
 use Rattle.std.specs.Prelude.{decimal, ◌%◌}
 use Rattle.std.proofs.lemmas.Bool.{le-leb, eq-eqb}
 use Rattle.cell_object.specs.Parts.{section_of}
-use Rattle.cell_world.specs.declared.command.Command.{Command}
-use Rattle.cell_world.specs.declared.command.Command.TheVariants.{Ns, Load, Find, Map, Dump}
 use Rattle.cell_world.specs.declared.refusal.Refusal.TheVariants.{Unknown}
 use Rattle.cell_world.specs.World.{World, empty_world}
 use Rattle.cell_world.specs.Pages.{IsSpace}
-use Rattle.cell_world.specs.Gather.{Source}
 use Rattle.cell_world.specs.Outcome.{Outcome, found}
 use Rattle.cell_world.specs.Answer.{Done, present_cell, space_of}
 use Rattle.cell_world.specs.FindCommand.{next_find}
 use Rattle.cell_world.specs.MapCommand.{next_map}
 use Rattle.cell_world.specs.DumpCommand.{next_dump}
-use Rattle.cell_world.specs.Next.{outcome_of, answered_by, next}
-use Rattle.cell_world.specs.Coherent.{AreSound, IsReady, IsCoherent, are_limits_kept}
+use Rattle.cell_world.specs.Next.{answered_by}
+use Rattle.cell_world.specs.Coherent.{IsReady, IsCoherent, are_limits_kept}
 use Rattle.cell_coherent.proofs.Outcomes.{bind_ok}
 use Rattle.cell_coherent.proofs.Appended.{ok_same}
 use Rattle.cell_coherent.proofs.Ready.{limits_from}
-use Rattle.cell_coherent.proofs.LoadCoherent.{load_coherent}
-use Rattle.cell_coherent.proofs.NamespaceAdded.{ns_coherent}
 
-dump_same : (w : World) (cell section : ℕ) (d : Done) → next_dump w cell section ≡ Ok d → w ≡ d.world
+pub dump_same : (w : World) (cell section : ℕ) (d : Done) → next_dump w cell section ≡ Ok d → w ≡ d.world
 dump_same w cell section d h =
     let a = bind_ok (present_cell w cell) _ d h in
     let b = bind_ok (found (section_of a.0.object section) (Unknown (decimal section))) _ d a.2 in
     ap (λ (x : Done). x.world) (ok_same _ d b.2)
 
-find_same : (w : World) (name symbol : List ℕ) (d : Done) → next_find w name symbol ≡ Ok d → w ≡ d.world
+pub find_same : (w : World) (name symbol : List ℕ) (d : Done) → next_find w name symbol ≡ Ok d → w ≡ d.world
 find_same w name symbol d h = let a = bind_ok (space_of w name) _ d h in ap (λ (x : Done). x.world) (ok_same _ d a.2)
 
-map_same : (w : World) (d : Done) → next_map w ≡ Ok d → w ≡ d.world
+pub map_same : (w : World) (d : Done) → next_map w ≡ Ok d → w ≡ d.world
 map_same w d h = ap (λ (x : Done). x.world) (ok_same _ d h)
 
-answered : (w : World) (o : Outcome Done) → IsCoherent w → ((d : Done) → o ≡ Ok d → IsCoherent d.world) → IsCoherent (answered_by w o).world
+pub answered : (w : World) (o : Outcome Done) → IsCoherent w → ((d : Done) → o ≡ Ok d → IsCoherent d.world) → IsCoherent (answered_by w o).world
 answered w (Ok d) c f = f d refl
 answered w (Err r) c f = c
-
-outcome_coherent : (sources : List Source) (w : World) (command : Command) → AreSound sources → IsCoherent w → (d : Done) → outcome_of sources w command ≡ Ok d → IsCoherent d.world
-outcome_coherent sources w (Ns name parent) sound c d h = ns_coherent w name parent d c h
-outcome_coherent sources w (Load name stem) sound c d h = load_coherent sources w name stem d sound c h
-outcome_coherent sources w (Find name symbol) sound c d h = subst IsCoherent (find_same w name symbol d h) c
-outcome_coherent sources w Map sound c d h = subst IsCoherent (map_same w d h) c
-outcome_coherent sources w (Dump cell section) sound c d h = subst IsCoherent (dump_same w cell section d h) c
-
-pub next_coherent : (sources : List Source) (w : World) (command : Command) → AreSound sources → IsCoherent w → IsCoherent (next sources w command).world
-next_coherent sources w command sound c = answered w (outcome_of sources w command) c (outcome_coherent sources w command sound c)
 
 empty_limits : (base pages : ℕ) → IsSpace base pages → are_limits_kept (empty_world base pages) ≡ true
 empty_limits base pages s = limits_from (empty_world base pages) (record {

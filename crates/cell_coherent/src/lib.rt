@@ -7,7 +7,6 @@ ghost use Rattle.cell_num.specs.Kinds.{width_of};
 ghost use Rattle.cell_num.specs.Lists.{each_pair};
 ghost use Rattle.cell_object.specs.declared.object.Entry.{Entry};
 ghost use Rattle.cell_object.specs.declared.object.Object.{Object};
-ghost use Rattle.cell_world.specs.declared.command.Command.{Command};
 ghost use Rattle.cell_world.specs.declared.refusal.Refusal.{Refusal};
 ghost use Rattle.cell_world.specs.declared.reply.Reply.TheVariants.{Load as LoadDone};
 ghost use Rattle.cell_world.specs.Answer.{Done, done, ids, numbers_of};
@@ -18,7 +17,6 @@ ghost use Rattle.cell_world.specs.Gather.{Source, fresh_cells};
 ghost use Rattle.cell_world.specs.LoadCommand.{field_count, next_load};
 ghost use Rattle.cell_world.specs.Memory.{end_of};
 ghost use Rattle.cell_world.specs.Names.{chain, provider_of};
-ghost use Rattle.cell_world.specs.Next.{next};
 ghost use Rattle.cell_world.specs.NsCommand.{next_ns};
 ghost use Rattle.cell_world.specs.Pages.{IsSpace, filled, lowest_run};
 ghost use Rattle.cell_world.specs.Place.{Placing, page_table, place_class, with_region};
@@ -39,11 +37,6 @@ pub fn empty_is_coherent()
 /// An accepted load keeps the machine coherent.
 pub fn load_keeps_coherent()
     ensures { (sources : List Source) (w : World) (ns : List ℕ) (stem : List ℕ) (d : Done) → AreSound sources → IsCoherent w → next_load sources w ns stem ≡ Ok d → IsCoherent d.world }
-{}
-
-/// Each command keeps the machine coherent, be it accepted or refused.
-pub fn next_keeps_coherent()
-    ensures { (sources : List Source) (w : World) (command : Command) → AreSound sources → IsCoherent w → IsCoherent (next sources w command).world }
 {}
 
 /// A namespace that is added changes the chain of no other, and present cells keep the provider of each name.

@@ -16,7 +16,8 @@ use Rattle.cell_world.specs.NsCommand.{next_ns, with_namespace}
 use Rattle.cell_world.specs.Outcome.{Outcome, ◌>>=◌, ◌>>◌, found}
 use Rattle.cell_world.specs.Place.{page_table}
 use Rattle.cell_world.specs.World.{World}
-use Rattle.cell_coherent.proofs.NextCoherent.{next_coherent}
+use Rattle.cell_coherent.proofs.NextCoherent.{answered}
+use Rattle.cell_coherent.proofs.NamespaceAdded.{ns_coherent}
 use Rattle.cell_law.proofs.Binds.{bind_err, bind_is}
 use Rattle.cell_law.specs.Settled.{IsSettled}
 use Rattle.cell_mem.specs.State.{MemoryState}
@@ -101,7 +102,7 @@ module _ (old new : Machine) (sound : IsSound old) (name parent : List ℕ) (up 
   coherent : IsCoherent later
   coherent =
       subst (λ (o : Outcome Done). IsCoherent (answered_by (world_of old) o).world) step
-      (next_coherent [] (world_of old) (AddNs name parent) (All-nil (λ (s : Source). IsLoadableReading s.reading)) sound.settled.coherent)
+      (answered (world_of old) (next_ns (world_of old) name parent) sound.settled.coherent (λ d h. ns_coherent (world_of old) name parent d sound.settled.coherent h))
 
   is_sound : IsSound new
   is_sound = record {

@@ -10,10 +10,14 @@ pub mod Place
 pub mod Gather
 pub mod Fit
 pub mod Answer
+pub mod Execute
+pub mod Turn
 pub mod NsCommand
 pub mod LoadCommand
 pub mod FindCommand
 pub mod MapCommand
 pub mod DumpCommand
+pub mod SpawnCommand
+pub mod TaskCommands
 pub mod Next
 pub mod Coherent

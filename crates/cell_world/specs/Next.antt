@@ -3,7 +3,7 @@
 use Rattle.std.specs.Prelude.{List, Result, Ok, Err}
 use Rattle.cell_world.specs.declared.refusal.Refusal.{Refusal}
 use Rattle.cell_world.specs.declared.command.Command.{Command}
-use Rattle.cell_world.specs.declared.command.Command.TheVariants.{Ns, Load, Find, Map, Dump}
+use Rattle.cell_world.specs.declared.command.Command.TheVariants.{Ns, Load, Spawn, Step, Run, Kill, Tasks, Find, Map, Dump}
 use Rattle.cell_world.specs.declared.reply.Reply.{Reply}
 use Rattle.cell_world.specs.World.{World}
 use Rattle.cell_world.specs.Gather.{Source}
@@ -14,12 +14,19 @@ use Rattle.cell_world.specs.LoadCommand.{next_load}
 use Rattle.cell_world.specs.FindCommand.{next_find}
 use Rattle.cell_world.specs.MapCommand.{next_map}
 use Rattle.cell_world.specs.DumpCommand.{next_dump}
+use Rattle.cell_world.specs.SpawnCommand.{next_spawn}
+use Rattle.cell_world.specs.TaskCommands.{next_step, next_run, next_kill, next_tasks}
 
 -- the command's reply and the world after it, or its first refusal
 abbrev pub outcome_of : List Source → World → Command → Outcome Done
 outcome_of sources w (Ns name parent) = next_ns w name parent
 outcome_of sources w (Load ns stem) = next_load sources w ns stem
 outcome_of sources w (Find ns symbol) = next_find w ns symbol
+outcome_of sources w (Spawn ns symbol arg) = next_spawn w ns symbol arg
+outcome_of sources w (Step task turns) = next_step w task turns
+outcome_of sources w (Run turns) = next_run w turns
+outcome_of sources w (Kill task) = next_kill w task
+outcome_of sources w Tasks = next_tasks w
 outcome_of sources w Map = next_map w
 outcome_of sources w (Dump cell section) = next_dump w cell section
 

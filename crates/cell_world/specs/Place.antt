@@ -2,8 +2,8 @@
 --     page_table w                          which pages the regions take
 --     offset_in sections number             where the section stands in its class's run
 --     place_cell w c, place_all w cells     w with the cells' regions and starts
-use Rattle.std.specs.Prelude.{ℕ, zero, suc, ◌+◌, ◌-◌, ◌*◌, ◌/◌, ◌==◌, nat_lt, nat_le, Bool, true, false, not, ◌&&◌, List, [], ◌∷◌, Option, Some, None, Ok, Err, map, length, find, fold, max, if◌then◌else◌}
-use Rattle.std.specs.List.{list_any, list_all}
+use Rattle.std.specs.Prelude.{ℕ, ◌+◌, ◌*◌, ◌/◌, ◌==◌, nat_lt, Bool, List, [], ◌∷◌, Some, None, Ok, Err, map, length, if◌then◌else◌}
+use Rattle.std.specs.List.{list_any}
 use Rattle.cell_object.specs.declared.object.Object.{Object}
 use Rattle.cell_object.specs.declared.object.Section.{Section as ObjectSection}
 use Rattle.cell_world.specs.declared.refusal.Refusal.TheVariants.{Exhausted}

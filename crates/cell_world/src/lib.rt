@@ -11,5 +11,5 @@ mod state;
 pub use command::Command;
 pub use file::File;
 pub use refusal::{Many, Refusal};
-pub use reply::{Found, MapCell, MapSection, Reply};
+pub use reply::{Found, MapCell, MapSection, Reply, TaskLine, TaskRun, TaskState};
 pub use state::{LinkRow, Namespace, NewCell, Permission, Region, SecPlace, Target};

@@ -1,6 +1,6 @@
 //! Refusals.
 
-use cell_num::{CellId, Name, RelKind};
+use cell_num::{Cause, CellId, Name, RelKind};
 
 /// What there may be only so much of.
 #[derive(Clone, Copy, Debug, PartialEq, Eq)]
@@ -8,6 +8,8 @@ pub enum Many {
     Namespaces,
     Cells,
     CellNumbers,
+    Tasks,
+    TaskNumbers,
 }
 
 /// Why a command was not done.
@@ -20,6 +22,12 @@ pub enum Refusal {
     /// There is a namespace of that name.
     NameTaken {
         word: Name,
+    },
+    /// The task faulted, for this cause at this pc.
+    NotRunnable {
+        task: u32,
+        cause: Cause,
+        pc: u64,
     },
     /// One more of the kind would pass its limit.
     TooMany {
@@ -50,6 +58,10 @@ pub enum Refusal {
     Missing {
         name: Name,
         needed_by: CellId,
+    },
+    /// No task can begin where the name is, or nobody provides it.
+    NoEntry {
+        name: Name,
     },
     /// So many pages in a row are wanted, and that many are free in the longest row.
     Exhausted {

@@ -1,6 +1,6 @@
 //! Replies.
 
-use cell_num::{Bytes, CellId, Listed, Name, SecKey};
+use cell_num::{Bytes, Cause, CellId, Listed, Name, SecKey};
 
 /// A place in a section, and its address.
 #[derive(Clone, Copy, Debug, PartialEq, Eq)]
@@ -31,6 +31,34 @@ pub struct MapCell {
     pub sections: Listed<MapSection>,
 }
 
+/// How a task stands after its turns.
+#[derive(Clone, Copy, Debug, PartialEq, Eq)]
+pub enum TaskState {
+    Ready,
+    /// It ended with this code.
+    Done(u64),
+    /// The turn at this pc was its last.
+    Fault(Cause, u64),
+}
+
+/// What a task did in one command: how many turns it took, how it stands, and what it put out.
+#[derive(Drop)]
+pub struct TaskRun {
+    pub task: u32,
+    pub turns: u32,
+    pub state: TaskState,
+    pub out: Bytes,
+}
+
+/// A live task as `tasks` shows it.
+#[derive(Clone, Copy, Debug, PartialEq, Eq)]
+pub struct TaskLine {
+    pub task: u32,
+    pub root: CellId,
+    pub pc: u64,
+    pub fault: Option<Cause>,
+}
+
 /// What a command that was done answers.
 #[derive(Drop)]
 pub enum Reply {
@@ -42,6 +70,26 @@ pub enum Reply {
     Load {
         fresh: Listed<CellId>,
         patched: u32,
+    },
+    /// The new task, and where it begins.
+    Spawn {
+        task: u32,
+        pc: u64,
+    },
+    /// What the task did.
+    Step {
+        run: TaskRun,
+    },
+    /// What each task did that was ready.
+    Run {
+        runs: Listed<TaskRun>,
+    },
+    Kill {
+        task: u32,
+    },
+    /// All live tasks.
+    Tasks {
+        tasks: Listed<TaskLine>,
     },
     /// Where the provider of the name has it.
     Find {
