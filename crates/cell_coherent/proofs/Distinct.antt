@@ -50,7 +50,7 @@ module _ {X Y : Type 0} (t : Y → Y → Bool) (f : X → List Y) where
 abbrev pub start_apart : Shape → Shape → Bool
 start_apart s t = not (s.start == t.start)
 
-apart_not : (s t : Shape) → start_apart s t ≡ true → s.start ≡ t.start → ⊥
+pub apart_not : (s t : Shape) → start_apart s t ≡ true → s.start ≡ t.start → ⊥
 apart_not s t h e = true≢false (sym (subst (λ b. not b ≡ true) (eq-eqb s.start t.start e) h))
 
 apart_from : (s t : Shape) → (s.start ≡ t.start → ⊥) → start_apart s t ≡ true
@@ -111,7 +111,7 @@ shape_there c class start h =
     subst (λ o. In (record { start = start; permission = permission_of class; size = length (image_of (sections_in class c.object)) })
     (elim o as (λ _. List Shape) [ None ↦ [] | Some start ↦ record { start = start; permission = permission_of class; size = length (image_of (sections_in class c.object)) } ∷ [] ])) (sym h) (inl refl)
 
-abbrev cell_shapes : Cell → List Shape
+abbrev pub cell_shapes : Cell → List Shape
 cell_shapes c = flat_map (class_shape c) classes
 
 module _ (w : World) (regions : map shape_of w.regions ≡ wanted_shapes w) (in_space : list_all (is_in_space w) w.regions ≡ true) (apart : each_pair ends_before w.regions ≡ true) where
@@ -123,8 +123,12 @@ module _ (w : World) (regions : map shape_of w.regions ≡ wanted_shapes w) (in_
   wanted_apart : each_pair start_apart (wanted_shapes w) ≡ true
   wanted_apart = subst (λ l. each_pair start_apart l ≡ true) regions (pairs_mapped start_apart shape_of w.regions (pairs_same ends_before (λ r q. start_apart (shape_of r) (shape_of q)) w.regions starts_differ apart))
 
+  -- the regions of the cells and the stacks start at different places
+  pub all_apart : each_pair start_apart (flat_map cell_shapes w.cells ++ map stack_shape w.tasks) ≡ true
+  all_apart = (apart_puts (flat_map cell_shapes w.cells ++ map stack_shape w.tasks) [] wanted_apart).new
+
   cells_apart : each_pair start_apart (flat_map cell_shapes w.cells) ≡ true
-  cells_apart = pairs_first start_apart (flat_map cell_shapes w.cells) (map stack_shape w.tasks) (apart_puts (flat_map cell_shapes w.cells ++ map stack_shape w.tasks) [] wanted_apart).new
+  cells_apart = pairs_first start_apart (flat_map cell_shapes w.cells) (map stack_shape w.tasks) all_apart
 
   same_start : {A : Type 0} (s t : Shape) → s.start ≡ t.start → A ⊎ ((start_apart s t ≡ true) ⊎ (start_apart t s ≡ true)) → A
   same_start s t e (inl a) = a

@@ -24,7 +24,7 @@ use Rattle.cell_coherent.proofs.Known.{object_sound}
 use Rattle.cell_coherent.proofs.Targets.{entry_parts}
 use Rattle.cell_coherent.proofs.Relinked.{FieldsEndIn}
 
-length-bytes_of : (k n : ℕ) → length (bytes_of k n) ≡ k
+pub length-bytes_of : (k n : ℕ) → length (bytes_of k n) ≡ k
 length-bytes_of zero n = refl
 length-bytes_of (suc k) n = ap suc (length-bytes_of k (n / 256))
 
@@ -116,7 +116,7 @@ class-In ReadOnly = inr (inl refl)
 class-In Writable = inr (inr (inl refl))
 
 module _ (w : World) (regions : map shape_of w.regions ≡ wanted_shapes w) (apart : each_pair ends_before w.regions ≡ true) (placed : list_all is_placed w.cells ≡ true) (objects : All (λ c. IsLoadable c.object) w.cells) where
-  shape-In : (c : Cell) → In c w.cells → (class : Class) (start : ℕ) → class_start c class ≡ Some start → In (record { start = start; permission = permission_of class; size = length (image_of (sections_in class c.object)) }) (wanted_shapes w)
+  pub shape-In : (c : Cell) → In c w.cells → (class : Class) (start : ℕ) → class_start c class ≡ Some start → In (record { start = start; permission = permission_of class; size = length (image_of (sections_in class c.object)) }) (wanted_shapes w)
   shape-In c k class start h =
       let s : Shape = record { start = start; permission = permission_of class; size = length (image_of (sections_in class c.object)) } in
       In-fold_shape (flat_map (λ c. flat_map (class_shape c) classes) w.cells ++ map stack_shape w.tasks) [] s

@@ -67,7 +67,7 @@ restore_same : (o : Option (List ℕ)) (r : Region) → ((bytes : List ℕ) → 
 restore_same None r f = refl
 restore_same (Some bytes) r f = ap (λ (b : List ℕ). record r { bytes = b }) (f bytes refl)
 
-uncovered : (r : Region) (x : ℕ) → (r.start ≤ x → x < r.start + length r.bytes → ⊥) → covers r x ≡ false
+pub uncovered : (r : Region) (x : ℕ) → (r.start ≤ x → x < r.start + length r.bytes → ⊥) → covers r x ≡ false
 uncovered r x n = go (covers r x) refl
   where
     go : (b : Bool) → covers r x ≡ b → b ≡ false

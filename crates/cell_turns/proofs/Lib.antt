@@ -1,0 +1,15 @@
+pub mod Lists
+pub mod Fixed
+pub mod Shapes
+pub mod Stacks
+pub mod Killed
+pub mod Changed
+pub mod Pastes
+pub mod Writes
+pub mod Bare
+pub mod Stored
+pub mod Executed
+pub mod Turned
+pub mod Commands
+pub mod Spawned
+pub mod NextCoherent

@@ -1,0 +1,76 @@
+-- Each live task of a coherent machine has a number and a stack of its own, and no region of a cell starts at a stack.
+use Rattle.std.proofs.Common.{◌≡◌, refl, sym, ◌∙◌, ap, subst, arith, ℕ, ◌≤◌, ◌<◌, ◌⊎◌, inl, inr, Bool, true, false, not, ◌&&◌, List, length, map}
+use Rattle.std.specs.Prelude.{flat_map, nat_lt, nat_le, ◌==◌, slice_index}
+use Rattle.std.proofs.lemmas.Bool.{eqb-true, eq-eqb, leb-true, ltb-true, le-leb}
+use Rattle.cell_world.specs.World.{World, Region, Task}
+use Rattle.cell_world.specs.Coherent.{IsCoherent, Shape, stack_shape, is_sound_task, are_limits_kept}
+use Rattle.cell_coherent.proofs.Elements.{In, all-In, map-In, pairs-In, pairs-map}
+use Rattle.cell_coherent.proofs.Distinct.{start_apart, apart_not, cell_shapes, all_apart, pairs_across, pairs_second}
+use Rattle.cell_coherent.proofs.Places.{whole_region}
+use Rattle.cell_coherent.proofs.Ready.{LimitParts, limit_parts, limits_from}
+use Rattle.cell_turns.proofs.Lists.{and_left, and_right}
+
+-- the limits, with other tasks and another next number
+pub limits_with : (w : World) (ts : List Task) (m : ℕ) → length ts ≤ 64 → m ≤ 65536 → are_limits_kept w ≡ true → are_limits_kept (record w { tasks = ts; next_task = m }) ≡ true
+limits_with w ts m p q h =
+    let l : LimitParts w = limit_parts w h in
+    limits_from (record w { tasks = ts; next_task = m }) (record {
+      namespaces = l.namespaces;
+      cells = l.cells;
+      tasks = le-leb (length ts) 64 p;
+      next_cell = l.next_cell;
+      next_task = le-leb m 65536 q;
+      swaps = l.swaps;
+      fewest = l.fewest;
+      most = l.most;
+      aligned = l.aligned;
+      lowest = l.lowest;
+      highest = l.highest;
+    })
+
+pub task_limit : (w : World) → IsCoherent w → length w.tasks ≤ 64
+task_limit w h = leb-true (length w.tasks) 64 (limit_parts w h.ready.limits).tasks
+
+pub number_limit : (w : World) → IsCoherent w → w.next_task ≤ 65536
+number_limit w h = leb-true w.next_task 65536 (limit_parts w h.ready.limits).next_task
+
+pub long : (w : World) → IsCoherent w → (r : Region) → In r w.regions → 0 < length r.bytes
+long w h r i = (whole_region w r (all-In _ w.regions h.ready.in_space r i)).2
+
+module _ (w : World) (h : IsCoherent w) (t : Task) (live : In t w.tasks) where
+  abbrev start_shapes : List Shape
+  start_shapes = flat_map cell_shapes w.cells
+
+  -- no cell's region starts at the stack
+  pub cells_elsewhere : (s : Shape) → In s (flat_map cell_shapes w.cells) → s.start ≡ t.stack → ⊥
+  cells_elsewhere s i e =
+      apart_not s (stack_shape t)
+      (pairs_across start_apart (flat_map cell_shapes w.cells) (map stack_shape w.tasks) (all_apart w h.ready.regions h.ready.in_space h.ready.apart) s (stack_shape t) i (map-In stack_shape w.tasks t live)) e
+
+  pub same_task : (u : Task) → In u w.tasks → u.number ≡ t.number → u ≡ t
+  same_task u i e = go (pairs-In (λ (a b : Task). nat_lt a.number b.number) w.tasks h.ready.task_order u t i live)
+    where
+      go : (u ≡ t) ⊎ ((nat_lt u.number t.number ≡ true) ⊎ (nat_lt t.number u.number ≡ true)) → u ≡ t
+      go (inl s) = s
+      go (inr (inl l)) = absurd (omega (arith, ltb-true u.number t.number l, e))
+      go (inr (inr l)) = absurd (omega (arith, ltb-true t.number u.number l, e))
+
+  -- and no other task's stack
+  pub stack_alone : (u : Task) → In u w.tasks → u.stack ≡ t.stack → u ≡ t
+  stack_alone u i e =
+      go (pairs-In (λ (a b : Task). start_apart (stack_shape a) (stack_shape b)) w.tasks
+      (sym (pairs-map start_apart stack_shape w.tasks) ∙ pairs_second start_apart (flat_map cell_shapes w.cells) (map stack_shape w.tasks) (all_apart w h.ready.regions h.ready.in_space h.ready.apart)) u t i live)
+    where
+      go : (u ≡ t) ⊎ ((start_apart (stack_shape u) (stack_shape t) ≡ true) ⊎ (start_apart (stack_shape t) (stack_shape u) ≡ true)) → u ≡ t
+      go (inl s) = s
+      go (inr (inl l)) = absurd (apart_not (stack_shape u) (stack_shape t) l e)
+      go (inr (inr l)) = absurd (apart_not (stack_shape t) (stack_shape u) l (sym e))
+
+  pub same_test : (u : Task) → In u w.tasks → not (u.number == t.number) ≡ not (u.stack == t.stack)
+  same_test u i = go (u.number == t.number) refl (u.stack == t.stack) refl
+    where
+      go : (a : Bool) → (u.number == t.number) ≡ a → (b : Bool) → (u.stack == t.stack) ≡ b → not a ≡ not b
+      go true a true b = refl
+      go false a false b = refl
+      go true a false b = ap not (sym (eq-eqb u.stack t.stack (ap (λ (v : Task). v.stack) (same_task u i (eqb-true u.number t.number a)))) ∙ b)
+      go false a true b = ap not (sym a ∙ eq-eqb u.number t.number (ap (λ (v : Task). v.number) (stack_alone u i (eqb-true u.stack t.stack b))))

@@ -1,0 +1,48 @@
+//! Laws on tasks: what a turn and each command on tasks keep of a coherent machine. Each is the contract of a function with an empty body.
+#![tactic(auto)]
+
+ghost use Rattle.std.specs.Prelude.{ℕ, ◌≡◌, List, Some, Ok};
+ghost use Rattle.cell_world.specs.declared.command.Command.{Command};
+ghost use Rattle.cell_world.specs.Answer.{Done};
+ghost use Rattle.cell_world.specs.Coherent.{AreSound, IsCoherent};
+ghost use Rattle.cell_world.specs.Gather.{Source};
+ghost use Rattle.cell_world.specs.Next.{next};
+ghost use Rattle.cell_world.specs.SpawnCommand.{next_spawn};
+ghost use Rattle.cell_world.specs.TaskCommands.{next_step, next_run, next_kill, next_tasks};
+ghost use Rattle.cell_world.specs.Turn.{turn};
+ghost use Rattle.cell_world.specs.World.{World, Task, task_of};
+
+/// A turn of a live task keeps the machine coherent.
+pub fn turn_keeps_coherent()
+    ensures { (w : World) (t : Task) → IsCoherent w → task_of w t.number ≡ Some t → IsCoherent (turn w t).world }
+{}
+
+/// An accepted `spawn` keeps the machine coherent.
+pub fn spawn_keeps_coherent()
+    ensures { (w : World) (ns : List ℕ) (symbol : List ℕ) (arg : ℕ) (d : Done) → IsCoherent w → next_spawn w ns symbol arg ≡ Ok d → IsCoherent d.world }
+{}
+
+/// An accepted `step` keeps the machine coherent.
+pub fn step_keeps_coherent()
+    ensures { (w : World) (task : ℕ) (n : ℕ) (d : Done) → IsCoherent w → next_step w task n ≡ Ok d → IsCoherent d.world }
+{}
+
+/// A `run` keeps the machine coherent.
+pub fn run_keeps_coherent()
+    ensures { (w : World) (n : ℕ) (d : Done) → IsCoherent w → next_run w n ≡ Ok d → IsCoherent d.world }
+{}
+
+/// An accepted `kill` keeps the machine coherent.
+pub fn kill_keeps_coherent()
+    ensures { (w : World) (task : ℕ) (d : Done) → IsCoherent w → next_kill w task ≡ Ok d → IsCoherent d.world }
+{}
+
+/// `tasks` keeps the machine coherent: it changes nothing.
+pub fn tasks_keeps_coherent()
+    ensures { (w : World) (d : Done) → IsCoherent w → next_tasks w ≡ Ok d → IsCoherent d.world }
+{}
+
+/// Each command keeps the machine coherent, be it accepted or refused.
+pub fn next_keeps_coherent()
+    ensures { (sources : List Source) (w : World) (command : Command) → AreSound sources → IsCoherent w → IsCoherent (next sources w command).world }
+{}
