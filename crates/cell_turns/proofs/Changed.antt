@@ -1,5 +1,5 @@
 -- A live task changed in its pc, registers and fault keeps the machine coherent.
-use Rattle.std.proofs.Common.{◌≡◌, refl, sym, ◌∙◌, ap, subst, arith, ◌≤◌, Bool, true, false, cond, List, [], ◌++◌, length, map}
+use Rattle.std.proofs.Common.{◌≡◌, refl, sym, ◌∙◌, ap, subst, arith, Bool, true, false, cond, List, [], ◌++◌, length, map}
 use Rattle.std.specs.Prelude.{flat_map, nat_lt, ◌==◌, ◌&&◌, slice_index, if◌then◌else◌, is_some}
 use Rattle.std.proofs.lemmas.Bool.{eqb-true, eq-eqb, and_from, and_parts}
 use Rattle.std.proofs.lemmas.List.{length-map}

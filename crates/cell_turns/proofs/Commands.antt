@@ -7,7 +7,7 @@ use Rattle.cell_world.specs.declared.reply.TaskState.TheVariants.{Ready, Done as
 use Rattle.cell_world.specs.World.{World, Task, task_of, is_ready}
 use Rattle.cell_world.specs.Answer.{Done, live_task}
 use Rattle.cell_world.specs.Coherent.{IsCoherent}
-use Rattle.cell_world.specs.Turn.{Ran, ran, turn, turns_from, turns_of}
+use Rattle.cell_world.specs.Turn.{Ran, ran, turn, turns_from}
 use Rattle.cell_world.specs.TaskCommands.{next_step, next_run, next_kill, next_tasks, run_task, Round, can_run}
 use Rattle.cell_coherent.proofs.Elements.{In, found-In}
 use Rattle.cell_coherent.proofs.Outcomes.{bind_ok, then_ok, found_ok}

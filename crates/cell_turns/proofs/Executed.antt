@@ -1,5 +1,5 @@
 -- What an instruction leaves of registers and regions.
-use Rattle.std.proofs.Common.{◌≡◌, refl, sym, ◌∙◌, ap, subst, arith, ℕ, zero, suc, ◌+◌, ◌⊎◌, inl, inr, Bool, true, false, cond, not, ◌&&◌, List, length, map, Option, Some, None}
+use Rattle.std.proofs.Common.{◌≡◌, refl, ◌∙◌, ap, arith, ℕ, zero, suc, ◌+◌, ◌⊎◌, inl, inr, Bool, true, false, cond, not, ◌&&◌, List, length, map, Option, Some, None}
 use Rattle.std.specs.Prelude.{◌==◌, ◌%◌, slice_index}
 use Rattle.std.proofs.lemmas.List.{length-set, get_or-set_other}
 use Rattle.cell_num.specs.declared.ids.Cause.TheVariants.{Fetch, Jump as BadJump, Illegal, LoadAlign, Load, StoreAlign, Store as BadStore}

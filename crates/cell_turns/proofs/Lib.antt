@@ -13,3 +13,6 @@ pub mod Turned
 pub mod Commands
 pub mod Spawned
 pub mod NextCoherent
+pub mod Slices
+pub mod Kept
+pub mod TurnKept

@@ -1,18 +1,18 @@
 -- A new task with a stack in a free run keeps the machine coherent.
-use Rattle.std.proofs.Common.{◌≡◌, refl, sym, ◌∙◌, ap, subst, arith, ℕ, suc, ◌+◌, ◌-◌, ◌≤◌, ◌<◌, ◌⊎◌, inl, inr, Bool, true, false, List, [], ◌∷◌, ◌++◌, length, map, replicate, length-append, Option, Some, None, Ok}
+use Rattle.std.proofs.Common.{◌≡◌, refl, sym, ◌∙◌, ap, subst, arith, ℕ, suc, ◌+◌, ◌≤◌, ◌<◌, ◌⊎◌, inl, inr, true, false, List, [], ◌∷◌, ◌++◌, length, map, replicate, length-append, Option, Some, None, Ok}
 use Rattle.std.specs.Prelude.{fold, flat_map, nat_lt, nat_le, ◌==◌, ◌/◌, ◌%◌, option_map, option_and_then, is_some}
-use Rattle.std.proofs.lemmas.Bool.{eqb-true, eq-eqb, leb-true, ltb-true, lt-ltb}
+use Rattle.std.proofs.lemmas.Bool.{eq-eqb, leb-true, ltb-true, lt-ltb}
 use Rattle.std.proofs.lemmas.List.{length-replicate, append_assoc, map-append}
 use Rattle.std.proofs.lemmas.List.Sums.{fold-append}
-use Rattle.cell_world.specs.declared.refusal.Refusal.TheVariants.{TooMany, NoEntry, Unknown}
+use Rattle.cell_world.specs.declared.refusal.Refusal.TheVariants.{TooMany, NoEntry}
 use Rattle.cell_world.specs.declared.refusal.Many.TheVariants.{Tasks as ManyTasks, TaskNumbers}
 use Rattle.cell_world.specs.World.{stack_size, World, Cell, Region, Task, cell_of}
 use Rattle.cell_world.specs.Memory.{covers}
-use Rattle.cell_world.specs.Names.{Provider, attached_provider, namespace_named}
+use Rattle.cell_world.specs.Names.{Provider, attached_provider}
 use Rattle.cell_world.specs.Field.{fields_of, place_of}
-use Rattle.cell_world.specs.Relink.{Writable, permission_of, class_start, Patch, patch_of, patched, patches_of, bound_entries, remade}
+use Rattle.cell_world.specs.Relink.{Writable, permission_of, Patch, patch_of, patched, patches_of, bound_entries, remade}
 use Rattle.cell_world.specs.Place.{with_region, start_of_run}
-use Rattle.cell_world.specs.Outcome.{need, found}
+use Rattle.cell_world.specs.Outcome.{Outcome, need, found}
 use Rattle.cell_world.specs.Answer.{Done, space_of}
 use Rattle.cell_world.specs.Coherent.{IsCoherent, Shape, shape_of, with_shape, stack_shape, wanted_shapes, is_in_space, is_sound_task}
 use Rattle.cell_world.specs.SpawnCommand.{with_stack, new_task, next_spawn, entry_named, entry_address}
@@ -157,6 +157,12 @@ entry_present w ns symbol e q = go (attached_provider w ns symbol) q
     go None r = cc
     go (Some p) r = mid p (cell_of w p.cell) refl r
 
+abbrev Answers : Outcome Done → Done → Type 0
+Answers o d = o ≡ Ok d
+
+same_world : (c d : Done) → Answers (Ok c) d → c.world ≡ d.world
+same_world c d e = ap (λ (x : Done). x.world) (ok_same c d e)
+
 pub spawn_keeps : (w : World) (name symbol : List ℕ) (arg : ℕ) (d : Done) → IsCoherent w → next_spawn w name symbol arg ≡ Ok d → IsCoherent d.world
 spawn_keeps w name symbol arg d h e =
     let ns = bind_ok (space_of w name) _ d e in
@@ -164,6 +170,6 @@ spawn_keeps w name symbol arg d h e =
     let free = then_ok (need (nat_le w.next_task 65535) (TooMany TaskNumbers 65535)) _ d few.2 in
     let entry = bind_ok (found (entry_named w ns.0 symbol) (NoEntry symbol)) _ d free.2 in
     let stack = bind_ok (start_of_run w 4) _ d entry.2 in
-    subst IsCoherent (ap (λ (x : Done). x.world) (ok_same _ d stack.2))
+    subst IsCoherent (same_world _ d stack.2)
     (spawn_coherent w h stack.0 stack.1 entry.0.0 entry.0.1 arg (entry_present w ns.0 symbol entry.0 (found_ok (entry_named w ns.0 symbol) (NoEntry symbol) entry.0 entry.1))
     (ltb-true (length w.tasks) 64 (need_ok _ _ few.0 few.1)) (leb-true w.next_task 65535 (need_ok _ _ free.0 free.1)))

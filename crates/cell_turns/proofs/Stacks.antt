@@ -1,14 +1,15 @@
 -- Each live task of a coherent machine has a number and a stack of its own, and no region of a cell starts at a stack.
-use Rattle.std.proofs.Common.{◌≡◌, refl, sym, ◌∙◌, ap, subst, arith, ℕ, ◌≤◌, ◌<◌, ◌⊎◌, inl, inr, Bool, true, false, not, ◌&&◌, List, length, map}
-use Rattle.std.specs.Prelude.{flat_map, nat_lt, nat_le, ◌==◌, slice_index}
+use Rattle.std.proofs.Common.{◌≡◌, refl, sym, ◌∙◌, ap, subst, arith, ℕ, ◌≤◌, ◌<◌, ◌⊎◌, inl, inr, Bool, true, false, not, List, [], ◌++◌, length, map}
+use Rattle.std.specs.Prelude.{flat_map, nat_lt, ◌==◌}
 use Rattle.std.proofs.lemmas.Bool.{eqb-true, eq-eqb, leb-true, ltb-true, le-leb}
 use Rattle.cell_world.specs.World.{World, Region, Task}
-use Rattle.cell_world.specs.Coherent.{IsCoherent, Shape, stack_shape, is_sound_task, are_limits_kept}
-use Rattle.cell_coherent.proofs.Elements.{In, all-In, map-In, pairs-In, pairs-map}
+use Rattle.cell_world.specs.Relink.{Writable, permission_of}
+use Rattle.cell_world.specs.Coherent.{IsCoherent, Shape, shape_of, stack_shape, wanted_shapes, are_limits_kept}
+use Rattle.cell_coherent.proofs.Elements.{In, all-In, map-In, In-map, In-right, pairs-In, pairs-map}
+use Rattle.cell_coherent.proofs.FieldsInside.{In-fold_shape}
 use Rattle.cell_coherent.proofs.Distinct.{start_apart, apart_not, cell_shapes, all_apart, pairs_across, pairs_second}
 use Rattle.cell_coherent.proofs.Places.{whole_region}
 use Rattle.cell_coherent.proofs.Ready.{LimitParts, limit_parts, limits_from}
-use Rattle.cell_turns.proofs.Lists.{and_left, and_right}
 
 -- the limits, with other tasks and another next number
 pub limits_with : (w : World) (ts : List Task) (m : ℕ) → length ts ≤ 64 → m ≤ 65536 → are_limits_kept w ≡ true → are_limits_kept (record w { tasks = ts; next_task = m }) ≡ true
@@ -38,8 +39,12 @@ pub long : (w : World) → IsCoherent w → (r : Region) → In r w.regions → 
 long w h r i = (whole_region w r (all-In _ w.regions h.ready.in_space r i)).2
 
 module _ (w : World) (h : IsCoherent w) (t : Task) (live : In t w.tasks) where
-  abbrev start_shapes : List Shape
-  start_shapes = flat_map cell_shapes w.cells
+  -- the region of the stack
+  pub stack_region : (r : Region) × In r w.regions × (r.start ≡ t.stack) × (r.permission ≡ permission_of Writable)
+  stack_region =
+      let i : In (stack_shape t) (wanted_shapes w) = In-fold_shape (flat_map cell_shapes w.cells ++ map stack_shape w.tasks) [] (stack_shape t) (inr (In-right (flat_map cell_shapes w.cells) (map stack_shape w.tasks) (stack_shape t) (map-In stack_shape w.tasks t live))) in
+      let m = In-map shape_of w.regions (stack_shape t) (subst (λ (l : List Shape). In (stack_shape t) l) (sym h.ready.regions) i) in
+      (m.0, m.1, ap (λ (x : Shape). x.start) (sym m.2), ap (λ (x : Shape). x.permission) (sym m.2))
 
   -- no cell's region starts at the stack
   pub cells_elsewhere : (s : Shape) → In s (flat_map cell_shapes w.cells) → s.start ≡ t.stack → ⊥

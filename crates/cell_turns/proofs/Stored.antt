@@ -1,10 +1,10 @@
 -- A store outside all fields, in a writable region, keeps the machine coherent.
-use Rattle.std.proofs.Common.{◌≡◌, refl, sym, ◌∙◌, ap, subst, arith, ℕ, zero, suc, ◌+◌, ◌-◌, ◌≤◌, ◌<◌, ◌⊎◌, inl, inr, Bool, true, false, ◌&&◌, List, length, map, true≢false, Option, Some, None}
-use Rattle.std.specs.Prelude.{fold, flat_map, nat_lt, nat_le, ◌==◌, ◌*◌, ◌%◌}
-use Rattle.std.specs.List.{list_any}
+use Rattle.std.proofs.Common.{◌≡◌, refl, sym, ◌∙◌, ap, subst, ℕ, ◌+◌, ◌-◌, ◌≤◌, ◌⊎◌, inl, inr, Bool, true, false, ◌&&◌, List, length, map, true≢false, Option, Some, None}
+use Rattle.std.specs.Prelude.{fold, nat_lt, nat_le, ◌==◌, ◌*◌, ◌%◌}
 use Rattle.std.proofs.lemmas.Bool.{and_from, leb-true, ltb-false}
 use Rattle.cell_num.specs.Bits.{bytes_of}
 use Rattle.cell_num.specs.Kinds.{width_of}
+use Rattle.cell_object.specs.declared.object.Entry.{Entry}
 use Rattle.cell_world.specs.World.{World, Cell, Region}
 use Rattle.cell_world.specs.Memory.{covers, pasted, written}
 use Rattle.cell_world.specs.Field.{fields_of, field_value_of, place_of}
@@ -37,16 +37,20 @@ shape_apart r r' s s' e f =
     ap (λ (x : Shape). nat_le (x.start + x.size) s.start) e ∙ ap (λ (x : Shape). nat_le (r'.start + length r'.bytes) x.start) f
 
 module _ (w : World) (h : IsCoherent w) (addr : ℕ) (new : List ℕ) (free : (seen_in w).is_sealed addr (length new) ≡ false) where
-  -- no patch meets the store
-  pub patch_apart : (p : Patch) → In p (patches w) → (p.addr + length p.bytes ≤ addr) ⊎ (addr + length new ≤ p.addr)
+  -- no field meets the store
+  pub field_apart : (c : Cell) → In c w.cells → (f : Entry) → In f (fields_of c.object) → (place_of c.placed f + width_of f.kind ≤ addr) ⊎ (addr + length new ≤ place_of c.placed f)
+  field_apart c k f m =
+      let s : is_field_at addr (length new) c ≡ false = none-In (is_field_at addr (length new)) w.cells free c k in
+      not_both addr (place_of c.placed f + width_of f.kind) (place_of c.placed f) (addr + length new) (none-In _ (fields_of c.object) s f m)
+
+  -- and no patch
+  patch_apart : (p : Patch) → In p (patches w) → (p.addr + length p.bytes ≤ addr) ⊎ (addr + length new ≤ p.addr)
   patch_apart p m =
       let c = In-flat_map (patches_of w) w.cells p m in
       let f = In-map (patch_of c.0 (bound_entries w c.0)) (fields_of c.0.object) p c.2 in
-      let s : is_field_at addr (length new) c.0 ≡ false = none-In (is_field_at addr (length new)) w.cells free c.0 c.1 in
-      let t : (nat_lt addr (place_of c.0.placed f.0 + width_of f.0.kind) && nat_lt (place_of c.0.placed f.0) (addr + length new)) ≡ false = none-In _ (fields_of c.0.object) s f.0 f.1 in
       let n : length (bytes_of (width_of f.0.kind) (field_value_of c.0.placed (bound_entries w c.0) f.0)) ≡ width_of f.0.kind = length-bytes_of (width_of f.0.kind) (field_value_of c.0.placed (bound_entries w c.0) f.0) in
       subst (λ (q : Patch). (q.addr + length q.bytes ≤ addr) ⊎ (addr + length new ≤ q.addr)) (sym f.2)
-      (subst (λ n. (place_of c.0.placed f.0 + n ≤ addr) ⊎ (addr + length new ≤ place_of c.0.placed f.0)) (sym n) (not_both addr (place_of c.0.placed f.0 + width_of f.0.kind) (place_of c.0.placed f.0) (addr + length new) t))
+      (subst (λ n. (place_of c.0.placed f.0 + n ≤ addr) ⊎ (addr + length new ≤ place_of c.0.placed f.0)) (sym n) (field_apart c.0 c.1 f.0 f.1))
 
   -- the store commutes with all patches
   patches_commute : (r : Region) → Holds addr new r → fold patched (written r addr new) (patches w) ≡ written (fold patched r (patches w)) addr new

@@ -1,8 +1,7 @@
 -- Two writes into a region that don't meet can be exchanged.
-use Rattle.std.proofs.Common.{◌≡◌, refl, sym, ◌∙◌, ap, subst, arith, ℕ, ◌+◌, ◌-◌, ◌≤◌, ◌<◌, ◌⊎◌, inl, inr, Bool, true, false, cond, ◌&&◌, List, length, length-append, length-drop, take, drop, ◌++◌}
+use Rattle.std.proofs.Common.{◌≡◌, refl, sym, ◌∙◌, ap, subst, arith, ℕ, ◌+◌, ◌-◌, ◌≤◌, ◌<◌, ◌⊎◌, inl, inr, Bool, true, false, cond, ◌&&◌, List, length}
 use Rattle.std.specs.Prelude.{nat_lt, nat_le}
 use Rattle.std.proofs.lemmas.Bool.{and_from, leb-true, ltb-true, le-leb, lt-ltb}
-use Rattle.std.proofs.lemmas.List.{length-take-le}
 use Rattle.cell_world.specs.World.{Region}
 use Rattle.cell_world.specs.Memory.{covers, pasted, written}
 use Rattle.cell_coherent.proofs.Patches.{length-pasted}

@@ -11,10 +11,18 @@ ghost use Rattle.cell_world.specs.SpawnCommand.{next_spawn};
 ghost use Rattle.cell_world.specs.TaskCommands.{next_step, next_run, next_kill, next_tasks};
 ghost use Rattle.cell_world.specs.Turn.{turn};
 ghost use Rattle.cell_world.specs.World.{World, Task, task_of};
+ghost use Rattle.cell_turns.specs.Kept.{KeepsCells, KeepsReadOnly, KeepsFields};
 
 /// A turn of a live task keeps the machine coherent.
 pub fn turn_keeps_coherent()
     ensures { (w : World) (t : Task) → IsCoherent w → task_of w t.number ≡ Some t → IsCoherent (turn w t).world }
+{}
+
+/// A turn of a live task changes no cell: links, namespaces, the space, the numbers to come, regions that aren't writable and the bytes of fields are as they were.
+pub fn turn_changes_no_cell()
+    ensures cells { (w : World) (t : Task) → IsCoherent w → task_of w t.number ≡ Some t → KeepsCells w (turn w t).world }
+    ensures read_only { (w : World) (t : Task) → IsCoherent w → task_of w t.number ≡ Some t → KeepsReadOnly w (turn w t).world }
+    ensures fields { (w : World) (t : Task) → IsCoherent w → task_of w t.number ≡ Some t → KeepsFields w (turn w t).world }
 {}
 
 /// An accepted `spawn` keeps the machine coherent.
