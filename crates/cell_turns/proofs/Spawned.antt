@@ -12,8 +12,10 @@ use Rattle.cell_world.specs.Names.{Provider, attached_provider}
 use Rattle.cell_world.specs.Field.{fields_of, place_of}
 use Rattle.cell_world.specs.Relink.{Writable, permission_of, Patch, patch_of, patched, patches_of, bound_entries, remade}
 use Rattle.cell_world.specs.Place.{with_region, start_of_run}
-use Rattle.cell_world.specs.Outcome.{Outcome, need, found}
-use Rattle.cell_world.specs.Answer.{Done, space_of}
+use Rattle.cell_world.specs.Outcome.{need, found}
+use Rattle.cell_world.specs.declared.reply.Reply.{Reply}
+use Rattle.cell_world.specs.declared.reply.Reply.TheVariants.{Spawn as SpawnDone}
+use Rattle.cell_world.specs.Answer.{Done, done, space_of}
 use Rattle.cell_world.specs.Coherent.{IsCoherent, Shape, shape_of, with_shape, stack_shape, wanted_shapes, is_in_space, is_sound_task}
 use Rattle.cell_world.specs.SpawnCommand.{with_stack, new_task, next_spawn, entry_named, entry_address}
 use Rattle.cell_coherent.proofs.Elements.{In, all-In, In-all, In-map, In-flat_map, found-In, find_there, all_push, pairs_push}
@@ -157,11 +159,11 @@ entry_present w ns symbol e q = go (attached_provider w ns symbol) q
     go None r = cc
     go (Some p) r = mid p (cell_of w p.cell) refl r
 
-abbrev Answers : Outcome Done → Done → Type 0
-Answers o d = o ≡ Ok d
-
-same_world : (c d : Done) → Answers (Ok c) d → c.world ≡ d.world
-same_world c d e = ap (λ (x : Done). x.world) (ok_same c d e)
+-- what an accepted `spawn` answers with
+spawned : (w : World) (h : IsCoherent w) (start : ℕ) (run : start_of_run w 4 ≡ Ok start) (entry : ℕ × ℕ) (arg : ℕ) (reply : Reply) → is_some (cell_of w entry.0) ≡ true → length w.tasks < 64 → w.next_task ≤ 65535 → (d : Done)
+    → done reply (record (with_stack w start) { tasks = w.tasks ++ new_task w entry.0 entry.1 arg start ∷ []; next_task = suc w.next_task }) ≡ Ok d → IsCoherent d.world
+spawned w h start run entry arg reply there few free d e =
+    subst IsCoherent (ap (λ (x : Done). x.world) (ok_same _ d e)) (spawn_coherent w h start run entry.0 entry.1 arg there few free)
 
 pub spawn_keeps : (w : World) (name symbol : List ℕ) (arg : ℕ) (d : Done) → IsCoherent w → next_spawn w name symbol arg ≡ Ok d → IsCoherent d.world
 spawn_keeps w name symbol arg d h e =
@@ -170,6 +172,5 @@ spawn_keeps w name symbol arg d h e =
     let free = then_ok (need (nat_le w.next_task 65535) (TooMany TaskNumbers 65535)) _ d few.2 in
     let entry = bind_ok (found (entry_named w ns.0 symbol) (NoEntry symbol)) _ d free.2 in
     let stack = bind_ok (start_of_run w 4) _ d entry.2 in
-    subst IsCoherent (same_world _ d stack.2)
-    (spawn_coherent w h stack.0 stack.1 entry.0.0 entry.0.1 arg (entry_present w ns.0 symbol entry.0 (found_ok (entry_named w ns.0 symbol) (NoEntry symbol) entry.0 entry.1))
-    (ltb-true (length w.tasks) 64 (need_ok _ _ few.0 few.1)) (leb-true w.next_task 65535 (need_ok _ _ free.0 free.1)))
+    spawned w h stack.0 stack.1 entry.0 arg (SpawnDone w.next_task entry.0.1) (entry_present w ns.0 symbol entry.0 (found_ok (entry_named w ns.0 symbol) (NoEntry symbol) entry.0 entry.1))
+    (ltb-true (length w.tasks) 64 (need_ok _ _ few.0 few.1)) (leb-true w.next_task 65535 (need_ok _ _ free.0 free.1)) d stack.2
