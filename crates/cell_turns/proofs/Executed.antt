@@ -58,14 +58,16 @@ module _ (w : World) where
       go true false d p q = tt
       go true true true p q = tt
       go true true false p q =
-          let l : length (bytes_of n (slice_index registers insn.rs2)) ≡ n = length-bytes_of n (slice_index registers insn.rs2) in
-          (h, inr (record {
-            addr = addr;
-            new = bytes_of n (slice_index registers insn.rs2);
-            may = ap (λ k. allows w.regions (λ x. x.write) addr k) l ∙ p;
-            free = ap (λ k. (seen_in w).is_sealed addr k) l ∙ q;
-            is = refl;
-          }))
+          let l : length (bytes_of n (slice_index registers insn.rs2)) ≡ n = length-bytes_of n (slice_index registers insn.rs2) in (
+            h,
+            inr (record {
+              addr = addr;
+              new = bytes_of n (slice_index registers insn.rs2);
+              may = ap (λ k. allows w.regions (λ x. x.write) addr k) l ∙ p;
+              free = ap (λ k. (seen_in w).is_sealed addr k) l ∙ q;
+              is = refl;
+            }),
+          )
 
   good_stepped : (registers : List ℕ) (pc a : ℕ) (insn : Insn) → Whole registers → Good w (stepped (seen_in w) registers pc a insn)
   good_stepped registers pc a insn h =
