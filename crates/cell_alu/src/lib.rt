@@ -5,7 +5,7 @@ mod arithmetic;
 mod meaning;
 mod memory;
 
-pub use meaning::{access, aim, is_taken, result};
+pub use meaning::{access, address, aim, is_taken, result};
 pub use memory::Access;
 
 #[cfg(test)]

@@ -2,8 +2,8 @@
 //! RISC-V unprivileged manual, "Integer Computational Instructions", "Control Transfer Instructions" and "M Extension for
 //! Integer Multiplication and Division"
 
-ghost use Rattle.std.specs.Prelude.{◌≡◌, ◌*ℤ◌, pos};
-ghost use Rattle.cell_num.specs.Bits.{wrap_ℤ};
+ghost use Rattle.std.specs.Prelude.{◌≡◌, ◌+◌, ◌*ℤ◌, pos};
+ghost use Rattle.cell_num.specs.Bits.{wrap, wrap_ℤ};
 ghost use Rattle.cell_alu.specs.Meaning.{result_of, is_taken as taken_by, aim_of, access_of, word as word_of};
 
 use crate::arithmetic::{
@@ -113,6 +113,13 @@ pub fn aim(op: Op, pc: u64, a: u64, imm: i32) -> u64
         Op::Jalr => a.wrapping_add(extended(imm)) & !1,
         _ => pc.wrapping_add(extended(imm)),
     }
+}
+
+/// The address of a load or a store: `a` is rs1.
+pub fn address(a: u64, imm: i32) -> u64
+    ensures { result ≡ wrap (a + wrap_ℤ imm) }
+{
+    a.wrapping_add(extended(imm))
 }
 
 fn loads(width: u8, with_sign: bool) -> Access

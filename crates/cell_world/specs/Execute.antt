@@ -62,32 +62,46 @@ abbrev pub extended : Bool → ℕ → ℕ → ℕ
 extended true n value = sign_extended (8 * n) value
 extended false n value = value
 
--- a load, a store, or neither, and then on to the next instruction
-abbrev pub accessed : Seen → List ℕ → ℕ → Insn → ℕ → Access → Effect
-accessed m registers next insn addr Untouched = Goes registers next m.regions
-accessed m registers next insn addr (Loads n with_sign) =
+-- on to the next instruction, with a number in rd
+abbrev pub computed : Seen → List ℕ → ℕ → ℕ → ℕ → Effect
+computed m registers pc rd value = Goes (with_register registers rd value) (wrap (pc + 4)) m.regions
+
+-- a jump, or a branch that is taken
+abbrev pub jumped : Seen → List ℕ → ℕ → ℕ → ℕ → Effect
+jumped m registers aim rd value =
+    if aim % 4 == 0 then Goes (with_register registers rd value) aim m.regions else Traps BadJump
+
+-- n bytes from the address on go into rd
+abbrev pub loaded : Seen → List ℕ → ℕ → ℕ → ℕ → ℕ → Bool → Effect
+loaded m registers pc rd addr n with_sign =
     if not (addr % n == 0) then Traps LoadAlign else
     if not (allows m.regions (λ p. p.read) addr n) then Traps Load else
-    Goes (with_register registers insn.rd (extended with_sign n (number_read m.regions addr n))) next m.regions
-accessed m registers next insn addr (Stores n) =
+    computed m registers pc rd (extended with_sign n (number_read m.regions addr n))
+
+-- the low n bytes of a number go to the address
+abbrev pub stored : Seen → List ℕ → ℕ → ℕ → ℕ → ℕ → Effect
+stored m registers pc addr n value =
     if not (addr % n == 0) then Traps StoreAlign else
     if not (allows m.regions (λ p. p.write) addr n && not (m.is_sealed addr n)) then Traps BadStore else
-    Goes registers next (map (λ r. written r addr (bytes_of n (slice_index registers insn.rs2))) m.regions)
+    Goes registers (wrap (pc + 4)) (map (λ r. written r addr (bytes_of n value)) m.regions)
 
-abbrev pub stepped : Seen → List ℕ → ℕ → ℕ → Insn → Effect
-stepped m registers pc a insn =
-    let b = slice_index registers insn.rs2 in
-    let written = with_register registers insn.rd (result_of insn.op pc a b insn.imm) in
-    let aim = aim_of insn.op pc a insn.imm in
+-- a load, a store, or neither. a and b are rs1 and rs2
+abbrev pub accessed : Seen → List ℕ → ℕ → Insn → ℕ → ℕ → Access → Effect
+accessed m registers pc insn a b Untouched = computed m registers pc insn.rd (result_of insn.op pc a b insn.imm)
+accessed m registers pc insn a b (Loads n with_sign) = loaded m registers pc insn.rd (wrap (a + wrap_ℤ insn.imm)) n with_sign
+accessed m registers pc insn a b (Stores n) = stored m registers pc (wrap (a + wrap_ℤ insn.imm)) n b
+
+abbrev pub stepped : Seen → List ℕ → ℕ → Insn → ℕ → ℕ → Effect
+stepped m registers pc insn a b =
     if is_taken insn.op a b
-    then (if aim % 4 == 0 then Goes written aim m.regions else Traps BadJump)
-    else accessed m written (wrap (pc + 4)) insn (wrap (a + wrap_ℤ insn.imm)) (access_of insn.op)
+    then jumped m registers (aim_of insn.op pc a insn.imm) insn.rd (result_of insn.op pc a b insn.imm)
+    else accessed m registers pc insn a b (access_of insn.op)
 
 abbrev pub performed : Seen → List ℕ → ℕ → Insn → Op → Effect
 performed m registers pc insn Ecall = Calls
 performed m registers pc insn Ebreak = Traps Break
 performed m registers pc insn Fence = Goes registers (wrap (pc + 4)) m.regions
-performed m registers pc insn _ = stepped m registers pc (slice_index registers insn.rs1) insn
+performed m registers pc insn _ = stepped m registers pc insn (slice_index registers insn.rs1) (slice_index registers insn.rs2)
 
 abbrev pub execute_word : Seen → List ℕ → ℕ → ℕ → Effect
 execute_word m registers pc code =

@@ -1,0 +1,10 @@
+//! A hart: what one instruction does to registers, pc and memory.
+//! RISC-V unprivileged manual, "RV32I Base Integer Instruction Set", "RV64I" and "M Extension"
+#![tactic(auto)]
+
+mod causes;
+mod hart;
+mod stop;
+
+pub use hart::Hart;
+pub use stop::Stop;
