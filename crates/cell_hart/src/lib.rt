@@ -8,3 +8,6 @@ mod stop;
 
 pub use hart::Hart;
 pub use stop::Stop;
+
+#[cfg(test)]
+mod tests;

@@ -13,7 +13,7 @@ use Rattle.cell_alu.specs.declared.memory.Access.TheVariants.{Untouched, Loads, 
 use Rattle.cell_alu.specs.Meaning.{result_of, is_taken, aim_of, access_of}
 use Rattle.cell_world.specs.World.{World, Region}
 use Rattle.cell_world.specs.Memory.{written}
-use Rattle.cell_world.specs.Execute.{Effect, Goes, Calls, Traps, seen_in, with_register, allows, number_read, extended, accessed, stepped, performed, execute_word, execute}
+use Rattle.cell_world.specs.Execute.{Effect, Goes, Calls, Traps, seen_in, with_register, allows, number_read, extended, computed, jumped, loaded, stored, accessed, stepped, performed, execute_word, execute}
 use Rattle.cell_coherent.proofs.FieldsInside.{length-bytes_of}
 
 -- there are 32 registers, and x0 is 0
@@ -42,110 +42,122 @@ whole_with registers zero n h = h
 whole_with registers (suc k) n h = (length-set registers (suc k) n ∙ h.0, get_or-set_other registers (suc k) 0 n 0 (omega arith) ∙ h.1)
 
 module _ (w : World) where
-  good_accessed : (registers : List ℕ) (next : ℕ) (insn : Insn) (addr : ℕ) (a : Access) → Whole registers → Good w (accessed (seen_in w) registers next insn addr a)
-  good_accessed registers next insn addr Untouched h = (h, inl refl)
-  good_accessed registers next insn addr (Loads n with_sign) h = go (addr % n == 0) (allows w.regions (λ p. p.read) addr n)
+  good_computed : (registers : List ℕ) (pc rd value : ℕ) → Whole registers → Good w (computed (seen_in w) registers pc rd value)
+  good_computed registers pc rd value h = (whole_with registers rd value h, inl refl)
+
+  good_jumped : (registers : List ℕ) (aim rd value : ℕ) → Whole registers → Good w (jumped (seen_in w) registers aim rd value)
+  good_jumped registers aim rd value h = go (aim % 4 == 0)
     where
-      go : (b c : Bool) → Good w (cond (not b) (Traps LoadAlign) (cond (not c) (Traps Load) (Goes (with_register registers insn.rd (extended with_sign n (number_read w.regions addr n))) next w.regions)))
+      go : (b : Bool) → Good w (cond b (Goes (with_register registers rd value) aim w.regions) (Traps BadJump))
+      go true = (whole_with registers rd value h, inl refl)
+      go false = tt
+
+  good_loaded : (registers : List ℕ) (pc rd addr n : ℕ) (with_sign : Bool) → Whole registers → Good w (loaded (seen_in w) registers pc rd addr n with_sign)
+  good_loaded registers pc rd addr n with_sign h = go (addr % n == 0) (allows w.regions (λ p. p.read) addr n)
+    where
+      go : (b c : Bool) → Good w (cond (not b) (Traps LoadAlign) (cond (not c) (Traps Load) (computed (seen_in w) registers pc rd (extended with_sign n (number_read w.regions addr n)))))
       go false c = tt
       go true false = tt
-      go true true = (whole_with registers insn.rd _ h, inl refl)
-  good_accessed registers next insn addr (Stores n) h = go (addr % n == 0) (allows w.regions (λ p. p.write) addr n) ((seen_in w).is_sealed addr n) refl refl
+      go true true = good_computed registers pc rd _ h
+
+  good_stored : (registers : List ℕ) (pc addr n value : ℕ) → Whole registers → Good w (stored (seen_in w) registers pc addr n value)
+  good_stored registers pc addr n value h = go (addr % n == 0) (allows w.regions (λ p. p.write) addr n) ((seen_in w).is_sealed addr n) refl refl
     where
       go : (b c d : Bool) → allows w.regions (λ p. p.write) addr n ≡ c → (seen_in w).is_sealed addr n ≡ d
-          → Good w (cond (not b) (Traps StoreAlign) (cond (not (c && not d)) (Traps BadStore) (Goes registers next (map (λ r. written r addr (bytes_of n (slice_index registers insn.rs2))) w.regions))))
+          → Good w (cond (not b) (Traps StoreAlign) (cond (not (c && not d)) (Traps BadStore) (Goes registers (wrap (pc + 4)) (map (λ r. written r addr (bytes_of n value)) w.regions))))
       go false c d p q = tt
       go true false d p q = tt
       go true true true p q = tt
       go true true false p q =
-          let l : length (bytes_of n (slice_index registers insn.rs2)) ≡ n = length-bytes_of n (slice_index registers insn.rs2) in (
+          let l : length (bytes_of n value) ≡ n = length-bytes_of n value in (
             h,
             inr (record {
               addr = addr;
-              new = bytes_of n (slice_index registers insn.rs2);
+              new = bytes_of n value;
               may = ap (λ k. allows w.regions (λ x. x.write) addr k) l ∙ p;
               free = ap (λ k. (seen_in w).is_sealed addr k) l ∙ q;
               is = refl;
             }),
           )
 
-  good_stepped : (registers : List ℕ) (pc a : ℕ) (insn : Insn) → Whole registers → Good w (stepped (seen_in w) registers pc a insn)
-  good_stepped registers pc a insn h =
-      go (with_register registers insn.rd (result_of insn.op pc a (slice_index registers insn.rs2) insn.imm)) (whole_with registers insn.rd (result_of insn.op pc a (slice_index registers insn.rs2) insn.imm) h)
-      (is_taken insn.op a (slice_index registers insn.rs2)) (aim_of insn.op pc a insn.imm % 4 == 0)
+  good_accessed : (registers : List ℕ) (pc : ℕ) (insn : Insn) (a b : ℕ) (access : Access) → Whole registers → Good w (accessed (seen_in w) registers pc insn a b access)
+  good_accessed registers pc insn a b Untouched h = good_computed registers pc insn.rd _ h
+  good_accessed registers pc insn a b (Loads n with_sign) h = good_loaded registers pc insn.rd (wrap (a + wrap_ℤ insn.imm)) n with_sign h
+  good_accessed registers pc insn a b (Stores n) h = good_stored registers pc (wrap (a + wrap_ℤ insn.imm)) n b h
+
+  good_stepped : (registers : List ℕ) (pc : ℕ) (insn : Insn) (a b : ℕ) → Whole registers → Good w (stepped (seen_in w) registers pc insn a b)
+  good_stepped registers pc insn a b h = go (is_taken insn.op a b)
     where
-      go : (left : List ℕ) → Whole left → (x y : Bool)
-          → Good w (cond x (cond y (Goes left (aim_of insn.op pc a insn.imm) w.regions) (Traps BadJump)) (accessed (seen_in w) left (wrap (pc + 4)) insn (wrap (a + wrap_ℤ insn.imm)) (access_of insn.op)))
-      go left all true true = (all, inl refl)
-      go left all true false = tt
-      go left all false y = good_accessed left (wrap (pc + 4)) insn (wrap (a + wrap_ℤ insn.imm)) (access_of insn.op) all
+      go : (x : Bool) → Good w (cond x (jumped (seen_in w) registers (aim_of insn.op pc a insn.imm) insn.rd (result_of insn.op pc a b insn.imm)) (accessed (seen_in w) registers pc insn a b (access_of insn.op)))
+      go true = good_jumped registers (aim_of insn.op pc a insn.imm) insn.rd (result_of insn.op pc a b insn.imm) h
+      go false = good_accessed registers pc insn a b (access_of insn.op) h
 
   good_performed : (registers : List ℕ) (pc : ℕ) (insn : Insn) (op : Op) → Whole registers → Good w (performed (seen_in w) registers pc insn op)
   good_performed registers pc insn Ecall h = tt
   good_performed registers pc insn Ebreak h = tt
   good_performed registers pc insn Fence h = (h, inl refl)
-  good_performed registers pc insn Lui h = good_stepped registers pc (slice_index registers insn.rs1) insn h
-  good_performed registers pc insn Auipc h = good_stepped registers pc (slice_index registers insn.rs1) insn h
-  good_performed registers pc insn Jal h = good_stepped registers pc (slice_index registers insn.rs1) insn h
-  good_performed registers pc insn Jalr h = good_stepped registers pc (slice_index registers insn.rs1) insn h
-  good_performed registers pc insn Beq h = good_stepped registers pc (slice_index registers insn.rs1) insn h
-  good_performed registers pc insn Bne h = good_stepped registers pc (slice_index registers insn.rs1) insn h
-  good_performed registers pc insn Blt h = good_stepped registers pc (slice_index registers insn.rs1) insn h
-  good_performed registers pc insn Bge h = good_stepped registers pc (slice_index registers insn.rs1) insn h
-  good_performed registers pc insn Bltu h = good_stepped registers pc (slice_index registers insn.rs1) insn h
-  good_performed registers pc insn Bgeu h = good_stepped registers pc (slice_index registers insn.rs1) insn h
-  good_performed registers pc insn Lb h = good_stepped registers pc (slice_index registers insn.rs1) insn h
-  good_performed registers pc insn Lh h = good_stepped registers pc (slice_index registers insn.rs1) insn h
-  good_performed registers pc insn Lw h = good_stepped registers pc (slice_index registers insn.rs1) insn h
-  good_performed registers pc insn Ld h = good_stepped registers pc (slice_index registers insn.rs1) insn h
-  good_performed registers pc insn Lbu h = good_stepped registers pc (slice_index registers insn.rs1) insn h
-  good_performed registers pc insn Lhu h = good_stepped registers pc (slice_index registers insn.rs1) insn h
-  good_performed registers pc insn Lwu h = good_stepped registers pc (slice_index registers insn.rs1) insn h
-  good_performed registers pc insn Sb h = good_stepped registers pc (slice_index registers insn.rs1) insn h
-  good_performed registers pc insn Sh h = good_stepped registers pc (slice_index registers insn.rs1) insn h
-  good_performed registers pc insn Sw h = good_stepped registers pc (slice_index registers insn.rs1) insn h
-  good_performed registers pc insn Sd h = good_stepped registers pc (slice_index registers insn.rs1) insn h
-  good_performed registers pc insn Addi h = good_stepped registers pc (slice_index registers insn.rs1) insn h
-  good_performed registers pc insn Slti h = good_stepped registers pc (slice_index registers insn.rs1) insn h
-  good_performed registers pc insn Sltiu h = good_stepped registers pc (slice_index registers insn.rs1) insn h
-  good_performed registers pc insn Xori h = good_stepped registers pc (slice_index registers insn.rs1) insn h
-  good_performed registers pc insn Ori h = good_stepped registers pc (slice_index registers insn.rs1) insn h
-  good_performed registers pc insn Andi h = good_stepped registers pc (slice_index registers insn.rs1) insn h
-  good_performed registers pc insn Slli h = good_stepped registers pc (slice_index registers insn.rs1) insn h
-  good_performed registers pc insn Srli h = good_stepped registers pc (slice_index registers insn.rs1) insn h
-  good_performed registers pc insn Srai h = good_stepped registers pc (slice_index registers insn.rs1) insn h
-  good_performed registers pc insn Add h = good_stepped registers pc (slice_index registers insn.rs1) insn h
-  good_performed registers pc insn Sub h = good_stepped registers pc (slice_index registers insn.rs1) insn h
-  good_performed registers pc insn Sll h = good_stepped registers pc (slice_index registers insn.rs1) insn h
-  good_performed registers pc insn Slt h = good_stepped registers pc (slice_index registers insn.rs1) insn h
-  good_performed registers pc insn Sltu h = good_stepped registers pc (slice_index registers insn.rs1) insn h
-  good_performed registers pc insn Xor h = good_stepped registers pc (slice_index registers insn.rs1) insn h
-  good_performed registers pc insn Srl h = good_stepped registers pc (slice_index registers insn.rs1) insn h
-  good_performed registers pc insn Sra h = good_stepped registers pc (slice_index registers insn.rs1) insn h
-  good_performed registers pc insn Or h = good_stepped registers pc (slice_index registers insn.rs1) insn h
-  good_performed registers pc insn And h = good_stepped registers pc (slice_index registers insn.rs1) insn h
-  good_performed registers pc insn Addiw h = good_stepped registers pc (slice_index registers insn.rs1) insn h
-  good_performed registers pc insn Slliw h = good_stepped registers pc (slice_index registers insn.rs1) insn h
-  good_performed registers pc insn Srliw h = good_stepped registers pc (slice_index registers insn.rs1) insn h
-  good_performed registers pc insn Sraiw h = good_stepped registers pc (slice_index registers insn.rs1) insn h
-  good_performed registers pc insn Addw h = good_stepped registers pc (slice_index registers insn.rs1) insn h
-  good_performed registers pc insn Subw h = good_stepped registers pc (slice_index registers insn.rs1) insn h
-  good_performed registers pc insn Sllw h = good_stepped registers pc (slice_index registers insn.rs1) insn h
-  good_performed registers pc insn Srlw h = good_stepped registers pc (slice_index registers insn.rs1) insn h
-  good_performed registers pc insn Sraw h = good_stepped registers pc (slice_index registers insn.rs1) insn h
-  good_performed registers pc insn Mul h = good_stepped registers pc (slice_index registers insn.rs1) insn h
-  good_performed registers pc insn Mulh h = good_stepped registers pc (slice_index registers insn.rs1) insn h
-  good_performed registers pc insn Mulhsu h = good_stepped registers pc (slice_index registers insn.rs1) insn h
-  good_performed registers pc insn Mulhu h = good_stepped registers pc (slice_index registers insn.rs1) insn h
-  good_performed registers pc insn Div h = good_stepped registers pc (slice_index registers insn.rs1) insn h
-  good_performed registers pc insn Divu h = good_stepped registers pc (slice_index registers insn.rs1) insn h
-  good_performed registers pc insn Rem h = good_stepped registers pc (slice_index registers insn.rs1) insn h
-  good_performed registers pc insn Remu h = good_stepped registers pc (slice_index registers insn.rs1) insn h
-  good_performed registers pc insn Mulw h = good_stepped registers pc (slice_index registers insn.rs1) insn h
-  good_performed registers pc insn Divw h = good_stepped registers pc (slice_index registers insn.rs1) insn h
-  good_performed registers pc insn Divuw h = good_stepped registers pc (slice_index registers insn.rs1) insn h
-  good_performed registers pc insn Remw h = good_stepped registers pc (slice_index registers insn.rs1) insn h
-  good_performed registers pc insn Remuw h = good_stepped registers pc (slice_index registers insn.rs1) insn h
+  good_performed registers pc insn Lui h = good_stepped registers pc insn (slice_index registers insn.rs1) (slice_index registers insn.rs2) h
+  good_performed registers pc insn Auipc h = good_stepped registers pc insn (slice_index registers insn.rs1) (slice_index registers insn.rs2) h
+  good_performed registers pc insn Jal h = good_stepped registers pc insn (slice_index registers insn.rs1) (slice_index registers insn.rs2) h
+  good_performed registers pc insn Jalr h = good_stepped registers pc insn (slice_index registers insn.rs1) (slice_index registers insn.rs2) h
+  good_performed registers pc insn Beq h = good_stepped registers pc insn (slice_index registers insn.rs1) (slice_index registers insn.rs2) h
+  good_performed registers pc insn Bne h = good_stepped registers pc insn (slice_index registers insn.rs1) (slice_index registers insn.rs2) h
+  good_performed registers pc insn Blt h = good_stepped registers pc insn (slice_index registers insn.rs1) (slice_index registers insn.rs2) h
+  good_performed registers pc insn Bge h = good_stepped registers pc insn (slice_index registers insn.rs1) (slice_index registers insn.rs2) h
+  good_performed registers pc insn Bltu h = good_stepped registers pc insn (slice_index registers insn.rs1) (slice_index registers insn.rs2) h
+  good_performed registers pc insn Bgeu h = good_stepped registers pc insn (slice_index registers insn.rs1) (slice_index registers insn.rs2) h
+  good_performed registers pc insn Lb h = good_stepped registers pc insn (slice_index registers insn.rs1) (slice_index registers insn.rs2) h
+  good_performed registers pc insn Lh h = good_stepped registers pc insn (slice_index registers insn.rs1) (slice_index registers insn.rs2) h
+  good_performed registers pc insn Lw h = good_stepped registers pc insn (slice_index registers insn.rs1) (slice_index registers insn.rs2) h
+  good_performed registers pc insn Ld h = good_stepped registers pc insn (slice_index registers insn.rs1) (slice_index registers insn.rs2) h
+  good_performed registers pc insn Lbu h = good_stepped registers pc insn (slice_index registers insn.rs1) (slice_index registers insn.rs2) h
+  good_performed registers pc insn Lhu h = good_stepped registers pc insn (slice_index registers insn.rs1) (slice_index registers insn.rs2) h
+  good_performed registers pc insn Lwu h = good_stepped registers pc insn (slice_index registers insn.rs1) (slice_index registers insn.rs2) h
+  good_performed registers pc insn Sb h = good_stepped registers pc insn (slice_index registers insn.rs1) (slice_index registers insn.rs2) h
+  good_performed registers pc insn Sh h = good_stepped registers pc insn (slice_index registers insn.rs1) (slice_index registers insn.rs2) h
+  good_performed registers pc insn Sw h = good_stepped registers pc insn (slice_index registers insn.rs1) (slice_index registers insn.rs2) h
+  good_performed registers pc insn Sd h = good_stepped registers pc insn (slice_index registers insn.rs1) (slice_index registers insn.rs2) h
+  good_performed registers pc insn Addi h = good_stepped registers pc insn (slice_index registers insn.rs1) (slice_index registers insn.rs2) h
+  good_performed registers pc insn Slti h = good_stepped registers pc insn (slice_index registers insn.rs1) (slice_index registers insn.rs2) h
+  good_performed registers pc insn Sltiu h = good_stepped registers pc insn (slice_index registers insn.rs1) (slice_index registers insn.rs2) h
+  good_performed registers pc insn Xori h = good_stepped registers pc insn (slice_index registers insn.rs1) (slice_index registers insn.rs2) h
+  good_performed registers pc insn Ori h = good_stepped registers pc insn (slice_index registers insn.rs1) (slice_index registers insn.rs2) h
+  good_performed registers pc insn Andi h = good_stepped registers pc insn (slice_index registers insn.rs1) (slice_index registers insn.rs2) h
+  good_performed registers pc insn Slli h = good_stepped registers pc insn (slice_index registers insn.rs1) (slice_index registers insn.rs2) h
+  good_performed registers pc insn Srli h = good_stepped registers pc insn (slice_index registers insn.rs1) (slice_index registers insn.rs2) h
+  good_performed registers pc insn Srai h = good_stepped registers pc insn (slice_index registers insn.rs1) (slice_index registers insn.rs2) h
+  good_performed registers pc insn Add h = good_stepped registers pc insn (slice_index registers insn.rs1) (slice_index registers insn.rs2) h
+  good_performed registers pc insn Sub h = good_stepped registers pc insn (slice_index registers insn.rs1) (slice_index registers insn.rs2) h
+  good_performed registers pc insn Sll h = good_stepped registers pc insn (slice_index registers insn.rs1) (slice_index registers insn.rs2) h
+  good_performed registers pc insn Slt h = good_stepped registers pc insn (slice_index registers insn.rs1) (slice_index registers insn.rs2) h
+  good_performed registers pc insn Sltu h = good_stepped registers pc insn (slice_index registers insn.rs1) (slice_index registers insn.rs2) h
+  good_performed registers pc insn Xor h = good_stepped registers pc insn (slice_index registers insn.rs1) (slice_index registers insn.rs2) h
+  good_performed registers pc insn Srl h = good_stepped registers pc insn (slice_index registers insn.rs1) (slice_index registers insn.rs2) h
+  good_performed registers pc insn Sra h = good_stepped registers pc insn (slice_index registers insn.rs1) (slice_index registers insn.rs2) h
+  good_performed registers pc insn Or h = good_stepped registers pc insn (slice_index registers insn.rs1) (slice_index registers insn.rs2) h
+  good_performed registers pc insn And h = good_stepped registers pc insn (slice_index registers insn.rs1) (slice_index registers insn.rs2) h
+  good_performed registers pc insn Addiw h = good_stepped registers pc insn (slice_index registers insn.rs1) (slice_index registers insn.rs2) h
+  good_performed registers pc insn Slliw h = good_stepped registers pc insn (slice_index registers insn.rs1) (slice_index registers insn.rs2) h
+  good_performed registers pc insn Srliw h = good_stepped registers pc insn (slice_index registers insn.rs1) (slice_index registers insn.rs2) h
+  good_performed registers pc insn Sraiw h = good_stepped registers pc insn (slice_index registers insn.rs1) (slice_index registers insn.rs2) h
+  good_performed registers pc insn Addw h = good_stepped registers pc insn (slice_index registers insn.rs1) (slice_index registers insn.rs2) h
+  good_performed registers pc insn Subw h = good_stepped registers pc insn (slice_index registers insn.rs1) (slice_index registers insn.rs2) h
+  good_performed registers pc insn Sllw h = good_stepped registers pc insn (slice_index registers insn.rs1) (slice_index registers insn.rs2) h
+  good_performed registers pc insn Srlw h = good_stepped registers pc insn (slice_index registers insn.rs1) (slice_index registers insn.rs2) h
+  good_performed registers pc insn Sraw h = good_stepped registers pc insn (slice_index registers insn.rs1) (slice_index registers insn.rs2) h
+  good_performed registers pc insn Mul h = good_stepped registers pc insn (slice_index registers insn.rs1) (slice_index registers insn.rs2) h
+  good_performed registers pc insn Mulh h = good_stepped registers pc insn (slice_index registers insn.rs1) (slice_index registers insn.rs2) h
+  good_performed registers pc insn Mulhsu h = good_stepped registers pc insn (slice_index registers insn.rs1) (slice_index registers insn.rs2) h
+  good_performed registers pc insn Mulhu h = good_stepped registers pc insn (slice_index registers insn.rs1) (slice_index registers insn.rs2) h
+  good_performed registers pc insn Div h = good_stepped registers pc insn (slice_index registers insn.rs1) (slice_index registers insn.rs2) h
+  good_performed registers pc insn Divu h = good_stepped registers pc insn (slice_index registers insn.rs1) (slice_index registers insn.rs2) h
+  good_performed registers pc insn Rem h = good_stepped registers pc insn (slice_index registers insn.rs1) (slice_index registers insn.rs2) h
+  good_performed registers pc insn Remu h = good_stepped registers pc insn (slice_index registers insn.rs1) (slice_index registers insn.rs2) h
+  good_performed registers pc insn Mulw h = good_stepped registers pc insn (slice_index registers insn.rs1) (slice_index registers insn.rs2) h
+  good_performed registers pc insn Divw h = good_stepped registers pc insn (slice_index registers insn.rs1) (slice_index registers insn.rs2) h
+  good_performed registers pc insn Divuw h = good_stepped registers pc insn (slice_index registers insn.rs1) (slice_index registers insn.rs2) h
+  good_performed registers pc insn Remw h = good_stepped registers pc insn (slice_index registers insn.rs1) (slice_index registers insn.rs2) h
+  good_performed registers pc insn Remuw h = good_stepped registers pc insn (slice_index registers insn.rs1) (slice_index registers insn.rs2) h
 
   good_word : (registers : List ℕ) (pc code : ℕ) → Whole registers → Good w (execute_word (seen_in w) registers pc code)
   good_word registers pc code h = go (decode code)
