@@ -1,5 +1,5 @@
 -- Where no undo is begun, none is begun after an instruction.
-use Rattle.std.proofs.Common.{◌≡◌, refl, ap, ◌∙◌, ◌⊎◌, inl, inr, ℕ, List, Option, None}
+use Rattle.std.proofs.Common.{◌≡◌, ap, ◌∙◌, inl, inr, List, None}
 use Rattle.cell_hart.specs.declared.hart.Hart.{Hart}
 use Rattle.cell_hart.specs.declared.stop.Stop.{Stop}
 use Rattle.cell_hart.specs.Step.{Steps, HasRegions}

@@ -2,7 +2,7 @@
 use Rattle.cell_num.specs.declared.ids.Cause.{Cause}
 use Rattle.cell_num.specs.declared.ids.Cause.TheVariants.{LoadAlign, Load, StoreAlign, Store}
 use Rattle.cell_mem.specs.declared.fault.MemFault.{MemFault}
-use Rattle.cell_mem.specs.declared.fault.MemFault.TheVariants.{Misaligned, Unmapped, Denied, Sealed}
+use Rattle.cell_mem.specs.declared.fault.MemFault.TheVariants.{Misaligned}
 
 abbrev pub load_cause : MemFault → Cause
 load_cause Misaligned = LoadAlign

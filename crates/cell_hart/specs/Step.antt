@@ -1,7 +1,7 @@
 -- What a hart and its memory are after an instruction.
 --     seen_of memory                               the memory as an instruction sees it
 --     Steps stop effect before after old new       the hart was `before` and is `after`, the memory was `old` and is `new`
-use Rattle.std.specs.Prelude.{◌≡◌, ◌⊎◌, ℕ, List, true}
+use Rattle.std.specs.Prelude.{◌≡◌, ◌⊎◌, List, true}
 use Rattle.cell_alu.specs.declared.memory.Access.{Access}
 use Rattle.cell_alu.specs.declared.memory.Access.TheVariants.{Untouched, Loads, Stores}
 use Rattle.cell_hart.specs.declared.hart.Hart.{Hart}
