@@ -64,7 +64,7 @@ pub enum Part {
     Call,
 }
 
-/// What the psABI says of a kind.
+/// A row of the table: what the psABI says of a kind, with the range of values that fit.
 #[derive(Clone, Copy, Debug)]
 pub struct Row {
     pub number: u32,
