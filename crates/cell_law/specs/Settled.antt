@@ -1,4 +1,4 @@
--- What holds of the machine between any two commands while no cell is detached and no task runs.
+-- What holds of the machine between any two commands while no cell is detached.
 --     In x xs                   the element is in the list
 --     IsSettled w               the machine is coherent, and each cell is attached under its own name alone
 use Rattle.std.specs.Prelude.{◌≡◌, []}
@@ -12,6 +12,5 @@ pub record IsPlainCell (c : Cell) : Type 0 where
   pub unaliased : c.aliases ≡ []
 
 pub record IsSettled (w : World) : Type 0 where
-  pub taskless : w.tasks ≡ []
   pub cells : (c : Cell) → In c w.cells → IsPlainCell c
   pub coherent : IsCoherent w

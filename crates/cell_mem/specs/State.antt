@@ -13,6 +13,7 @@ use Rattle.cell_num.specs.Bits.{bytes_of}
 use Rattle.cell_num.specs.Lists.{holds, where_true}
 use Rattle.cell_world.specs.World.{Region, Permission}
 use Rattle.cell_world.specs.Memory.{covers, end_of, written}
+pub use Rattle.cell_world.specs.Memory.{part_of}
 use Rattle.cell_world.specs.Pages.{filled}
 use Rattle.cell_world.specs.Place.{with_region}
 
@@ -37,10 +38,6 @@ region_with m addr n = option_and_then (λ r. where_true (nat_le (addr + n) (end
 -- n bytes of the region from an address on
 abbrev pub bytes_in : Region → ℕ → ℕ → List ℕ
 bytes_in r addr n = slice_range r.bytes (addr - r.start) (addr - r.start + n)
-
--- the same, where they are all in it
-abbrev pub part_of : Region → ℕ → ℕ → Option (List ℕ)
-part_of r addr n = where_true (nat_le (addr + n) (end_of r)) (bytes_in r addr n)
 
 abbrev pub bytes_at : MemoryState → ℕ → ℕ → Option (List ℕ)
 bytes_at m addr n = option_and_then (λ r. part_of r addr n) (region_of m addr)

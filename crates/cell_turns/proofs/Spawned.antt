@@ -88,7 +88,7 @@ module _ (w : World) (h : IsCoherent w) (start : ℕ) (run : start_of_run w 4 �
 
   module _ (root entry arg : ℕ) (there : is_some (cell_of w root) ≡ true) (few : length w.tasks < 64) (free : w.next_task ≤ 65535) where
     abbrev task : Task
-    task = new_task w root entry arg start
+    task = new_task w.next_task root entry arg start
 
     abbrev after : World
     after = record (with_stack w start) { tasks = w.tasks ++ task ∷ []; next_task = suc w.next_task }
@@ -161,7 +161,7 @@ entry_present w ns symbol e q = go (attached_provider w ns symbol) q
 
 -- what an accepted `spawn` answers with
 spawned : (w : World) (h : IsCoherent w) (start : ℕ) (run : start_of_run w 4 ≡ Ok start) (entry : ℕ × ℕ) (arg : ℕ) (reply : Reply) → is_some (cell_of w entry.0) ≡ true → length w.tasks < 64 → w.next_task ≤ 65535 → (d : Done)
-    → done reply (record (with_stack w start) { tasks = w.tasks ++ new_task w entry.0 entry.1 arg start ∷ []; next_task = suc w.next_task }) ≡ Ok d → IsCoherent d.world
+    → done reply (record (with_stack w start) { tasks = w.tasks ++ new_task w.next_task entry.0 entry.1 arg start ∷ []; next_task = suc w.next_task }) ≡ Ok d → IsCoherent d.world
 spawned w h start run entry arg reply there few free d e =
     subst IsCoherent (ap (λ (x : Done). x.world) (ok_same _ d e)) (spawn_coherent w h start run entry.0 entry.1 arg there few free)
 

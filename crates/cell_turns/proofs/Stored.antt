@@ -6,11 +6,11 @@ use Rattle.cell_num.specs.Bits.{bytes_of}
 use Rattle.cell_num.specs.Kinds.{width_of}
 use Rattle.cell_object.specs.declared.object.Entry.{Entry}
 use Rattle.cell_world.specs.World.{World, Cell, Region}
-use Rattle.cell_world.specs.Memory.{covers, pasted, written}
+use Rattle.cell_world.specs.Memory.{region_in, covers, pasted, written}
 use Rattle.cell_world.specs.Field.{fields_of, field_value_of, place_of}
 use Rattle.cell_world.specs.Relink.{Patch, patch_of, patched, patches_of, bound_entries, remade, restored}
 use Rattle.cell_world.specs.Coherent.{IsCoherent, Shape, shape_of, is_in_space, ends_before}
-use Rattle.cell_world.specs.Execute.{allows, region_at, is_field_at, seen_in}
+use Rattle.cell_world.specs.Execute.{allows, is_field_at, seen_in}
 use Rattle.cell_coherent.proofs.Elements.{In, all-In, In-all, none-In, found-In, In-map, In-flat_map, map_same}
 use Rattle.cell_coherent.proofs.FieldsInside.{length-bytes_of}
 use Rattle.cell_coherent.proofs.Relinked.{patches, own_image, map_twice}
@@ -66,9 +66,9 @@ module _ (w : World) (h : IsCoherent w) (addr : ℕ) (new : List ℕ) (free : (s
       pub ends : addr + length new ≤ region.start + length region.bytes
 
     target : Target
-    target = go (region_at w.regions addr) refl may
+    target = go (region_in w.regions addr) refl may
       where
-        go : (o : Option Region) → region_at w.regions addr ≡ o → (elim o as (λ _. Bool) [ None ↦ false | Some r ↦ r.permission.write && nat_le (addr + length new) (r.start + length r.bytes) ]) ≡ true → Target
+        go : (o : Option Region) → region_in w.regions addr ≡ o → (elim o as (λ _. Bool) [ None ↦ false | Some r ↦ r.permission.write && nat_le (addr + length new) (r.start + length r.bytes) ]) ≡ true → Target
         go None e t = absurd (true≢false (sym t))
         go (Some r) e t =
             let f = found-In (λ x. covers x addr) w.regions r e in

@@ -24,7 +24,7 @@ use Rattle.cell_law.proofs.Binds.{bind_is}
 use Rattle.cell_machine.specs.declared.machine.Machine.{Machine}
 use Rattle.cell_machine.specs.Machine.{cells_of, world_of}
 use Rattle.cell_target.specs.Scene.{seen}
-use Rattle.cell_view.specs.Bytes.{read_from}
+use Rattle.cell_world.specs.Memory.{read_in}
 
 named : (o : Option Namespace) (name : List ℕ) → option_map (λ (s : Namespace). s.name) o ≡ Some name → elim o as (λ _. List ℕ) [ None ↦ [] | Some space ↦ space.name ] ≡ name
 named None name e = absurd cc
@@ -61,13 +61,13 @@ module _ (m : Machine) (cell : ℕ) (p : NewCell) where
     present = ap (λ (o : Option Cell). found o (Unknown (decimal cell))) here
 
     pub shown : (section : ℕ) (s : ObjectSection) → Some s ≡ section_of p.object section → (start : ℕ) → start ≡ start_of p s.number
-        → (bytes : List ℕ) → bytes ≡ unwrap_or (read_from m.memory.regions start s.size) []
+        → (bytes : List ℕ) → bytes ≡ unwrap_or (read_in m.memory.regions start s.size) []
         → next_dump (world_of m) cell section ≡ done (DumpDone (key_of cell s.number) start bytes) (world_of m)
     shown section s there start at bytes is =
         bind_is (present_cell (world_of m) cell) _ (attached p) _ present
         (bind_is (found (section_of p.object section) (Unknown (decimal section))) _ s _ (ap (λ (o : Option ObjectSection). found o (Unknown (decimal section))) (sym there))
-        (ap (λ n. done (DumpDone (key_of cell n) (start_of p n) (unwrap_or (read_from m.memory.regions (start_of p n) s.size) [])) (world_of m)) (sym number)
-        ∙ (ap (λ a. done (DumpDone (key_of cell s.number) a (unwrap_or (read_from m.memory.regions a s.size) [])) (world_of m)) (sym at)
+        (ap (λ n. done (DumpDone (key_of cell n) (start_of p n) (unwrap_or (read_in m.memory.regions (start_of p n) s.size) [])) (world_of m)) (sym number)
+        ∙ (ap (λ a. done (DumpDone (key_of cell s.number) a (unwrap_or (read_in m.memory.regions a s.size) [])) (world_of m)) (sym at)
         ∙ ap (λ bytes. done (DumpDone (key_of cell s.number) start bytes) (world_of m)) (sym is))))
       where
         number : s.number ≡ section

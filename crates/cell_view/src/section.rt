@@ -5,7 +5,7 @@ ghost use Rattle.cell_object.specs.Parts.{section_of as section_with};
 ghost use Rattle.cell_world.specs.DumpCommand.{next_dump};
 ghost use Rattle.cell_machine.specs.Machine.{IsSound, world_of};
 ghost use Rattle.cell_stage.specs.Loads.{IsUnknown};
-ghost use Rattle.cell_view.specs.Bytes.{read_from};
+ghost use Rattle.cell_world.specs.Memory.{read_in};
 ghost use Rattle.cell_view.specs.Shows.{Shows};
 
 use crate::present::scene;
@@ -41,7 +41,7 @@ fn section_of(object: &Object, number: u32) -> Option<&Section>
 
 /// So many bytes from an address on; none where they are not in one region.
 fn read(alloc: Global, memory: &Memory, addr: u64, size: u32) -> Result<Bytes, AllocError>
-    ensures { IfOk result (λ bytes. bytes ≡ unwrap_or (read_from memory.now.regions addr size) []) }
+    ensures { IfOk result (λ bytes. bytes ≡ unwrap_or (read_in memory.now.regions addr size) []) }
 {
     match memory.bytes(addr, u64::from(size)) {
         Some(bytes) => Ok(Bytes::from_vec(bytes.to_vec(alloc)?)),

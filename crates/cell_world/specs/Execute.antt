@@ -4,7 +4,7 @@
 --     execute m registers pc    the instruction at the pc
 -- From the RISC-V unprivileged manual, "RV32I Base Integer Instruction Set", "RV64I" and "M Extension"; the causes of
 -- traps and their order are this product's.
-use Rattle.std.specs.Prelude.{ℕ, zero, suc, ◌+◌, ◌*◌, ◌%◌, ◌==◌, nat_lt, nat_le, Bool, true, false, not, ◌&&◌, List, Option, Some, None, ◌-◌, find, map, slice_index, slice_range, slice_set, if◌then◌else◌}
+use Rattle.std.specs.Prelude.{ℕ, zero, suc, ◌+◌, ◌*◌, ◌%◌, ◌==◌, nat_lt, nat_le, Bool, true, false, not, ◌&&◌, List, Option, Some, None, ◌-◌, map, slice_index, slice_range, slice_set, if◌then◌else◌}
 use Rattle.std.specs.List.{list_any}
 use Rattle.cell_num.specs.declared.ids.Cause.{Cause}
 use Rattle.cell_num.specs.declared.ids.Cause.TheVariants.{Fetch, Jump as BadJump, Illegal, Break, LoadAlign, Load, StoreAlign, Store as BadStore}
@@ -18,7 +18,7 @@ use Rattle.cell_alu.specs.declared.memory.Access.{Access}
 use Rattle.cell_alu.specs.declared.memory.Access.TheVariants.{Untouched, Loads, Stores}
 use Rattle.cell_alu.specs.Meaning.{result_of, is_taken, aim_of, access_of}
 use Rattle.cell_world.specs.World.{World, Cell, Region, Permission}
-use Rattle.cell_world.specs.Memory.{covers, end_of, written}
+use Rattle.cell_world.specs.Memory.{region_in, end_of, written}
 use Rattle.cell_world.specs.Field.{place_of, fields_of}
 
 -- the memory as an instruction sees it: regions, and whether one of n bytes from an address on is sealed
@@ -45,18 +45,15 @@ pub data Effect : Type 0 where
   Calls : Effect
   Traps : Cause → Effect
 
-abbrev pub region_at : List Region → ℕ → Option Region
-region_at regions addr = find (λ r. covers r addr) regions
-
 -- the n bytes are in a region with that permission
 abbrev pub allows : List Region → (Permission → Bool) → ℕ → ℕ → Bool
 allows regions allowed addr n =
-    elim (region_at regions addr) [ None ↦ false | Some r ↦ allowed r.permission && nat_le (addr + n) (end_of r) ]
+    elim (region_in regions addr) [ None ↦ false | Some r ↦ allowed r.permission && nat_le (addr + n) (end_of r) ]
 
 -- the number of the n bytes from the address on
 abbrev pub number_read : List Region → ℕ → ℕ → ℕ
 number_read regions addr n =
-    elim (region_at regions addr) [ None ↦ 0 | Some r ↦ little (slice_range r.bytes (addr - r.start) (addr - r.start + n)) ]
+    elim (region_in regions addr) [ None ↦ 0 | Some r ↦ little (slice_range r.bytes (addr - r.start) (addr - r.start + n)) ]
 
 abbrev pub extended : Bool → ℕ → ℕ → ℕ
 extended true n value = sign_extended (8 * n) value

@@ -2,6 +2,7 @@ pub mod World
 pub mod Names
 pub mod Target
 pub mod Memory
+pub mod Words
 pub mod Field
 pub mod Relink
 pub mod Outcome

@@ -1,9 +1,10 @@
 -- The bytes of regions.
 --     covers r addr                       the address is in the region
---     region_at w addr                    the region that covers the address
+--     region_in regions addr              the region that covers the address
+--     read_in regions addr n              the n bytes from the address on, where they are in one region
+--     region_at w, read w                 the same of the machine's regions
 --     pasted bytes i new                  the bytes with new from place i on
 --     written r addr new                  the region with new from the address on, where it covers the address
---     read w addr n                       the n bytes from the address on, where they are in one region
 use Rattle.std.specs.Prelude.{ℕ, ◌+◌, ◌-◌, nat_lt, nat_le, Bool, ◌&&◌, List, ◌++◌, Option, length, take, drop, find, slice_range, if◌then◌else◌, option_and_then}
 use Rattle.cell_world.specs.World.{World, Region}
 use Rattle.cell_num.specs.Lists.{where_true}
@@ -14,8 +15,11 @@ end_of r = r.start + length r.bytes
 abbrev pub covers : Region → ℕ → Bool
 covers r addr = nat_le r.start addr && nat_lt addr (end_of r)
 
+abbrev pub region_in : List Region → ℕ → Option Region
+region_in regions addr = find (λ r. covers r addr) regions
+
 abbrev pub region_at : World → ℕ → Option Region
-region_at w addr = find (λ r. covers r addr) w.regions
+region_at w addr = region_in w.regions addr
 
 abbrev pub pasted : List ℕ → ℕ → List ℕ → List ℕ
 pasted bytes i new = take i bytes ++ new ++ drop (i + length new) bytes
@@ -23,8 +27,12 @@ pasted bytes i new = take i bytes ++ new ++ drop (i + length new) bytes
 abbrev pub written : Region → ℕ → List ℕ → Region
 written r addr new = if covers r addr then record r { bytes = pasted r.bytes (addr - r.start) new } else r
 
+-- n bytes of the region from an address on, where they are in it
+abbrev pub part_of : Region → ℕ → ℕ → Option (List ℕ)
+part_of r addr n = where_true (nat_le (addr + n) (end_of r)) (slice_range r.bytes (addr - r.start) (addr - r.start + n))
+
+abbrev pub read_in : List Region → ℕ → ℕ → Option (List ℕ)
+read_in regions addr n = option_and_then (λ r. part_of r addr n) (region_in regions addr)
+
 abbrev pub read : World → ℕ → ℕ → Option (List ℕ)
-read w addr n =
-    option_and_then
-    (λ r. where_true (nat_le (addr + n) (end_of r)) (slice_range r.bytes (addr - r.start) (addr - r.start + n)))
-    (region_at w addr)
+read w addr n = read_in w.regions addr n

@@ -51,10 +51,10 @@ with_stack w start =
     record w { regions = with_region (record { start = start; permission = permission_of Writable; bytes = replicate stack_size 0 }) w.regions }
 
 -- all registers are 0 but x2, 16 bytes below the stack's end, and x10
-abbrev pub new_task : World → ℕ → ℕ → ℕ → ℕ → Task
-new_task w root entry arg stack =
+abbrev pub new_task : ℕ → ℕ → ℕ → ℕ → ℕ → Task
+new_task number root entry arg stack =
     record {
-      number = w.next_task;
+      number = number;
       root = root;
       stack = stack;
       pc = entry;
@@ -70,4 +70,4 @@ next_spawn w name symbol arg = do
   entry ← found (entry_named w ns symbol) (NoEntry symbol)
   stack ← start_of_run w 4
   done (SpawnDone w.next_task entry.1)
-      (record (with_stack w stack) { tasks = w.tasks ++ new_task w entry.0 entry.1 arg stack ∷ []; next_task = suc w.next_task })
+      (record (with_stack w stack) { tasks = w.tasks ++ new_task w.next_task entry.0 entry.1 arg stack ∷ []; next_task = suc w.next_task })
