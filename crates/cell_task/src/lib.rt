@@ -1,0 +1,17 @@
+//! The live tasks: their arena, and one turn of a task.
+#![tactic(auto)]
+
+mod calls;
+mod numbers;
+mod task;
+mod tasks;
+mod turned;
+mod words;
+
+pub use numbers::Numbers;
+pub use task::{Task, TaskFault};
+pub use tasks::Tasks;
+pub use turned::Turned;
+
+#[cfg(test)]
+mod tests;

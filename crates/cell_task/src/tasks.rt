@@ -1,0 +1,216 @@
+//! The live tasks.
+
+ghost use Rattle.std.specs.Prelude.{◌≡◌, ◌+◌, ◌<◌, ◌≤◌, ◌^◌, None, Some, [], true, is_some, length, map, option_map, vec_capacity, vec_len, IfOk, OnErr, OnOk};
+ghost use Rattle.cell_mem.specs.State.{region_from};
+ghost use Rattle.cell_world.specs.SpawnCommand.{new_task};
+ghost use Rattle.cell_world.specs.Words.{words_of as words_in_task};
+ghost use Rattle.cell_world.specs.World.{Task as WorldTask};
+ghost use Rattle.cell_task.specs.State.{IsReady, live_in, no_tasks, seen_as, with_new, without};
+ghost use Rattle.cell_task.specs.Turns.{IsTurn};
+
+use crate::calls::call;
+use crate::{Numbers, Task, TaskFault, Turned};
+use cell_hart::{Hart, Stop};
+use cell_mem::Memory;
+use cell_num::CellId;
+use slab::Slab;
+use std::alloc::{AllocError, Global};
+use std::marker::Model;
+
+/// The bytes of a stack.
+pub const STACK_SIZE: u64 = 16384;
+
+/// The arena of the live tasks, their numbers, ascending, and for each number the task's key in
+/// the arena. Contracts see the tasks in the order of their numbers, and the next number.
+#[derive(Drop)]
+pub struct Tasks {
+    arena: Slab<Task>,
+    numbers: Vec<u32>,
+    keys: Vec<usize>,
+    next: u32,
+}
+
+impl Model for Tasks {
+    ghost use Rattle.cell_task.specs.State.{TasksState};
+
+    ghost Value = { TasksState };
+
+    ghost use Rattle.cell_task.specs.Inside.{IsSound, state_of};
+
+    ghost view = { state_of };
+
+    ghost invariant = { IsSound };
+}
+
+/// The registers of a new task: all are 0 but x2, 16 bytes below the stack's end, and x10.
+fn first_registers(arg: u64, stack: u64) -> [u64; 32]
+    requires { stack + 16384 < 2 ^ 64 }
+{
+    let mut x = [0u64; 32];
+    x[10] = arg;
+    x[2] = stack + (STACK_SIZE - 16);
+    x
+}
+
+impl Tasks {
+    /// No task; the first one has the number 1.
+    pub fn new(alloc: Global) -> Tasks
+        ensures { result ≡ no_tasks }
+    {
+        Tasks {
+            arena: Slab::new(alloc),
+            numbers: Vec::new(alloc),
+            keys: Vec::new(alloc),
+            next: 1,
+        }
+    }
+
+    /// The number of the next task.
+    pub fn next(&self) -> u32
+        ensures { result ≡ self.now.next }
+    {
+        self.next
+    }
+
+    /// How many tasks are live.
+    pub fn count(&self) -> usize
+        ensures { result ≡ length self.now.tasks }
+    {
+        self.numbers.len()
+    }
+
+    /// The numbers of the live tasks, ascending.
+    pub fn live(&self) -> Numbers
+        ensures { result ≡ map (λ t. t.number) self.now.tasks }
+    {
+        Numbers::of(&self.numbers)
+    }
+
+    /// The key of a live task.
+    fn key(&self, task: u32) -> Option<usize>
+    {
+        match self.numbers.binary_search(&task) {
+            Ok(place) => Some(self.keys[place]),
+            Err(_) => None,
+        }
+    }
+
+    /// The live task of that number.
+    pub fn get(&self, task: u32) -> Option<&Task>
+        ensures { option_map (λ t. seen_as task t.now) result ≡ live_in self.now task }
+    {
+        let key = self.key(task)?;
+        self.arena.get(key)
+    }
+
+    /// Starts a task at `entry`, with `arg` in x10, whose stack begins at `stack`. The stack has
+    /// four pages, which the caller maps.
+    pub fn spawn(
+        &mut self,
+        entry: u64,
+        arg: u64,
+        stack: u64,
+        root: CellId,
+    ) -> Result<u32, AllocError>
+        requires numbers { self.old.next ≤ 65535 }
+        requires stack { stack + 16384 < 2 ^ 64 }
+        ensures number { IfOk result (λ number. number ≡ self.old.next) }
+        ensures started { OnOk result (self.new ≡ with_new self.old (new_task self.old.next root.0 entry arg stack)) }
+        ensures kept { OnErr result (self.new ≡ self.old) }
+    {
+        self.numbers.reserve(1)?;
+        self.keys.reserve(1)?;
+        self.arena.reserve(1)?;
+        let task = Task {
+            root,
+            hart: Hart {
+                pc: entry,
+                x: first_registers(arg, stack),
+            },
+            stack,
+            fault: None,
+        };
+        let key = self.arena.insert_reserved(task);
+        let number = self.next;
+        self.numbers.push(number)?;
+        self.keys.push(key)?;
+        self.next += 1;
+        Ok(number)
+    }
+
+    /// Takes a live task away, and gives the first address of its stack, which the caller unmaps.
+    pub fn kill(&mut self, task: u32) -> u64
+        requires { is_some (live_in self.old task) ≡ true }
+        ensures stack { option_map (λ t. t.stack) (live_in self.old task) ≡ Some result }
+        ensures gone { self.new ≡ without self.old task }
+    {
+        let Ok(place) = self.numbers.binary_search(&task) else {
+            unreachable!();
+        };
+        let _ = self.numbers.remove(place);
+        let key = self.keys.remove(place);
+        match self.arena.try_remove(key) {
+            Some(task) => task.stack,
+            None => unreachable!(),
+        }
+    }
+
+    /// One turn of a ready task: an instruction, or a call. What it puts out is appended to `out`.
+    /// A task that ends is no longer live, and its stack is unmapped. This takes no memory.
+    pub fn turn(&mut self, task: u32, memory: &mut Memory, out: &mut Vec<u8>) -> Turned
+        requires ready { IsReady self.old task }
+        requires stack { (t : WorldTask) → live_in self.old task ≡ Some t → is_some (region_from memory.old t.stack) ≡ true }
+        requires undo { memory.old.writes_left ≡ None }
+        requires room { vec_len out.old + 20 ≤ vec_capacity out.old }
+        ensures turned { (t : WorldTask) → live_in self.old task ≡ Some t → IsTurn self.old memory.old t out.old.items result self.new memory.new out.new.items }
+        ensures room { vec_capacity out.new ≡ vec_capacity out.old }
+        ensures short { vec_len out.new ≤ vec_len out.old + 20 }
+    {
+        let Some(key) = self.key(task) else {
+            unreachable!();
+        };
+        let Some(live) = self.arena.get_mut(key) else {
+            unreachable!();
+        };
+        let turned = match live.hart.step(memory) {
+            Stop::Next => Turned::Ready,
+            Stop::Call => call(&mut live.hart, out),
+            Stop::Trap { cause, pc } => Turned::Fault(cause, pc),
+        };
+        if let Turned::Fault(cause, pc) = turned {
+            live.fault = Some(TaskFault { cause, pc });
+            return turned;
+        }
+        if let Turned::Done(_) = turned {
+            let stack = self.kill(task);
+            memory.unmap(stack);
+        }
+        turned
+    }
+
+    /// What of a live task may point into cells: its pc, x1 to x31, and the words of its stack
+    /// from x2 on, the lowest first, or of the whole stack where x2 is outside it. After an error
+    /// `into` is empty.
+    pub fn words_of(
+        &self,
+        task: u32,
+        memory: &Memory,
+        into: &mut Vec<u64>,
+    ) -> Result<(), AllocError>
+        requires { is_some (live_in self.now task) ≡ true }
+        ensures words { OnOk result (option_map (words_in_task memory.now.regions) (live_in self.now task) ≡ Some into.new.items) }
+        ensures err { OnErr result (into.new.items ≡ []) }
+    {
+        into.clear();
+        let Some(live) = self.get(task) else {
+            unreachable!();
+        };
+        match crate::words::put_words(live, memory, into) {
+            Ok(()) => Ok(()),
+            Err(fail) => {
+                into.clear();
+                Err(fail)
+            }
+        }
+    }
+}
