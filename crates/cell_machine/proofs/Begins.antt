@@ -56,7 +56,7 @@ module _ (base pages : ℕ) (space : IsSpace base pages) (m : Machine) (cells : 
 
   pub begins_sound : IsSound m
   begins_sound = record {
-    settled = subst IsSettled (sym world_empty) (record { taskless = refl; cells = λ c k. absurd k; coherent = empty_coherent base pages space });
+    settled = subst IsSettled (sym world_empty) (record { cells = λ c k. absurd k; coherent = empty_coherent base pages space });
     known = none ∙ ap (λ (cs : List NewCell). map called (cells_of cs)) (sym cells);
     table = ap (λ (s : SpaceState). s.taken) free ∙ (sym (all_free base pages 0 pages) ∙ ap page_table (sym world_empty));
     base = ap (λ (s : SpaceState). s.base) free ∙ ap (λ (x : MemoryState). x.base) (sym memory);

@@ -9,3 +9,5 @@ pub mod Presence
 pub mod Unbound
 pub mod Above
 pub mod Free
+pub mod Same
+pub mod Unchanged

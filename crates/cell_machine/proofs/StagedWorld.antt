@@ -83,7 +83,7 @@ module _ (sources : List Source) (w : World) (ns stem : List ℕ) (s : Staged) (
       record { attached = ap (λ (c : Cell). c.standing) at.2; unaliased = ap (λ (c : Cell). c.aliases) at.2 }
 
   pub next_settled : IsSettled next_world
-  next_settled = record { taskless = settled.taskless; cells = λ c k. go c (In-append w.cells (placed_cells st.starts (cells_of st.new)) c k); coherent = next_coherent }
+  next_settled = record { cells = λ c k. go c (In-append w.cells (placed_cells st.starts (cells_of st.new)) c k); coherent = next_coherent }
     where
       go : (c : Cell) → In c w.cells ⊎ In c (placed_cells st.starts (cells_of st.new)) → IsPlainCell c
       go c (inl k) = settled.cells c k

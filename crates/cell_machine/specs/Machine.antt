@@ -4,7 +4,7 @@
 --     field_bytes cells       where the fields of the cells begin, and how many bytes each of them has
 --     IsSound m               the machine is coherent; what the cells are called, the page table and the index of sections are those
 --                             of the machine; and the sealed bytes are those of the fields
-use Rattle.std.specs.Prelude.{ℕ, ◌≡◌, ◌≤◌, ◌-◌, ◌*◌, ◌^◌, List, [], None, flat_map, map}
+use Rattle.std.specs.Prelude.{ℕ, ◌≡◌, ◌≤◌, ◌-◌, ◌*◌, ◌^◌, List, None, flat_map, map}
 use Rattle.cell_num.specs.Kinds.{width_of}
 use Rattle.cell_num.specs.declared.ids.SecKey.{SecKey}
 use Rattle.cell_world.specs.declared.state.NewCell.{NewCell}
@@ -28,9 +28,9 @@ world_of m =
       cells = cells_of m.cells.items;
       links = m.graph.rows;
       regions = m.memory.regions;
-      tasks = [];
+      tasks = m.tasks.tasks;
       next_cell = m.next;
-      next_task = 1;
+      next_task = m.tasks.next;
       swaps = 0;
     }
 

@@ -9,6 +9,7 @@ use cell_graph::Graph;
 use cell_mem::Memory;
 use cell_place::Space;
 use cell_space::Spaces;
+use cell_task::Tasks;
 use cell_world::NewCell;
 use std::alloc::{AllocError, Global};
 
@@ -25,6 +26,8 @@ pub struct Machine {
     pub space: Space,
     pub memory: Memory,
     pub graph: Graph,
+    /// The live tasks.
+    pub tasks: Tasks,
 }
 
 impl Machine {
@@ -43,6 +46,7 @@ impl Machine {
             space: Space::new(alloc, base, pages)?,
             memory: Memory::new(alloc, base, pages)?,
             graph: Graph::new(alloc),
+            tasks: Tasks::new(alloc),
         })
     }
 }

@@ -9,5 +9,5 @@ mod place;
 mod rows;
 mod staging;
 
-pub use names::{namespace, unknown};
+pub use names::{namespace, unknown, unknown_number};
 pub use staging::stage;

@@ -1,6 +1,6 @@
 //! Words that name namespaces, and words that name nothing.
 
-ghost use Rattle.std.specs.Prelude.{◌<◌, IfOk, length};
+ghost use Rattle.std.specs.Prelude.{◌<◌, IfOk, decimal, length};
 ghost use Rattle.cell_world.specs.Outcome.{found};
 ghost use Rattle.cell_world.specs.declared.refusal.Refusal.TheVariants.{Unknown};
 ghost use Rattle.cell_gather.specs.Following.{Follows};
@@ -10,6 +10,7 @@ ghost use Rattle.cell_stage.specs.Loads.{IsUnknown};
 use cell_gather::LoadFail;
 use cell_num::Name;
 use cell_space::Spaces;
+use cell_text::put_dec;
 use cell_world::Refusal;
 use std::alloc::Global;
 
@@ -19,6 +20,17 @@ pub fn unknown(alloc: Global, word: &[u8]) -> LoadFail
 {
     match Name::of(alloc, word) {
         Ok(word) => LoadFail::Refused(Refusal::Unknown { word }),
+        Err(_) => LoadFail::OutOfMemory,
+    }
+}
+
+/// The number names nothing.
+pub fn unknown_number(alloc: Global, number: u32) -> LoadFail
+    ensures { IsUnknown (decimal number) result }
+{
+    let mut text = Vec::new(alloc);
+    match put_dec(u64::from(number), &mut text) {
+        Ok(()) => unknown(alloc, &text),
         Err(_) => LoadFail::OutOfMemory,
     }
 }

@@ -33,8 +33,9 @@ use Rattle.cell_machine.proofs.Rooms.{IsSpaced, regions_mapped, rooms}
 use Rattle.cell_machine.proofs.StagedWorld.{F, W, linkable, next_coherent, next_number, next_world, numbers_new, numbers_rise, ready, taken}
 use Rattle.cell_machine.proofs.Unbound.{rows_unbound}
 use Rattle.cell_system.specs.declared.prepared.Prepared.{Prepared}
-use Rattle.cell_system.specs.Adding.{HasRoomFor, IsCommittable, IsPrepared, IsReadyToAdd, IsSame}
-use Rattle.cell_system.proofs.Same.{ready_same}
+use Rattle.cell_system.specs.Adding.{HasRoomFor, IsCommittable, IsPrepared, IsReadyToAdd}
+use Rattle.cell_machine.specs.Same.{IsSame}
+use Rattle.cell_system.proofs.Ready.{ready_same}
 
 module _ (m : Machine) (s : Staged) (p : Prepared) (r : IsReadyToAdd m s) (prepared : IsPrepared s p) (room : HasRoomFor m s p) where
   abbrev w : World

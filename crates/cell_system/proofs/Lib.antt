@@ -1,5 +1,4 @@
-pub mod Same
-pub mod Unchanged
+pub mod Ready
 pub mod Committing
 pub mod Added
 pub mod MoreNamespaces

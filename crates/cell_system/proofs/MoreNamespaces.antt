@@ -30,7 +30,7 @@ use Rattle.cell_machine.specs.Machine.{IsSound, cells_of, field_bytes, keys_of, 
 use Rattle.cell_gather.specs.Following.{FailsAs}
 use Rattle.cell_gather.specs.declared.fail.LoadFail.{LoadFail}
 use Rattle.cell_gather.specs.declared.fail.LoadFail.TheVariants.{Refused, OutOfMemory}
-use Rattle.cell_system.proofs.Unchanged.{same_itself}
+use Rattle.cell_machine.proofs.Unchanged.{same_itself}
 use Rattle.cell_system.specs.Namespaces.{AddsNamespace, HasNamespace, may_add}
 
 both_pass : {X : Type 0} (a b : Outcome (Unit {0})) (c : Outcome X) → (a >> b) ≡ Ok tt → (a >> (b >> c)) ≡ c
@@ -82,9 +82,9 @@ module _ (old new : Machine) (sound : IsSound old) (name parent : List ℕ) (up 
         cells = cells_of cells;
         links = rows;
         regions = memory.regions;
-        tasks = [];
+        tasks = old.tasks.tasks;
         next_cell = next;
-        next_task = 1;
+        next_task = old.tasks.next;
         swaps = 0;
       }
 
@@ -106,7 +106,7 @@ module _ (old new : Machine) (sound : IsSound old) (name parent : List ℕ) (up 
 
   is_sound : IsSound new
   is_sound = record {
-    settled = subst IsSettled (sym world_is) (record { taskless = refl; cells = sound.settled.cells; coherent = coherent });
+    settled = subst IsSettled (sym world_is) (record { cells = sound.settled.cells; coherent = coherent });
     known = known ∙ (sound.known ∙ ap (λ (cs : List NewCell). map called (cells_of cs)) (sym cells));
     table = ap (λ (s : SpaceState). s.taken) space ∙ (sound.table ∙ ap page_table (sym world_is));
     base = ap (λ (s : SpaceState). s.base) space ∙ (sound.base ∙ ap (λ (x : MemoryState). x.base) (sym memory));

@@ -27,10 +27,11 @@ use Rattle.cell_world.specs.declared.state.NewCell.{NewCell}
 use Rattle.cell_machine.specs.declared.staged.Staged.{Staged}
 use Rattle.cell_machine.specs.Machine.{cells_of}
 use Rattle.cell_machine.specs.Staged.{IsStaged}
-use Rattle.cell_system.specs.Adding.{IsAdded, IsSame, raised}
+use Rattle.cell_system.specs.Adding.{IsAdded}
+use Rattle.cell_machine.specs.Same.{IsSame, raised}
 use Rattle.cell_system.specs.Namespaces.{AddsNamespace, HasNamespace}
 use Rattle.cell_system.specs.State.{State}
-use Rattle.cell_system.proofs.Same.{maps_same, patches_same, world_same}
+use Rattle.cell_machine.proofs.Same.{maps_same, patches_same, world_same}
 use Rattle.cell_system.specs.Step.{IsDone, IsStep, next_of, state_of, written_by}
 
 stays : (count n : ℕ) → count ≤ 2 ^ 64 - 1 → n ≡ 0 → count ≡ raised count n

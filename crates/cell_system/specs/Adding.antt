@@ -1,10 +1,9 @@
 -- What adding staged cells makes of a machine.
 --     IsReadyToAdd m s        the cells were staged for m
 --     IsPrepared s p          what the staged cells are called, and the numbers of their sections
---     IsSame old new          the same machine, with other room
 --     IsCommitted old s new   the machine with the staged cells
 --     IsAdded old s new       it is what the load comes to, and sound
-use Rattle.std.specs.Prelude.{◌≡◌, ◌≤◌, ◌+◌, ◌-◌, ◌^◌, ℕ, List, ◌++◌, None, All, Contains, length, map, min, vec_len, vec_capacity}
+use Rattle.std.specs.Prelude.{◌≡◌, ◌≤◌, ◌+◌, ℕ, List, ◌++◌, None, All, Contains, length, map, vec_len, vec_capacity}
 use Rattle.cell_num.specs.declared.ids.CellId.{CellId}
 use Rattle.cell_world.specs.declared.state.NewCell.{NewCell}
 use Rattle.cell_world.specs.declared.reply.Reply.TheVariants.{Load as LoadDone}
@@ -19,6 +18,7 @@ use Rattle.cell_commit.specs.declared.sections.CellSections.{CellSections}
 use Rattle.cell_machine.specs.declared.machine.Machine.{Machine}
 use Rattle.cell_machine.specs.declared.staged.Staged.{Staged}
 use Rattle.cell_machine.specs.Machine.{IsSound, cells_of, keys_of, world_of}
+use Rattle.cell_machine.specs.Same.{raised}
 use Rattle.cell_machine.specs.Staged.{IsStaged}
 use Rattle.cell_system.specs.declared.prepared.Prepared.{Prepared}
 
@@ -40,18 +40,6 @@ listed s = (s.cell, s.sections.items)
 pub record IsPrepared (s : Staged) (p : Prepared) : Type 0 where
   pub newcomers : map arrived p.newcomers.items ≡ map called (cells_of s.cells.items)
   pub sections : map listed p.sections.items ≡ map numbers_in s.cells.items
-
--- the same but for the room that is reserved
-pub record IsSame (old new : Machine) : Type 0 where
-  pub cells : new.cells.items ≡ old.cells.items
-  pub next : new.next ≡ old.next
-  pub namespaces : new.spaces.namespaces ≡ old.spaces.namespaces
-  pub known : new.spaces.cells ≡ old.spaces.cells
-  pub space : new.space ≡ old.space
-  pub spare : ℕ
-  pub memory : new.memory ≡ record old.memory { spare = spare }
-  pub sections : new.graph.sections ≡ old.graph.sections
-  pub rows : new.graph.rows ≡ old.graph.rows
 
 -- room for all that the staged cells add
 pub record HasRoomFor (m : Machine) (s : Staged) (p : Prepared) : Type 0 where
@@ -85,10 +73,7 @@ pub record IsCommitted (old : Machine) (s : Staged) (new : Machine) : Type 0 whe
   pub memory : new.memory ≡ fields_written (all_mapped (record old.memory { spare = spare }) s.regions.items) s.fields.items
   pub sections : new.graph.sections ≡ old.graph.sections ++ keys_of s.cells.items
   pub rows : new.graph.rows ≡ old.graph.rows ++ s.rows.items
-
--- a count that stands still at the last value of 64 bits
-abbrev pub raised : ℕ → ℕ → ℕ
-raised count n = min (count + n) (2 ^ 64 - 1)
+  pub tasks : new.tasks ≡ old.tasks
 
 -- the machine is sound, and it is what each load comes to by which the cells were staged
 pub record IsAdded (old : Machine) (s : Staged) (new : Machine) : Type 0 where

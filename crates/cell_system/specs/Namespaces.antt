@@ -16,7 +16,7 @@ use Rattle.cell_gather.specs.declared.fail.LoadFail.{LoadFail}
 use Rattle.cell_gather.specs.declared.fail.LoadFail.TheVariants.{Refused, OutOfMemory}
 use Rattle.cell_machine.specs.declared.machine.Machine.{Machine}
 use Rattle.cell_machine.specs.Machine.{IsSound, world_of}
-use Rattle.cell_system.specs.Adding.{IsSame}
+use Rattle.cell_machine.specs.Same.{IsSame}
 
 abbrev pub may_add : List Namespace → List ℕ → Outcome (Unit {0})
 may_add spaces name =

@@ -10,7 +10,7 @@ use Rattle.cell_gather.specs.declared.fail.LoadFail.{LoadFail}
 use Rattle.cell_gather.specs.declared.fail.LoadFail.TheVariants.{Refused, OutOfMemory}
 use Rattle.cell_machine.specs.declared.machine.Machine.{Machine}
 use Rattle.cell_machine.specs.Machine.{world_of}
-use Rattle.cell_system.specs.Adding.{raised}
+use Rattle.cell_machine.specs.Same.{raised}
 use Rattle.cell_system.specs.State.{State}
 
 abbrev pub state_of : List File → Machine → State

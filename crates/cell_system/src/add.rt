@@ -1,7 +1,8 @@
 //! Adding what a load has staged: all room is made first, and then nothing can fail.
 
 ghost use Rattle.std.specs.Prelude.{◌≡◌, ◌+◌, ◌≤◌, ◌++◌, OnErr, OnOk, vec_capacity, vec_len};
-ghost use Rattle.cell_system.specs.Adding.{IsCommittable, IsCommitted, IsReadyToAdd, IsSame};
+ghost use Rattle.cell_system.specs.Adding.{IsCommittable, IsCommitted, IsReadyToAdd};
+ghost use Rattle.cell_machine.specs.Same.{IsSame};
 
 use crate::prepared::Prepared;
 use crate::room::reserve;
@@ -47,7 +48,7 @@ fn append(into: &mut Vec<NewCell>, mut cells: Vec<NewCell>)
 }
 
 /// Adds the staged cells, or leaves the machine as it is where memory is lacking.
-#[tactic(auto, using(crate::proofs::Unchanged::same_itself))]
+#[tactic(auto, using(cell_machine::proofs::Unchanged::same_itself))]
 pub fn add(alloc: Global, machine: &mut Machine, mut staged: Staged) -> Result<(), AllocError>
     requires { IsReadyToAdd machine.old staged }
     ensures added { OnOk result (IsCommitted machine.old staged machine.new) }

@@ -2,7 +2,8 @@
 
 ghost use Rattle.std.specs.Prelude.{◌≡◌, ◌+◌, IfOk, OnOk};
 ghost use Rattle.cell_commit.specs.Cells.{name_count as names_in, section_count as sections_in};
-ghost use Rattle.cell_system.specs.Adding.{HasRoomFor, IsSame};
+ghost use Rattle.cell_system.specs.Adding.{HasRoomFor};
+ghost use Rattle.cell_machine.specs.Same.{IsSame};
 
 use crate::prepared::Prepared;
 use cell_commit::{CellSections, Newcomer};
@@ -52,7 +53,7 @@ fn name_count(newcomers: &[Newcomer]) -> Result<u32, AllocError>
 }
 
 /// Makes room for all that the staged cells add. Nothing else changes, also where memory is lacking.
-#[tactic(auto, using(crate::proofs::Unchanged::same_itself))]
+#[tactic(auto, using(cell_machine::proofs::Unchanged::same_itself))]
 pub fn reserve(
     machine: &mut Machine,
     staged: &Staged,

@@ -1,10 +1,9 @@
 //! The bytes of a section as they are now.
 
-ghost use Rattle.std.specs.Prelude.{◌≡◌, ◌==◌, IfOk, option_map, unwrap_or, [], decimal};
+ghost use Rattle.std.specs.Prelude.{◌≡◌, ◌==◌, IfOk, option_map, unwrap_or, []};
 ghost use Rattle.cell_object.specs.Parts.{section_of as section_with};
 ghost use Rattle.cell_world.specs.DumpCommand.{next_dump};
 ghost use Rattle.cell_machine.specs.Machine.{IsSound, world_of};
-ghost use Rattle.cell_stage.specs.Loads.{IsUnknown};
 ghost use Rattle.cell_world.specs.Memory.{read_in};
 ghost use Rattle.cell_view.specs.Shows.{Shows};
 
@@ -14,9 +13,8 @@ use cell_machine::Machine;
 use cell_mem::Memory;
 use cell_num::{Bytes, CellId, SecKey};
 use cell_object::{Object, Section};
-use cell_stage::unknown;
+use cell_stage::unknown_number;
 use cell_target::start_of;
-use cell_text::put_dec;
 use cell_world::Reply;
 use std::alloc::{AllocError, Global};
 
@@ -46,17 +44,6 @@ fn read(alloc: Global, memory: &Memory, addr: u64, size: u32) -> Result<Bytes, A
     match memory.bytes(addr, u64::from(size)) {
         Some(bytes) => Ok(Bytes::from_vec(bytes.to_vec(alloc)?)),
         None => Ok(Bytes::from_vec(Vec::new(alloc))),
-    }
-}
-
-/// The number names nothing.
-fn unknown_number(alloc: Global, number: u32) -> LoadFail
-    ensures { IsUnknown (decimal number) result }
-{
-    let mut text = Vec::new(alloc);
-    match put_dec(u64::from(number), &mut text) {
-        Ok(()) => unknown(alloc, &text),
-        Err(_) => LoadFail::OutOfMemory,
     }
 }
 

@@ -9,16 +9,15 @@ use Rattle.cell_law.specs.Settled.{IsSettled}
 use Rattle.cell_mem.specs.State.{MemoryState}
 use Rattle.cell_place.specs.Space.{SpaceState}
 use Rattle.cell_space.specs.Machine.{called}
+use Rattle.cell_task.specs.State.{TasksState}
 use Rattle.cell_commit.specs.Seals.{seal_table}
 use Rattle.cell_machine.specs.declared.machine.Machine.{Machine}
-use Rattle.cell_machine.specs.declared.staged.Staged.{Staged}
 use Rattle.cell_machine.specs.Machine.{IsSound, cells_of, field_bytes, keys_of, world_of}
-use Rattle.cell_machine.specs.Staged.{IsStaged}
-use Rattle.cell_system.specs.Adding.{IsReadyToAdd, IsSame}
+use Rattle.cell_machine.specs.Same.{IsSame}
 
 module _ (old new : Machine) (same : IsSame old new) where
-  abbrev world_by : MemoryState → List Namespace → List NewCell → List LinkRow → ℕ → World
-  world_by memory namespaces cells rows next =
+  abbrev world_by : MemoryState → List Namespace → List NewCell → List LinkRow → ℕ → TasksState → World
+  world_by memory namespaces cells rows next tasks =
       record {
         base = memory.base;
         pages = memory.pages;
@@ -26,19 +25,20 @@ module _ (old new : Machine) (same : IsSame old new) where
         cells = cells_of cells;
         links = rows;
         regions = memory.regions;
-        tasks = [];
+        tasks = tasks.tasks;
         next_cell = next;
-        next_task = 1;
+        next_task = tasks.next;
         swaps = 0;
       }
 
   pub world_same : world_of new ≡ world_of old
   world_same =
-      ap (λ (m : MemoryState). world_by m new.spaces.namespaces new.cells.items new.graph.rows new.next) same.memory
-      ∙ (ap (λ (spaces : List Namespace). world_by old.memory spaces new.cells.items new.graph.rows new.next) same.namespaces
-      ∙ (ap (λ (cells : List NewCell). world_by old.memory old.spaces.namespaces cells new.graph.rows new.next) same.cells
-      ∙ (ap (λ (rows : List LinkRow). world_by old.memory old.spaces.namespaces old.cells.items rows new.next) same.rows
-      ∙ ap (λ (n : ℕ). world_by old.memory old.spaces.namespaces old.cells.items old.graph.rows n) same.next)))
+      ap (λ (m : MemoryState). world_by m new.spaces.namespaces new.cells.items new.graph.rows new.next new.tasks) same.memory
+      ∙ (ap (λ (spaces : List Namespace). world_by old.memory spaces new.cells.items new.graph.rows new.next new.tasks) same.namespaces
+      ∙ (ap (λ (cells : List NewCell). world_by old.memory old.spaces.namespaces cells new.graph.rows new.next new.tasks) same.cells
+      ∙ (ap (λ (rows : List LinkRow). world_by old.memory old.spaces.namespaces old.cells.items rows new.next new.tasks) same.rows
+      ∙ (ap (λ (n : ℕ). world_by old.memory old.spaces.namespaces old.cells.items old.graph.rows n new.tasks) same.next
+      ∙ ap (λ (tasks : TasksState). world_by old.memory old.spaces.namespaces old.cells.items old.graph.rows old.next tasks) same.tasks))))
 
   pub regions_same : length new.memory.regions ≡ length old.memory.regions
   regions_same = ap (λ (m : MemoryState). length m.regions) same.memory
@@ -64,14 +64,4 @@ module _ (old new : Machine) (same : IsSame old new) where
     undo = ap (λ (m : MemoryState). m.writes_left) same.memory ∙ s.undo;
     patches = subst (λ (m : MemoryState). m.patches ≤ 2 ^ 64 - 1) (sym same.memory) s.patches;
     maps = subst (λ (m : MemoryState). m.maps ≤ 2 ^ 64 - 1) (sym same.memory) s.maps;
-  }
-
-  pub ready_same : (s : Staged) → IsReadyToAdd old s → IsReadyToAdd new s
-  ready_same s r = record {
-    sound = sound_same r.sound;
-    sources = r.sources;
-    files = r.files;
-    ns = r.ns;
-    stem = r.stem;
-    staged = subst (λ (w : World). IsStaged r.sources w r.ns r.stem s) (sym world_same) r.staged;
   }

@@ -1,7 +1,7 @@
 -- A machine to which nothing was done.
 use Rattle.std.proofs.Common.{refl}
 use Rattle.cell_machine.specs.declared.machine.Machine.{Machine}
-use Rattle.cell_system.specs.Adding.{IsSame}
+use Rattle.cell_machine.specs.Same.{IsSame}
 
 pub same_itself : (m : Machine) → IsSame m m
 same_itself m = record {
@@ -14,4 +14,5 @@ same_itself m = record {
   memory = refl;
   sections = refl;
   rows = refl;
+  tasks = refl;
 }

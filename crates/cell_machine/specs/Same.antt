@@ -1,0 +1,22 @@
+-- Machines that differ in spare room alone, and counts.
+--     IsSame old new          the same machine, with other room
+--     raised count n          a count after n more
+use Rattle.std.specs.Prelude.{ℕ, ◌≡◌, ◌+◌, ◌-◌, ◌^◌, min}
+use Rattle.cell_machine.specs.declared.machine.Machine.{Machine}
+
+-- the same but for the room that is reserved
+pub record IsSame (old new : Machine) : Type 0 where
+  pub cells : new.cells.items ≡ old.cells.items
+  pub next : new.next ≡ old.next
+  pub namespaces : new.spaces.namespaces ≡ old.spaces.namespaces
+  pub known : new.spaces.cells ≡ old.spaces.cells
+  pub space : new.space ≡ old.space
+  pub spare : ℕ
+  pub memory : new.memory ≡ record old.memory { spare = spare }
+  pub sections : new.graph.sections ≡ old.graph.sections
+  pub rows : new.graph.rows ≡ old.graph.rows
+  pub tasks : new.tasks ≡ old.tasks
+
+-- a count that stands still at the last value of 64 bits
+abbrev pub raised : ℕ → ℕ → ℕ
+raised count n = min (count + n) (2 ^ 64 - 1)

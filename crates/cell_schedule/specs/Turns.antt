@@ -1,0 +1,32 @@
+-- What turns of a task make of the machine.
+--     HasTurned old t answer ..     one turn
+--     HasRun old ran ..             many
+use Rattle.std.specs.Prelude.{ℕ, ◌≡◌, ◌≤◌, List, ◌++◌, length}
+use Rattle.cell_world.specs.declared.reply.TaskRun.{TaskRun}
+use Rattle.cell_world.specs.declared.reply.TaskState.{TaskState}
+use Rattle.cell_world.specs.Turn.{Ran, Turned, turn}
+use Rattle.cell_world.specs.World.{Task}
+use Rattle.cell_task.specs.declared.turned.Turned.{Turned as Answer}
+use Rattle.cell_task.specs.Turns.{answer_of}
+use Rattle.cell_machine.specs.declared.machine.Machine.{Machine}
+use Rattle.cell_machine.specs.Machine.{IsSound, world_of}
+
+-- no turn patches a field or maps a region
+pub record IsCounted (old new : Machine) : Type 0 where
+  pub patches : new.memory.patches ≡ old.memory.patches
+  pub maps : new.memory.maps ≡ old.memory.maps
+  pub regions : length new.memory.regions ≤ length old.memory.regions
+
+-- machine `old` and output `out` have become `new` and out'
+pub record HasTurned (old : Machine) (t : Task) (out : List ℕ) (answer : Answer) (new : Machine) (out' : List ℕ) : Type 0 where
+  pub sound : IsSound new
+  pub counted : IsCounted old new
+  pub answered : answer ≡ answer_of (turn (world_of old) t)
+  pub world : world_of new ≡ (turn (world_of old) t).world
+  pub put_out : out' ≡ out ++ (turn (world_of old) t).out
+
+pub record HasRun (old : Machine) (ran : Ran) (run : TaskRun) (new : Machine) : Type 0 where
+  pub sound : IsSound new
+  pub counted : IsCounted old new
+  pub world : world_of new ≡ ran.world
+  pub is : run ≡ ran.run

@@ -1,0 +1,24 @@
+//! `kill`
+
+ghost use Rattle.cell_machine.specs.Machine.{IsSound, world_of};
+ghost use Rattle.cell_world.specs.TaskCommands.{next_kill};
+ghost use Rattle.cell_schedule.specs.Does.{Does};
+
+use crate::live::live;
+use crate::stack::give_back;
+use cell_gather::LoadFail;
+use cell_machine::Machine;
+use cell_world::Reply;
+use std::alloc::Global;
+
+/// Ends a live task. Its stack is given back at once.
+pub fn kill(alloc: Global, machine: &mut Machine, task: u32) -> Result<Reply, LoadFail>
+    requires { IsSound machine.old }
+    ensures { Does (next_kill (world_of machine.old) task) machine.old result machine.new }
+{
+    live(alloc, machine, task)?;
+    let stack = machine.tasks.kill(task);
+    machine.memory.unmap(stack);
+    give_back(&mut machine.space, stack);
+    Ok(Reply::Kill { task })
+}

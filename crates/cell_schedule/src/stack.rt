@@ -1,0 +1,20 @@
+//! The pages of stacks.
+
+ghost use Rattle.std.specs.Prelude.{◌≡◌, ◌+◌, ◌*◌, ◌-◌, ◌/◌, ◌≤◌, true, false};
+ghost use Rattle.cell_world.specs.Pages.{is_taken_run};
+ghost use Rattle.cell_place.specs.Space.{with_run};
+
+use cell_place::{Run, Space};
+
+/// The pages of a stack.
+pub const STACK_PAGES: u32 = 4;
+
+/// Gives the pages of the stack that begins there back.
+pub fn give_back(space: &mut Space, stack: u64)
+{
+    let page = ((stack - space.base()) / 4096) as u32;
+    space.give(Run {
+        page,
+        count: STACK_PAGES,
+    });
+}
