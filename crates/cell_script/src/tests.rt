@@ -163,13 +163,9 @@ fn argument_in(rt: &HostRuntime, text: &[u8]) -> Option<u64>
     requires { length text.now < 2 ^ 32 }
 {
     let script = read_script(rt.alloc(), text).ok()?;
-    match script.as_slice() {
-        [
-            Line {
-                number: 1,
-                command: Command::Spawn { arg, .. },
-            },
-        ] => Some(*arg),
+    let line = script.as_slice().first()?;
+    match &line.command {
+        Command::Spawn { arg, .. } => Some(*arg),
         _ => None,
     }
 }
