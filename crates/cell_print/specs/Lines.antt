@@ -1,60 +1,30 @@
 -- The lines that a run writes for an answer.
 --     lines_of n answer      the lines of the answer to the command of line n
-use Rattle.std.specs.Prelude.{◌≡◌, ℕ, zero, suc, ◌+◌, ◌/◌, ◌%◌, ◌^◌, List, [], ◌∷◌, ◌++◌, length, take, drop, Option, Some, None, Result, Ok, Err, codes, ◌==◌, if◌then◌else◌}
+--     reply_lines, refusal_line    those of a command that was done, and of one that was refused
+--     run_lines start run    what a task did, and what it put out
+use Rattle.std.specs.Prelude.{◌≡◌, ℕ, zero, suc, ◌+◌, ◌/◌, ◌%◌, ◌^◌, List, [], ◌∷◌, ◌++◌, length, take, drop, Option, Some, None, Result, Ok, Err, codes, ◌==◌, ◌&&◌, Bool, not, nat_le, if◌then◌else◌}
 use Rattle.std.specs.List.{concat, flat_map}
 use Rattle.std.specs.Fmt.{decimal}
+use Rattle.cell_num.specs.declared.ids.Cause.{Cause}
 use Rattle.cell_num.specs.declared.ids.CellId.{CellId}
 use Rattle.cell_num.specs.declared.ids.SecKey.{SecKey}
-use Rattle.cell_num.specs.declared.kinds.RelKind.{RelKind}
-use Rattle.cell_num.specs.declared.kinds.RelKind.TheVariants.{Abs32, Abs64, Branch, Jal, Call, CallPlt, GotHi20, PcrelHi20, PcrelLo12I, PcrelLo12S, Hi20, Lo12I, Lo12S, Add8, Add16, Add32, Add64, Sub8, Sub16, Sub32, Sub64, Sub6, Set6, Set8, Set16, Set32, Pcrel32}
 use Rattle.cell_text.specs.Number.{hex, hex_byte}
 use Rattle.cell_world.specs.declared.reply.Found.{Found}
 use Rattle.cell_world.specs.declared.reply.MapCell.{MapCell}
 use Rattle.cell_world.specs.declared.reply.MapSection.{MapSection}
 use Rattle.cell_world.specs.declared.reply.Reply.{Reply}
-use Rattle.cell_world.specs.declared.reply.Reply.TheVariants.{Ns, Load, Find, Map, Dump}
-use Rattle.cell_world.specs.declared.refusal.Many.{Many}
-use Rattle.cell_world.specs.declared.refusal.Many.TheVariants.{Namespaces, Cells, CellNumbers}
+use Rattle.cell_world.specs.declared.reply.Reply.TheVariants.{Ns, Load, Spawn, Step, Run, Kill, Tasks, Find, Map, Dump}
+use Rattle.cell_world.specs.declared.reply.TaskLine.{TaskLine}
+use Rattle.cell_world.specs.declared.reply.TaskRun.{TaskRun}
+use Rattle.cell_world.specs.declared.reply.TaskState.{TaskState}
+use Rattle.cell_world.specs.declared.reply.TaskState.TheVariants.{Ready, Done, Fault}
 use Rattle.cell_world.specs.declared.refusal.Refusal.{Refusal}
-use Rattle.cell_world.specs.declared.refusal.Refusal.TheVariants.{Unknown, NameTaken, TooMany, NoObject, Ambiguous, BadObject, Duplicate, Missing, Exhausted, Overflow}
+use Rattle.cell_world.specs.declared.refusal.Refusal.TheVariants.{Unknown, NameTaken, NotRunnable, TooMany, NoObject, Ambiguous, BadObject, Duplicate, Missing, NoEntry, Exhausted, Overflow}
+use Rattle.cell_print.specs.Words.{many_word, kind_word, cause_word}
 
 -- the parts of a line, and a line feed
 abbrev pub line : List (List ℕ) → List ℕ
 line parts = concat parts ++ 10 ∷ []
-
-abbrev pub many_word : Many → List ℕ
-many_word Namespaces = codes "namespaces"
-many_word Cells = codes "cells"
-many_word CellNumbers = codes "cell-numbers"
-
-abbrev pub kind_word : RelKind → List ℕ
-kind_word Abs32 = codes "32"
-kind_word Abs64 = codes "64"
-kind_word Branch = codes "BRANCH"
-kind_word Jal = codes "JAL"
-kind_word Call = codes "CALL"
-kind_word CallPlt = codes "CALL_PLT"
-kind_word GotHi20 = codes "GOT_HI20"
-kind_word PcrelHi20 = codes "PCREL_HI20"
-kind_word PcrelLo12I = codes "PCREL_LO12_I"
-kind_word PcrelLo12S = codes "PCREL_LO12_S"
-kind_word Hi20 = codes "HI20"
-kind_word Lo12I = codes "LO12_I"
-kind_word Lo12S = codes "LO12_S"
-kind_word Add8 = codes "ADD8"
-kind_word Add16 = codes "ADD16"
-kind_word Add32 = codes "ADD32"
-kind_word Add64 = codes "ADD64"
-kind_word Sub8 = codes "SUB8"
-kind_word Sub16 = codes "SUB16"
-kind_word Sub32 = codes "SUB32"
-kind_word Sub64 = codes "SUB64"
-kind_word Sub6 = codes "SUB6"
-kind_word Set6 = codes "SET6"
-kind_word Set8 = codes "SET8"
-kind_word Set16 = codes "SET16"
-kind_word Set32 = codes "SET32"
-kind_word Pcrel32 = codes "32_PCREL"
 
 -- the cells, each with a space before it, or a dash where there is none
 abbrev pub cell_word : CellId → List ℕ
@@ -108,9 +78,48 @@ cell_line c =
 abbrev pub cell_lines : MapCell → List ℕ
 cell_lines c = cell_line c ++ flat_map section_line c.sections
 
+-- how a task stands after its turns
+abbrev pub state_word : TaskState → List ℕ
+state_word Ready = codes "ready"
+state_word (Done code) = codes "done " ++ decimal code
+state_word (Fault cause at) = concat (codes "fault " ∷ cause_word cause ∷ codes " at " ∷ hex at ∷ [])
+
+-- 0x20 to 0x7E, but the backslash
+abbrev pub is_plain : ℕ → Bool
+is_plain b = nat_le 32 b && nat_le b 126 && not (b == 92)
+
+-- a plain byte as it is, and each other one as a backslash, x and two digits
+abbrev pub escaped : ℕ → List ℕ
+escaped b = if is_plain b then b ∷ [] else 92 ∷ 120 ∷ hex_byte b
+
+-- what a task put out, where it did
+abbrev pub out_lines : ℕ → List ℕ → List ℕ
+out_lines task out = if length out == 0 then [] else line (codes "  out t" ∷ decimal task ∷ codes " " ∷ flat_map escaped out ∷ [])
+
+-- what a task did, behind the words that begin the line
+abbrev pub turns_line : List ℕ → TaskRun → List ℕ
+turns_line start r = line (start ∷ decimal r.task ∷ codes " turns " ∷ decimal r.turns ∷ codes " " ∷ state_word r.state ∷ [])
+
+-- that line, and what the task put out
+abbrev pub run_lines : List ℕ → TaskRun → List ℕ
+run_lines start r = turns_line start r ++ out_lines r.task r.out
+
+-- how a live task stands
+abbrev pub live_word : Option Cause → ℕ → List ℕ
+live_word None pc = codes "ready pc " ++ hex pc
+live_word (Some cause) pc = state_word (Fault cause pc)
+
+abbrev pub task_line : TaskLine → List ℕ
+task_line t = line (codes "  t" ∷ decimal t.task ∷ codes " " ∷ live_word t.fault t.pc ∷ codes " root #" ∷ decimal t.root.0 ∷ [])
+
 abbrev pub reply_lines : ℕ → Reply → List ℕ
 reply_lines n (Ns name) = line (decimal n ∷ codes " ok ns " ∷ name ∷ [])
 reply_lines n (Load fresh patched) = line (decimal n ∷ codes " ok load" ∷ cells_word fresh ∷ codes " patched " ∷ decimal patched ∷ [])
+reply_lines n (Spawn task pc) = line (decimal n ∷ codes " ok spawn t" ∷ decimal task ∷ codes " pc " ∷ hex pc ∷ [])
+reply_lines n (Step run) = run_lines (decimal n ++ codes " ok step t") run
+reply_lines n (Run runs) = line (decimal n ∷ codes " ok run" ∷ []) ++ flat_map (run_lines (codes "  t")) runs
+reply_lines n (Kill task) = line (decimal n ∷ codes " ok kill t" ∷ decimal task ∷ [])
+reply_lines n (Tasks tasks) = line (decimal n ∷ codes " ok tasks" ∷ []) ++ flat_map task_line tasks
 reply_lines n (Find found) = line (decimal n ∷ codes " ok find " ∷ found_word found ∷ [])
 reply_lines n (Map cells) = line (decimal n ∷ codes " ok map" ∷ []) ++ flat_map cell_lines cells
 reply_lines n (Dump key start bytes) = line (decimal n ∷ codes " ok dump " ∷ key_word key ∷ []) ++ rows start bytes
@@ -118,6 +127,8 @@ reply_lines n (Dump key start bytes) = line (decimal n ∷ codes " ok dump " ∷
 abbrev pub refusal_line : ℕ → Refusal → List ℕ
 refusal_line n (Unknown word) = line (decimal n ∷ codes " E1 unknown " ∷ word ∷ [])
 refusal_line n (NameTaken word) = line (decimal n ∷ codes " E2 taken " ∷ word ∷ [])
+refusal_line n (NotRunnable task cause pc) =
+    line (decimal n ∷ codes " E3 faulted t" ∷ decimal task ∷ codes " " ∷ cause_word cause ∷ codes " " ∷ hex pc ∷ [])
 refusal_line n (TooMany kind limit) = line (decimal n ∷ codes " E4 too-many " ∷ many_word kind ∷ codes " " ∷ decimal limit ∷ [])
 refusal_line n (NoObject stem) = line (decimal n ∷ codes " E5 no-object " ∷ stem ∷ [])
 refusal_line n (Ambiguous one two) = line (decimal n ∷ codes " E6 ambiguous " ∷ one ∷ codes " " ∷ two ∷ [])
@@ -125,6 +136,7 @@ refusal_line n (BadObject file rule at) =
     line (decimal n ∷ codes " E7 object " ∷ file ∷ codes " rule " ∷ decimal rule ∷ codes " at " ∷ decimal at ∷ [])
 refusal_line n (Duplicate name holder) = line (decimal n ∷ codes " E8 duplicate " ∷ name ∷ codes " #" ∷ decimal holder.0 ∷ [])
 refusal_line n (Missing name needed_by) = line (decimal n ∷ codes " E9 missing " ∷ name ∷ codes " #" ∷ decimal needed_by.0 ∷ [])
+refusal_line n (NoEntry name) = line (decimal n ∷ codes " E10 no-entry " ∷ name ∷ [])
 refusal_line n (Exhausted wanted largest) =
     line (decimal n ∷ codes " E11 exhausted " ∷ decimal wanted ∷ codes " " ∷ decimal largest ∷ [])
 refusal_line n (Overflow cell section offset kind) =

@@ -5,6 +5,8 @@ mod line;
 mod map;
 mod refusal;
 mod reply;
+mod tasks;
+mod word;
 
 pub use line::put_line;
 pub use refusal::put_refusal;

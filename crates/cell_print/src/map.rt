@@ -2,11 +2,11 @@
 
 ghost use Rattle.std.specs.Prelude.{◌≡◌, ◌++◌, IfOk, OnOk};
 ghost use Rattle.std.specs.List.{flat_map};
-ghost use Rattle.cell_text.specs.Number.{hex};
 ghost use Rattle.cell_print.specs.Lines.{permission_word, section_line, standing_word, cell_line, cell_lines, Extends};
 
 use crate::put_line;
-use cell_text::{put_dec, put_hex};
+use crate::word::hex_word;
+use cell_text::put_dec;
 use cell_world::{MapCell, MapSection};
 use itoa::Buffer;
 use std::alloc::{AllocError, Global};
@@ -111,12 +111,4 @@ fn permission_word(section: MapSection) -> &'static [u8]
     } else {
         b"ro"
     }
-}
-
-fn hex_word(alloc: Global, value: u64) -> Result<Vec<u8>, AllocError>
-    ensures { IfOk result (λ word. word.items ≡ hex value) }
-{
-    let mut word = Vec::new(alloc);
-    put_hex(value, &mut word)?;
-    Ok(word)
 }

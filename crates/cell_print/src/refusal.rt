@@ -1,11 +1,13 @@
 //! Lines of refusals.
 
 ghost use Rattle.std.specs.Prelude.{◌≡◌, ◌++◌, Err, OnOk};
-ghost use Rattle.cell_world.specs.declared.refusal.Refusal.TheVariants.{BadObject, Overflow};
-ghost use Rattle.cell_print.specs.Lines.{many_word, kind_word, refusal_line, lines_of, Extends};
+ghost use Rattle.cell_world.specs.declared.refusal.Refusal.TheVariants.{NotRunnable, BadObject, Overflow};
+ghost use Rattle.cell_print.specs.Lines.{refusal_line, lines_of, Extends};
+ghost use Rattle.cell_print.specs.Words.{many_word, kind_word};
 
 use crate::put_line;
-use cell_num::{CellId, Name, RelKind};
+use crate::word::{cause_word, hex_word};
+use cell_num::{Cause, CellId, Name, RelKind};
 use cell_text::put_hex;
 use cell_world::{Many, Refusal};
 use itoa::Buffer;
@@ -21,6 +23,9 @@ pub fn put_refusal(line: u32, refusal: &Refusal, into: &mut Vec<u8>) -> Result<(
     match refusal {
         Refusal::Unknown { word } => put_line(&[number, b" E1 unknown ", word.bytes()], into),
         Refusal::NameTaken { word } => put_line(&[number, b" E2 taken ", word.bytes()], into),
+        Refusal::NotRunnable { task, cause, pc } => {
+            put_not_runnable(line, *task, *cause, *pc, into)
+        }
         Refusal::TooMany { kind, limit } => {
             let mut most = Buffer::new();
             let most = most.format(*limit).as_bytes();
@@ -50,6 +55,7 @@ pub fn put_refusal(line: u32, refusal: &Refusal, into: &mut Vec<u8>) -> Result<(
             let cell = cell.format(needed_by.0).as_bytes();
             put_line(&[number, b" E9 missing ", name.bytes(), b" #", cell], into)
         }
+        Refusal::NoEntry { name } => put_line(&[number, b" E10 no-entry ", name.bytes()], into),
         Refusal::Exhausted { wanted, largest } => {
             let mut pages = Buffer::new();
             let pages = pages.format(*wanted).as_bytes();
@@ -64,6 +70,36 @@ pub fn put_refusal(line: u32, refusal: &Refusal, into: &mut Vec<u8>) -> Result<(
             kind,
         } => put_overflow(line, *cell, *section, *offset, *kind, into),
     }
+}
+
+/// Appends the line of a refusal for a task that faulted.
+fn put_not_runnable(
+    line: u32,
+    task: u32,
+    cause: Cause,
+    pc: u64,
+    into: &mut Vec<u8>,
+) -> Result<(), AllocError>
+    ensures ok { OnOk result (into.new.items ≡ into.old.items ++ refusal_line line (NotRunnable task cause pc)) }
+    ensures extends { Extends into.old.items into.new.items }
+{
+    let mut number = Buffer::new();
+    let number = number.format(line).as_bytes();
+    let mut of_task = Buffer::new();
+    let of_task = of_task.format(task).as_bytes();
+    let place = hex_word(*into.allocator(), pc)?;
+    put_line(
+        &[
+            number,
+            b" E3 faulted t",
+            of_task,
+            b" ",
+            cause_word(cause),
+            b" ",
+            place.as_slice(),
+        ],
+        into,
+    )
 }
 
 /// Appends the line of a refusal for a file that breaks a rule.
@@ -141,6 +177,8 @@ fn many_word(kind: Many) -> &'static [u8]
         Many::Namespaces => b"namespaces",
         Many::Cells => b"cells",
         Many::CellNumbers => b"cell-numbers",
+        Many::Tasks => b"tasks",
+        Many::TaskNumbers => b"task-numbers",
     }
 }
 

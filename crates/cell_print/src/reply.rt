@@ -1,13 +1,16 @@
 //! Lines of replies.
 
 ghost use Rattle.std.specs.Prelude.{◌≡◌, ◌++◌, ◌≤◌, Ok, length, IfOk, OnOk};
-ghost use Rattle.cell_print.specs.Lines.{cells_word, found_word, key_word, row, rows, lines_of, Extends};
+ghost use Rattle.cell_world.specs.declared.reply.Reply.TheVariants.{Spawn, Step, Kill};
+ghost use Rattle.cell_print.specs.Lines.{reply_lines, cells_word, found_word, key_word, row, rows, lines_of, Extends};
 
 use crate::map::put_cells;
 use crate::put_line;
+use crate::tasks::{put_run, put_runs, put_tasks};
+use crate::word::hex_word;
 use cell_num::{CellId, SecKey};
 use cell_text::{put_dec, put_hex, put_hex_byte};
-use cell_world::{Found, Reply};
+use cell_world::{Found, Reply, TaskRun};
 use itoa::Buffer;
 use std::alloc::{AllocError, Global};
 
@@ -29,6 +32,17 @@ pub fn put_reply(line: u32, reply: &Reply, into: &mut Vec<u8>) -> Result<(), All
                 into,
             )
         }
+        Reply::Spawn { task, pc } => put_spawn(line, *task, *pc, into),
+        Reply::Step { run } => put_step(line, run, into),
+        Reply::Run { runs } => {
+            put_line(&[number, b" ok run"], into)?;
+            put_runs(runs.as_slice(), into)
+        }
+        Reply::Kill { task } => put_kill(line, *task, into),
+        Reply::Tasks { tasks } => {
+            put_line(&[number, b" ok tasks"], into)?;
+            put_tasks(tasks.as_slice(), into)
+        }
         Reply::Find { found } => {
             let place = found_word(*into.allocator(), *found)?;
             put_line(&[number, b" ok find ", place.as_slice()], into)
@@ -43,6 +57,45 @@ pub fn put_reply(line: u32, reply: &Reply, into: &mut Vec<u8>) -> Result<(), All
             put_rows(*start, bytes.as_slice(), into)
         }
     }
+}
+
+/// Appends the line of a new task.
+fn put_spawn(line: u32, task: u32, pc: u64, into: &mut Vec<u8>) -> Result<(), AllocError>
+    ensures ok { OnOk result (into.new.items ≡ into.old.items ++ reply_lines line (Spawn task pc)) }
+    ensures extends { Extends into.old.items into.new.items }
+{
+    let mut number = Buffer::new();
+    let number = number.format(line).as_bytes();
+    let mut of_task = Buffer::new();
+    let of_task = of_task.format(task).as_bytes();
+    let place = hex_word(*into.allocator(), pc)?;
+    put_line(
+        &[number, b" ok spawn t", of_task, b" pc ", place.as_slice()],
+        into,
+    )
+}
+
+/// Appends what a task did that was given turns.
+fn put_step(line: u32, run: &TaskRun, into: &mut Vec<u8>) -> Result<(), AllocError>
+    ensures ok { OnOk result (into.new.items ≡ into.old.items ++ reply_lines line (Step run.now)) }
+    ensures extends { Extends into.old.items into.new.items }
+{
+    let mut start = Vec::new(*into.allocator());
+    put_dec(u64::from(line), &mut start)?;
+    start.extend_from_slice(b" ok step t")?;
+    put_run(start.as_slice(), run, into)
+}
+
+/// Appends the line of a task that was ended.
+fn put_kill(line: u32, task: u32, into: &mut Vec<u8>) -> Result<(), AllocError>
+    ensures ok { OnOk result (into.new.items ≡ into.old.items ++ reply_lines line (Kill task)) }
+    ensures extends { Extends into.old.items into.new.items }
+{
+    let mut number = Buffer::new();
+    let number = number.format(line).as_bytes();
+    let mut of_task = Buffer::new();
+    let of_task = of_task.format(task).as_bytes();
+    put_line(&[number, b" ok kill t", of_task], into)
 }
 
 /// The cells, each with a space before it, or a dash where there is none.

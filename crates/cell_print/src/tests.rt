@@ -1,6 +1,6 @@
 use super::*;
-use cell_num::{Bytes, CellId, Listed, Name, RelKind, SecKey};
-use cell_world::{Found, Many, MapCell, MapSection, Refusal, Reply};
+use cell_num::{Bytes, Cause, CellId, Listed, Name, RelKind, SecKey};
+use cell_world::{Found, Many, MapCell, MapSection, Refusal, Reply, TaskLine, TaskRun, TaskState};
 use std::alloc::{AllocError, Global};
 use std::test::*;
 
@@ -151,26 +151,17 @@ fn refusals_of_words(rt: HostRuntime) -> Result<(), Fail> {
     let duplicate = line_of(alloc, &Refusal::Duplicate { name, holder })?;
     assert!(rt; duplicate.as_slice() == b"7 E8 duplicate a #3\n".as_slice());
     let needed_by = CellId(4);
-    let missing = line_of(alloc, &Refusal::Missing { name: a, needed_by })?;
+    let name = a.copy(alloc)?;
+    let missing = line_of(alloc, &Refusal::Missing { name, needed_by })?;
     assert!(rt; missing.as_slice() == b"7 E9 missing a #4\n".as_slice());
+    let no_entry = line_of(alloc, &Refusal::NoEntry { name: a })?;
+    assert!(rt; no_entry.as_slice() == b"7 E10 no-entry a\n".as_slice());
     Ok(())
 }
 
 #[test]
 fn refusals_of_numbers(rt: HostRuntime) -> Result<(), Fail> {
     let alloc = rt.alloc();
-    let too_many = Refusal::TooMany {
-        kind: Many::CellNumbers,
-        limit: 65535,
-    };
-    let too_many = line_of(alloc, &too_many)?;
-    assert!(rt; too_many.as_slice() == b"7 E4 too-many cell-numbers 65535\n".as_slice());
-    let too_many = Refusal::TooMany {
-        kind: Many::Namespaces,
-        limit: 256,
-    };
-    let too_many = line_of(alloc, &too_many)?;
-    assert!(rt; too_many.as_slice() == b"7 E4 too-many namespaces 256\n".as_slice());
     let bad_object = Refusal::BadObject {
         file: Name::of(alloc, b"a")?,
         rule: 20,
@@ -192,5 +183,165 @@ fn refusals_of_numbers(rt: HostRuntime) -> Result<(), Fail> {
     };
     let overflow = line_of(alloc, &overflow)?;
     assert!(rt; overflow.as_slice() == b"7 E12 overflow #3.1+1c CALL_PLT\n".as_slice());
+    Ok(())
+}
+
+#[test]
+fn refusals_of_too_many(rt: HostRuntime) -> Result<(), Fail> {
+    for (kind, limit, want) in [
+        (
+            Many::Namespaces,
+            256,
+            b"7 E4 too-many namespaces 256\n".as_slice(),
+        ),
+        (Many::Cells, 1024, b"7 E4 too-many cells 1024\n"),
+        (
+            Many::CellNumbers,
+            65535,
+            b"7 E4 too-many cell-numbers 65535\n",
+        ),
+        (Many::Tasks, 64, b"7 E4 too-many tasks 64\n"),
+        (
+            Many::TaskNumbers,
+            65535,
+            b"7 E4 too-many task-numbers 65535\n",
+        ),
+    ] {
+        let line = line_of(rt.alloc(), &Refusal::TooMany { kind, limit })?;
+        assert!(rt; line.as_slice() == want);
+    }
+    Ok(())
+}
+
+#[test]
+fn refusals_of_faulted_tasks(rt: HostRuntime) -> Result<(), Fail> {
+    for (cause, want) in [
+        (
+            Cause::Fetch,
+            b"7 E3 faulted t12 fetch 10000a1c\n".as_slice(),
+        ),
+        (Cause::Jump, b"7 E3 faulted t12 jump 10000a1c\n"),
+        (Cause::Illegal, b"7 E3 faulted t12 illegal 10000a1c\n"),
+        (Cause::Break, b"7 E3 faulted t12 break 10000a1c\n"),
+        (Cause::LoadAlign, b"7 E3 faulted t12 load-align 10000a1c\n"),
+        (Cause::Load, b"7 E3 faulted t12 load 10000a1c\n"),
+        (
+            Cause::StoreAlign,
+            b"7 E3 faulted t12 store-align 10000a1c\n",
+        ),
+        (Cause::Store, b"7 E3 faulted t12 store 10000a1c\n"),
+        (Cause::Call, b"7 E3 faulted t12 call 10000a1c\n"),
+    ] {
+        let refusal = Refusal::NotRunnable {
+            task: 12,
+            cause,
+            pc: 0x1000_0a1c,
+        };
+        let line = line_of(rt.alloc(), &refusal)?;
+        assert!(rt; line.as_slice() == want);
+    }
+    Ok(())
+}
+
+#[test]
+fn spawns_and_kills(rt: HostRuntime) -> Result<(), Fail> {
+    let alloc = rt.alloc();
+    let spawn = Reply::Spawn {
+        task: 65535,
+        pc: 0x1000_00ac,
+    };
+    let spawn = lines_of(alloc, &spawn)?;
+    assert!(rt; spawn.as_slice() == b"9 ok spawn t65535 pc 100000ac\n".as_slice());
+    let kill = lines_of(alloc, &Reply::Kill { task: 10 })?;
+    assert!(rt; kill.as_slice() == b"9 ok kill t10\n".as_slice());
+    Ok(())
+}
+
+/// What task 10 did in 31 turns.
+fn run(alloc: Global, state: TaskState, out: &[u8]) -> Result<TaskRun, AllocError> {
+    let out = Bytes::from_vec(Vec::from_slice(alloc, out)?);
+    Ok(TaskRun {
+        task: 10,
+        turns: 31,
+        state,
+        out,
+    })
+}
+
+#[test]
+fn steps(rt: HostRuntime) -> Result<(), Fail> {
+    let alloc = rt.alloc();
+    for (state, out, want) in [
+        (
+            TaskState::Ready,
+            b"".as_slice(),
+            b"9 ok step t10 turns 31 ready\n".as_slice(),
+        ),
+        (
+            TaskState::Done(u64::MAX),
+            b"",
+            b"9 ok step t10 turns 31 done 18446744073709551615\n",
+        ),
+        (
+            TaskState::Fault(Cause::StoreAlign, 0x1000_000c),
+            b"x",
+            b"9 ok step t10 turns 31 fault store-align at 1000000c\n  out t10 x\n",
+        ),
+        (
+            TaskState::Ready,
+            b"\x00\n\x1f !\\~\x7f\x80\xff0",
+            b"9 ok step t10 turns 31 ready\n  out t10 \\x00\\x0a\\x1f !\\x5c~\\x7f\\x80\\xff0\n",
+        ),
+    ] {
+        let run = run(alloc, state, out)?;
+        let lines = lines_of(alloc, &Reply::Step { run })?;
+        assert!(rt; lines.as_slice() == want);
+    }
+    Ok(())
+}
+
+#[test]
+fn runs(rt: HostRuntime) -> Result<(), Fail> {
+    let alloc = rt.alloc();
+    let mut runs = Vec::new(alloc);
+    runs.push(run(alloc, TaskState::Ready, b"A b")?)?;
+    runs.push(run(alloc, TaskState::Fault(Cause::Call, 0), b"")?)?;
+    runs.push(run(alloc, TaskState::Done(0), b"\n")?)?;
+    let runs = Listed::from_vec(runs);
+    let lines = lines_of(alloc, &Reply::Run { runs })?;
+    let want =
+        b"9 ok run\n  t10 turns 31 ready\n  out t10 A b\n  t10 turns 31 fault call at 0\n  t10 turns 31 done 0\n  out t10 \\x0a\n";
+    assert!(rt; lines.as_slice() == want.as_slice());
+    let runs = Listed::from_vec(Vec::new(alloc));
+    let none = lines_of(alloc, &Reply::Run { runs })?;
+    assert!(rt; none.as_slice() == b"9 ok run\n".as_slice());
+    Ok(())
+}
+
+/// Live task 3 of cell 12.
+fn task(pc: u64, fault: Option<Cause>) -> TaskLine {
+    TaskLine {
+        task: 3,
+        root: CellId(12),
+        pc,
+        fault,
+    }
+}
+
+#[test]
+fn live_tasks(rt: HostRuntime) -> Result<(), Fail> {
+    let alloc = rt.alloc();
+    let tasks = [
+        task(0x1000_00ac, None),
+        task(0x1000_00b0, Some(Cause::LoadAlign)),
+    ];
+    let tasks = Listed::from_vec(Vec::from_slice(alloc, &tasks)?);
+    let lines = lines_of(alloc, &Reply::Tasks { tasks })?;
+    let want =
+        b"9 ok tasks\n  t3 ready pc 100000ac root #12\n  t3 fault load-align at 100000b0 root #12\n";
+    assert!(rt; lines.as_slice() == want.as_slice());
+    let tasks = Listed::from_vec(Vec::new(alloc));
+    let none = lines_of(alloc, &Reply::Tasks { tasks })?;
+    assert!(rt; none.as_slice() == b"9 ok tasks\n".as_slice());
     Ok(())
 }

@@ -1,11 +1,11 @@
 -- The commands of a script. A later command is one more of `forms`.
 --     command_in forms word arguments      the command of these words, if a form has them
-use Rattle.std.specs.Prelude.{ℕ, nat_lt, nat_le, Bool, ◌&&◌, ◌||◌, ◌==◌, List, [], ◌∷◌, length, Option, Some, None, if◌then◌else◌, bytes_eq, codes, option_map, option_and_then}
+use Rattle.std.specs.Prelude.{ℕ, nat_lt, nat_le, Bool, ◌&&◌, ◌||◌, ◌==◌, List, [], ◌∷◌, length, take, drop, Option, Some, None, if◌then◌else◌, bytes_eq, codes, option_map, option_and_then}
 use Rattle.std.specs.List.{list_all}
 use Rattle.cell_num.specs.Lists.{where_true}
-use Rattle.cell_text.specs.Number.{number_in}
+use Rattle.cell_text.specs.Number.{number_in, hex_number_in}
 use Rattle.cell_world.specs.declared.command.Command.{Command}
-use Rattle.cell_world.specs.declared.command.Command.TheVariants.{Ns, Load, Find, Map, Dump}
+use Rattle.cell_world.specs.declared.command.Command.TheVariants.{Ns, Load, Spawn, Step, Run, Kill, Find, Map, Tasks, Dump}
 
 abbrev pub is_name_byte : ℕ → Bool
 is_name_byte b = (nat_le 97 b && nat_le b 122) || (nat_le 48 b && nat_le b 57) || b == 95
@@ -21,7 +21,7 @@ is_symbol_byte b = nat_le 33 b && nat_le b 126
 abbrev pub is_symbol : List ℕ → Bool
 is_symbol word = nat_lt 0 (length word) && nat_le (length word) 1024 && list_all is_symbol_byte word
 
--- what a word says: a name, a symbol, or a decimal number of at most 2^32 - 1
+-- what a word says: a name, a symbol, or a number
 abbrev pub name : List ℕ → Option (List ℕ)
 name word = where_true (is_name word) word
 
@@ -31,15 +31,36 @@ symbol word = where_true (is_symbol word) word
 abbrev pub number : List ℕ → Option ℕ
 number word = number_in 4294967295 word
 
+-- how many turns `step` and `run` may give
+abbrev pub turns_of_step : List ℕ → Option ℕ
+turns_of_step word = number_in 100000 word
+
+abbrev pub turns_of_run : List ℕ → Option ℕ
+turns_of_run word = number_in 10000 word
+
+-- a task's argument, below 2^64: decimal, or hex after 0x
+abbrev pub argument : List ℕ → Option ℕ
+argument word = if bytes_eq (take 2 word) (codes "0x") then hex_number_in (drop 2 word) else number_in 18446744073709551615 word
+
 -- no word, and the command
 abbrev pub alone : Command → List (List ℕ) → Option Command
 alone command [] = Some command
 alone command words = None
 
+-- one word, and the command of what it says
+abbrev pub single : {A : Type 0} → (List ℕ → Option A) → (A → Command) → List (List ℕ) → Option Command
+single said command (a ∷ []) = option_map command (said a)
+single said command words = None
+
 -- two words, and the command of what they say
 abbrev pub both : {A B : Type 0} → (List ℕ → Option A) → (List ℕ → Option B) → (A → B → Command) → List (List ℕ) → Option Command
 both one other command (a ∷ b ∷ []) = option_and_then (λ x. option_map (command x) (other b)) (one a)
 both one other command words = None
+
+-- three words, and the command of what they say
+abbrev pub all_three : {A B C : Type 0} → (List ℕ → Option A) → (List ℕ → Option B) → (List ℕ → Option C) → (A → B → C → Command) → List (List ℕ) → Option Command
+all_three one other last command (a ∷ b ∷ c ∷ []) = option_and_then (λ x. both other last (command x) (b ∷ c ∷ [])) (one a)
+all_three one other last command words = None
 
 -- two words with that one between them, and the command of what the two say
 abbrev pub both_around : {A B : Type 0} → List ℕ → (List ℕ → Option A) → (List ℕ → Option B) → (A → B → Command) → List (List ℕ) → Option Command
@@ -55,8 +76,13 @@ abbrev pub forms : List Form
 forms =
     record { word = codes "ns"; arguments = both_around (codes "under") name name (λ fresh parent. Ns fresh parent) }
     ∷ record { word = codes "load"; arguments = both name name (λ ns stem. Load ns stem) }
+    ∷ record { word = codes "spawn"; arguments = all_three name symbol argument (λ ns what arg. Spawn ns what arg) }
+    ∷ record { word = codes "step"; arguments = both number turns_of_step (λ task turns. Step task turns) }
+    ∷ record { word = codes "run"; arguments = single turns_of_run (λ turns. Run turns) }
+    ∷ record { word = codes "kill"; arguments = single number (λ task. Kill task) }
     ∷ record { word = codes "find"; arguments = both name symbol (λ ns what. Find ns what) }
     ∷ record { word = codes "map"; arguments = alone Map }
+    ∷ record { word = codes "tasks"; arguments = alone Tasks }
     ∷ record { word = codes "dump"; arguments = both number number (λ cell section. Dump cell section) }
     ∷ []
 

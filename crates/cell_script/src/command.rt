@@ -1,13 +1,14 @@
 //! The words of one line.
 
 ghost use Rattle.std.specs.Prelude.{◌≡◌, List, [], ◌∷◌, map, codes, IfOk};
-ghost use Rattle.std.specs.List.{list_all};
-ghost use Rattle.cell_world.specs.declared.command.Command.TheVariants.{Ns, Load, Find, Map, Dump};
-ghost use Rattle.cell_script.specs.Grammar.{is_name, is_name_byte, is_symbol, is_symbol_byte, name, symbol, number, alone, both, both_around, forms, command_in};
+ghost use Rattle.cell_world.specs.declared.command.Command.TheVariants.{Ns, Load, Spawn, Step, Run, Kill, Find, Map, Tasks, Dump};
+ghost use Rattle.cell_script.specs.Grammar.{name, symbol, number, turns_of_step, turns_of_run, argument, alone, single, both, all_three, both_around, forms, command_in};
 ghost use Rattle.cell_script.specs.Script.{is_comment, reading_in};
 
+use crate::words::{
+    is_name, is_symbol, read_argument, read_number, read_turns_of_run, read_turns_of_step,
+};
 use cell_num::Name;
-use cell_text::read_dec;
 use cell_world::Command;
 use std::alloc::{AllocError, Global};
 
@@ -53,10 +54,20 @@ fn read_command(
         read_ns(alloc, arguments)
     } else if word == b"load".as_slice() {
         read_load(alloc, arguments)
+    } else if word == b"spawn".as_slice() {
+        read_spawn(alloc, arguments)
+    } else if word == b"step".as_slice() {
+        Ok(read_step(arguments))
+    } else if word == b"run".as_slice() {
+        Ok(read_run(arguments))
+    } else if word == b"kill".as_slice() {
+        Ok(read_kill(arguments))
     } else if word == b"find".as_slice() {
         read_find(alloc, arguments)
     } else if word == b"map".as_slice() {
         Ok(read_map(arguments))
+    } else if word == b"tasks".as_slice() {
+        Ok(read_tasks(arguments))
     } else if word == b"dump".as_slice() {
         Ok(read_dump(arguments))
     } else {
@@ -94,6 +105,58 @@ fn read_load(alloc: Global, arguments: &[&[u8]]) -> Result<Option<Command>, Allo
     Ok(Some(Command::Load { ns, stem }))
 }
 
+/// `spawn NS SYMBOL ARG`
+fn read_spawn(alloc: Global, arguments: &[&[u8]]) -> Result<Option<Command>, AllocError>
+    ensures { IfOk result (λ command. command ≡ all_three name symbol argument (λ ns what arg. Spawn ns what arg) (map (λ word. word.now) arguments.now)) }
+{
+    let [ns, symbol, arg] = arguments else {
+        return Ok(None);
+    };
+    if !is_name(ns) || !is_symbol(symbol) {
+        return Ok(None);
+    }
+    let Some(arg) = read_argument(arg) else {
+        return Ok(None);
+    };
+    let ns = Name::of(alloc, ns)?;
+    let symbol = Name::of(alloc, symbol)?;
+    Ok(Some(Command::Spawn { ns, symbol, arg }))
+}
+
+/// `step T N`
+fn read_step(arguments: &[&[u8]]) -> Option<Command>
+    ensures { result ≡ both number turns_of_step (λ task turns. Step task turns) (map (λ word. word.now) arguments.now) }
+{
+    let [task, turns] = arguments else {
+        return None;
+    };
+    let task = read_number(task)?;
+    let turns = read_turns_of_step(turns)?;
+    Some(Command::Step { task, turns })
+}
+
+/// `run N`
+fn read_run(arguments: &[&[u8]]) -> Option<Command>
+    ensures { result ≡ single turns_of_run (λ turns. Run turns) (map (λ word. word.now) arguments.now) }
+{
+    let [turns] = arguments else {
+        return None;
+    };
+    let turns = read_turns_of_run(turns)?;
+    Some(Command::Run { turns })
+}
+
+/// `kill T`
+fn read_kill(arguments: &[&[u8]]) -> Option<Command>
+    ensures { result ≡ single number (λ task. Kill task) (map (λ word. word.now) arguments.now) }
+{
+    let [task] = arguments else {
+        return None;
+    };
+    let task = read_number(task)?;
+    Some(Command::Kill { task })
+}
+
 /// `find NS SYMBOL`
 fn read_find(alloc: Global, arguments: &[&[u8]]) -> Result<Option<Command>, AllocError>
     ensures { IfOk result (λ command. command ≡ both name symbol (λ ns what. Find ns what) (map (λ word. word.now) arguments.now)) }
@@ -119,6 +182,16 @@ fn read_map(arguments: &[&[u8]]) -> Option<Command>
     }
 }
 
+/// `tasks`
+fn read_tasks(arguments: &[&[u8]]) -> Option<Command>
+    ensures { result ≡ alone Tasks (map (λ word. word.now) arguments.now) }
+{
+    match arguments {
+        [] => Some(Command::Tasks),
+        _ => None,
+    }
+}
+
 /// `dump CELL SECTION`
 fn read_dump(arguments: &[&[u8]]) -> Option<Command>
     ensures { result ≡ both number number (λ cell section. Dump cell section) (map (λ word. word.now) arguments.now) }
@@ -129,51 +202,4 @@ fn read_dump(arguments: &[&[u8]]) -> Option<Command>
     let cell = read_number(cell)?;
     let section = read_number(section)?;
     Some(Command::Dump { cell, section })
-}
-
-fn read_number(word: &[u8]) -> Option<u32>
-    ensures { result ≡ number word.now }
-{
-    match read_dec(word, 4294967295) {
-        Some(value) => Some(value as u32),
-        None => None,
-    }
-}
-
-/// Whether the word is the name of a namespace or a stem: 1 to 64 bytes of a-z, 0-9 and _.
-pub fn is_name(word: &[u8]) -> bool
-    ensures { result ≡ is_name word.now }
-{
-    !word.is_empty() && word.len() <= 64 && has_name_bytes(word)
-}
-
-fn has_name_bytes(word: &[u8]) -> bool
-    ensures { result ≡ list_all is_name_byte word.now }
-{
-    word.iter().all(|b| is_name_byte(*b))
-}
-
-fn is_name_byte(b: u8) -> bool
-    ensures { result ≡ is_name_byte b }
-{
-    (b >= b'a' && b <= b'z') || (b >= b'0' && b <= b'9') || b == b'_'
-}
-
-/// Whether the word may be the name of a symbol: 1 to 1024 bytes of 0x21 to 0x7e.
-fn is_symbol(word: &[u8]) -> bool
-    ensures { result ≡ is_symbol word.now }
-{
-    !word.is_empty() && word.len() <= 1024 && has_symbol_bytes(word)
-}
-
-fn has_symbol_bytes(word: &[u8]) -> bool
-    ensures { result ≡ list_all is_symbol_byte word.now }
-{
-    word.iter().all(|b| is_symbol_byte(*b))
-}
-
-fn is_symbol_byte(b: u8) -> bool
-    ensures { result ≡ is_symbol_byte b }
-{
-    b >= 0x21 && b <= 0x7e
 }

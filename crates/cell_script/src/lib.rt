@@ -4,11 +4,12 @@
 mod command;
 mod line;
 mod read;
+mod words;
 
 pub use cell_world::Command;
-pub use command::is_name;
 pub use line::{Line, Script};
 pub use read::{ScriptFail, read_script};
+pub use words::is_name;
 
 #[cfg(test)]
 mod tests;

@@ -128,3 +128,98 @@ fn bad_lines_with_find_and_map(rt: HostRuntime) {
         assert_eq!(rt; bad_line(&rt, text), Some(want));
     }
 }
+
+#[test]
+fn tasks(rt: HostRuntime) -> Result<(), Fail> {
+    let text =
+        b"spawn k a::b 18446744073709551615\nstep 4294967295 100000\nrun 10000\nkill 0\ntasks\nstep 0 0\nrun 0\n";
+    let script = read_script(rt.alloc(), text)
+        .ok()
+        .ok_or("it has a reading")?;
+    let lines = script.as_slice();
+    assert_eq!(rt; lines.len(), 7);
+    assert!(rt;
+        matches!(&lines[0].command, Command::Spawn { ns, symbol, arg } if ns.bytes() == b"k".as_slice() && symbol.bytes() == b"a::b".as_slice() && *arg == u64::MAX)
+    );
+    assert!(rt;
+        matches!(
+            &lines[1].command,
+            Command::Step {
+                task: 4294967295,
+                turns: 100000
+            }
+        )
+    );
+    assert!(rt; matches!(&lines[2].command, Command::Run { turns: 10000 }));
+    assert!(rt; matches!(&lines[3].command, Command::Kill { task: 0 }));
+    assert!(rt; matches!(&lines[4].command, Command::Tasks));
+    assert!(rt; matches!(&lines[5].command, Command::Step { task: 0, turns: 0 }));
+    assert!(rt; matches!(&lines[6].command, Command::Run { turns: 0 }));
+    Ok(())
+}
+
+/// The argument of the task that the text spawns.
+fn argument_in(rt: &HostRuntime, text: &[u8]) -> Option<u64>
+    requires { length text.now < 2 ^ 32 }
+{
+    let script = read_script(rt.alloc(), text).ok()?;
+    let line = script.as_slice().first()?;
+    match &line.command {
+        Command::Spawn { arg, .. } => Some(*arg),
+        _ => None,
+    }
+}
+
+#[test]
+fn arguments_of_tasks(rt: HostRuntime) {
+    for (text, want) in [
+        (b"spawn k a::b 0".as_slice(), Some(0)),
+        (b"spawn k a::b 18446744073709551615", Some(u64::MAX)),
+        (b"spawn k a::b 18446744073709551616", None),
+        (b"spawn k a::b 0x0", Some(0)),
+        (b"spawn k a::b 0x1f", Some(31)),
+        (b"spawn k a::b 0xffffffffffffffff", Some(u64::MAX)),
+        (b"spawn k a::b 0x10000000000000000", None),
+        (b"spawn k a::b 0x", None),
+        (b"spawn k a::b 0x00", None),
+        (b"spawn k a::b 0x01", None),
+        (b"spawn k a::b 0X1", None),
+        (b"spawn k a::b 0xA", None),
+        (b"spawn k a::b 0x0x1", None),
+        (b"spawn k a::b 00", None),
+        (b"spawn k a::b 1f", None),
+        (b"spawn k a::b x1", None),
+        (b"spawn k a::b -1", None),
+    ] {
+        assert_eq!(rt; argument_in(&rt, text), want);
+    }
+}
+
+#[test]
+fn bad_lines_with_tasks(rt: HostRuntime) {
+    for (text, want) in [
+        (b"spawn k a::b".as_slice(), 1),
+        (b"spawn k a::b 0 0", 1),
+        (b"spawn K a::b 0", 1),
+        (b"spawn k \x7f 0", 1),
+        (b"step 1 100001", 1),
+        (b"step 4294967296 1", 1),
+        (b"step 01 1", 1),
+        (b"step 1 01", 1),
+        (b"step 1 0x1", 1),
+        (b"step 1", 1),
+        (b"step 1 1 1", 1),
+        (b"run 10001", 1),
+        (b"run 00", 1),
+        (b"run", 1),
+        (b"run 1 1", 1),
+        (b"kill 4294967296", 1),
+        (b"kill t1", 1),
+        (b"kill", 1),
+        (b"kill 1 1", 1),
+        (b"tasks 1", 1),
+        (b"task", 1),
+    ] {
+        assert_eq!(rt; bad_line(&rt, text), Some(want));
+    }
+}

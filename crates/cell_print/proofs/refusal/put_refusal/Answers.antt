@@ -25,6 +25,11 @@ returns-in-Missing-clause-ok c =
     let said = rw (c.as_bytes-number.ensures.value, c.format.ensures.text, c.bytes-in-Missing.ensures, c.as_bytes-cell-in-Missing.ensures.value, c.format-in-Missing.ensures.text) at c.put_line-in-Missing.ensures.ok in
     rw c.in-Missing.is said
 
+pub returns-in-NoEntry-clause-ok : goal.returns-in-NoEntry-clause-ok
+returns-in-NoEntry-clause-ok c =
+    let said = rw (c.as_bytes-number.ensures.value, c.format.ensures.text, c.bytes-in-NoEntry.ensures) at c.put_line-in-NoEntry.ensures.ok in
+    rw c.in-NoEntry.is said
+
 pub returns-in-Exhausted-clause-ok : goal.returns-in-Exhausted-clause-ok
 returns-in-Exhausted-clause-ok c =
     let said = rw (c.as_bytes-number.ensures.value, c.format.ensures.text, c.as_bytes-pages.ensures.value, c.format-in-Exhausted.ensures.text, c.as_bytes-free.ensures.value, c.format-in-Exhausted-2.ensures.text) at c.put_line-in-Exhausted.ensures.ok in

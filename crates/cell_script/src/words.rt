@@ -1,0 +1,85 @@
+//! Single words of commands.
+
+ghost use Rattle.std.specs.Prelude.{◌≡◌};
+ghost use Rattle.std.specs.List.{list_all};
+ghost use Rattle.cell_script.specs.Grammar.{is_name, is_name_byte, is_symbol, is_symbol_byte, number, turns_of_step, turns_of_run, argument};
+
+use cell_text::{read_dec, read_hex};
+
+/// A decimal number of at most 4294967295, without leading zeros.
+pub fn read_number(word: &[u8]) -> Option<u32>
+    ensures { result ≡ number word.now }
+{
+    match read_dec(word, 4294967295) {
+        Some(value) => Some(value as u32),
+        None => None,
+    }
+}
+
+/// How many turns `step` may give: at most 100000.
+pub fn read_turns_of_step(word: &[u8]) -> Option<u32>
+    ensures { result ≡ turns_of_step word.now }
+{
+    match read_dec(word, 100000) {
+        Some(turns) => Some(turns as u32),
+        None => None,
+    }
+}
+
+/// How many turns `run` may give each task: at most 10000.
+pub fn read_turns_of_run(word: &[u8]) -> Option<u32>
+    ensures { result ≡ turns_of_run word.now }
+{
+    match read_dec(word, 10000) {
+        Some(turns) => Some(turns as u32),
+        None => None,
+    }
+}
+
+/// The argument of a task: decimal, or `0x` and lower-case hex, below 2^64 and without leading zeros.
+pub fn read_argument(word: &[u8]) -> Option<u64>
+    ensures { result ≡ argument word.now }
+{
+    match word {
+        [b'0', b'x', digits @ ..] => read_hex(digits),
+        _ => read_dec(word, 18446744073709551615),
+    }
+}
+
+/// Whether the word is the name of a namespace or a stem: 1 to 64 bytes of a-z, 0-9 and _.
+pub fn is_name(word: &[u8]) -> bool
+    ensures { result ≡ is_name word.now }
+{
+    !word.is_empty() && word.len() <= 64 && has_name_bytes(word)
+}
+
+fn has_name_bytes(word: &[u8]) -> bool
+    ensures { result ≡ list_all is_name_byte word.now }
+{
+    word.iter().all(|b| is_name_byte(*b))
+}
+
+fn is_name_byte(b: u8) -> bool
+    ensures { result ≡ is_name_byte b }
+{
+    (b >= b'a' && b <= b'z') || (b >= b'0' && b <= b'9') || b == b'_'
+}
+
+/// Whether the word may be the name of a symbol: 1 to 1024 bytes of 0x21 to 0x7e.
+pub fn is_symbol(word: &[u8]) -> bool
+    ensures { result ≡ is_symbol word.now }
+{
+    !word.is_empty() && word.len() <= 1024 && has_symbol_bytes(word)
+}
+
+fn has_symbol_bytes(word: &[u8]) -> bool
+    ensures { result ≡ list_all is_symbol_byte word.now }
+{
+    word.iter().all(|b| is_symbol_byte(*b))
+}
+
+fn is_symbol_byte(b: u8) -> bool
+    ensures { result ≡ is_symbol_byte b }
+{
+    b >= 0x21 && b <= 0x7e
+}
