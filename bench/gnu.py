@@ -30,6 +30,7 @@ TARGET = ["-march=rv64im", "-mabi=lp64", "-mno-relax"]
 C_FLAGS = ["-ffreestanding", "-fno-common", "-fno-pic", "-fno-section-anchors", "-fno-stack-protector"]
 STEMS = ["queue", "shop", "kinds"]
 NOBITS = 8
+RELA, ENTRY = 4, 24
 
 
 def compile_c(stem, model, level, file):
@@ -158,8 +159,10 @@ def with_tasks(program, folder, data, lines):
     shutil.copy(os.path.join(data, name), folder)
     load = "load k " + tasks.STEM
     (cell, _, _, start), = [row for row in places(transcript(program, folder, lines + [load, "map"])) if row[1] == name]
+    # each entry of its table has a field of its own
+    fields = sum(size // ENTRY for _, kind, _, _, size in sections(os.path.join(data, name)).values() if kind == RELA)
     script, text = tasks.stored(start, 1, len(lines) + 2)
-    return [load] + script, ["%d ok load #%d patched 0" % (len(lines) + 1, cell)] + text
+    return [load] + script, ["%d ok load #%d patched %d" % (len(lines) + 1, cell, fields)] + text
 
 
 def store(program):
