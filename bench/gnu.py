@@ -19,6 +19,8 @@ import subprocess
 import sys
 import tempfile
 
+import tasks
+
 HERE = os.path.dirname(os.path.abspath(__file__))
 TOP = os.path.dirname(HERE)
 SOURCES = os.path.join(HERE, "gnu")
@@ -28,6 +30,7 @@ TARGET = ["-march=rv64im", "-mabi=lp64", "-mno-relax"]
 C_FLAGS = ["-ffreestanding", "-fno-common", "-fno-pic", "-fno-section-anchors", "-fno-stack-protector"]
 STEMS = ["queue", "shop", "kinds"]
 NOBITS = 8
+RELA, ENTRY = 4, 24
 
 
 def compile_c(stem, model, level, file):
@@ -149,6 +152,19 @@ def compare(program):
     return failed
 
 
+def with_tasks(program, folder, data, lines):
+    """What the stored run goes on with: tasks that do every instruction, and what qemu makes of it."""
+    name = "k#%s.o" % tasks.STEM
+    tasks.write_object(os.path.join(data, name))
+    shutil.copy(os.path.join(data, name), folder)
+    load = "load k " + tasks.STEM
+    (cell, _, _, start), = [row for row in places(transcript(program, folder, lines + [load, "map"])) if row[1] == name]
+    # each entry of its table has a field of its own
+    fields = sum(size // ENTRY for _, kind, _, _, size in sections(os.path.join(data, name)).values() if kind == RELA)
+    script, text = tasks.stored(start, 1, len(lines) + 2)
+    return [load] + script, ["%d ok load #%d patched %d" % (len(lines) + 1, cell, fields)] + text
+
+
 def store(program):
     """Writes the objects, the script and the wanted transcript of the stored run of crates/cells."""
     with tempfile.TemporaryDirectory() as folder:
@@ -161,10 +177,11 @@ def store(program):
         lines, expected = with_dumps(program, folder, ["load k a", "load k b", "dump 2 1", "load k kinds"])
         for stem in STEMS:
             shutil.copy(os.path.join(folder, "k#%s.o" % stem), data)
+        more, text = with_tasks(program, folder, data, lines)
     with open(os.path.join(data, "s"), "w") as file:
-        file.write("\n".join(lines) + "\n")
+        file.write("\n".join(lines + more) + "\n")
     with open(os.path.join(STORED, "stdout"), "w") as file:
-        file.write(expected)
+        file.write(expected + "\n".join(text) + "\n")
 
 
 def main():

@@ -26,4 +26,8 @@ mod sources;
 #[cfg(test)]
 mod spaces;
 #[cfg(test)]
+mod tasks;
+#[cfg(test)]
+mod traps;
+#[cfg(test)]
 mod transcripts;

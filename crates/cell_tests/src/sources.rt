@@ -22,15 +22,20 @@ fn assemble_short(alloc: Global, source: &[u8]) -> Result<Object, AsmFail> {
     assemble(alloc, source)
 }
 
-/// The object file of the source.
-pub fn object_file(alloc: Global, file: &SourceFile) -> Result<ObjectFile, Fail> {
-    let object = assemble_short(alloc, file.source.as_bytes())
+/// The object file of that name, assembled from a source.
+pub fn assembled(alloc: Global, name: &'static str, source: &str) -> Result<ObjectFile, Fail> {
+    let object = assemble_short(alloc, source.as_bytes())
         .ok()
         .ok_or("the source has a fault")?;
     Ok(ObjectFile {
-        name: file.name,
+        name,
         bytes: image(alloc, &object)?,
     })
+}
+
+/// The object file of the source.
+pub fn object_file(alloc: Global, file: &SourceFile) -> Result<ObjectFile, Fail> {
+    assembled(alloc, file.name, file.source)
 }
 
 /// The object files of the sources.
