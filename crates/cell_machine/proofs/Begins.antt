@@ -13,6 +13,7 @@ use Rattle.cell_world.specs.declared.state.NewCell.{NewCell}
 use Rattle.cell_machine.specs.declared.machine.Machine.{Machine}
 use Rattle.cell_commit.specs.Seals.{seal_table}
 use Rattle.cell_space.specs.Machine.{called}
+use Rattle.cell_task.specs.State.{TasksState, no_tasks}
 use Rattle.cell_space.specs.Spaces.{kernel}
 use Rattle.cell_world.specs.declared.state.Namespace.{Namespace}
 use Rattle.cell_machine.specs.Machine.{IsSound, cells_of, field_bytes, keys_of, world_of}
@@ -30,9 +31,9 @@ all_free base pages a zero = refl
 all_free base pages a (suc n) = ap (λ (bs : List Bool). false ∷ bs) (all_free base pages (suc a) n)
 
 module _ (base pages : ℕ) (space : IsSpace base pages) (m : Machine) (cells : m.cells.items ≡ []) (next : m.next ≡ 1) (free : m.space ≡ record { base = base; taken = replicate pages false })
-    (spaces : m.spaces.namespaces ≡ kernel) (none : m.spaces.cells ≡ []) (memory : m.memory ≡ empty_memory base pages) (sections : m.graph.sections ≡ []) (rows : m.graph.rows ≡ []) where
-  abbrev world_by : MemoryState → List Namespace → List NewCell → List LinkRow → ℕ → World
-  world_by memory namespaces cells rows next =
+    (spaces : m.spaces.namespaces ≡ kernel) (none : m.spaces.cells ≡ []) (memory : m.memory ≡ empty_memory base pages) (sections : m.graph.sections ≡ []) (rows : m.graph.rows ≡ []) (tasks : m.tasks ≡ no_tasks) where
+  abbrev world_by : MemoryState → List Namespace → List NewCell → List LinkRow → ℕ → TasksState → World
+  world_by memory namespaces cells rows next tasks =
       record {
         base = memory.base;
         pages = memory.pages;
@@ -40,19 +41,20 @@ module _ (base pages : ℕ) (space : IsSpace base pages) (m : Machine) (cells : 
         cells = cells_of cells;
         links = rows;
         regions = memory.regions;
-        tasks = [];
+        tasks = tasks.tasks;
         next_cell = next;
-        next_task = 1;
+        next_task = tasks.next;
         swaps = 0;
       }
 
   pub world_empty : world_of m ≡ empty_world base pages
   world_empty =
-      ap (λ (x : MemoryState). world_by x m.spaces.namespaces m.cells.items m.graph.rows m.next) memory
-      ∙ (ap (λ (namespaces : List Namespace). world_by (empty_memory base pages) namespaces m.cells.items m.graph.rows m.next) spaces
-      ∙ (ap (λ (cells : List NewCell). world_by (empty_memory base pages) kernel cells m.graph.rows m.next) cells
-      ∙ (ap (λ (rows : List LinkRow). world_by (empty_memory base pages) kernel [] rows m.next) rows
-      ∙ ap (λ (n : ℕ). world_by (empty_memory base pages) kernel [] [] n) next)))
+      ap (λ (x : MemoryState). world_by x m.spaces.namespaces m.cells.items m.graph.rows m.next m.tasks) memory
+      ∙ (ap (λ (namespaces : List Namespace). world_by (empty_memory base pages) namespaces m.cells.items m.graph.rows m.next m.tasks) spaces
+      ∙ (ap (λ (cells : List NewCell). world_by (empty_memory base pages) kernel cells m.graph.rows m.next m.tasks) cells
+      ∙ (ap (λ (rows : List LinkRow). world_by (empty_memory base pages) kernel [] rows m.next m.tasks) rows
+      ∙ (ap (λ (n : ℕ). world_by (empty_memory base pages) kernel [] [] n m.tasks) next
+      ∙ ap (λ (tasks : TasksState). world_by (empty_memory base pages) kernel [] [] 1 tasks) tasks))))
 
   pub begins_sound : IsSound m
   begins_sound = record {

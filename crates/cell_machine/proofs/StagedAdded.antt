@@ -1,5 +1,5 @@
 -- The machine with the staged cells is sound, and it is what each load comes to by which they were staged.
-use Rattle.std.proofs.Common.{◌≡◌, refl, sym, ◌∙◌, ap, subst, arith, ℕ, ◌+◌, ◌-◌, ◌*◌, ◌^◌, List, [], ◌++◌, map, length, min}
+use Rattle.std.proofs.Common.{◌≡◌, refl, sym, ◌∙◌, ap, subst, arith, ℕ, ◌+◌, ◌-◌, ◌*◌, ◌^◌, List, ◌++◌, map, length, min}
 use Rattle.std.specs.Prelude.{All, fold}
 use Rattle.std.proofs.lemmas.Grind.{flat_map-append}
 use Rattle.std.proofs.lemmas.List.{length-map, map-append}
@@ -25,6 +25,7 @@ use Rattle.cell_mem.specs.State.{MemoryState}
 use Rattle.cell_place.specs.Space.{SpaceState}
 use Rattle.cell_space.specs.Machine.{called}
 use Rattle.cell_space.specs.declared.cell.SpaceCell.{SpaceCell}
+use Rattle.cell_task.specs.State.{TasksState}
 use Rattle.cell_commit.specs.Commit.{all_mapped, fields_written, patches_from}
 use Rattle.cell_commit.specs.Seals.{IsInSpace, seal_table, spans_of}
 use Rattle.cell_commit.proofs.Mapping.{mapped_base, mapped_maps, mapped_pages, mapped_patches, mapped_regions, mapped_sealed, mapped_undo}
@@ -39,8 +40,8 @@ use Rattle.cell_machine.proofs.NewRuns.{all_put, put, puts_longer, table_by_shap
 use Rattle.cell_machine.proofs.StagedWorld.{W, linkable, load_is, next_coherent, next_number, next_settled, next_world, ready, taken}
 
 -- a world by its parts
-abbrev world_by : ℕ → ℕ → List Namespace → List Cell → List LinkRow → List Region → ℕ → World
-world_by base pages namespaces cells links regions next =
+abbrev world_by : ℕ → ℕ → List Namespace → List Cell → List LinkRow → List Region → ℕ → TasksState → World
+world_by base pages namespaces cells links regions next tasks =
     record {
       base = base;
       pages = pages;
@@ -48,9 +49,9 @@ world_by base pages namespaces cells links regions next =
       cells = cells;
       links = links;
       regions = regions;
-      tasks = [];
+      tasks = tasks.tasks;
       next_cell = next;
-      next_task = 1;
+      next_task = tasks.next;
       swaps = 0;
     }
 
@@ -63,7 +64,8 @@ module _ (m n : Machine) (s : Staged) (sound : IsSound m) (spare : ℕ)
     (space : n.space ≡ s.space)
     (memory : n.memory ≡ fields_written (all_mapped (record m.memory { spare = spare }) s.regions.items) s.fields.items)
     (sections : n.graph.sections ≡ m.graph.sections ++ keys_of s.cells.items)
-    (rows : n.graph.rows ≡ m.graph.rows ++ s.rows.items) where
+    (rows : n.graph.rows ≡ m.graph.rows ++ s.rows.items)
+    (tasks : n.tasks ≡ m.tasks) where
   abbrev roomy : MemoryState
   roomy = record m.memory { spare = spare }
 
@@ -145,13 +147,14 @@ module _ (m n : Machine) (s : Staged) (sound : IsSound m) (spare : ℕ)
     -- the machine is what the load comes to
     pub world_is : world_of n ≡ after
     world_is =
-        ap (λ b. world_by b n.memory.pages n.spaces.namespaces (cells_of n.cells.items) n.graph.rows n.memory.regions n.next) base_is
-        ∙ (ap (λ k. world_by m.memory.base k n.spaces.namespaces (cells_of n.cells.items) n.graph.rows n.memory.regions n.next) pages_are
-        ∙ (ap (λ (spaces : List Namespace). world_by m.memory.base m.memory.pages spaces (cells_of n.cells.items) n.graph.rows n.memory.regions n.next) namespaces
-        ∙ (ap (λ (cs : List Cell). world_by m.memory.base m.memory.pages m.spaces.namespaces cs n.graph.rows n.memory.regions n.next) new_cells
-        ∙ (ap (λ (links : List LinkRow). world_by m.memory.base m.memory.pages m.spaces.namespaces after.cells links n.memory.regions n.next) new_rows
-        ∙ (ap (λ (rs : List Region). world_by m.memory.base m.memory.pages m.spaces.namespaces after.cells after.links rs n.next) regions_are
-        ∙ ap (λ k. world_by m.memory.base m.memory.pages m.spaces.namespaces after.cells after.links after.regions k) next_is)))))
+        ap (λ b. world_by b n.memory.pages n.spaces.namespaces (cells_of n.cells.items) n.graph.rows n.memory.regions n.next n.tasks) base_is
+        ∙ (ap (λ k. world_by m.memory.base k n.spaces.namespaces (cells_of n.cells.items) n.graph.rows n.memory.regions n.next n.tasks) pages_are
+        ∙ (ap (λ (spaces : List Namespace). world_by m.memory.base m.memory.pages spaces (cells_of n.cells.items) n.graph.rows n.memory.regions n.next n.tasks) namespaces
+        ∙ (ap (λ (cs : List Cell). world_by m.memory.base m.memory.pages m.spaces.namespaces cs n.graph.rows n.memory.regions n.next n.tasks) new_cells
+        ∙ (ap (λ (links : List LinkRow). world_by m.memory.base m.memory.pages m.spaces.namespaces after.cells links n.memory.regions n.next n.tasks) new_rows
+        ∙ (ap (λ (rs : List Region). world_by m.memory.base m.memory.pages m.spaces.namespaces after.cells after.links rs n.next n.tasks) regions_are
+        ∙ (ap (λ k. world_by m.memory.base m.memory.pages m.spaces.namespaces after.cells after.links after.regions k n.tasks) next_is
+        ∙ ap (λ (ts : TasksState). world_by m.memory.base m.memory.pages m.spaces.namespaces after.cells after.links after.regions after.next_cell ts) tasks))))))
 
     count_fields : field_count (cells_of s.cells.items) ≡ length s.fields.items
     count_fields = count_is placed s.cells.items ∙ ap length (sym st.fields)
