@@ -5,3 +5,4 @@ pub mod MoreNamespaces
 pub mod Steps
 pub mod DistinctFiles
 pub mod Loads
+pub mod Patchless

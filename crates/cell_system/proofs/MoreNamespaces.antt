@@ -22,6 +22,7 @@ use Rattle.cell_law.proofs.Binds.{bind_err, bind_is}
 use Rattle.cell_law.specs.Settled.{IsSettled}
 use Rattle.cell_mem.specs.State.{MemoryState}
 use Rattle.cell_place.specs.Space.{SpaceState}
+use Rattle.cell_task.specs.State.{TasksState}
 use Rattle.cell_commit.specs.Seals.{seal_table}
 use Rattle.cell_space.specs.Machine.{called}
 use Rattle.cell_space.specs.Spaces.{namespace_named}
@@ -69,12 +70,12 @@ module _ (m : Machine) (name parent : List ℕ) where
 
 -- the machine whose namespaces alone are others
 module _ (old new : Machine) (sound : IsSound old) (name parent : List ℕ) (up : ℕ)
-    (next : new.next ≡ old.next) (cells : new.cells.items ≡ old.cells.items) (space : new.space ≡ old.space) (memory : new.memory ≡ old.memory)
+    (next : new.next ≡ old.next) (cells : new.cells.items ≡ old.cells.items) (space : new.space ≡ old.space) (memory : new.memory ≡ old.memory) (tasks : new.tasks ≡ old.tasks)
     (rows : new.graph.rows ≡ old.graph.rows) (sections : new.graph.sections ≡ old.graph.sections) (known : new.spaces.cells ≡ old.spaces.cells)
     (added : new.spaces.namespaces ≡ old.spaces.namespaces ++ record { name = name; parent = Some up } ∷ [])
     (step : next_ns (world_of old) name parent ≡ done (Ns name) (with_namespace (world_of old) name up)) where
-  abbrev world_by : MemoryState → List Namespace → List NewCell → List LinkRow → ℕ → World
-  world_by memory namespaces cells rows next =
+  abbrev world_by : MemoryState → List Namespace → List NewCell → List LinkRow → ℕ → TasksState → World
+  world_by memory namespaces cells rows next tasks =
       record {
         base = memory.base;
         pages = memory.pages;
@@ -82,9 +83,9 @@ module _ (old new : Machine) (sound : IsSound old) (name parent : List ℕ) (up 
         cells = cells_of cells;
         links = rows;
         regions = memory.regions;
-        tasks = old.tasks.tasks;
+        tasks = tasks.tasks;
         next_cell = next;
-        next_task = old.tasks.next;
+        next_task = tasks.next;
         swaps = 0;
       }
 
@@ -93,11 +94,12 @@ module _ (old new : Machine) (sound : IsSound old) (name parent : List ℕ) (up 
 
   world_is : world_of new ≡ later
   world_is =
-      ap (λ (x : MemoryState). world_by x new.spaces.namespaces new.cells.items new.graph.rows new.next) memory
-      ∙ (ap (λ (spaces : List Namespace). world_by old.memory spaces new.cells.items new.graph.rows new.next) added
-      ∙ (ap (λ (cs : List NewCell). world_by old.memory later.namespaces cs new.graph.rows new.next) cells
-      ∙ (ap (λ (rs : List LinkRow). world_by old.memory later.namespaces old.cells.items rs new.next) rows
-      ∙ ap (λ (n : ℕ). world_by old.memory later.namespaces old.cells.items old.graph.rows n) next)))
+      ap (λ (x : MemoryState). world_by x new.spaces.namespaces new.cells.items new.graph.rows new.next new.tasks) memory
+      ∙ (ap (λ (spaces : List Namespace). world_by old.memory spaces new.cells.items new.graph.rows new.next new.tasks) added
+      ∙ (ap (λ (cs : List NewCell). world_by old.memory later.namespaces cs new.graph.rows new.next new.tasks) cells
+      ∙ (ap (λ (rs : List LinkRow). world_by old.memory later.namespaces old.cells.items rs new.next new.tasks) rows
+      ∙ (ap (λ (n : ℕ). world_by old.memory later.namespaces old.cells.items old.graph.rows n new.tasks) next
+      ∙ ap (λ (ts : TasksState). world_by old.memory later.namespaces old.cells.items old.graph.rows old.next ts) tasks))))
 
   coherent : IsCoherent later
   coherent =

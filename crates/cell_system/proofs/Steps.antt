@@ -1,9 +1,9 @@
 -- A command's answer, as the system gives it, is the plain machine's.
-use Rattle.std.proofs.Common.{◌≡◌, refl, sym, ◌∙◌, ap, arith, ◌≤◌, ◌-◌, ◌+◌, ◌^◌, ℕ, List, [], ◌∷◌, length, map}
+use Rattle.std.proofs.Common.{◌≡◌, refl, sym, ◌∙◌, ap, subst, arith, ◌≤◌, ◌-◌, ◌+◌, ◌^◌, ℕ, List, [], ◌∷◌, length, map}
 use Rattle.std.specs.Prelude.{Result, Ok, Err, min}
 use Rattle.cell_num.specs.declared.ids.CellId.{CellId}
 use Rattle.cell_world.specs.declared.command.Command.{Command}
-use Rattle.cell_world.specs.declared.command.Command.TheVariants.{Ns as AddNs, Load as LoadCrate}
+use Rattle.cell_world.specs.declared.command.Command.TheVariants.{Ns as AddNs, Load as LoadCrate, Spawn, Step, Run, Kill}
 use Rattle.cell_world.specs.declared.file.File.{File}
 use Rattle.cell_world.specs.declared.refusal.Refusal.{Refusal}
 use Rattle.cell_world.specs.declared.reply.Reply.{Reply}
@@ -12,6 +12,8 @@ use Rattle.cell_world.specs.Answer.{Done, done}
 use Rattle.cell_world.specs.Coherent.{AreSound}
 use Rattle.cell_world.specs.Gather.{source_of}
 use Rattle.cell_world.specs.LoadCommand.{next_load}
+use Rattle.cell_world.specs.SpawnCommand.{next_spawn}
+use Rattle.cell_world.specs.TaskCommands.{next_step, next_run, next_kill}
 use Rattle.cell_world.specs.Next.{answered_by, outcome_of}
 use Rattle.cell_world.specs.Outcome.{Outcome}
 use Rattle.cell_world.specs.World.{World}
@@ -20,6 +22,7 @@ use Rattle.cell_gather.specs.declared.fail.LoadFail.TheVariants.{Refused, OutOfM
 use Rattle.cell_machine.specs.declared.machine.Machine.{Machine}
 use Rattle.cell_machine.specs.Machine.{IsSound, world_of}
 use Rattle.cell_mem.specs.State.{MemoryState}
+use Rattle.cell_schedule.specs.Does.{Does}
 use Rattle.cell_view.specs.Shows.{Shows}
 use Rattle.cell_world.specs.World.{Cell, attached}
 use Rattle.cell_world.specs.Answer.{ids, numbers_of}
@@ -32,6 +35,7 @@ use Rattle.cell_machine.specs.Same.{IsSame, raised}
 use Rattle.cell_system.specs.Namespaces.{AddsNamespace, HasNamespace}
 use Rattle.cell_system.specs.State.{State}
 use Rattle.cell_machine.proofs.Same.{maps_same, patches_same, world_same}
+use Rattle.cell_system.proofs.Patchless.{IsPatchless, kill_patchless, run_patchless, spawn_patchless, step_patchless}
 use Rattle.cell_system.specs.Step.{IsDone, IsStep, next_of, state_of, written_by}
 
 stays : (count n : ℕ) → count ≤ 2 ^ 64 - 1 → n ≡ 0 → count ≡ raised count n
@@ -84,6 +88,34 @@ module _ (files : List File) (m : Machine) (sound : IsSound m) where
   }
   adds_namespace name parent (Err (Refused refusal)) n h = (refusal_step (AddNs name parent) refusal h.0, same_state n h.1)
   adds_namespace name parent (Err OutOfMemory) n h = same_state n h
+
+  -- what a command on tasks makes of the machine, where it patches no field
+  does : (command : Command) → IsPatchless (outcome_of (map source_of files) (world_of m) command) → (result : Result Reply LoadFail) (n : Machine)
+      → Does (outcome_of (map source_of files) (world_of m) command) m result n → IsStep (state_of files m) command result (state_of files n)
+  does command none (Ok reply) n h = record {
+    step = ap (answered_by (world_of m)) h.step;
+    files = refl;
+    patches = h.patches ∙ stays m.memory.patches (written_by reply) sound.patches (subst (λ (o : Outcome Done). IsPatchless o) h.step none);
+    maps = h.maps;
+  }
+  does command none (Err (Refused refusal)) n h = (refusal_step command refusal h.0, same_state n h.1)
+  does command none (Err OutOfMemory) n h = same_state n h
+
+  pub does_spawn : (ns symbol : List ℕ) (arg : ℕ) (result : Result Reply LoadFail) (n : Machine) → Does (next_spawn (world_of m) ns symbol arg) m result n
+      → IsStep (state_of files m) (Spawn ns symbol arg) result (state_of files n)
+  does_spawn ns symbol arg = does (Spawn ns symbol arg) (spawn_patchless (world_of m) ns symbol arg)
+
+  pub does_step : (task turns : ℕ) (result : Result Reply LoadFail) (n : Machine) → Does (next_step (world_of m) task turns) m result n
+      → IsStep (state_of files m) (Step task turns) result (state_of files n)
+  does_step task turns = does (Step task turns) (step_patchless (world_of m) task turns)
+
+  pub does_run : (turns : ℕ) (result : Result Reply LoadFail) (n : Machine) → Does (next_run (world_of m) turns) m result n
+      → IsStep (state_of files m) (Run turns) result (state_of files n)
+  does_run turns = does (Run turns) (run_patchless (world_of m) turns)
+
+  pub does_kill : (task : ℕ) (result : Result Reply LoadFail) (n : Machine) → Does (next_kill (world_of m) task) m result n
+      → IsStep (state_of files m) (Kill task) result (state_of files n)
+  does_kill task = does (Kill task) (kill_patchless (world_of m) task)
 
   -- what staged cells come to where they are added
   pub load_done : (ns stem : List ℕ) (s : Staged) (n : Machine) → AreSound (map source_of files) → IsStaged (map source_of files) (world_of m) ns stem s → IsAdded m s n

@@ -6,7 +6,7 @@ ghost use Rattle.cell_depot.specs.Files.{are_in_order};
 ghost use Rattle.cell_depot.specs.ObjectName.{is_object_name};
 ghost use Rattle.cell_world.specs.Coherent.{IsCoherent};
 ghost use Rattle.cell_world.specs.Pages.{IsSpace};
-ghost use Rattle.cell_world.specs.declared.command.Command.TheVariants.{Dump, Find, Load, Map, Ns};
+ghost use Rattle.cell_world.specs.declared.command.Command.TheVariants.{Dump, Find, Kill, Load, Map, Ns, Run, Spawn, Step, Tasks};
 ghost use Rattle.cell_world.specs.World.{empty_world};
 ghost use Rattle.cell_system.specs.Step.{IsStep};
 
@@ -17,13 +17,14 @@ use crate::room::count;
 use cell_depot::Depot;
 use cell_machine::Machine;
 use cell_num::{CellId, Listed};
+use cell_schedule::{kill, run, spawn, step, tasks};
 use cell_stage::stage;
 use cell_view::{dump, find, map};
 use cell_world::{Command, File, NewCell, Reply};
 use std::alloc::{AllocError, Global};
 use std::marker::Model;
 
-/// The object files, and the cells in memory.
+/// The object files, and the cells and tasks in memory.
 #[derive(Drop)]
 pub struct System {
     alloc: Global,
@@ -91,6 +92,41 @@ impl System {
         Ok(Reply::Load { fresh, patched })
     }
 
+    /// Starts a task where the provider of a name has it.
+    fn spawn(&mut self, ns: &[u8], symbol: &[u8], arg: u64) -> Result<Reply, Fail>
+        ensures { IsStep self.old (Spawn ns.now symbol.now arg) result self.new }
+    {
+        spawn(self.alloc, &mut self.machine, ns, symbol, arg)
+    }
+
+    /// Gives a task at most so many turns.
+    fn step(&mut self, task: u32, turns: u32) -> Result<Reply, Fail>
+        ensures { IsStep self.old (Step task turns) result self.new }
+    {
+        step(self.alloc, &mut self.machine, task, turns)
+    }
+
+    /// Gives each ready task at most so many turns.
+    fn run(&mut self, turns: u32) -> Result<Reply, Fail>
+        ensures { IsStep self.old (Run turns) result self.new }
+    {
+        run(self.alloc, &mut self.machine, turns)
+    }
+
+    /// Ends a task.
+    fn kill(&mut self, task: u32) -> Result<Reply, Fail>
+        ensures { IsStep self.old (Kill task) result self.new }
+    {
+        kill(self.alloc, &mut self.machine, task)
+    }
+
+    /// Shows all live tasks.
+    fn tasks(&mut self) -> Result<Reply, Fail>
+        ensures { IsStep self.old Tasks result self.new }
+    {
+        tasks(self.alloc, &self.machine)
+    }
+
     /// Shows where the provider of a name has it.
     fn find(&mut self, ns: &[u8], symbol: &[u8]) -> Result<Reply, Fail>
         ensures { IsStep self.old (Find ns.now symbol.now) result self.new }
@@ -112,7 +148,8 @@ impl System {
         dump(self.alloc, &self.machine, cell, section)
     }
 
-    /// Every system's machine is coherent.
+    /// The machine is coherent between any two commands. A turn keeps it so, by the law
+    /// `turn_keeps_coherent` of `cell_turns`: it holds after each turn inside a command too.
     pub fn coherent(&self)
         ensures { IsCoherent self.now.world }
     {
@@ -126,6 +163,11 @@ impl System {
         match command {
             Command::Ns { name, parent } => self.add_namespace(name.bytes(), parent.bytes()),
             Command::Load { ns, stem } => self.load(ns.bytes(), stem.bytes()),
+            Command::Spawn { ns, symbol, arg } => self.spawn(ns.bytes(), symbol.bytes(), *arg),
+            Command::Step { task, turns } => self.step(*task, *turns),
+            Command::Run { turns } => self.run(*turns),
+            Command::Kill { task } => self.kill(*task),
+            Command::Tasks => self.tasks(),
             Command::Find { ns, symbol } => self.find(ns.bytes(), symbol.bytes()),
             Command::Map => self.map(),
             Command::Dump { cell, section } => self.dump(*cell, *section),

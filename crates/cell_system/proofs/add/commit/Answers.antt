@@ -40,4 +40,5 @@ returns c =
           ∙ ap (λ (m : MemoryState). fields_written m c.args.staged.fields.items) c.map_regions.ensures);
       sections = c.bind_rows.ensures.sections ∙ (c.add_sections.ensures.sections ∙ (given ∙ ap (λ (ks : List SecKey). c.args.machine.now.graph.sections ++ ks) keys));
       rows = c.bind_rows.ensures.rows ∙ (ap (λ (rows : List LinkRow). c.add_sections.new.graph.rows ++ rows) c.deref-3.ensures.value ∙ ap (λ (rows : List LinkRow). rows ++ c.args.staged.rows.items) c.add_sections.ensures.rows);
+      tasks = refl;
     }

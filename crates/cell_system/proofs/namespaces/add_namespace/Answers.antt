@@ -41,6 +41,7 @@ returns-in_err-add_ns c =
       memory = refl;
       sections = refl;
       rows = refl;
+      tasks = refl;
     })
 
 pub returns : goal.returns
@@ -51,4 +52,4 @@ returns c =
     let added = (c.in_ok-add_ns.ensures {u = tt}).added ∙ ap (λ (own : List ℕ). m.spaces.namespaces ++ (let s : Namespace = record { name = own; parent = Some c.in_ok-up.up } in s) ∷ []) c.in_ok-own.ensures in
     let new : Machine = record m { spaces = c.add_ns.new.self } in
     subst (λ (x : List ℕ). HasNamespace m name parent (Ns x) new) (sym c.in_ok-shown.ensures)
-    (has_namespace m new c.requires name parent c.in_ok-up.up refl refl refl refl refl refl (c.in_ok-add_ns.ensures {u = tt}).same_cells added (comes_to m name parent c.in_ok-up.up c.in_ok-up.ensures.number c.in_ok-check.ensures))
+    (has_namespace m new c.requires name parent c.in_ok-up.up refl refl refl refl refl refl refl (c.in_ok-add_ns.ensures {u = tt}).same_cells added (comes_to m name parent c.in_ok-up.up c.in_ok-up.ensures.number c.in_ok-check.ensures))
