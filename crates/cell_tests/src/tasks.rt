@@ -112,7 +112,7 @@ static CASES: [Case; 11] = [
         words: &[],
         source: FIRST,
         status: Status::Done,
-        text: "1 ok load #1 patched 0\n2 ok spawn t1 pc 10000000\n3 ok step t1 turns 16 done 92\n  \
+        text: "1 ok load #1 patched 0\n2 ok spawn t1 pc 10000000\n3 ok step t1 turns 15 done 92\n  \
             out t1 268455920065AA\\x5c\n",
     },
     Case {
@@ -132,7 +132,7 @@ static CASES: [Case; 11] = [
         words: &["--pages", "16"],
         source: LOOPS,
         status: Status::SomeRefused,
-        text: "1 ok load #1 patched 0\n2 ok spawn t1 pc 10000000\n3 ok spawn t2 pc 10000000\n\
+        text: "1 ok load #1 patched 1\n2 ok spawn t1 pc 10000000\n3 ok spawn t2 pc 10000000\n\
             4 ok spawn t3 pc 10000000\n5 E10 no-entry f::no\n6 E11 exhausted 4 3\n",
     },
     Case {
@@ -140,7 +140,7 @@ static CASES: [Case; 11] = [
         words: &[],
         source: LOOPS,
         status: Status::Done,
-        text: "1 ok load #1 patched 0\n2 ok spawn t1 pc 10000000\n3 ok step t1 turns 100000 ready\n\
+        text: "1 ok load #1 patched 1\n2 ok spawn t1 pc 10000000\n3 ok step t1 turns 100000 ready\n\
             4 ok run\n  t1 turns 10000 ready\n5 ok kill t1\n6 ok run\n",
     },
     Case {
