@@ -21,7 +21,7 @@ is_symbol_byte b = nat_le 33 b && nat_le b 126
 abbrev pub is_symbol : List ℕ → Bool
 is_symbol word = nat_lt 0 (length word) && nat_le (length word) 1024 && list_all is_symbol_byte word
 
--- what a word says: a name, a symbol, or a number
+-- what a word says: a name, a symbol, or a decimal number of at most 2^32 - 1
 abbrev pub name : List ℕ → Option (List ℕ)
 name word = where_true (is_name word) word
 
