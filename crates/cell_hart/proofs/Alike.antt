@@ -1,5 +1,5 @@
 -- An instruction does the same where two views of the same regions agree on the seals of what may be stored to.
-use Rattle.std.proofs.Common.{◌≡◌, refl, ap, ℕ, ◌+◌, Bool, true, false, cond, not, ◌&&◌, List, map, Option, Some, None}
+use Rattle.std.proofs.Common.{◌≡◌, refl, ap, arith, ℕ, ◌+◌, ◌≤◌, Bool, true, false, cond, not, ◌&&◌, List, map, Option, Some, None}
 use Rattle.std.specs.Prelude.{◌==◌, ◌%◌, slice_index}
 use Rattle.cell_num.specs.declared.ids.Cause.TheVariants.{Fetch, Illegal, StoreAlign, Store as BadStore}
 use Rattle.cell_num.specs.Bits.{bytes_of, wrap, wrap_ℤ}
@@ -17,28 +17,100 @@ use Rattle.cell_world.specs.Execute.{Seen, Effect, Goes, Traps, allows, number_r
 abbrev pub seen : List Region → (ℕ → ℕ → Bool) → Seen
 seen regions sealed = record { regions = regions; is_sealed = sealed }
 
+-- a store has a byte
+abbrev StoresSome : Access → Type 0
+StoresSome (Stores n) = 1 ≤ n
+StoresSome _ = Unit {0}
+
+stores_some : (op : Op) → StoresSome (access_of op)
+stores_some Lui = tt
+stores_some Auipc = tt
+stores_some Jal = tt
+stores_some Jalr = tt
+stores_some Beq = tt
+stores_some Bne = tt
+stores_some Blt = tt
+stores_some Bge = tt
+stores_some Bltu = tt
+stores_some Bgeu = tt
+stores_some Lb = tt
+stores_some Lh = tt
+stores_some Lw = tt
+stores_some Ld = tt
+stores_some Lbu = tt
+stores_some Lhu = tt
+stores_some Lwu = tt
+stores_some Sb = omega arith
+stores_some Sh = omega arith
+stores_some Sw = omega arith
+stores_some Sd = omega arith
+stores_some Addi = tt
+stores_some Slti = tt
+stores_some Sltiu = tt
+stores_some Xori = tt
+stores_some Ori = tt
+stores_some Andi = tt
+stores_some Slli = tt
+stores_some Srli = tt
+stores_some Srai = tt
+stores_some Add = tt
+stores_some Sub = tt
+stores_some Sll = tt
+stores_some Slt = tt
+stores_some Sltu = tt
+stores_some Xor = tt
+stores_some Srl = tt
+stores_some Sra = tt
+stores_some Or = tt
+stores_some And = tt
+stores_some Addiw = tt
+stores_some Slliw = tt
+stores_some Srliw = tt
+stores_some Sraiw = tt
+stores_some Addw = tt
+stores_some Subw = tt
+stores_some Sllw = tt
+stores_some Srlw = tt
+stores_some Sraw = tt
+stores_some Mul = tt
+stores_some Mulh = tt
+stores_some Mulhsu = tt
+stores_some Mulhu = tt
+stores_some Div = tt
+stores_some Divu = tt
+stores_some Rem = tt
+stores_some Remu = tt
+stores_some Mulw = tt
+stores_some Divw = tt
+stores_some Divuw = tt
+stores_some Remw = tt
+stores_some Remuw = tt
+stores_some Fence = tt
+stores_some Ecall = tt
+stores_some Ebreak = tt
+
 module _ (regions : List Region) (f g : ℕ → ℕ → Bool)
-    (agree : (addr n : ℕ) → allows regions (λ p. p.write) addr n ≡ true → f addr n ≡ g addr n) where
+    (agree : (addr n : ℕ) → 1 ≤ n → allows regions (λ p. p.write) addr n ≡ true → f addr n ≡ g addr n) where
   abbrev tried : List ℕ → ℕ → ℕ → ℕ → ℕ → Bool → Effect
   tried xs pc addr n value b = cond (not b) (Traps BadStore) (Goes xs (wrap (pc + 4)) (map (λ r. written r addr (bytes_of n value)) regions))
 
-  stored_alike : (xs : List ℕ) (pc addr n value : ℕ) → stored (seen regions f) xs pc addr n value ≡ stored (seen regions g) xs pc addr n value
-  stored_alike xs pc addr n value = go (addr % n == 0) (allows regions (λ p. p.write) addr n) refl
+  stored_alike : (xs : List ℕ) (pc addr n value : ℕ) → 1 ≤ n → stored (seen regions f) xs pc addr n value ≡ stored (seen regions g) xs pc addr n value
+  stored_alike xs pc addr n value some = go (addr % n == 0) (allows regions (λ p. p.write) addr n) refl
     where
       go : (b c : Bool) → allows regions (λ p. p.write) addr n ≡ c
           → cond (not b) (Traps StoreAlign) (tried xs pc addr n value (c && not (f addr n))) ≡ cond (not b) (Traps StoreAlign) (tried xs pc addr n value (c && not (g addr n)))
       go false c e = refl
       go true false e = refl
-      go true true e = ap (λ s. tried xs pc addr n value (true && not s)) (agree addr n e)
+      go true true e = ap (λ s. tried xs pc addr n value (true && not s)) (agree addr n some e)
 
-  accessed_alike : (xs : List ℕ) (pc : ℕ) (insn : Insn) (a b : ℕ) (access : Access) → accessed (seen regions f) xs pc insn a b access ≡ accessed (seen regions g) xs pc insn a b access
-  accessed_alike xs pc insn a b Untouched = refl
-  accessed_alike xs pc insn a b (Loads n with_sign) = refl
-  accessed_alike xs pc insn a b (Stores n) = stored_alike xs pc (wrap (a + wrap_ℤ insn.imm)) n b
+  accessed_alike : (xs : List ℕ) (pc : ℕ) (insn : Insn) (a b : ℕ) (access : Access) → StoresSome access → accessed (seen regions f) xs pc insn a b access ≡ accessed (seen regions g) xs pc insn a b access
+  accessed_alike xs pc insn a b Untouched s = refl
+  accessed_alike xs pc insn a b (Loads n with_sign) s = refl
+  accessed_alike xs pc insn a b (Stores n) s = stored_alike xs pc (wrap (a + wrap_ℤ insn.imm)) n b s
 
   stepped_alike : (xs : List ℕ) (pc : ℕ) (insn : Insn) (a b : ℕ) → stepped (seen regions f) xs pc insn a b ≡ stepped (seen regions g) xs pc insn a b
   stepped_alike xs pc insn a b =
-      ap (λ e. cond (is_taken insn.op a b) (jumped (seen regions f) xs (aim_of insn.op pc a insn.imm) insn.rd (result_of insn.op pc a b insn.imm)) e) (accessed_alike xs pc insn a b (access_of insn.op))
+      ap (λ e. cond (is_taken insn.op a b) (jumped (seen regions f) xs (aim_of insn.op pc a insn.imm) insn.rd (result_of insn.op pc a b insn.imm)) e) (accessed_alike xs pc insn a b (access_of insn.op) (stores_some insn.op))
 
   performed_alike : (xs : List ℕ) (pc : ℕ) (insn : Insn) (op : Op) → performed (seen regions f) xs pc insn op ≡ performed (seen regions g) xs pc insn op
   performed_alike xs pc insn Ecall = refl

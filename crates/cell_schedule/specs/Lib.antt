@@ -1,2 +1,5 @@
 pub mod Does
+pub mod Ends
+pub mod Starts
 pub mod Turns
+pub mod Rounds

@@ -1,17 +1,19 @@
 //! The commands that start tasks, give them turns, end them and show them.
 #![tactic(auto)]
 
+mod ending;
 mod entry;
-mod kill;
 mod live;
 mod overview;
-mod run;
+mod round;
 mod slice;
-mod spawn;
 mod stack;
+mod starting;
+mod stepping;
 mod turn;
 
-pub use kill::kill;
+pub use ending::kill;
 pub use overview::tasks;
-pub use run::{run, step};
-pub use spawn::spawn;
+pub use round::run;
+pub use starting::spawn;
+pub use stepping::step;

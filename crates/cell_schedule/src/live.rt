@@ -1,17 +1,16 @@
 //! The live task that a command names.
 
 ghost use Rattle.std.specs.Prelude.{◌≡◌, IfOk, option_map};
+ghost use Rattle.cell_gather.specs.Following.{Follows};
+ghost use Rattle.cell_machine.specs.Machine.{world_of};
+ghost use Rattle.cell_task.specs.State.{seen_as};
+ghost use Rattle.cell_world.specs.Answer.{live_task};
 
 use cell_gather::LoadFail;
 use cell_machine::Machine;
 use cell_stage::unknown_number;
 use cell_task::Task;
 use std::alloc::Global;
-
-ghost use Rattle.cell_gather.specs.Following.{Follows};
-ghost use Rattle.cell_machine.specs.Machine.{world_of};
-ghost use Rattle.cell_task.specs.State.{seen_as};
-ghost use Rattle.cell_world.specs.Answer.{live_task};
 
 /// The live task of that number.
 pub fn live(alloc: Global, machine: &Machine, task: u32) -> Result<&Task, LoadFail>

@@ -1,19 +1,22 @@
 //! Turns of a task, one after another.
 
-ghost use Rattle.std.specs.Prelude.{◌≡◌, ◌+◌, ◌*◌, ◌≤◌, [], vec_capacity};
+ghost use Rattle.std.specs.Prelude.{◌≡◌, ◌+◌, ◌*◌, ◌≤◌, Some, [], vec_capacity};
 ghost use Rattle.cell_machine.specs.Machine.{IsSound, world_of};
-ghost use Rattle.cell_task.specs.State.{IsReady};
+ghost use Rattle.cell_task.specs.State.{IsReady, live_in};
 ghost use Rattle.cell_world.specs.Turn.{turns_from};
-ghost use Rattle.cell_schedule.specs.Turns.{HasRun};
+ghost use Rattle.cell_world.specs.World.{Task as WorldTask};
+ghost use Rattle.cell_schedule.specs.Turns.{HasRun, stopped_by};
 
 use crate::turn::turn;
 use cell_machine::Machine;
 use cell_num::Bytes;
-use cell_task::Turned;
+use cell_task::{Tasks, Turned};
 use cell_world::{TaskRun, TaskState};
 
 /// How a task stands that goes no further in this slice.
-fn stopped(turned: Turned, until_yield: bool) -> Option<TaskState> {
+fn stopped(turned: Turned, until_yield: bool) -> Option<TaskState>
+    ensures { result ≡ stopped_by until_yield turned }
+{
     match turned {
         Turned::Ready => None,
         Turned::Yield => {
@@ -25,6 +28,17 @@ fn stopped(turned: Turned, until_yield: bool) -> Option<TaskState> {
         }
         Turned::Done(code) => Some(TaskState::Done(code)),
         Turned::Fault(cause, pc) => Some(TaskState::Fault(cause, pc)),
+    }
+}
+
+/// Where the stack of a ready task begins.
+fn stack_of(tasks: &Tasks, task: u32) -> u64
+    requires { IsReady tasks.now task }
+    ensures { (t : WorldTask) → live_in tasks.now task ≡ Some t → t.stack ≡ result }
+{
+    match tasks.get(task) {
+        Some(live) => live.stack,
+        None => unreachable!(),
     }
 }
 
@@ -44,24 +58,22 @@ pub fn slice(
     requires room { 20 * turns ≤ vec_capacity out }
     ensures { HasRun machine.old (turns_from turns until_yield task 0 [] (world_of machine.old)) result machine.new }
 {
-    let stack = match machine.tasks.get(task) {
-        Some(live) => live.stack,
-        None => unreachable!(),
-    };
-    let mut had = 0u32;
-    let mut state = TaskState::Ready;
-    while had < turns {
+    let stack = stack_of(&machine.tasks, task);
+    for had in 0..turns {
         let turned = turn(machine, task, stack, &mut out);
-        had += 1;
-        if let Some(stopped) = stopped(turned, until_yield) {
-            state = stopped;
-            break;
+        if let Some(state) = stopped(turned, until_yield) {
+            return TaskRun {
+                task,
+                turns: had + 1,
+                state,
+                out: Bytes::from_vec(out),
+            };
         }
     }
     TaskRun {
         task,
-        turns: had,
-        state,
+        turns,
+        state: TaskState::Ready,
         out: Bytes::from_vec(out),
     }
 }

@@ -1,7 +1,5 @@
 -- The machine with one more namespace is what the command comes to, and sound.
 use Rattle.std.proofs.Common.{◌≡◌, refl, sym, ◌∙◌, ap, subst, ℕ, ◌-◌, ◌*◌, ◌^◌, ◌≤◌, List, [], ◌∷◌, ◌++◌, map, Some, Ok, Err}
-use Rattle.std.proofs.lemmas.List.Elements.{All-nil}
-use Rattle.cell_world.specs.declared.command.Command.TheVariants.{Ns as AddNs}
 use Rattle.cell_world.specs.declared.refusal.Refusal.{Refusal}
 use Rattle.cell_world.specs.declared.refusal.Refusal.TheVariants.{Unknown}
 use Rattle.cell_world.specs.declared.reply.Reply.TheVariants.{Ns}
@@ -9,11 +7,10 @@ use Rattle.cell_world.specs.declared.state.Namespace.{Namespace}
 use Rattle.cell_world.specs.declared.state.LinkRow.{LinkRow}
 use Rattle.cell_world.specs.declared.state.NewCell.{NewCell}
 use Rattle.cell_world.specs.Answer.{Done, done}
-use Rattle.cell_world.specs.Coherent.{IsCoherent, IsLoadableReading}
-use Rattle.cell_world.specs.Gather.{Source}
+use Rattle.cell_world.specs.Coherent.{IsCoherent}
 use Rattle.cell_world.specs.Next.{answered_by}
 use Rattle.cell_world.specs.NsCommand.{next_ns, with_namespace}
-use Rattle.cell_world.specs.Outcome.{Outcome, ◌>>=◌, ◌>>◌, found}
+use Rattle.cell_world.specs.Outcome.{Outcome, ◌>>◌, found}
 use Rattle.cell_world.specs.Place.{page_table}
 use Rattle.cell_world.specs.World.{World}
 use Rattle.cell_coherent.proofs.NextCoherent.{answered}

@@ -1,13 +1,13 @@
 -- A command's answer, as the system gives it, is the plain machine's.
 use Rattle.std.proofs.Common.{◌≡◌, refl, sym, ◌∙◌, ap, subst, arith, ◌≤◌, ◌-◌, ◌+◌, ◌^◌, ℕ, List, [], ◌∷◌, length, map}
-use Rattle.std.specs.Prelude.{Result, Ok, Err, min}
+use Rattle.std.specs.Prelude.{Result, Ok, Err}
 use Rattle.cell_num.specs.declared.ids.CellId.{CellId}
 use Rattle.cell_world.specs.declared.command.Command.{Command}
 use Rattle.cell_world.specs.declared.command.Command.TheVariants.{Ns as AddNs, Load as LoadCrate, Spawn, Step, Run, Kill}
 use Rattle.cell_world.specs.declared.file.File.{File}
 use Rattle.cell_world.specs.declared.refusal.Refusal.{Refusal}
 use Rattle.cell_world.specs.declared.reply.Reply.{Reply}
-use Rattle.cell_world.specs.declared.reply.Reply.TheVariants.{Ns, Load}
+use Rattle.cell_world.specs.declared.reply.Reply.TheVariants.{Load}
 use Rattle.cell_world.specs.Answer.{Done, done}
 use Rattle.cell_world.specs.Coherent.{AreSound}
 use Rattle.cell_world.specs.Gather.{source_of}
@@ -24,7 +24,6 @@ use Rattle.cell_machine.specs.Machine.{IsSound, world_of}
 use Rattle.cell_mem.specs.State.{MemoryState}
 use Rattle.cell_schedule.specs.Does.{Does}
 use Rattle.cell_view.specs.Shows.{Shows}
-use Rattle.cell_world.specs.World.{Cell, attached}
 use Rattle.cell_world.specs.Answer.{ids, numbers_of}
 use Rattle.cell_world.specs.declared.state.NewCell.{NewCell}
 use Rattle.cell_machine.specs.declared.staged.Staged.{Staged}
@@ -32,7 +31,7 @@ use Rattle.cell_machine.specs.Machine.{cells_of}
 use Rattle.cell_machine.specs.Staged.{IsStaged}
 use Rattle.cell_system.specs.Adding.{IsAdded}
 use Rattle.cell_machine.specs.Same.{IsSame, raised}
-use Rattle.cell_system.specs.Namespaces.{AddsNamespace, HasNamespace}
+use Rattle.cell_system.specs.Namespaces.{AddsNamespace}
 use Rattle.cell_system.specs.State.{State}
 use Rattle.cell_machine.proofs.Same.{maps_same, patches_same, world_same}
 use Rattle.cell_system.proofs.Patchless.{IsPatchless, kill_patchless, run_patchless, spawn_patchless, step_patchless}

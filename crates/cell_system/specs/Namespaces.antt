@@ -3,7 +3,6 @@
 --     AddsNamespace old .. new      the machine with the namespace, or the same machine and the refusal
 use Rattle.std.specs.Prelude.{ℕ, ◌≡◌, nat_lt, is_none, List, Result, Ok, Err, length}
 use Rattle.cell_world.specs.declared.refusal.Many.TheVariants.{Namespaces}
-use Rattle.cell_world.specs.declared.refusal.Refusal.{Refusal}
 use Rattle.cell_world.specs.declared.refusal.Refusal.TheVariants.{NameTaken, TooMany}
 use Rattle.cell_world.specs.declared.reply.Reply.{Reply}
 use Rattle.cell_world.specs.declared.reply.Reply.TheVariants.{Ns}

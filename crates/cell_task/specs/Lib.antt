@@ -1,2 +1,5 @@
+pub mod Inside
+pub mod Numbers
+pub mod Ran
 pub mod State
 pub mod Turns

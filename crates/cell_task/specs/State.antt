@@ -2,8 +2,8 @@
 --     TasksState               the live tasks, and the number of the next one
 --     seen_as number t         the task of the machine that t is
 --     live_in s number         the live task of that number
-use Rattle.std.specs.Prelude.{◌≡◌, ℕ, suc, ◌+◌, ◌==◌, Bool, not, List, [], ◌∷◌, ◌++◌, Option, Some, None, filter, find, option_map}
-use Rattle.cell_world.specs.World.{Task, Fault, is_ready}
+use Rattle.std.specs.Prelude.{◌≡◌, ℕ, suc, ◌==◌, not, List, [], ◌∷◌, ◌++◌, Option, Some, None, filter, find, option_map}
+use Rattle.cell_world.specs.World.{Task, Fault}
 use Rattle.cell_task.specs.declared.task.Task.{Task as LiveTask}
 use Rattle.cell_task.specs.declared.task.TaskFault.{TaskFault}
 

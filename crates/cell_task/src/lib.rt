@@ -1,10 +1,11 @@
 //! The live tasks: their arena, and one turn of a task.
 #![tactic(auto)]
 
-mod calls;
 mod numbers;
+mod output;
 mod task;
 mod tasks;
+mod turn;
 mod turned;
 mod words;
 

@@ -1,16 +1,17 @@
 //! The live tasks.
 
-ghost use Rattle.std.specs.Prelude.{◌≡◌, ◌+◌, ◌<◌, ◌≤◌, ◌^◌, None, Some, [], true, is_some, length, map, option_map, vec_capacity, vec_len, IfOk, OnErr, OnOk};
+ghost use Rattle.std.specs.Prelude.{◌≡◌, ◌+◌, ◌-◌, ◌<◌, ◌≤◌, ◌^◌, None, Some, [], true, is_some, length, map, option_map, replicate, slice_set, vec_capacity, vec_len, IfNone, IfOk, IfSome, OnErr, OnOk};
 ghost use Rattle.cell_mem.specs.State.{region_from};
 ghost use Rattle.cell_world.specs.SpawnCommand.{new_task};
 ghost use Rattle.cell_world.specs.Words.{words_of as words_in_task};
 ghost use Rattle.cell_world.specs.World.{Task as WorldTask};
 ghost use Rattle.cell_task.specs.State.{IsReady, live_in, no_tasks, seen_as, with_new, without};
 ghost use Rattle.cell_task.specs.Turns.{IsTurn};
+ghost use Rattle.cell_task.specs.Numbers.{HasAt, Lacks, RisesSomewhere};
 
-use crate::calls::call;
-use crate::{Numbers, Task, TaskFault, Turned};
-use cell_hart::{Hart, Stop};
+use crate::words::put_words;
+use crate::{Numbers, Task, Turned};
+use cell_hart::Hart;
 use cell_mem::Memory;
 use cell_num::CellId;
 use slab::Slab;
@@ -45,11 +46,21 @@ impl Model for Tasks {
 /// The registers of a new task: all are 0 but x2, 16 bytes below the stack's end, and x10.
 fn first_registers(arg: u64, stack: u64) -> [u64; 32]
     requires { stack + 16384 < 2 ^ 64 }
+    ensures { result ≡ slice_set (slice_set (replicate 32 0) 10 arg) 2 (stack + 16384 - 16) }
 {
     let mut x = [0u64; 32];
     x[10] = arg;
     x[2] = stack + (STACK_SIZE - 16);
     x
+}
+
+/// The place of a number among numbers that rise.
+fn place_in(numbers: &[u32], task: u32) -> Option<usize>
+    requires { RisesSomewhere numbers.now }
+    ensures found { IfSome result (λ place. HasAt numbers.now place task) }
+    ensures absent { IfNone result (Lacks numbers.now task) }
+{
+    numbers.binary_search(&task).ok()
 }
 
 impl Tasks {
@@ -86,21 +97,12 @@ impl Tasks {
         Numbers::of(&self.numbers)
     }
 
-    /// The key of a live task.
-    fn key(&self, task: u32) -> Option<usize>
-    {
-        match self.numbers.binary_search(&task) {
-            Ok(place) => Some(self.keys[place]),
-            Err(_) => None,
-        }
-    }
-
     /// The live task of that number.
     pub fn get(&self, task: u32) -> Option<&Task>
         ensures { option_map (λ t. seen_as task t.now) result ≡ live_in self.now task }
     {
-        let key = self.key(task)?;
-        self.arena.get(key)
+        let place = place_in(&self.numbers, task)?;
+        self.arena.get(self.keys[place])
     }
 
     /// Starts a task at `entry`, with `arg` in x10, whose stack begins at `stack`. The stack has
@@ -144,7 +146,7 @@ impl Tasks {
         ensures stack { option_map (λ t. t.stack) (live_in self.old task) ≡ Some result }
         ensures gone { self.new ≡ without self.old task }
     {
-        let Ok(place) = self.numbers.binary_search(&task) else {
+        let Some(place) = place_in(&self.numbers, task) else {
             unreachable!();
         };
         let _ = self.numbers.remove(place);
@@ -166,21 +168,14 @@ impl Tasks {
         ensures room { vec_capacity out.new ≡ vec_capacity out.old }
         ensures short { vec_len out.new ≤ vec_len out.old + 20 }
     {
-        let Some(key) = self.key(task) else {
+        memory.laid_out();
+        let Some(place) = place_in(&self.numbers, task) else {
             unreachable!();
         };
-        let Some(live) = self.arena.get_mut(key) else {
+        let Some(live) = self.arena.get_mut(self.keys[place]) else {
             unreachable!();
         };
-        let turned = match live.hart.step(memory) {
-            Stop::Next => Turned::Ready,
-            Stop::Call => call(&mut live.hart, out),
-            Stop::Trap { cause, pc } => Turned::Fault(cause, pc),
-        };
-        if let Turned::Fault(cause, pc) = turned {
-            live.fault = Some(TaskFault { cause, pc });
-            return turned;
-        }
+        let turned = live.turn(memory, out);
         if let Turned::Done(_) = turned {
             let stack = self.kill(task);
             memory.unmap(stack);
@@ -205,7 +200,7 @@ impl Tasks {
         let Some(live) = self.get(task) else {
             unreachable!();
         };
-        match crate::words::put_words(live, memory, into) {
+        match put_words(live, memory, into) {
             Ok(()) => Ok(()),
             Err(fail) => {
                 into.clear();

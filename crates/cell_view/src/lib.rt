@@ -7,5 +7,6 @@ mod provider;
 mod section;
 
 pub use overview::map;
+pub use present::scene;
 pub use provider::find;
-pub use section::dump;
+pub use section::{dump, section_of};

@@ -26,7 +26,7 @@ fn is_numbered(section: &Section, number: u32) -> bool
 }
 
 /// The loaded section of that number.
-fn section_of(object: &Object, number: u32) -> Option<&Section>
+pub fn section_of(object: &Object, number: u32) -> Option<&Section>
     ensures { option_map (λ s. s.now) result ≡ section_with object.now number }
 {
     for section in object.sections.as_slice() {

@@ -1,0 +1,122 @@
+//! `spawn`
+
+ghost use Rattle.std.specs.Prelude.{◌≡◌, ◌<◌, ◌≤◌, IfOk, is_some, length, replicate, true};
+ghost use Rattle.cell_gather.specs.Following.{Follows};
+ghost use Rattle.cell_machine.specs.Machine.{IsSound, world_of};
+ghost use Rattle.cell_world.specs.declared.refusal.Refusal.TheVariants.{Exhausted as TooFull};
+ghost use Rattle.cell_world.specs.SpawnCommand.{next_spawn};
+ghost use Rattle.cell_world.specs.World.{cell_of};
+ghost use Rattle.cell_schedule.specs.Does.{Does};
+ghost use Rattle.cell_schedule.specs.Starts.{entry_as, may_start, started};
+
+use crate::entry::{Entry, entry_for};
+use crate::stack::STACK_PAGES;
+use cell_gather::LoadFail;
+use cell_machine::Machine;
+use cell_mem::Perm;
+use cell_place::NoRun;
+use cell_stage::namespace;
+use cell_task::Tasks;
+use cell_world::{Many, Permission, Refusal, Reply};
+use std::alloc::{AllocError, Global};
+
+/// The most tasks that there may be at a time.
+const MAX_TASKS: usize = 64;
+
+/// The last number of a task.
+const LAST_NUMBER: u32 = 65535;
+
+/// The bytes of a stack.
+const STACK_SIZE: usize = 16384;
+
+/// A stack may be read and written.
+const READ_WRITE: Permission = Permission {
+    read: true,
+    write: true,
+    exec: false,
+};
+
+/// Sees that one more task may come.
+fn check(tasks: &Tasks) -> Result<(), LoadFail>
+    ensures { Follows (λ _. tt) result (may_start tasks.now) }
+{
+    if tasks.count() >= MAX_TASKS {
+        return Err(LoadFail::Refused(Refusal::TooMany {
+            kind: Many::Tasks,
+            limit: MAX_TASKS as u32,
+        }));
+    }
+    if tasks.next() > LAST_NUMBER {
+        return Err(LoadFail::Refused(Refusal::TooMany {
+            kind: Many::TaskNumbers,
+            limit: LAST_NUMBER,
+        }));
+    }
+    Ok(())
+}
+
+fn exhausted(none: NoRun) -> Refusal
+    ensures { result ≡ TooFull none.wanted none.largest }
+{
+    Refusal::Exhausted {
+        wanted: none.wanted,
+        largest: none.largest,
+    }
+}
+
+fn zeros(alloc: Global, count: usize) -> Result<Vec<u8>, AllocError>
+    ensures { IfOk result (λ bytes. bytes.items ≡ replicate count 0) }
+{
+    vec![in alloc; 0u8; count]
+}
+
+/// Starts a task on a stack of its own. All that can fail comes before the stack is mapped, or is
+/// taken back.
+fn start(alloc: Global, machine: &mut Machine, entry: Entry, arg: u64) -> Result<Reply, LoadFail>
+    requires sound { IsSound machine.old }
+    requires few { length machine.old.tasks.tasks < 64 }
+    requires numbers { machine.old.tasks.next ≤ 65535 }
+    requires present { is_some (cell_of (world_of machine.old) entry.cell.0) ≡ true }
+    ensures { Does (started (world_of machine.old) (entry_as entry) arg) machine.old result machine.new }
+{
+    let bytes = zeros(alloc, STACK_SIZE)?;
+    machine.memory.reserve(1)?;
+    let run = match machine.space.take(STACK_PAGES) {
+        Ok(run) => run,
+        Err(none) => return Err(LoadFail::Refused(exhausted(none))),
+    };
+    let stack = machine.space.address_of(run);
+    let task = match machine.tasks.spawn(entry.addr, arg, stack, entry.cell) {
+        Ok(task) => task,
+        Err(_) => {
+            machine.space.give(run);
+            return Err(LoadFail::OutOfMemory);
+        }
+    };
+    machine.memory.map(stack, Perm::of(READ_WRITE), bytes);
+    Ok(Reply::Spawn {
+        task,
+        pc: entry.addr,
+    })
+}
+
+/// Starts a task where the provider of a name has it, with an argument, on a stack of its own.
+///
+/// Refusals, of which the first that holds is answered: a namespace that isn't there, too many live
+/// tasks, no number left, a name that nobody provides or at which no task may begin, and no four
+/// free pages in a row.
+pub fn spawn(
+    alloc: Global,
+    machine: &mut Machine,
+    ns: &[u8],
+    symbol: &[u8],
+    arg: u64,
+) -> Result<Reply, LoadFail>
+    requires { IsSound machine.old }
+    ensures { Does (next_spawn (world_of machine.old) ns.now symbol.now arg) machine.old result machine.new }
+{
+    let ns = namespace(alloc, &machine.spaces, ns)?;
+    check(&machine.tasks)?;
+    let entry = entry_for(alloc, machine, ns, symbol)?;
+    start(alloc, machine, entry, arg)
+}

@@ -1,0 +1,7 @@
+mod Arena
+mod Calling
+mod Ending
+mod Places
+mod Standing
+mod Turning
+mod Wording

@@ -1,0 +1,73 @@
+-- After a turn the task's stack is still mapped where the task is live, and no undo is begun where none was.
+use Rattle.std.proofs.Common.{◌≡◌, refl, sym, ap, subst, ◌∙◌, ℕ, ◌+◌, ◌*◌, true, false, not, cond, Bool, List, [], ◌∷◌, Option, Some, None, filter, is_some}
+use Rattle.std.specs.Prelude.{◌==◌}
+use Rattle.std.specs.List.{find}
+use Rattle.cell_world.specs.declared.reply.TaskState.{TaskState}
+use Rattle.cell_world.specs.declared.reply.TaskState.TheVariants.{Ready as IsReady, Done as IsDone, Fault as IsFault}
+use Rattle.cell_world.specs.World.{Region, Task}
+use Rattle.cell_world.specs.Turn.{Turned, with_task}
+use Rattle.cell_mem.specs.Index.{IsLaid}
+use Rattle.cell_mem.specs.State.{MemoryState, region_from, unmapped}
+use Rattle.cell_task.specs.declared.task.Task.{Task as LiveTask}
+use Rattle.cell_task.specs.declared.turned.Turned.{Turned as Answer}
+use Rattle.cell_task.specs.declared.turned.Turned.TheVariants.{Ready, Yield, Done, Fault}
+use Rattle.cell_task.specs.Ran.{ran_by}
+use Rattle.cell_task.specs.State.{TasksState, live_in, seen_as, without}
+use Rattle.cell_task.specs.Turns.{turned_in, memory_after, IsTurn}
+use Rattle.cell_task.proofs.Turning.{after, task_after, effect, regions', still_mapped, found_changed, turned_is}
+
+gone : (number : ℕ) (ts : List Task) → find (λ t. t.number == number) (filter (λ t. not (t.number == number)) ts) ≡ None
+gone number [] = refl
+gone number (t ∷ ts) = go (t.number == number) refl (gone number ts)
+  where
+    go : (b : Bool) → (t.number == number) ≡ b → find (λ u. u.number == number) (filter (λ u. not (u.number == number)) ts) ≡ None
+        → find (λ u. u.number == number) (cond (not b) (t ∷ filter (λ u. not (u.number == number)) ts) (filter (λ u. not (u.number == number)) ts)) ≡ None
+    go true e rest = rest
+    go false e rest = ap (λ c. cond c (Some t) (find (λ u. u.number == number) (filter (λ u. not (u.number == number)) ts))) e ∙ rest
+
+module _ (s : TasksState) (m : MemoryState) (number : ℕ) (t : LiveTask) (laid : IsLaid m.base m.regions (m.base + 4096 * m.pages))
+    (live : live_in s number ≡ Some (seen_as number t)) (mapped : is_some (region_from m t.stack) ≡ true) where
+  -- what is asked of tasks and memory after a turn
+  abbrev Stacked : TasksState → MemoryState → Type 0
+  Stacked s' m' = (w : Task) → live_in s' number ≡ Some w → is_some (region_from m' w.stack) ≡ true
+
+  abbrev Leaves : Turned → Type 0
+  Leaves x = let s' : TasksState = record s { tasks = x.world.tasks } in Stacked s' (memory_after m (seen_as number t) x)
+
+  stays_stacked : (u w : Task) → u.number ≡ number → u.stack ≡ t.stack → find (λ v. v.number == number) (with_task u s.tasks) ≡ Some w
+      → (let m' : MemoryState = record m { regions = regions' m t laid } in is_some (region_from m' w.stack) ≡ true)
+  stays_stacked u w n k found =
+      let m' : MemoryState = record m { regions = regions' m t laid } in
+      let here : find (λ v. v.number == u.number) s.tasks ≡ Some (seen_as number t) = ap (λ i. find (λ v. v.number == i) s.tasks) n ∙ live in
+      let found_then : find (λ v. v.number == number) (with_task u s.tasks) ≡ Some u =
+      ap (λ i. find (λ v. v.number == i) (with_task u s.tasks)) (sym n) ∙ found_changed u (seen_as number t) s.tasks here in
+      let same : w ≡ u = cc in
+      ap (λ (v : Task). is_some (region_from m' v.stack)) same ∙ ap (λ i. is_some (region_from m' i)) k ∙ still_mapped m t laid m' t.stack refl mapped
+
+  leaves : (u : Task) (answer : Answer) (out : List ℕ) → u.number ≡ number → u.stack ≡ t.stack → Leaves (after s (regions' m t laid) (seen_as number t) u answer out)
+  leaves u Ready out n k = λ w found. stays_stacked u w n k found
+  leaves u Yield out n k = λ w found. stays_stacked u w n k found
+  leaves u (Done code) out n k = λ w found. absurd (cc (gone number s.tasks, found))
+  leaves u (Fault cause pc) out n k = λ w found. stays_stacked u w n k found
+
+  pub stack_stays : (out : List ℕ) (answer : Answer) (s' : TasksState) (m' : MemoryState) (out' : List ℕ) → IsTurn s m (seen_as number t) out answer s' m' out' → Stacked s' m'
+  stack_stays out answer s' m' out' turn =
+      let ran = ran_by t.hart.pc t.hart.x t.fault (effect m t laid) in
+      let l : Leaves (turned_in s m (seen_as number t)) =
+      subst Leaves (sym (turned_is s number t m.regions (effect m t laid))) (leaves (task_after (seen_as number t) ran) ran.answer ran.out refl refl) in
+      subst (λ (x : TasksState). Stacked x m') (sym turn.tasks)
+      (subst (λ (x : MemoryState). let y : TasksState = record s { tasks = (turned_in s m (seen_as number t)).world.tasks } in Stacked y x) (sym turn.memory) l)
+
+pub undo_stays : (s : TasksState) (m : MemoryState) (t : Task) (out : List ℕ) (answer : Answer) (s' : TasksState) (m' : MemoryState) (out' : List ℕ)
+    → IsTurn s m t out answer s' m' out' → m.writes_left ≡ None → m'.writes_left ≡ None
+undo_stays s m t out answer s' m' out' turn none = ap (λ (k : MemoryState). k.writes_left) turn.memory ∙ go (turned_in s m t).state (turned_in s m t).world.regions ∙ none
+  where
+    go : (state : TaskState) (regions : List Region)
+        → (elim state as (λ _. MemoryState) [
+          | IsReady ↦ record m { regions = regions }
+          | IsDone code ↦ record (unmapped m t.stack) { regions = regions }
+          | IsFault cause pc ↦ record m { regions = regions }
+        ]).writes_left ≡ m.writes_left
+    go IsReady regions = refl
+    go (IsDone code) regions = refl
+    go (IsFault cause pc) regions = refl
