@@ -1,6 +1,6 @@
 -- The entry that the provider of a name has.
-use Rattle.std.proofs.Common.{◌≡◌, refl, sym, ◌∙◌, ap, subst, arith, ℕ, ◌+◌, ◌-◌, ◌≤◌, inl, Bool, true, false, ◌&&◌, List, [], ◌∷◌, ◌++◌, map, append-nil, Option, Some, None, Ok}
-use Rattle.std.specs.Prelude.{◌%◌, ◌==◌, find, is_some, nat_le, option_map, option_and_then, unwrap_or}
+use Rattle.std.proofs.Common.{◌≡◌, refl, sym, ◌∙◌, ap, subst, arith, ℕ, ◌+◌, ◌-◌, ◌≤◌, inl, Bool, true, false, ◌&&◌, List, [], ◌∷◌, ◌++◌, map, append-nil, Option, Some, None}
+use Rattle.std.specs.Prelude.{◌%◌, ◌==◌, is_some, nat_le, option_map, option_and_then, unwrap_or}
 use Rattle.std.specs.List.{list_all}
 use Rattle.std.proofs.lemmas.Bool.{and_parts, eq-eqb, eqb-true}
 use Rattle.cell_num.specs.Lists.{equals, where_true}
@@ -9,7 +9,6 @@ use Rattle.cell_object.specs.declared.object.Home.TheVariants.{Undef, Abs, Insid
 use Rattle.cell_object.specs.declared.object.Section.{Section as ObjectSection}
 use Rattle.cell_object.specs.declared.object.Symbol.{Symbol}
 use Rattle.cell_object.specs.Parts.{section_of, symbol_at}
-use Rattle.cell_world.specs.declared.refusal.Refusal.{Refusal}
 use Rattle.cell_world.specs.declared.state.Namespace.{Namespace}
 use Rattle.cell_world.specs.declared.state.NewCell.{NewCell}
 use Rattle.cell_world.specs.declared.state.Target.{Target}

@@ -7,7 +7,7 @@ use Rattle.cell_gather.specs.declared.fail.LoadFail.TheVariants.{Refused, OutOfM
 use Rattle.cell_gather.specs.Following.{FailsAs}
 use Rattle.cell_world.specs.declared.refusal.Many.TheVariants.{Tasks as ManyTasks, TaskNumbers}
 use Rattle.cell_world.specs.declared.refusal.Refusal.{Refusal}
-use Rattle.cell_world.specs.declared.refusal.Refusal.TheVariants.{NoEntry, TooMany, Unknown}
+use Rattle.cell_world.specs.declared.refusal.Refusal.TheVariants.{NoEntry, TooMany}
 use Rattle.cell_world.specs.declared.reply.Reply.{Reply}
 use Rattle.cell_world.specs.Answer.{Done, space_of}
 use Rattle.cell_world.specs.Outcome.{Outcome, ◌>>=◌, ◌>>◌, found, need}
@@ -17,9 +17,8 @@ use Rattle.cell_coherent.proofs.Outcomes.{need_ok, then_ok}
 use Rattle.cell_task.specs.State.{TasksState}
 use Rattle.cell_machine.specs.declared.machine.Machine.{Machine}
 use Rattle.cell_machine.specs.Machine.{world_of}
-use Rattle.cell_machine.specs.Same.{IsSame}
 use Rattle.cell_machine.proofs.Unchanged.{same_itself}
-use Rattle.cell_schedule.specs.Does.{Does, IsDone}
+use Rattle.cell_schedule.specs.Does.{Does}
 use Rattle.cell_schedule.specs.Starts.{may_start, started}
 
 two_needs : {X : Type 0} (a b : Bool) (r s : Refusal) (more : Outcome X) → (need a r >> (need b s >> more)) ≡ ((need a r >> need b s) >> more)

@@ -1,5 +1,5 @@
 -- Four pages in a row that are free, for a new stack.
-use Rattle.std.proofs.Common.{◌≡◌, refl, sym, ◌∙◌, ap, subst, arith, ℕ, zero, suc, ◌+◌, ◌*◌, ◌≤◌, ◌<◌, ◌⊎◌, inl, inr, Bool, true, false, not, true≢false, List, [], ◌∷◌, length, get_or, Option, Some, None, Ok, Err}
+use Rattle.std.proofs.Common.{◌≡◌, refl, sym, ◌∙◌, ap, arith, ℕ, zero, suc, ◌+◌, ◌≤◌, ◌<◌, ◌⊎◌, inl, inr, Bool, true, false, not, true≢false, List, length, get_or, Option, Some, None, Ok, Err}
 use Rattle.std.specs.List.{list_all}
 use Rattle.std.specs.Prelude.{Result, slice_index_or}
 use Rattle.std.proofs.lemmas.Bool.{and_parts, cases_lt}
@@ -7,7 +7,6 @@ use Rattle.std.proofs.lemmas.List.{ext_get_or}
 use Rattle.cell_num.specs.Lists.{from_on}
 use Rattle.cell_world.specs.Pages.{filled, is_free, is_free_run, is_taken_run, longest_run, lowest_run}
 use Rattle.cell_mem.proofs.Filling.{filled_above, filled_below, filled_inside, length-filled}
-use Rattle.cell_place.proofs.Table.{lowest_inside}
 use Rattle.cell_place.specs.declared.search.NoRun.{NoRun}
 use Rattle.cell_place.specs.declared.search.Run.{Run}
 use Rattle.cell_place.specs.Runs.{run_of}

@@ -15,6 +15,7 @@ use Rattle.cell_machine.specs.Machine.{IsSound, world_of}
 use Rattle.cell_schedule.specs.declared.round.Due.{Due}
 use Rattle.cell_schedule.specs.Turns.{IsCounted}
 
+-- a live task of that number is ready
 abbrev pub can_turn : TasksState → ℕ → Bool
 can_turn s number = unwrap_or (option_map is_ready (live_in s number)) false
 
@@ -23,12 +24,15 @@ pub record HasRoom (turns : ℕ) (d : Due) : Type 0 where
   pub empty : d.out.items ≡ []
   pub room : 20 * turns ≤ vec_capacity d.out
 
+-- each of them has
 abbrev pub HaveRoom : ℕ → List Due → Type 0
 HaveRoom turns due = (d : Due) → In d due → HasRoom turns d
 
+-- their numbers
 abbrev pub numbers_due : List Due → List ℕ
 numbers_due due = map (λ d. d.task) due
 
+-- ready tasks, the lowest number first
 pub record AreDue (s : TasksState) (turns : ℕ) (due : List Due) : Type 0 where
   pub ready : (number : ℕ) → In number (numbers_due due) → IsReady s number
   pub rising : IsTrue (each_pair nat_lt (numbers_due due))
@@ -38,6 +42,7 @@ pub record AreDue (s : TasksState) (turns : ℕ) (due : List Due) : Type 0 where
 abbrev pub gone_round : World → ℕ → List ℕ → Round
 gone_round w turns numbers = fold (run_task turns) (record { world = w; runs = [] }) numbers
 
+-- machine `old` has become `new` by their turns
 pub record HasGone (old : Machine) (turns : ℕ) (numbers : List ℕ) (runs : List TaskRun) (new : Machine) : Type 0 where
   pub sound : IsSound new
   pub counted : IsCounted old new

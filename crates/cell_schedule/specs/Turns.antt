@@ -22,6 +22,7 @@ abbrev pub space_after : Answer → SpaceState → ℕ → SpaceState
 space_after (Done code) space stack = with_run space (stack_run space.base stack) false
 space_after _ space stack = space
 
+-- how a task stands that goes no further after the turn; None where it goes on
 abbrev pub stopped_by : Bool → Answer → Option TaskState
 stopped_by stops Ready = None
 stopped_by stops Yield = if stops then Some IsReady else None
@@ -42,6 +43,7 @@ pub record HasTurned (old : Machine) (t : Task) (out : List ℕ) (answer : Answe
   pub world : world_of new ≡ (turn (world_of old) t).world
   pub put_out : out' ≡ out ++ (turn (world_of old) t).out
 
+-- machine `old` has become `new` by the turns of one task
 pub record HasRun (old : Machine) (ran : Ran) (run : TaskRun) (new : Machine) : Type 0 where
   pub sound : IsSound new
   pub counted : IsCounted old new

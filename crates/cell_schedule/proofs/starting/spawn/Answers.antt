@@ -1,4 +1,3 @@
-use Rattle.std.proofs.Common.{◌≡◌, Ok}
 use Rattle.std.proofs.lemmas.Result.{err_from_is_err_and}
 use Rattle.cell_coherent.proofs.Outcomes.{found_ok}
 use Rattle.cell_world.specs.declared.refusal.Refusal.TheVariants.{NoEntry}

@@ -1,6 +1,5 @@
-use Rattle.std.proofs.Common.{◌≡◌, refl, sym, ◌∙◌, ap, subst, ℕ, ◌+◌, ◌*◌, List, true, false, max, Err}
+use Rattle.std.proofs.Common.{◌≡◌, refl, sym, ◌∙◌, ap, subst, ◌+◌, ◌*◌, true, false, max, Err}
 use Rattle.std.proofs.lemmas.Result.{err_from_is_err_and}
-use Rattle.cell_place.specs.declared.search.NoRun.{NoRun}
 use Rattle.cell_place.specs.Space.{SpaceState, with_run}
 use Rattle.cell_mem.specs.State.{mapped}
 use Rattle.cell_world.specs.Pages.{is_taken_run}
