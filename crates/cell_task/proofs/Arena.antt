@@ -167,19 +167,19 @@ module _ (at new : ℕ → Option LiveTask) (key : ℕ) (others : (other : ℕ) 
   pub changed_values : (ks : List ℕ) → is_some (new key) ≡ true → HasValues at ks → HasValues new ks
   changed_values [] some h = tt
   changed_values (k ∷ ks) some h = (
-      elim (cases_eq k key) [ inl same ↦ ap (λ x. is_some (new x)) same ∙ some | inr differs ↦ ap is_some (others k differs) ∙ h.0 ],
-      h.1,
-      changed_values ks some h.2,
-    )
+    elim (cases_eq k key) [ inl same ↦ ap (λ x. is_some (new x)) same ∙ some | inr differs ↦ ap is_some (others k differs) ∙ h.0 ],
+    h.1,
+    changed_values ks some h.2,
+  )
 
   pub removed_values : (ks : List ℕ) (i : ℕ) → i < length ks → get_or ks i 0 ≡ key → HasValues at ks → HasValues new (remove ks i)
   removed_values [] i lt e h = absurd (omega arith)
   removed_values (k ∷ ks) zero lt e h = same_values ks (subst (λ x. IsOther x ks) e h.1) h.2
   removed_values (k ∷ ks) (suc i) lt e h = (
-      ap is_some (others k (λ same. other_at k ks i h.1 (omega arith) (e ∙ sym same))) ∙ h.0,
-      other_removed k ks i h.1,
-      removed_values ks i (omega arith) e h.2,
-    )
+    ap is_some (others k (λ same. other_at k ks i h.1 (omega arith) (e ∙ sym same))) ∙ h.0,
+    other_removed k ks i h.1,
+    removed_values ks i (omega arith) e h.2,
+  )
 
   -- tasks of higher numbers
   kept_above : (n : ℕ) (u : Task) (low : ℕ) (ns ks : List ℕ) (high : ℕ) → u.number ≡ n → n < low → IsRising low ns high → with_task u (tasks_at at ns ks) ≡ tasks_at at ns ks

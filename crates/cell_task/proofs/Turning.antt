@@ -52,7 +52,7 @@ module _ (s : TasksState) (number : ℕ) (t : LiveTask) where
     where
       go : (zero yields : Bool)
           → cond zero (record { world = with_parts (without s number) (without_region t.stack regions); state = IsDone (slice_index registers 10); yields = false; out = out })
-              (record { world = with_parts (record s { tasks = with_task (moved registers pc) s.tasks }) regions; state = IsReady; yields = yields; out = out })
+          (record { world = with_parts (record s { tasks = with_task (moved registers pc) s.tasks }) regions; state = IsReady; yields = yields; out = out })
           ≡ after s regions (seen_as number t) (moved registers pc) (cond zero (Done (slice_index registers 10)) (cond yields Yield Ready)) out
       go true yields = refl
       go false true = refl
@@ -68,13 +68,13 @@ module _ (s : TasksState) (number : ℕ) (t : LiveTask) where
     where
       go : (a b c d : Bool)
           → cond a (record { world = with_parts (without s number) (without_region t.stack regions); state = IsDone (slice_index t.hart.x 10); yields = false; out = [] })
-              (cond b (gone_on (with_parts s regions) next false (x10 % 256 ∷ []))
-              (cond c (gone_on (with_parts s regions) next false (decimal x10))
-              (cond d (gone_on (with_parts s regions) next true []) (trapped (with_parts s regions) (seen_as number t) BadCall))))
+          (cond b (gone_on (with_parts s regions) next false (x10 % 256 ∷ []))
+          (cond c (gone_on (with_parts s regions) next false (decimal x10))
+          (cond d (gone_on (with_parts s regions) next true []) (trapped (with_parts s regions) (seen_as number t) BadCall))))
           ≡ whole regions (cond a (record { answer = Done x10; pc = t.hart.pc; registers = t.hart.x; fault = t.fault; out = [] })
-              (cond b (passed t.hart.pc t.hart.x t.fault Ready (x10 % 256 ∷ []))
-              (cond c (passed t.hart.pc t.hart.x t.fault Ready (decimal x10))
-              (cond d (passed t.hart.pc t.hart.x t.fault Yield []) (trapped_by t.hart.pc t.hart.x BadCall)))))
+          (cond b (passed t.hart.pc t.hart.x t.fault Ready (x10 % 256 ∷ []))
+          (cond c (passed t.hart.pc t.hart.x t.fault Ready (decimal x10))
+          (cond d (passed t.hart.pc t.hart.x t.fault Yield []) (trapped_by t.hart.pc t.hart.x BadCall)))))
       go true b c d = ap (λ (code : ℕ). whole regions (record { answer = Done code; pc = t.hart.pc; registers = t.hart.x; fault = t.fault; out = [] })) e
       go false true c d = gone_on_is regions t.hart.x (wrap (t.hart.pc + 4)) (x10 % 256 ∷ []) false
       go false false true d = gone_on_is regions t.hart.x (wrap (t.hart.pc + 4)) (decimal x10) false
@@ -205,8 +205,7 @@ module _ (m : MemoryState) (t : LiveTask) (laid : IsLaid m.base m.regions (m.bas
     turn_ends code s1 m1 done a b =
         let ran = ran_by t.hart.pc t.hart.x t.fault effect in
         let v : Task = task_after (seen_as number t) ran in
-        by_turn (after s regions' (seen_as number t) v (Done code) ran.out) (without s1 number) (unmapped m1 t.stack) (ap (λ k. after s regions' (seen_as number t) v k ran.out) (sym done ∙ r.answered))
-        (
+        by_turn (after s regions' (seen_as number t) v (Done code) ran.out) (without s1 number) (unmapped m1 t.stack) (ap (λ k. after s regions' (seen_as number t) v k ran.out) (sym done ∙ r.answered)) (
           done,
           ap (λ (k : TasksState). without k number) a ∙ ap (λ (ts : List Task). let k : TasksState = record s { tasks = ts } in k) (gone_changed (seen_as number u) s.tasks),
           unmapped_after m1 t.stack b,

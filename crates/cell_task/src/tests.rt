@@ -10,6 +10,7 @@ use std::alloc::Global;
 use std::test::*;
 
 const BASE: u64 = 0x1000_0000;
+
 const STACK: u64 = 0x1000_1000;
 
 /// Puts out `A`, 0, 2^64 - 1, yields, and ends with 7.
@@ -184,7 +185,10 @@ fn output(rt: HostRuntime) -> Result<(), Fail> {
 fn returns(rt: HostRuntime) -> Result<(), Fail> {
     // addi x10, x10, 1; jalr x0, 0(x1)
     let run = run_code(rt.alloc(), &[0x0015_0513, 0x0000_8067], 100)?;
-    assert_eq!(rt; run.answers.as_slice(), [Turned::Ready, Turned::Done(6)].as_slice());
+    assert_eq!(rt;
+        run.answers.as_slice(),
+        [Turned::Ready, Turned::Done(6)].as_slice()
+    );
     assert!(rt; run.tasks.get(1).is_none());
     assert!(rt; run.memory.bytes(STACK, 1).is_none());
     assert!(rt; run.memory.bytes(BASE, 1).is_some());
@@ -195,10 +199,10 @@ fn returns(rt: HostRuntime) -> Result<(), Fail> {
 #[test]
 fn faults(rt: HostRuntime) -> Result<(), Fail> {
     for (code, cause) in [
-        ([0x0040_0893, 0x0000_0073], Cause::Call),  // addi x17, x0, 4; ecall
-        ([0x0050_0893, 0x0000_0073], Cause::Call),  // addi x17, x0, 5; ecall
-        ([0x0060_0893, 0x0000_0073], Cause::Call),  // addi x17, x0, 6; ecall
-        ([0xfff0_0893, 0x0000_0073], Cause::Call),  // addi x17, x0, -1; ecall
+        ([0x0040_0893, 0x0000_0073], Cause::Call), // addi x17, x0, 4; ecall
+        ([0x0050_0893, 0x0000_0073], Cause::Call), // addi x17, x0, 5; ecall
+        ([0x0060_0893, 0x0000_0073], Cause::Call), // addi x17, x0, 6; ecall
+        ([0xfff0_0893, 0x0000_0073], Cause::Call), // addi x17, x0, -1; ecall
         ([0x0060_0893, 0x0010_0073], Cause::Break), // addi x17, x0, 6; ebreak
     ] {
         let run = run_code(rt.alloc(), &code, 100)?;
@@ -206,7 +210,13 @@ fn faults(rt: HostRuntime) -> Result<(), Fail> {
         assert_eq!(rt; run.answers.as_slice(), [Turned::Ready, fault].as_slice());
         assert_eq!(rt; run.out.len(), 0);
         let live = run.tasks.get(1).ok_or("not live")?;
-        assert_eq!(rt; live.fault, Some(TaskFault { cause, pc: BASE + 4 }));
+        assert_eq!(rt;
+            live.fault,
+            Some(TaskFault {
+                cause,
+                pc: BASE + 4
+            })
+        );
         assert_eq!(rt; live.hart.pc, BASE + 4);
         assert_eq!(rt; live.hart.x[10], 5);
         assert!(rt; live.hart.x[17] != 0);
@@ -220,9 +230,9 @@ fn faults(rt: HostRuntime) -> Result<(), Fail> {
 fn words(rt: HostRuntime) -> Result<(), Fail> {
     for (set_x2, count) in [
         (0x0000_0113, 2048), // addi x2, x0, 0: below
-        (0x0031_0113, 2),    // addi x2, x2, 3
-        (0x0081_0113, 1),    // addi x2, x2, 8
-        (0x0101_0113, 0),    // addi x2, x2, 16: at the end
+        (0x0031_0113, 2), // addi x2, x2, 3
+        (0x0081_0113, 1), // addi x2, x2, 8
+        (0x0101_0113, 0), // addi x2, x2, 16: at the end
         (0x0111_0113, 2048), // addi x2, x2, 17: above
     ] {
         // sd x10, 8(x2), and x2

@@ -28,6 +28,6 @@ mod spaces;
 #[cfg(test)]
 mod tasks;
 #[cfg(test)]
-mod traps;
-#[cfg(test)]
 mod transcripts;
+#[cfg(test)]
+mod traps;

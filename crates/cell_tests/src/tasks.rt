@@ -30,11 +30,13 @@ const YIELDS: &str = ".text\n.globl y::go\ny::go: li a7,1\necall\nli a7,3\necall
 const RETURNS: &str = ".text\n.globl f::go\nf::go: ret";
 
 /// Puts out what stands in x2, x1 and x10, a byte of x10 and one of 256 more.
-const FIRST: &str = ".text\n.globl f::go\nf::go: mv s0,a0\nmv a0,sp\nli a7,2\necall\nmv a0,ra\necall\n\
+const FIRST: &str =
+    ".text\n.globl f::go\nf::go: mv s0,a0\nmv a0,sp\nli a7,2\necall\nmv a0,ra\necall\n\
     mv a0,s0\necall\nli a7,1\necall\naddi a0,a0,256\necall\nli a0,92\necall\nret";
 
 /// Places where no task may begin, and two where one may.
-const ENTRIES: &str = ".text\n.globl f::go\nf::go: ret\n.globl f::last\nf::last: nop\n.globl f::end\nf::end:\n\
+const ENTRIES: &str =
+    ".text\n.globl f::go\nf::go: ret\n.globl f::last\nf::last: nop\n.globl f::end\nf::end:\n\
     .data\n.globl f::x\nf::x: .quad 0, 0";
 
 /// Turns without end.
@@ -206,7 +208,8 @@ fn a_task_too_many(rt: HostRuntime) -> Result<(), Fail> {
     let (status, sink) = outcome(rt.alloc(), &["d", "s"], script.as_str(), &files)?;
     let text = std::str::from_utf8(sink.written()).ok().ok_or("UTF-8")?;
     assert!(rt; status == Status::SomeRefused);
-    let wanted = "65 ok spawn t64 pc 10000000\n66 E4 too-many tasks 64\n67 ok run\n  t1 turns 2 ready\n  t2 turns 2 ready\n";
+    let wanted =
+        "65 ok spawn t64 pc 10000000\n66 E4 too-many tasks 64\n67 ok run\n  t1 turns 2 ready\n  t2 turns 2 ready\n";
     assert!(rt; text.contains(wanted), "{text}");
     let wanted = "  t64 turns 2 ready\n68 ok kill t64\n69 ok spawn t65 pc 10000000\n";
     assert!(rt; text.ends_with(wanted), "{text}");
