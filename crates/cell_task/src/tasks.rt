@@ -168,6 +168,7 @@ impl Tasks {
         ensures room { vec_capacity out.new ≡ vec_capacity out.old }
         ensures short { vec_len out.new ≤ vec_len out.old + 20 }
     {
+        // The regions stand apart, so a store leaves the stack as long as it was.
         memory.laid_out();
         let Some(place) = place_in(&self.numbers, task) else {
             unreachable!();

@@ -159,16 +159,6 @@ fn numbers(rt: HostRuntime) -> Result<(), Fail> {
 }
 
 #[test]
-fn starts(rt: HostRuntime) -> Result<(), Fail> {
-    let mut tasks = Tasks::new(rt.alloc());
-    let number = start(&mut tasks, 5, STACK)?;
-    let live = tasks.get(number).ok_or("not live")?;
-    assert_eq!(rt; live.hart.x[2], STACK + 16368);
-    assert_eq!(rt; live.hart.x[10], 5);
-    Ok(())
-}
-
-#[test]
 fn output(rt: HostRuntime) -> Result<(), Fail> {
     let run = run_code(rt.alloc(), &OUTPUT, 100)?;
     assert_eq!(rt; run.out.as_slice(), b"A018446744073709551615".as_slice());

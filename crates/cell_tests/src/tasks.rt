@@ -39,10 +39,13 @@ const ENTRIES: &str =
     ".text\n.globl f::go\nf::go: ret\n.globl f::last\nf::last: nop\n.globl f::end\nf::end:\n\
     .data\n.globl f::x\nf::x: .quad 0, 0";
 
+/// Text that fills its page, so that the stack of the first task stands behind it.
+const FULL: &str = ".text\n.zero 4092\n.globl f::go\nf::go: nop";
+
 /// Turns without end.
 const LOOPS: &str = ".text\n.globl f::go\nf::go: j f::go";
 
-static CASES: [Case; 11] = [
+static CASES: [Case; 12] = [
     Case {
         script: "load k f\ndump 1 1\nspawn k w::go 0\nstep 1 10\nstep 1 1\nstep 1 0\ntasks\nrun 5\n",
         words: &[],
@@ -144,6 +147,16 @@ static CASES: [Case; 11] = [
         status: Status::Done,
         text: "1 ok load #1 patched 1\n2 ok spawn t1 pc 10000000\n3 ok step t1 turns 100000 ready\n\
             4 ok run\n  t1 turns 10000 ready\n5 ok kill t1\n6 ok run\n",
+    },
+    // Off the end of the text, into a stack.
+    Case {
+        script: "load k f\nspawn k f::go 0\nstep 1 9\ntasks\n",
+        words: &[],
+        source: FULL,
+        status: Status::Done,
+        text: "1 ok load #1 patched 0\n2 ok spawn t1 pc 10000ffc\n\
+            3 ok step t1 turns 2 fault fetch at 10001000\n\
+            4 ok tasks\n  t1 fault fetch at 10001000 root #1\n",
     },
     Case {
         script: "tasks\nrun 1\nstep 1 1\nkill 1\nspawn k f::go 0\n",

@@ -10,7 +10,7 @@ use std::test::Fail;
 const PLACES: &str = "\n.rodata\n.quad 1\n.data\n.quad f::go\n.zero 24\n";
 
 /// What the task does from `f::go` on, its argument, and how it stands after ten turns.
-static TRAPS: [(&str, &str, &str); 47] = [
+static TRAPS: [(&str, &str, &str); 48] = [
     // Not in an executable region: not mapped, data, a stack, and the address 4. The pc is the bad address.
     (
         "jalr zero,0(a0)",
@@ -37,6 +37,11 @@ static TRAPS: [(&str, &str, &str); 47] = [
         "jalr zero,0(a0)",
         "0xfffffffffffffffc",
         "turns 2 fault fetch at fffffffffffffffc",
+    ),
+    (
+        "jalr zero,2(a0)",
+        "0xffffe",
+        "turns 2 fault fetch at 100000",
     ),
     // Bit 0 of a target is cleared, and a target of 0 ends the task.
     (
