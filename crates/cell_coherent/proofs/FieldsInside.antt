@@ -140,9 +140,10 @@ module _ (w : World) (regions : map shape_of w.regions ≡ wanted_shapes w) (apa
       eqb-true _ _ (all-In (λ s. start_of c.placed s.number == unwrap_or (class_start c class) 0 + offset_in (sections_in class c.object) s.number) (sections_in class c.object)
       (all-In (stands_by_rule c) classes (and_parts _ (list_all (stands_by_rule c) classes) (all-In is_placed w.cells placed c k)).1 class (class-In class)) s m)
 
-  -- a section of a placed cell stands in a region
-  pub section_inside : (c : Cell) → In c w.cells → (s : ObjectSection) → In s c.object.sections → (q : Region) × In q w.regions × (q.start ≤ start_of c.placed s.number) × (start_of c.placed s.number + s.size ≤ q.start + length q.bytes)
-  section_inside c k s m =
+  -- a section of a placed cell stands in the region of its class
+  pub section_region : (c : Cell) → In c w.cells → (s : ObjectSection) → In s c.object.sections
+      → (q : Region) × In q w.regions × (q.start ≤ start_of c.placed s.number) × (start_of c.placed s.number + s.size ≤ q.start + length q.bytes) × ((class : Class) × (class_start c class ≡ Some q.start))
+  section_region c k s m =
       let p : IsSoundObject c.object = object_sound w objects c k in
       let d : Class = class_of s in
       let n : In s (sections_in d c.object) = filter-In (is_in_class d) c.object.sections s m (class_In s) in
@@ -151,7 +152,7 @@ module _ (w : World) (regions : map shape_of w.regions ≡ wanted_shapes w) (apa
       let q = region_There c k d (start_of c.placed f.0.number) b in
       let at : start_of c.placed s.number ≡ start_of c.placed f.0.number + offset_in (sections_in d c.object) s.number = stands c k d s n ∙ ap (λ (o : Option ℕ). unwrap_or o 0 + offset_in (sections_in d c.object) s.number) b in
       let e : offset_in (sections_in d c.object) s.number + s.size ≤ length (laid_out [] (sections_in d c.object)) = ends_laid (sections_in d c.object) [] 0 refl (sized p d) s n (unique p d) in
-      (q.0, q.1, omega (arith, q.2, at), omega (arith, q.2, q.3, at, e, paged (laid_out [] (sections_in d c.object))))
+      (q.0, q.1, omega (arith, q.2, at), omega (arith, q.2, q.3, at, e, paged (laid_out [] (sections_in d c.object))), (d, b ∙ ap (λ (x : ℕ). Some x) (sym q.2)))
     where
       sized : IsSoundObject c.object → (class : Class) → Sized (sections_in class c.object)
       sized p class t i = own_length t t.fill (and_parts _ (is_zero t.fill || length t.bytes == t.size) (all-In is_sound_section c.object.sections p.sections t (In-filtered (is_in_class class) c.object.sections t i))).1
@@ -164,19 +165,27 @@ module _ (w : World) (regions : map shape_of w.regions ≡ wanted_shapes w) (apa
           pick (inr (inl x)) = absurd (omega (arith, ltb-true t.number s.number x, e))
           pick (inr (inr x)) = absurd (omega (arith, ltb-true s.number t.number x, e))
 
+  pub section_inside : (c : Cell) → In c w.cells → (s : ObjectSection) → In s c.object.sections → (q : Region) × In q w.regions × (q.start ≤ start_of c.placed s.number) × (start_of c.placed s.number + s.size ≤ q.start + length q.bytes)
+  section_inside c k s m = let r = section_region c k s m in (r.0, r.1, r.2, r.3)
+
   -- and so does a field
-  pub field_inside : (c : Cell) → In c w.cells → (f : Entry) → In f c.object.entries → (q : Region) × In q w.regions × (q.start ≤ place_of c.placed f) × (place_of c.placed f + width_of f.kind ≤ q.start + length q.bytes)
-  field_inside c k f m = go (section_of c.object f.section) refl (entry_parts c.object (object_sound w objects c k) f m).0
+  pub field_region : (c : Cell) → In c w.cells → (f : Entry) → In f c.object.entries
+      → (q : Region) × In q w.regions × (q.start ≤ place_of c.placed f) × (place_of c.placed f + width_of f.kind ≤ q.start + length q.bytes) × ((class : Class) × (class_start c class ≡ Some q.start))
+  field_region c k f m = go (section_of c.object f.section) refl (entry_parts c.object (object_sound w objects c k) f m).0
     where
-      go : (o : Option ObjectSection) → section_of c.object f.section ≡ o → unwrap_or (option_map (is_sound_entry_in f) o) false ≡ true → (q : Region) × In q w.regions × (q.start ≤ place_of c.placed f) × (place_of c.placed f + width_of f.kind ≤ q.start + length q.bytes)
+      go : (o : Option ObjectSection) → section_of c.object f.section ≡ o → unwrap_or (option_map (is_sound_entry_in f) o) false ≡ true
+          → (q : Region) × In q w.regions × (q.start ≤ place_of c.placed f) × (place_of c.placed f + width_of f.kind ≤ q.start + length q.bytes) × ((class : Class) × (class_start c class ≡ Some q.start))
       go None e h = absurd (true≢false (sym h))
       go (Some s) e h =
           let i : In s c.object.sections × ((s.number == f.section) ≡ true) = found-In (λ s. s.number == f.section) c.object.sections s e in
           let n : s.number ≡ f.section = eqb-true s.number f.section i.1 in
-          let r = section_inside c k s i.0 in
+          let r = section_region c k s i.0 in
           let at : start_of c.placed s.number ≡ start_of c.placed f.section = ap (start_of c.placed) n in
           let fit : f.offset + width_of f.kind ≤ s.size = leb-true (f.offset + width_of f.kind) s.size (and_parts (not (is_zero s.fill)) (nat_le (f.offset + width_of f.kind) s.size) (and_parts (not (is_zero s.fill) && nat_le (f.offset + width_of f.kind) s.size) (not (is_instruction f.kind) || s.exec && (f.offset % 4 == 0)) h).0).1 in
-          (r.0, r.1, omega (arith, r.2, at), omega (arith, r.3, at, fit))
+          (r.0, r.1, omega (arith, r.2, at), omega (arith, r.3, at, fit), r.4)
+
+  pub field_inside : (c : Cell) → In c w.cells → (f : Entry) → In f c.object.entries → (q : Region) × In q w.regions × (q.start ≤ place_of c.placed f) × (place_of c.placed f + width_of f.kind ≤ q.start + length q.bytes)
+  field_inside c k f m = let r = field_region c k f m in (r.0, r.1, r.2, r.3)
 
   one_region : (r q : Region) → In r w.regions → In q w.regions → (x n : ℕ) → r.start ≤ x → x < r.start + length r.bytes → q.start ≤ x → x + n ≤ q.start + length q.bytes → x + n ≤ r.start + length r.bytes
   one_region r q k l x n a b c d = go (pairs-In ends_before w.regions apart r q k l)

@@ -97,7 +97,7 @@ provides w (Detached k) ns name p h = go (first_provider (chain w.namespaces ns)
     go (Some q) e m = provides_among w (chain w.namespaces ns) name (λ c. is_of_group k c.standing) p (e ∙ m)
 
 -- the number of a definition is that of a symbol that is defined
-abbrev Defines : Object → ℕ → Type 0
+abbrev pub Defines : Object → ℕ → Type 0
 Defines object n = (s : Symbol) × (symbol_at object n ≡ Some s) × (is_defined s.home ≡ true)
 
 definition_defines : (object : Object) (a : Alias) → In a (definitions_of object) → Defines object a.symbol
@@ -118,7 +118,7 @@ module _ (w : World) (c : Cell) (known : is_known_cell w c ≡ true) where
       let d = any-Has (λ (d : Alias). d.symbol == a.symbol) (definitions_of c.object) (all-In (λ (a : Alias). list_any (λ (d : Alias). d.symbol == a.symbol) (definitions_of c.object)) c.aliases alias_ok a k) in
       subst (Defines c.object) (eqb-true d.0.symbol a.symbol d.2) (definition_defines c.object d.0 d.1)
 
-  named_defines : (name : List ℕ) (n : ℕ) → symbol_named c name ≡ Some n → Defines c.object n
+  pub named_defines : (name : List ℕ) (n : ℕ) → symbol_named c name ≡ Some n → Defines c.object n
   named_defines name n h = go (find (λ (a : Alias). equals a.name name) (names_of c)) refl h
     where
       go : (o : Option Alias) → find (λ (a : Alias). equals a.name name) (names_of c) ≡ o → option_map (λ (a : Alias). a.symbol) o ≡ Some n → Defines c.object n

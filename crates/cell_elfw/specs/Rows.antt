@@ -1,6 +1,6 @@
 -- The bytes of a header, a symbol and a relocation entry. gABI, "ELF Header", "Sections", "Symbol
 -- Table", "Relocation". A number that doesn't fit its bytes is stored modulo their size.
-use Rattle.std.specs.Prelude.{ℕ, ◌+◌, ◌*◌, Bool, List, [], ◌∷◌, ◌++◌, replicate}
+use Rattle.std.specs.Prelude.{ℕ, ◌+◌, ◌*◌, List, [], ◌∷◌, ◌++◌, replicate}
 use Rattle.std.specs.List.{flat_map}
 use Rattle.std.specs.Int.{w64, cast_unsigned}
 use Rattle.cell_num.specs.Bits.{bytes_of}

@@ -1,6 +1,6 @@
 -- The files of a depot by namespace and stem.
-use Rattle.std.proofs.Common.{◌≡◌, refl, sym, ◌∙◌, ap, subst, arith, ℕ, zero, suc, ◌+◌, ◌<◌, Bool, true, false, cond, List, [], ◌∷◌, length, map}
-use Rattle.std.specs.Prelude.{Option, Some, None, Ok, Err, All, filter, find, option_map, slice_get}
+use Rattle.std.proofs.Common.{◌≡◌, refl, sym, ◌∙◌, ap, subst, arith, ℕ, suc, ◌+◌, ◌<◌, Bool, true, false, cond, List, [], ◌∷◌, length, map}
+use Rattle.std.specs.Prelude.{Option, Some, None, Err, All, filter, find, option_map, slice_get}
 use Rattle.std.proofs.lemmas.List.Elements.{All-head, All-tail, All-same, All-filter}
 use Rattle.cell_num.specs.Lists.{numbered_from}
 use Rattle.cell_world.specs.declared.file.File.{File}

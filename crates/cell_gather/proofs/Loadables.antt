@@ -1,6 +1,6 @@
 -- What is read from a file of at most a mebibyte is an object that a cell may have; and how many names such an object defines.
-use Rattle.std.proofs.Common.{◌≡◌, ℕ, suc, ◌≤◌, ◌<◌, ◌^◌, ◌∙◌, arith, ap, subst, Bool, true, false, cond, List, [], ◌∷◌, length, Ok}
-use Rattle.std.specs.Prelude.{filter, map}
+use Rattle.std.proofs.Common.{◌≡◌, ℕ, suc, ◌≤◌, ◌<◌, ◌^◌, arith, subst, Bool, true, false, cond, List, [], ◌∷◌, length, Ok}
+use Rattle.std.specs.Prelude.{filter}
 use Rattle.std.proofs.lemmas.List.{length-map}
 use Rattle.cell_num.specs.Lists.{numbered_from}
 use Rattle.cell_object.specs.declared.object.Object.{Object}

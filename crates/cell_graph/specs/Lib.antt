@@ -1,1 +1,4 @@
 pub mod Links
+pub mod Moves
+pub mod Removal
+pub mod Weaks

@@ -2,12 +2,19 @@
 #![tactic(auto)]
 
 mod graph;
+mod moves;
+mod removal;
 mod room;
+mod steps;
 mod walks;
+mod weak;
 
 pub use cell_world::LinkRow;
 pub use graph::Graph;
+pub use removal::StillUsed;
+pub use steps::Steps;
 pub use walks::{Deps, Users};
+pub use weak::Weak;
 
 #[cfg(test)]
 mod tests;

@@ -1,8 +1,12 @@
-ghost use Rattle.std.specs.Prelude.{◌≡◌, Contains};
+ghost use Rattle.std.specs.Prelude.{◌≡◌, ◌<◌, All, Contains, IsTrue};
+ghost use Rattle.cell_graph.specs.Links.{is_bound};
+ghost use Rattle.cell_graph.specs.Moves.{AreApart, moved};
 
 use super::*;
 use cell_num::{CellId, SecKey};
 use std::alloc::{AllocError, Global};
+use std::marker::Brand;
+use std::sync::ledger::{Blank, Ledger};
 use std::test::*;
 
 fn key(cell: u32, section: u16) -> SecKey
@@ -61,5 +65,68 @@ fn links_both_ways(rt: HostRuntime) -> Result<(), Fail> {
         users(alloc, &graph, c)?.as_slice(),
         [rows[0], rows[2]].as_slice()
     );
+    Ok(())
+}
+
+/// Moves with a counter of its own.
+fn make_moves<L: Ledger>(graph: &mut Graph, moves: &[LinkRow], blank: Blank)
+    requires name { blank.name ≡ L.name }
+    requires parts { blank.parts ≡ L.parts }
+    requires countable { 0 < blank.parts }
+    requires bound { All (λ m. IsTrue (is_bound graph.old.rows m.user m.entry)) moves.now }
+    requires distinct { AreApart moves.now }
+    requires present { All (λ m. Contains graph.old.sections m.target) moves.now }
+    ensures moved { graph.new.rows ≡ moved graph.old.rows moves.now }
+    ensures same_sections { graph.new.sections ≡ graph.old.sections }
+{
+    let mut steps = Steps::<L>::new(blank);
+    steps.tick();
+    graph.move_users(moves, &mut steps);
+}
+
+/// Cell 1 needs a section of cell 2 by two entries, the higher bound first; that one moves.
+#[test]
+fn users_move(rt: HostRuntime) -> Result<(), Fail> {
+    let alloc = rt.alloc();
+    let (a, b, c) = (key(1, 1), key(2, 1), key(2, 2));
+    let mut graph = Graph::new(alloc);
+    graph.reserve(3, 2)?;
+    graph.add_cell(CellId(1), &[1]);
+    graph.add_cell(CellId(2), &[1, 2]);
+    graph.bind(link(a, 7, b));
+    graph.bind(link(a, 0, b));
+    make_moves::<Brand>(&mut graph, &[link(a, 7, c)], Blank::new(1));
+    assert_eq!(rt;
+        deps(alloc, &graph, a)?.as_slice(),
+        [link(a, 7, c), link(a, 0, b)].as_slice()
+    );
+    assert_eq!(rt;
+        users(alloc, &graph, b)?.as_slice(),
+        [link(a, 0, b)].as_slice()
+    );
+    Ok(())
+}
+
+/// Cells 2 and 3 need each other.
+#[test]
+fn cells_go_together(rt: HostRuntime) -> Result<(), Fail> {
+    let alloc = rt.alloc();
+    let (a, b, c) = (key(1, 1), key(2, 1), key(3, 1));
+    let mut graph = Graph::new(alloc);
+    graph.reserve(3, 2)?;
+    graph.add_cell(CellId(1), &[1]);
+    graph.add_cell(CellId(2), &[1]);
+    graph.add_cell(CellId(3), &[1]);
+    graph.bind(link(b, 0, c));
+    graph.bind(link(c, 0, b));
+    let (kept, gone) = (graph.weak(a), graph.weak(b));
+    assert_eq!(rt;
+        graph.remove_cells(&[CellId(3)]),
+        Err(StillUsed { user: b })
+    );
+    assert_eq!(rt; graph.upgrade(gone), Some(b));
+    assert_eq!(rt; graph.remove_cells(&[CellId(3), CellId(2)]), Ok(()));
+    assert_eq!(rt; graph.upgrade(gone), None);
+    assert_eq!(rt; graph.upgrade(kept), Some(a));
     Ok(())
 }

@@ -8,7 +8,8 @@ use cell_num::SecKey;
 use cell_world::LinkRow;
 use std::marker::Model;
 
-fn is_same(a: SecKey, b: SecKey) -> bool
+/// Whether the two are one section.
+pub fn is_same(a: SecKey, b: SecKey) -> bool
     ensures { result ≡ is_same a b }
 {
     a == b

@@ -1,5 +1,5 @@
 -- What a load comes to, by what it has gathered: the cells are in their places, or no run is long enough.
-use Rattle.std.proofs.Common.{◌≡◌, refl, sym, ◌∙◌, ap, ap₂, subst, arith, ℕ, ◌≤◌, ◌<◌, Bool, true, false, ◌&&◌, List, [], ◌∷◌, ◌++◌, Ok, Err}
+use Rattle.std.proofs.Common.{◌≡◌, refl, sym, ◌∙◌, ap, ap₂, subst, arith, ℕ, ◌<◌, true, false, ◌&&◌, List, [], ◌∷◌, ◌++◌, Ok, Err}
 use Rattle.std.specs.Prelude.{nat_le, filter}
 use Rattle.std.specs.List.{list_all}
 use Rattle.std.proofs.lemmas.Bool.{ltb-true}
@@ -10,7 +10,7 @@ use Rattle.cell_world.specs.World.{World, Cell}
 use Rattle.cell_world.specs.Coherent.{AreSound}
 use Rattle.cell_world.specs.Gather.{Source, bring, fresh_cells}
 use Rattle.cell_world.specs.LoadCommand.{append_named, link_fresh, next_load}
-use Rattle.cell_world.specs.Outcome.{Outcome, ◌>>=◌}
+use Rattle.cell_world.specs.Outcome.{◌>>=◌}
 use Rattle.cell_world.specs.Place.{Starts, page_table, place_all}
 use Rattle.cell_coherent.specs.Loading.{HasPlaced}
 use Rattle.cell_coherent.proofs.Gathered.{Ranks, Extends}
@@ -18,8 +18,8 @@ use Rattle.cell_coherent.proofs.Known.{known_parts}
 use Rattle.cell_coherent.proofs.LoadGrown.{all_gathered}
 use Rattle.cell_coherent.proofs.Ready.{append_same}
 use Rattle.cell_law.specs.Settled.{In, IsSettled}
-use Rattle.cell_law.specs.Loading.{ManyTaken, gathered_by, grown, objects_of, placed_after, placed_cell, placed_cells, take_all}
-use Rattle.cell_law.proofs.Binds.{bind_assoc, bind_err, bind_is, bind_ok}
+use Rattle.cell_law.specs.Loading.{ManyTaken, gathered_by, grown, objects_of, placed_after, placed_cells, take_all}
+use Rattle.cell_law.proofs.Binds.{bind_assoc, bind_err, bind_ok}
 use Rattle.cell_law.proofs.Elements.{all-In, filter_all, filter_none}
 use Rattle.cell_law.proofs.Placing.{all_is}
 

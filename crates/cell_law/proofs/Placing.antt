@@ -1,5 +1,5 @@
 -- The classes of new cells take the runs that the page table gives, one after another.
-use Rattle.std.proofs.Common.{◌≡◌, refl, sym, ◌∙◌, ap, subst, arith, ℕ, zero, suc, ◌+◌, ◌*◌, ◌≤◌, ◌<◌, ◌⊎◌, inl, inr, Bool, true, false, cond, not, List, [], ◌∷◌, ◌++◌, map, length, append_assoc, true≢false, Option, Some, None, Ok, Err}
+use Rattle.std.proofs.Common.{◌≡◌, refl, sym, ◌∙◌, ap, subst, arith, ℕ, zero, suc, ◌+◌, ◌*◌, ◌≤◌, ◌<◌, ◌⊎◌, inl, inr, Bool, true, false, not, List, [], ◌∷◌, ◌++◌, map, length, append_assoc, true≢false, Option, Some, None, Ok, Err}
 use Rattle.std.specs.Prelude.{◌/◌, ◌%◌, nat_lt, slice_index_or}
 use Rattle.std.proofs.lemmas.Bool.{cases_lt}
 use Rattle.std.proofs.lemmas.List.{map-append, length-map}
@@ -10,7 +10,7 @@ use Rattle.cell_world.specs.World.{World, Cell}
 use Rattle.cell_world.specs.Outcome.{Outcome, ◌>>=◌}
 use Rattle.cell_world.specs.Relink.{Class, Text, ReadOnly, Writable, sections_in, image_of, laid_out, permission_of}
 use Rattle.cell_world.specs.Pages.{is_free, is_free_run, lowest_run, longest_run, filled}
-use Rattle.cell_world.specs.Place.{Placing, Starts, is_taken, page_table, with_run, with_places, places_in, place_sections, place_class, place_cell, place_all}
+use Rattle.cell_world.specs.Place.{Placing, Starts, is_taken, page_table, with_run, with_places, place_sections, place_class, place_cell, place_all}
 use Rattle.cell_world.specs.declared.refusal.Refusal.TheVariants.{Exhausted}
 use Rattle.cell_coherent.proofs.NewPlaced.{in_order, one_changes}
 use Rattle.cell_coherent.proofs.Renamed.{bare, pairs_bare}

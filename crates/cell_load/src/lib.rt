@@ -11,6 +11,7 @@ mod regions;
 mod starts;
 
 pub use cells::{PlacedCells, place_cells};
+pub use class::{Class, is_in_class};
 pub use placement::{PlaceFail, Placement, place};
 
 #[cfg(test)]

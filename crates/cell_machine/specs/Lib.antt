@@ -1,3 +1,4 @@
+pub mod Does
 pub mod Machine
 pub mod Same
 pub mod Staged

@@ -9,7 +9,7 @@ ghost use Rattle.cell_world.specs.Pages.{IsSpace};
 ghost use Rattle.cell_mem.specs.Access.{fetched, loaded, region_for, storable, stored};
 ghost use Rattle.cell_mem.specs.Index.{IsLaid, IsWhole, place_of};
 ghost use Rattle.cell_mem.specs.Perm.{permission_of};
-ghost use Rattle.cell_mem.specs.State.{IsRoom, MemoryState, bytes_at, empty_memory, is_sealed, is_width, mapped, part_of, one_less, patched_at, region_from, region_of, region_with, reserved, sealed_at, unmapped, written_at};
+ghost use Rattle.cell_mem.specs.State.{IsRoom, MemoryState, bytes_at, empty_memory, is_sealed, is_width, mapped, part_of, one_less, patched_at, region_from, region_of, region_with, reserved, sealed_at, size_of, unmapped, written_at};
 ghost use Rattle.cell_mem.specs.Writing.{HasBytes, at_place, put};
 
 use crate::fault::MemFault;
@@ -331,6 +331,18 @@ impl Memory {
         self.spare -= 1;
         self.maps = self.maps.saturating_add(1);
         index_pages(&mut self.slots, self.base, &self.regions);
+    }
+
+    /// How many bytes the region has that starts there.
+    pub fn size_from(&self, start: u64) -> u64
+        requires { is_some (region_from self.now start) ≡ true }
+        ensures { result ≡ size_of (region_from self.now start) }
+    {
+        let regions = &self.regions;
+        let Some(place) = self.place(start) else {
+            unreachable!();
+        };
+        regions[place].bytes.as_slice().len() as u64
     }
 
     /// Takes away the region that starts there, and its seals.

@@ -146,9 +146,11 @@ fn mapped_again(rt: HostRuntime) -> Result<(), Fail> {
     let (first, second) = (zeros(alloc, 4096)?, zeros(alloc, 8192)?);
     memory.map(BASE + 0xe000, Perm::READ | Perm::WRITE, first);
     memory.seal(BASE + 0xeff8, 8);
+    assert_eq!(rt; memory.size_from(BASE + 0xe000), 4096);
     memory.unmap(BASE + 0xe000);
     assert_eq!(rt; memory.load(BASE + 0xe000, 8), Err(MemFault::Unmapped));
     memory.map(BASE + 0xe000, Perm::READ | Perm::WRITE | Perm::EXEC, second);
+    assert_eq!(rt; memory.size_from(BASE + 0xe000), 8192);
     assert_eq!(rt; memory.store(BASE + 0xeff8, 8, 0x13), Ok(()));
     assert_eq!(rt; memory.fetch(BASE + 0xeff8), Ok(0x13));
     assert_eq!(rt; memory.load(BASE + 0xfff8, 8), Ok(0));

@@ -2,24 +2,28 @@
 --     lines_of n answer      the lines of the answer to the command of line n
 --     reply_lines, refusal_line    those of a command that was done, and of one that was refused
 --     run_lines start run    what a task did, and what it put out
+--     link_line link         a link, as `deps` and `users` show it
 use Rattle.std.specs.Prelude.{◌≡◌, ℕ, zero, suc, ◌+◌, ◌/◌, ◌%◌, ◌^◌, List, [], ◌∷◌, ◌++◌, length, take, drop, Option, Some, None, Result, Ok, Err, codes, ◌==◌, ◌&&◌, Bool, not, nat_le, if◌then◌else◌}
 use Rattle.std.specs.List.{concat, flat_map}
 use Rattle.std.specs.Fmt.{decimal}
 use Rattle.cell_num.specs.declared.ids.Cause.{Cause}
 use Rattle.cell_num.specs.declared.ids.CellId.{CellId}
+use Rattle.cell_num.specs.declared.ids.Holder.{Holder}
+use Rattle.cell_num.specs.declared.ids.Holder.TheVariants.{Task as TaskHolder, Cell as CellHolder}
 use Rattle.cell_num.specs.declared.ids.SecKey.{SecKey}
 use Rattle.cell_text.specs.Number.{hex, hex_byte}
 use Rattle.cell_world.specs.declared.reply.Found.{Found}
+use Rattle.cell_world.specs.declared.reply.LinkLine.{LinkLine}
 use Rattle.cell_world.specs.declared.reply.MapCell.{MapCell}
 use Rattle.cell_world.specs.declared.reply.MapSection.{MapSection}
 use Rattle.cell_world.specs.declared.reply.Reply.{Reply}
-use Rattle.cell_world.specs.declared.reply.Reply.TheVariants.{Ns, Load, Spawn, Step, Run, Kill, Tasks, Find, Map, Dump}
+use Rattle.cell_world.specs.declared.reply.Reply.TheVariants.{Ns, Load, Spawn, Step, Run, Kill, Unload, Purge, Tasks, Find, Deps, Users, Map, Dump}
 use Rattle.cell_world.specs.declared.reply.TaskLine.{TaskLine}
 use Rattle.cell_world.specs.declared.reply.TaskRun.{TaskRun}
 use Rattle.cell_world.specs.declared.reply.TaskState.{TaskState}
 use Rattle.cell_world.specs.declared.reply.TaskState.TheVariants.{Ready, Done, Fault}
 use Rattle.cell_world.specs.declared.refusal.Refusal.{Refusal}
-use Rattle.cell_world.specs.declared.refusal.Refusal.TheVariants.{Unknown, NameTaken, NotRunnable, TooMany, NoObject, Ambiguous, BadObject, Duplicate, Missing, NoEntry, Exhausted, Overflow}
+use Rattle.cell_world.specs.declared.refusal.Refusal.TheVariants.{Unknown, NameTaken, NotRunnable, TooMany, NoObject, Ambiguous, BadObject, Duplicate, Missing, NoEntry, Exhausted, Overflow, Held}
 use Rattle.cell_print.specs.Words.{many_word, kind_word, cause_word}
 
 -- the parts of a line, and a line feed
@@ -112,6 +116,28 @@ live_word (Some cause) pc = state_word (Fault cause pc)
 abbrev pub task_line : TaskLine → List ℕ
 task_line t = line (codes "  t" ∷ decimal t.task ∷ codes " " ∷ live_word t.fault t.pc ∷ codes " root #" ∷ decimal t.root.0 ∷ [])
 
+-- an offset in a section
+abbrev pub place_word : SecKey → ℕ → List ℕ
+place_word key offset = concat (key_word key ∷ codes "+" ∷ hex offset ∷ [])
+
+-- the place of an entry, its kind, and the section that it leads to
+abbrev pub link_line : LinkLine → List ℕ
+link_line l =
+    line (codes "  " ∷ place_word l.user l.offset ∷ codes " " ∷ kind_word l.kind ∷ codes " -> " ∷ key_word l.target ∷ [])
+
+-- the cells that a command removed, behind its words
+abbrev pub removed_line : ℕ → List ℕ → List CellId → List ℕ
+removed_line n words removed = line (decimal n ∷ words ∷ cells_word removed ∷ [])
+
+-- a cell behind the words of a command, and then links
+abbrev pub links_lines : ℕ → List ℕ → CellId → List LinkLine → List ℕ
+links_lines n words cell links = line (decimal n ∷ words ∷ decimal cell.0 ∷ []) ++ flat_map link_line links
+
+-- what keeps a cell: a task, or another cell
+abbrev pub holder_word : Holder → List ℕ
+holder_word (TaskHolder task) = codes "t" ++ decimal task
+holder_word (CellHolder cell) = codes "#" ++ decimal cell.0
+
 abbrev pub reply_lines : ℕ → Reply → List ℕ
 reply_lines n (Ns name) = line (decimal n ∷ codes " ok ns " ∷ name ∷ [])
 reply_lines n (Load fresh patched) = line (decimal n ∷ codes " ok load" ∷ cells_word fresh ∷ codes " patched " ∷ decimal patched ∷ [])
@@ -119,8 +145,12 @@ reply_lines n (Spawn task pc) = line (decimal n ∷ codes " ok spawn t" ∷ deci
 reply_lines n (Step run) = run_lines (decimal n ++ codes " ok step t") run
 reply_lines n (Run runs) = line (decimal n ∷ codes " ok run" ∷ []) ++ flat_map (run_lines (codes "  t")) runs
 reply_lines n (Kill task) = line (decimal n ∷ codes " ok kill t" ∷ decimal task ∷ [])
+reply_lines n (Unload removed) = removed_line n (codes " ok unload removed") removed
+reply_lines n (Purge removed) = removed_line n (codes " ok purge removed") removed
 reply_lines n (Tasks tasks) = line (decimal n ∷ codes " ok tasks" ∷ []) ++ flat_map task_line tasks
 reply_lines n (Find found) = line (decimal n ∷ codes " ok find " ∷ found_word found ∷ [])
+reply_lines n (Deps cell links) = links_lines n (codes " ok deps #") cell links
+reply_lines n (Users cell links) = links_lines n (codes " ok users #") cell links
 reply_lines n (Map cells) = line (decimal n ∷ codes " ok map" ∷ []) ++ flat_map cell_lines cells
 reply_lines n (Dump key start bytes) = line (decimal n ∷ codes " ok dump " ∷ key_word key ∷ []) ++ rows start bytes
 
@@ -141,6 +171,7 @@ refusal_line n (Exhausted wanted largest) =
     line (decimal n ∷ codes " E11 exhausted " ∷ decimal wanted ∷ codes " " ∷ decimal largest ∷ [])
 refusal_line n (Overflow cell section offset kind) =
     line (decimal n ∷ codes " E12 overflow #" ∷ decimal cell.0 ∷ codes "." ∷ decimal section ∷ codes "+" ∷ hex offset ∷ codes " " ∷ kind_word kind ∷ [])
+refusal_line n (Held cell holder) = line (decimal n ∷ codes " E15 held #" ∷ decimal cell.0 ∷ codes " " ∷ holder_word holder ∷ [])
 
 abbrev pub lines_of : ℕ → Result Reply Refusal → List ℕ
 lines_of n (Ok reply) = reply_lines n reply

@@ -2,6 +2,7 @@
 #![tactic(auto)]
 
 mod line;
+mod links;
 mod map;
 mod refusal;
 mod reply;
@@ -12,5 +13,7 @@ pub use line::put_line;
 pub use refusal::put_refusal;
 pub use reply::put_reply;
 
+#[cfg(test)]
+mod link_tests;
 #[cfg(test)]
 mod tests;

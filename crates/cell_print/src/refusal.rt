@@ -1,17 +1,18 @@
 //! Lines of refusals.
 
-ghost use Rattle.std.specs.Prelude.{◌≡◌, ◌++◌, Err, OnOk};
-ghost use Rattle.cell_world.specs.declared.refusal.Refusal.TheVariants.{NotRunnable, BadObject, Overflow};
-ghost use Rattle.cell_print.specs.Lines.{refusal_line, lines_of, Extends};
-ghost use Rattle.cell_print.specs.Words.{many_word, kind_word};
+ghost use Rattle.std.specs.Prelude.{◌≡◌, ◌++◌, Err, IfOk, OnOk};
+ghost use Rattle.std.specs.Fmt.{decimal};
+ghost use Rattle.cell_world.specs.declared.refusal.Refusal.TheVariants.{NotRunnable, BadObject, Overflow, Held};
+ghost use Rattle.cell_print.specs.Lines.{holder_word, refusal_line, lines_of, Extends};
+ghost use Rattle.cell_print.specs.Words.{many_word};
 
 use crate::put_line;
-use crate::word::{cause_word, hex_word};
-use cell_num::{Cause, CellId, Name, RelKind};
-use cell_text::put_hex;
+use crate::word::{cause_word, hex_word, kind_word};
+use cell_num::{Cause, CellId, Holder, Name, RelKind};
+use cell_text::{put_dec, put_hex};
 use cell_world::{Many, Refusal};
 use itoa::Buffer;
-use std::alloc::AllocError;
+use std::alloc::{AllocError, Global};
 
 /// Appends the line of a refusal to a command of that line.
 pub fn put_refusal(line: u32, refusal: &Refusal, into: &mut Vec<u8>) -> Result<(), AllocError>
@@ -69,6 +70,7 @@ pub fn put_refusal(line: u32, refusal: &Refusal, into: &mut Vec<u8>) -> Result<(
             offset,
             kind,
         } => put_overflow(line, *cell, *section, *offset, *kind, into),
+        Refusal::Held { cell, holder } => put_held(line, *cell, *holder, into),
     }
 }
 
@@ -170,6 +172,41 @@ fn put_overflow(
     )
 }
 
+/// Appends the line of a refusal for a cell that has to stay.
+fn put_held(line: u32, cell: CellId, holder: Holder, into: &mut Vec<u8>) -> Result<(), AllocError>
+    ensures ok { OnOk result (into.new.items ≡ into.old.items ++ refusal_line line (Held cell holder)) }
+    ensures extends { Extends into.old.items into.new.items }
+{
+    let mut number = Buffer::new();
+    let number = number.format(line).as_bytes();
+    let mut of_cell = Buffer::new();
+    let of_cell = of_cell.format(cell.0).as_bytes();
+    let holder = holder_word(*into.allocator(), holder)?;
+    put_line(
+        &[number, b" E15 held #", of_cell, b" ", holder.as_slice()],
+        into,
+    )
+}
+
+/// What keeps a cell: a task, or another cell.
+fn holder_word(alloc: Global, holder: Holder) -> Result<Vec<u8>, AllocError>
+    ensures { IfOk result (λ word. word.items ≡ holder_word holder) }
+{
+    match holder {
+        Holder::Task(task) => marked(alloc, b"t", task),
+        Holder::Cell(cell) => marked(alloc, b"#", cell.0),
+    }
+}
+
+/// A number behind a mark.
+fn marked(alloc: Global, mark: &[u8], number: u32) -> Result<Vec<u8>, AllocError>
+    ensures { IfOk result (λ word. word.items ≡ mark.now ++ decimal number) }
+{
+    let mut word = Vec::from_slice(alloc, mark)?;
+    put_dec(u64::from(number), &mut word)?;
+    Ok(word)
+}
+
 fn many_word(kind: Many) -> &'static [u8]
     ensures { result.now ≡ many_word kind }
 {
@@ -179,40 +216,5 @@ fn many_word(kind: Many) -> &'static [u8]
         Many::CellNumbers => b"cell-numbers",
         Many::Tasks => b"tasks",
         Many::TaskNumbers => b"task-numbers",
-    }
-}
-
-/// The name of a kind of relocation, without its first `R_RISCV_`.
-fn kind_word(kind: RelKind) -> &'static [u8]
-    ensures { result.now ≡ kind_word kind }
-{
-    match kind {
-        RelKind::Abs32 => b"32",
-        RelKind::Abs64 => b"64",
-        RelKind::Branch => b"BRANCH",
-        RelKind::Jal => b"JAL",
-        RelKind::Call => b"CALL",
-        RelKind::CallPlt => b"CALL_PLT",
-        RelKind::GotHi20 => b"GOT_HI20",
-        RelKind::PcrelHi20 => b"PCREL_HI20",
-        RelKind::PcrelLo12I => b"PCREL_LO12_I",
-        RelKind::PcrelLo12S => b"PCREL_LO12_S",
-        RelKind::Hi20 => b"HI20",
-        RelKind::Lo12I => b"LO12_I",
-        RelKind::Lo12S => b"LO12_S",
-        RelKind::Add8 => b"ADD8",
-        RelKind::Add16 => b"ADD16",
-        RelKind::Add32 => b"ADD32",
-        RelKind::Add64 => b"ADD64",
-        RelKind::Sub8 => b"SUB8",
-        RelKind::Sub16 => b"SUB16",
-        RelKind::Sub32 => b"SUB32",
-        RelKind::Sub64 => b"SUB64",
-        RelKind::Sub6 => b"SUB6",
-        RelKind::Set6 => b"SET6",
-        RelKind::Set8 => b"SET8",
-        RelKind::Set16 => b"SET16",
-        RelKind::Set32 => b"SET32",
-        RelKind::Pcrel32 => b"32_PCREL",
     }
 }

@@ -2,13 +2,14 @@
 
 ghost use Rattle.std.specs.Prelude.{◌≡◌, ◌++◌, ◌≤◌, Ok, length, IfOk, OnOk};
 ghost use Rattle.cell_world.specs.declared.reply.Reply.TheVariants.{Spawn, Step, Kill};
-ghost use Rattle.cell_print.specs.Lines.{reply_lines, cells_word, found_word, key_word, row, rows, lines_of, Extends};
+ghost use Rattle.cell_print.specs.Lines.{reply_lines, removed_line, cells_word, found_word, row, rows, lines_of, Extends};
 
+use crate::links::{put_deps, put_users};
 use crate::map::put_cells;
 use crate::put_line;
 use crate::tasks::{put_run, put_runs, put_tasks};
-use crate::word::hex_word;
-use cell_num::{CellId, SecKey};
+use crate::word::{hex_word, key_word};
+use cell_num::CellId;
 use cell_text::{put_dec, put_hex, put_hex_byte};
 use cell_world::{Found, Reply, TaskRun};
 use itoa::Buffer;
@@ -39,6 +40,12 @@ pub fn put_reply(line: u32, reply: &Reply, into: &mut Vec<u8>) -> Result<(), All
             put_runs(runs.as_slice(), into)
         }
         Reply::Kill { task } => put_kill(line, *task, into),
+        Reply::Unload { removed } => {
+            put_removed(line, b" ok unload removed", removed.as_slice(), into)
+        }
+        Reply::Purge { removed } => {
+            put_removed(line, b" ok purge removed", removed.as_slice(), into)
+        }
         Reply::Tasks { tasks } => {
             put_line(&[number, b" ok tasks"], into)?;
             put_tasks(tasks.as_slice(), into)
@@ -47,6 +54,8 @@ pub fn put_reply(line: u32, reply: &Reply, into: &mut Vec<u8>) -> Result<(), All
             let place = found_word(*into.allocator(), *found)?;
             put_line(&[number, b" ok find ", place.as_slice()], into)
         }
+        Reply::Deps { cell, links } => put_deps(line, *cell, links.as_slice(), into),
+        Reply::Users { cell, links } => put_users(line, *cell, links.as_slice(), into),
         Reply::Map { cells } => {
             put_line(&[number, b" ok map"], into)?;
             put_cells(cells.as_slice(), into)
@@ -98,6 +107,22 @@ fn put_kill(line: u32, task: u32, into: &mut Vec<u8>) -> Result<(), AllocError>
     put_line(&[number, b" ok kill t", of_task], into)
 }
 
+/// Appends the cells that a command removed, on a line with its words.
+fn put_removed(
+    line: u32,
+    words: &[u8],
+    removed: &[CellId],
+    into: &mut Vec<u8>,
+) -> Result<(), AllocError>
+    ensures ok { OnOk result (into.new.items ≡ into.old.items ++ removed_line line words.now removed.now) }
+    ensures extends { Extends into.old.items into.new.items }
+{
+    let mut number = Buffer::new();
+    let number = number.format(line).as_bytes();
+    let cells = cells_word(*into.allocator(), removed)?;
+    put_line(&[number, words, cells.as_slice()], into)
+}
+
 /// The cells, each with a space before it, or a dash where there is none.
 fn cells_word(alloc: Global, cells: &[CellId]) -> Result<Vec<u8>, AllocError>
     ensures { IfOk result (λ word. word.items ≡ cells_word cells.now) }
@@ -125,17 +150,6 @@ fn found_word(alloc: Global, found: Option<Found>) -> Result<Vec<u8>, AllocError
     put_hex(found.offset, &mut word)?;
     word.extend_from_slice(b" ")?;
     put_hex(found.addr, &mut word)?;
-    Ok(word)
-}
-
-fn key_word(alloc: Global, key: SecKey) -> Result<Vec<u8>, AllocError>
-    ensures { IfOk result (λ word. word.items ≡ key_word key) }
-{
-    let mut word = Vec::new(alloc);
-    word.extend_from_slice(b"#")?;
-    put_dec(u64::from(key.cell.0), &mut word)?;
-    word.extend_from_slice(b".")?;
-    put_dec(u64::from(key.section), &mut word)?;
     Ok(word)
 }
 

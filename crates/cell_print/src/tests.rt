@@ -5,7 +5,7 @@ use std::alloc::{AllocError, Global};
 use std::test::*;
 
 /// The lines of a reply to the command of line 9.
-fn lines_of(alloc: Global, reply: &Reply) -> Result<Vec<u8>, AllocError> {
+pub fn lines_of(alloc: Global, reply: &Reply) -> Result<Vec<u8>, AllocError> {
     let mut text = Vec::new(alloc);
     put_reply(9, reply, &mut text)?;
     Ok(text)
@@ -123,7 +123,7 @@ fn maps(rt: HostRuntime) -> Result<(), Fail> {
 }
 
 /// The line of a refusal to the command of line 7.
-fn line_of(alloc: Global, refusal: &Refusal) -> Result<Vec<u8>, AllocError> {
+pub fn line_of(alloc: Global, refusal: &Refusal) -> Result<Vec<u8>, AllocError> {
     let mut text = Vec::new(alloc);
     put_refusal(7, refusal, &mut text)?;
     Ok(text)

@@ -30,7 +30,7 @@ use Rattle.cell_machine.specs.declared.machine.Machine.{Machine}
 use Rattle.cell_machine.specs.Machine.{IsSound, world_of}
 use Rattle.cell_machine.specs.Same.{raised}
 use Rattle.cell_machine.proofs.NewRuns.{puts_longer}
-use Rattle.cell_schedule.specs.Does.{IsDone}
+use Rattle.cell_machine.specs.Does.{IsDone}
 use Rattle.cell_schedule.specs.Starts.{started, with_started}
 use Rattle.cell_schedule.proofs.Stacks.{given_again, run_found, run_missed, taken_there}
 

@@ -16,7 +16,7 @@ use Rattle.cell_machine.specs.declared.machine.Machine.{Machine}
 use Rattle.cell_machine.specs.Machine.{IsSound, world_of}
 use Rattle.cell_machine.specs.Same.{raised}
 use Rattle.cell_machine.proofs.Unchanged.{same_itself}
-use Rattle.cell_schedule.specs.Does.{Does, IsDone}
+use Rattle.cell_machine.specs.Does.{Does, IsDone}
 use Rattle.cell_schedule.specs.Ends.{IsEnded}
 use Rattle.cell_schedule.proofs.Ended.{ended_sound, fewer_regions, maps_ended, patches_ended, world_ended}
 

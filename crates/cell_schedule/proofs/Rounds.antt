@@ -19,7 +19,7 @@ use Rattle.cell_task.specs.State.{IsReady, TasksState, live_in}
 use Rattle.cell_machine.specs.declared.machine.Machine.{Machine}
 use Rattle.cell_machine.specs.Machine.{IsSound, world_of}
 use Rattle.cell_schedule.specs.declared.round.Due.{Due}
-use Rattle.cell_schedule.specs.Does.{IsDone}
+use Rattle.cell_machine.specs.Does.{IsDone}
 use Rattle.cell_schedule.specs.Rounds.{AreDue, HasGone, HasRoom, HaveRoom, can_turn, gone_round, numbers_due}
 use Rattle.cell_schedule.specs.Turns.{HasRun, IsCounted}
 use Rattle.cell_schedule.proofs.Lines.{found_own}

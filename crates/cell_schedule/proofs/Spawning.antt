@@ -18,7 +18,7 @@ use Rattle.cell_task.specs.State.{TasksState}
 use Rattle.cell_machine.specs.declared.machine.Machine.{Machine}
 use Rattle.cell_machine.specs.Machine.{world_of}
 use Rattle.cell_machine.proofs.Unchanged.{same_itself}
-use Rattle.cell_schedule.specs.Does.{Does}
+use Rattle.cell_machine.specs.Does.{Does}
 use Rattle.cell_schedule.specs.Starts.{may_start, started}
 
 two_needs : {X : Type 0} (a b : Bool) (r s : Refusal) (more : Outcome X) → (need a r >> (need b s >> more)) ≡ ((need a r >> need b s) >> more)

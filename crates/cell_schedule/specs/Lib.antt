@@ -1,4 +1,3 @@
-pub mod Does
 pub mod Ends
 pub mod Starts
 pub mod Turns

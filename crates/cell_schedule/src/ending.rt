@@ -2,7 +2,7 @@
 
 ghost use Rattle.cell_machine.specs.Machine.{IsSound, world_of};
 ghost use Rattle.cell_world.specs.TaskCommands.{next_kill};
-ghost use Rattle.cell_schedule.specs.Does.{Does};
+ghost use Rattle.cell_machine.specs.Does.{Does};
 
 use crate::live::live;
 use crate::stack::give_back;

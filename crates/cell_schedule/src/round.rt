@@ -4,7 +4,7 @@ ghost use Rattle.std.specs.Prelude.{◌≡◌, ◌*◌, ◌≤◌, [], IfOk, fil
 ghost use Rattle.cell_machine.specs.Machine.{IsSound, world_of};
 ghost use Rattle.cell_task.specs.State.{live_in};
 ghost use Rattle.cell_world.specs.TaskCommands.{next_run};
-ghost use Rattle.cell_schedule.specs.Does.{Does};
+ghost use Rattle.cell_machine.specs.Does.{Does};
 ghost use Rattle.cell_schedule.specs.Rounds.{AreDue, HasGone, HaveRoom, can_turn};
 
 use crate::slice::slice;

@@ -6,7 +6,7 @@ ghost use Rattle.cell_machine.specs.Machine.{IsSound, world_of};
 ghost use Rattle.cell_world.specs.declared.refusal.Refusal.TheVariants.{Exhausted as TooFull};
 ghost use Rattle.cell_world.specs.SpawnCommand.{next_spawn};
 ghost use Rattle.cell_world.specs.World.{cell_of};
-ghost use Rattle.cell_schedule.specs.Does.{Does};
+ghost use Rattle.cell_machine.specs.Does.{Does};
 ghost use Rattle.cell_schedule.specs.Starts.{entry_as, may_start, started};
 
 use crate::entry::{Entry, entry_for};

@@ -5,7 +5,7 @@ ghost use Rattle.cell_gather.specs.Following.{Follows};
 ghost use Rattle.cell_machine.specs.Machine.{IsSound, world_of};
 ghost use Rattle.cell_task.specs.State.{seen_as};
 ghost use Rattle.cell_world.specs.TaskCommands.{can_run as can_run_as, next_step};
-ghost use Rattle.cell_schedule.specs.Does.{Does};
+ghost use Rattle.cell_machine.specs.Does.{Does};
 
 use crate::live::live;
 use crate::slice::slice;

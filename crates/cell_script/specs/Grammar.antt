@@ -1,11 +1,13 @@
 -- The commands of a script. A later command is one more of `forms`.
 --     command_in forms word arguments      the command of these words, if a form has them
-use Rattle.std.specs.Prelude.{ℕ, nat_lt, nat_le, Bool, ◌&&◌, ◌||◌, ◌==◌, List, [], ◌∷◌, length, take, drop, Option, Some, None, if◌then◌else◌, bytes_eq, codes, option_map, option_and_then}
-use Rattle.std.specs.List.{list_all}
-use Rattle.cell_num.specs.Lists.{where_true}
+--     cell_names words                     the cells that the words of an `unload` name
+use Rattle.std.specs.Prelude.{ℕ, nat_lt, nat_le, Bool, not, ◌&&◌, ◌||◌, ◌==◌, List, [], ◌∷◌, length, take, drop, Option, Some, None, if◌then◌else◌, bytes_eq, codes, option_map, option_and_then}
+use Rattle.std.specs.List.{list_all, slice_split}
+use Rattle.cell_num.specs.Lists.{where_true, equals, each_pair}
 use Rattle.cell_text.specs.Number.{number_in, hex_number_in}
+use Rattle.cell_world.specs.declared.command.CellName.{CellName}
 use Rattle.cell_world.specs.declared.command.Command.{Command}
-use Rattle.cell_world.specs.declared.command.Command.TheVariants.{Ns, Load, Spawn, Step, Run, Kill, Find, Map, Tasks, Dump}
+use Rattle.cell_world.specs.declared.command.Command.TheVariants.{Ns, Load, Spawn, Step, Run, Kill, Unload, Purge, Find, Map, Tasks, Deps, Users, Dump}
 
 abbrev pub is_name_byte : ℕ → Bool
 is_name_byte b = (nat_le 97 b && nat_le b 122) || (nat_le 48 b && nat_le b 57) || b == 95
@@ -52,10 +54,10 @@ abbrev pub single : {A : Type 0} → (List ℕ → Option A) → (A → Command)
 single said command (a ∷ []) = option_map command (said a)
 single said command words = None
 
--- two words, and the command of what they say
-abbrev pub both : {A B : Type 0} → (List ℕ → Option A) → (List ℕ → Option B) → (A → B → Command) → List (List ℕ) → Option Command
-both one other command (a ∷ b ∷ []) = option_and_then (λ x. option_map (command x) (other b)) (one a)
-both one other command words = None
+-- two words, and what they say together
+abbrev pub both : {A B R : Type 0} → (List ℕ → Option A) → (List ℕ → Option B) → (A → B → R) → List (List ℕ) → Option R
+both one other made (a ∷ b ∷ []) = option_and_then (λ x. option_map (made x) (other b)) (one a)
+both one other made words = None
 
 -- three words, and the command of what they say
 abbrev pub all_three : {A B C : Type 0} → (List ℕ → Option A) → (List ℕ → Option B) → (List ℕ → Option C) → (A → B → C → Command) → List (List ℕ) → Option Command
@@ -66,6 +68,31 @@ all_three one other last command words = None
 abbrev pub both_around : {A B : Type 0} → List ℕ → (List ℕ → Option A) → (List ℕ → Option B) → (A → B → Command) → List (List ℕ) → Option Command
 both_around middle one other command (a ∷ m ∷ b ∷ []) = if bytes_eq m middle then both one other command (a ∷ b ∷ []) else None
 both_around middle one other command words = None
+
+-- one word or more, and the command of what they say together
+abbrev pub several : {A : Type 0} → (List (List ℕ) → Option A) → (A → Command) → List (List ℕ) → Option Command
+several said command [] = None
+several said command (word ∷ words) = option_map command (said (word ∷ words))
+
+abbrev pub cell_called : List ℕ → List ℕ → CellName
+cell_called ns stem = record { ns = ns; stem = stem }
+
+-- NS/STEM: two names, and the one slash between them
+abbrev pub cell_name : List ℕ → Option CellName
+cell_name word = both name name cell_called (slice_split (λ b. b == 47) word)
+
+-- what each word says, if each says something
+abbrev pub each_said : {A : Type 0} → (List ℕ → Option A) → List (List ℕ) → Option (List A)
+each_said said [] = Some []
+each_said said (word ∷ words) = option_and_then (λ x. option_map (λ rest. x ∷ rest) (each_said said words)) (said word)
+
+-- no word stands twice
+abbrev pub are_different : List (List ℕ) → Bool
+are_different words = each_pair (λ word later. not (equals later word)) words
+
+-- the cells of such words, each named once: two words for one cell would be the same
+abbrev pub cell_names : List (List ℕ) → Option (List CellName)
+cell_names words = if are_different words then each_said cell_name words else None
 
 -- a command's first word, and what its other words say
 pub record Form : Type 0 where
@@ -80,9 +107,13 @@ forms =
     ∷ record { word = codes "step"; arguments = both number turns_of_step (λ task turns. Step task turns) }
     ∷ record { word = codes "run"; arguments = single turns_of_run (λ turns. Run turns) }
     ∷ record { word = codes "kill"; arguments = single number (λ task. Kill task) }
+    ∷ record { word = codes "unload"; arguments = several cell_names (λ cells. Unload cells) }
+    ∷ record { word = codes "purge"; arguments = alone Purge }
     ∷ record { word = codes "find"; arguments = both name symbol (λ ns what. Find ns what) }
     ∷ record { word = codes "map"; arguments = alone Map }
     ∷ record { word = codes "tasks"; arguments = alone Tasks }
+    ∷ record { word = codes "deps"; arguments = single number (λ cell. Deps cell) }
+    ∷ record { word = codes "users"; arguments = single number (λ cell. Users cell) }
     ∷ record { word = codes "dump"; arguments = both number number (λ cell section. Dump cell section) }
     ∷ []
 

@@ -1,10 +1,11 @@
 //! The words of one line.
 
 ghost use Rattle.std.specs.Prelude.{◌≡◌, List, [], ◌∷◌, map, codes, IfOk};
-ghost use Rattle.cell_world.specs.declared.command.Command.TheVariants.{Ns, Load, Spawn, Step, Run, Kill, Find, Map, Tasks, Dump};
-ghost use Rattle.cell_script.specs.Grammar.{name, symbol, number, turns_of_step, turns_of_run, argument, alone, single, both, all_three, both_around, forms, command_in};
+ghost use Rattle.cell_world.specs.declared.command.Command.TheVariants.{Ns, Load, Spawn, Step, Run, Kill, Unload, Purge, Find, Map, Tasks, Deps, Users, Dump};
+ghost use Rattle.cell_script.specs.Grammar.{name, symbol, number, turns_of_step, turns_of_run, argument, alone, single, both, all_three, both_around, several, cell_names, forms, command_in};
 ghost use Rattle.cell_script.specs.Script.{is_comment, reading_in};
 
+use crate::cells::read_cells;
 use crate::words::{
     is_name, is_symbol, read_argument, read_number, read_turns_of_run, read_turns_of_step,
 };
@@ -62,12 +63,20 @@ fn read_command(
         Ok(read_run(arguments))
     } else if word == b"kill".as_slice() {
         Ok(read_kill(arguments))
+    } else if word == b"unload".as_slice() {
+        read_unload(alloc, arguments)
+    } else if word == b"purge".as_slice() {
+        Ok(read_purge(arguments))
     } else if word == b"find".as_slice() {
         read_find(alloc, arguments)
     } else if word == b"map".as_slice() {
         Ok(read_map(arguments))
     } else if word == b"tasks".as_slice() {
         Ok(read_tasks(arguments))
+    } else if word == b"deps".as_slice() {
+        Ok(read_deps(arguments))
+    } else if word == b"users".as_slice() {
+        Ok(read_users(arguments))
     } else if word == b"dump".as_slice() {
         Ok(read_dump(arguments))
     } else {
@@ -157,6 +166,29 @@ fn read_kill(arguments: &[&[u8]]) -> Option<Command>
     Some(Command::Kill { task })
 }
 
+/// `unload NS/STEM ...`
+fn read_unload(alloc: Global, arguments: &[&[u8]]) -> Result<Option<Command>, AllocError>
+    ensures { IfOk result (λ command. command ≡ several cell_names (λ cells. Unload cells) (map (λ word. word.now) arguments.now)) }
+{
+    if arguments.is_empty() {
+        return Ok(None);
+    }
+    let Some(cells) = read_cells(alloc, arguments)? else {
+        return Ok(None);
+    };
+    Ok(Some(Command::Unload { cells }))
+}
+
+/// `purge`
+fn read_purge(arguments: &[&[u8]]) -> Option<Command>
+    ensures { result ≡ alone Purge (map (λ word. word.now) arguments.now) }
+{
+    match arguments {
+        [] => Some(Command::Purge),
+        _ => None,
+    }
+}
+
 /// `find NS SYMBOL`
 fn read_find(alloc: Global, arguments: &[&[u8]]) -> Result<Option<Command>, AllocError>
     ensures { IfOk result (λ command. command ≡ both name symbol (λ ns what. Find ns what) (map (λ word. word.now) arguments.now)) }
@@ -190,6 +222,28 @@ fn read_tasks(arguments: &[&[u8]]) -> Option<Command>
         [] => Some(Command::Tasks),
         _ => None,
     }
+}
+
+/// `deps CELL`
+fn read_deps(arguments: &[&[u8]]) -> Option<Command>
+    ensures { result ≡ single number (λ cell. Deps cell) (map (λ word. word.now) arguments.now) }
+{
+    let [cell] = arguments else {
+        return None;
+    };
+    let cell = read_number(cell)?;
+    Some(Command::Deps { cell })
+}
+
+/// `users CELL`
+fn read_users(arguments: &[&[u8]]) -> Option<Command>
+    ensures { result ≡ single number (λ cell. Users cell) (map (λ word. word.now) arguments.now) }
+{
+    let [cell] = arguments else {
+        return None;
+    };
+    let cell = read_number(cell)?;
+    Some(Command::Users { cell })
 }
 
 /// `dump CELL SECTION`

@@ -1,6 +1,7 @@
 //! The script: its lines, and the commands on them.
 #![tactic(auto)]
 
+mod cells;
 mod command;
 mod line;
 mod read;

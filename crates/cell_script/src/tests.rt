@@ -1,6 +1,7 @@
 ghost use Rattle.std.specs.Prelude.{◌<◌, ◌^◌, length};
 
 use super::*;
+use cell_world::CellName;
 use std::test::*;
 
 /// The number of the first line without a reading.
@@ -219,6 +220,63 @@ fn bad_lines_with_tasks(rt: HostRuntime) {
         (b"kill 1 1", 1),
         (b"tasks 1", 1),
         (b"task", 1),
+    ] {
+        assert_eq!(rt; bad_line(&rt, text), Some(want));
+    }
+}
+
+/// Whether the cell is of that namespace and stem.
+fn is_cell(cell: &CellName, ns: &[u8], stem: &[u8]) -> bool {
+    cell.ns.bytes() == ns && cell.stem.bytes() == stem
+}
+
+#[test]
+fn cells_and_links(rt: HostRuntime) -> Result<(), Fail> {
+    let text = b"unload k/a\nunload k/b\tn/b  k/a_0\npurge\ndeps 4294967295\nusers 0\n";
+    let script = read_script(rt.alloc(), text)
+        .ok()
+        .ok_or("it has a reading")?;
+    let lines = script.as_slice();
+    assert_eq!(rt; lines.len(), 5);
+    assert!(rt;
+        matches!(&lines[0].command, Command::Unload { cells } if cells.as_slice().len() == 1 && is_cell(&cells.as_slice()[0], b"k", b"a"))
+    );
+    assert!(rt;
+        matches!(&lines[1].command, Command::Unload { cells } if cells.as_slice().len() == 3 && is_cell(&cells.as_slice()[0], b"k", b"b") && is_cell(&cells.as_slice()[1], b"n", b"b") && is_cell(&cells.as_slice()[2], b"k", b"a_0"))
+    );
+    assert!(rt; matches!(&lines[2].command, Command::Purge));
+    assert!(rt; matches!(&lines[3].command, Command::Deps { cell: 4294967295 }));
+    assert!(rt; matches!(&lines[4].command, Command::Users { cell: 0 }));
+    Ok(())
+}
+
+#[test]
+fn bad_lines_with_cells_and_links(rt: HostRuntime) {
+    for (text, want) in [
+        (b"unload".as_slice(), 1),
+        (b"unload k", 1),
+        (b"unload k a", 1),
+        (b"unload k/", 1),
+        (b"unload /a", 1),
+        (b"unload /", 1),
+        (b"unload k//a", 1),
+        (b"unload k/a/b", 1),
+        (b"unload k/a/", 1),
+        (b"unload K/a", 1),
+        (b"unload k/a-b", 1),
+        (b"unload k/a\r\n", 1),
+        (b"unload k/a k/b k", 1),
+        (b"unload k/a k/a", 1),
+        (b"unload k/a n/a k/b k/a", 1),
+        (b"purge k/a", 1),
+        (b"deps", 1),
+        (b"deps 1 1", 1),
+        (b"deps #1", 1),
+        (b"deps 4294967296", 1),
+        (b"users", 1),
+        (b"users 1 1", 1),
+        (b"users 01", 1),
+        (b"user 1", 1),
     ] {
         assert_eq!(rt; bad_line(&rt, text), Some(want));
     }

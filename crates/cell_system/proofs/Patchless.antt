@@ -1,14 +1,18 @@
--- No command on tasks patches a field.
-use Rattle.std.proofs.Common.{◌≡◌, refl, ℕ, List, length, Ok, Err}
+-- No command on tasks patches a field, and none that takes cells away.
+use Rattle.std.proofs.Common.{◌≡◌, refl, ℕ, suc, List, length, Ok, Err}
 use Rattle.std.specs.Prelude.{nat_le, nat_lt}
 use Rattle.cell_world.specs.declared.refusal.Many.TheVariants.{Tasks as ManyTasks, TaskNumbers}
 use Rattle.cell_world.specs.declared.refusal.Refusal.TheVariants.{TooMany, NoEntry}
-use Rattle.cell_world.specs.Answer.{Done, live_task, space_of}
-use Rattle.cell_world.specs.Outcome.{Outcome, ◌>>=◌, ◌>>◌, found, need}
+use Rattle.cell_world.specs.declared.reply.Reply.TheVariants.{Unload as UnloadDone}
+use Rattle.cell_world.specs.Answer.{Done, done, ids, live_task, numbers_of, space_of}
+use Rattle.cell_world.specs.Kept.{holding_of}
+use Rattle.cell_world.specs.Outcome.{Outcome, ◌>>=◌, ◌>>◌, found, need, refused_by}
 use Rattle.cell_world.specs.Place.{start_of_run}
 use Rattle.cell_world.specs.SpawnCommand.{entry_named, next_spawn}
 use Rattle.cell_world.specs.TaskCommands.{can_run, next_step, next_run, next_kill}
-use Rattle.cell_world.specs.World.{World}
+use Rattle.cell_world.specs.UnloadCommand.{detach, first_held, garbage_of, named_cells, next_purge, next_unload, purged}
+use Rattle.cell_world.specs.World.{World, Cell}
+use Rattle.cell_world.specs.declared.command.CellName.{CellName}
 use Rattle.cell_system.specs.Step.{written_by}
 
 -- the reply, where there is one, tells of no field
@@ -40,3 +44,20 @@ run_patchless w turns = refl
 
 pub kill_patchless : (w : World) (task : ℕ) → IsPatchless (next_kill w task)
 kill_patchless w task = bind_patchless (live_task w task) _ (λ t. refl)
+
+-- what the command answers once the cells are known
+abbrev pub swept : World → List Cell → Outcome Done
+swept w cells =
+    let aside = detach (suc w.swaps) (numbers_of cells) w in
+    refused_by (first_held (holding_of aside) (numbers_of cells)) >> done (UnloadDone (ids (garbage_of aside))) (purged aside)
+
+swept_patchless : (w : World) (cells : List Cell) → IsPatchless (swept w cells)
+swept_patchless w cells =
+    let aside = detach (suc w.swaps) (numbers_of cells) w in
+    then_patchless (refused_by (first_held (holding_of aside) (numbers_of cells))) (done (UnloadDone (ids (garbage_of aside))) (purged aside)) refl
+
+pub unload_patchless : (w : World) (names : List CellName) → IsPatchless (next_unload w names)
+unload_patchless w names = bind_patchless (named_cells w names) (swept w) (swept_patchless w)
+
+pub purge_patchless : (w : World) → IsPatchless (next_purge w)
+purge_patchless w = refl

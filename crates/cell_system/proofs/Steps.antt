@@ -3,7 +3,8 @@ use Rattle.std.proofs.Common.{◌≡◌, refl, sym, ◌∙◌, ap, subst, arith,
 use Rattle.std.specs.Prelude.{Result, Ok, Err}
 use Rattle.cell_num.specs.declared.ids.CellId.{CellId}
 use Rattle.cell_world.specs.declared.command.Command.{Command}
-use Rattle.cell_world.specs.declared.command.Command.TheVariants.{Ns as AddNs, Load as LoadCrate, Spawn, Step, Run, Kill}
+use Rattle.cell_world.specs.declared.command.Command.TheVariants.{Ns as AddNs, Load as LoadCrate, Spawn, Step, Run, Kill, Unload, Purge}
+use Rattle.cell_world.specs.declared.command.CellName.{CellName}
 use Rattle.cell_world.specs.declared.file.File.{File}
 use Rattle.cell_world.specs.declared.refusal.Refusal.{Refusal}
 use Rattle.cell_world.specs.declared.reply.Reply.{Reply}
@@ -14,6 +15,7 @@ use Rattle.cell_world.specs.Gather.{source_of}
 use Rattle.cell_world.specs.LoadCommand.{next_load}
 use Rattle.cell_world.specs.SpawnCommand.{next_spawn}
 use Rattle.cell_world.specs.TaskCommands.{next_step, next_run, next_kill}
+use Rattle.cell_world.specs.UnloadCommand.{next_purge, next_unload}
 use Rattle.cell_world.specs.Next.{answered_by, outcome_of}
 use Rattle.cell_world.specs.Outcome.{Outcome}
 use Rattle.cell_world.specs.World.{World}
@@ -22,7 +24,7 @@ use Rattle.cell_gather.specs.declared.fail.LoadFail.TheVariants.{Refused, OutOfM
 use Rattle.cell_machine.specs.declared.machine.Machine.{Machine}
 use Rattle.cell_machine.specs.Machine.{IsSound, world_of}
 use Rattle.cell_mem.specs.State.{MemoryState}
-use Rattle.cell_schedule.specs.Does.{Does}
+use Rattle.cell_machine.specs.Does.{Does}
 use Rattle.cell_view.specs.Shows.{Shows}
 use Rattle.cell_world.specs.Answer.{ids, numbers_of}
 use Rattle.cell_world.specs.declared.state.NewCell.{NewCell}
@@ -34,7 +36,7 @@ use Rattle.cell_machine.specs.Same.{IsSame, raised}
 use Rattle.cell_system.specs.Namespaces.{AddsNamespace}
 use Rattle.cell_system.specs.State.{State}
 use Rattle.cell_machine.proofs.Same.{maps_same, patches_same, world_same}
-use Rattle.cell_system.proofs.Patchless.{IsPatchless, kill_patchless, run_patchless, spawn_patchless, step_patchless}
+use Rattle.cell_system.proofs.Patchless.{IsPatchless, kill_patchless, purge_patchless, run_patchless, spawn_patchless, step_patchless, unload_patchless}
 use Rattle.cell_system.specs.Step.{IsDone, IsStep, next_of, state_of, written_by}
 
 stays : (count n : ℕ) → count ≤ 2 ^ 64 - 1 → n ≡ 0 → count ≡ raised count n
@@ -88,7 +90,7 @@ module _ (files : List File) (m : Machine) (sound : IsSound m) where
   adds_namespace name parent (Err (Refused refusal)) n h = (refusal_step (AddNs name parent) refusal h.0, same_state n h.1)
   adds_namespace name parent (Err OutOfMemory) n h = same_state n h
 
-  -- what a command on tasks makes of the machine, where it patches no field
+  -- what a command makes of the machine, where it patches no field
   does : (command : Command) → IsPatchless (outcome_of (map source_of files) (world_of m) command) → (result : Result Reply LoadFail) (n : Machine)
       → Does (outcome_of (map source_of files) (world_of m) command) m result n → IsStep (state_of files m) command result (state_of files n)
   does command none (Ok reply) n h = record {
@@ -115,6 +117,13 @@ module _ (files : List File) (m : Machine) (sound : IsSound m) where
   pub does_kill : (task : ℕ) (result : Result Reply LoadFail) (n : Machine) → Does (next_kill (world_of m) task) m result n
       → IsStep (state_of files m) (Kill task) result (state_of files n)
   does_kill task = does (Kill task) (kill_patchless (world_of m) task)
+
+  pub does_unload : (names : List CellName) (result : Result Reply LoadFail) (n : Machine) → Does (next_unload (world_of m) names) m result n
+      → IsStep (state_of files m) (Unload names) result (state_of files n)
+  does_unload names = does (Unload names) (unload_patchless (world_of m) names)
+
+  pub does_purge : (result : Result Reply LoadFail) (n : Machine) → Does (next_purge (world_of m)) m result n → IsStep (state_of files m) Purge result (state_of files n)
+  does_purge = does Purge (purge_patchless (world_of m))
 
   -- what staged cells come to where they are added
   pub load_done : (ns stem : List ℕ) (s : Staged) (n : Machine) → AreSound (map source_of files) → IsStaged (map source_of files) (world_of m) ns stem s → IsAdded m s n

@@ -6,7 +6,7 @@ ghost use Rattle.cell_depot.specs.Files.{are_in_order};
 ghost use Rattle.cell_depot.specs.ObjectName.{is_object_name};
 ghost use Rattle.cell_world.specs.Coherent.{IsCoherent};
 ghost use Rattle.cell_world.specs.Pages.{IsSpace};
-ghost use Rattle.cell_world.specs.declared.command.Command.TheVariants.{Dump, Find, Kill, Load, Map, Ns, Run, Spawn, Step, Tasks};
+ghost use Rattle.cell_world.specs.declared.command.Command.TheVariants.{Deps, Dump, Find, Kill, Load, Map, Ns, Purge, Run, Spawn, Step, Tasks, Unload, Users};
 ghost use Rattle.cell_world.specs.World.{empty_world};
 ghost use Rattle.cell_system.specs.Step.{IsStep};
 
@@ -19,8 +19,9 @@ use cell_machine::Machine;
 use cell_num::{CellId, Listed};
 use cell_schedule::{kill, run, spawn, step, tasks};
 use cell_stage::stage;
-use cell_view::{dump, find, map};
-use cell_world::{Command, File, NewCell, Reply};
+use cell_swap::{purge, unload};
+use cell_view::{deps, dump, find, map, users};
+use cell_world::{CellName, Command, File, NewCell, Reply};
 use std::alloc::{AllocError, Global};
 use std::marker::Model;
 
@@ -120,6 +121,20 @@ impl System {
         kill(self.alloc, &mut self.machine, task)
     }
 
+    /// Removes cells that nobody keeps.
+    fn unload(&mut self, cells: &[CellName]) -> Result<Reply, Fail>
+        ensures { IsStep self.old (Unload cells.now) result self.new }
+    {
+        unload(self.alloc, &mut self.machine, cells)
+    }
+
+    /// Removes the cells that were put aside and that nobody keeps.
+    fn purge(&mut self) -> Result<Reply, Fail>
+        ensures { IsStep self.old Purge result self.new }
+    {
+        purge(self.alloc, &mut self.machine)
+    }
+
     /// Shows all live tasks.
     fn tasks(&mut self) -> Result<Reply, Fail>
         ensures { IsStep self.old Tasks result self.new }
@@ -132,6 +147,20 @@ impl System {
         ensures { IsStep self.old (Find ns.now symbol.now) result self.new }
     {
         find(self.alloc, &self.machine, ns, symbol)
+    }
+
+    /// Shows the links of a cell.
+    fn deps(&mut self, cell: u32) -> Result<Reply, Fail>
+        ensures { IsStep self.old (Deps cell) result self.new }
+    {
+        deps(self.alloc, &self.machine, cell)
+    }
+
+    /// Shows the links into a cell.
+    fn users(&mut self, cell: u32) -> Result<Reply, Fail>
+        ensures { IsStep self.old (Users cell) result self.new }
+    {
+        users(self.alloc, &self.machine, cell)
     }
 
     /// Shows all cells.
@@ -167,8 +196,12 @@ impl System {
             Command::Step { task, turns } => self.step(*task, *turns),
             Command::Run { turns } => self.run(*turns),
             Command::Kill { task } => self.kill(*task),
+            Command::Unload { cells } => self.unload(cells.as_slice()),
+            Command::Purge => self.purge(),
             Command::Tasks => self.tasks(),
             Command::Find { ns, symbol } => self.find(ns.bytes(), symbol.bytes()),
+            Command::Deps { cell } => self.deps(*cell),
+            Command::Users { cell } => self.users(*cell),
             Command::Map => self.map(),
             Command::Dump { cell, section } => self.dump(*cell, *section),
         }

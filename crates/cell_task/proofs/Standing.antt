@@ -1,5 +1,5 @@
 -- After a turn the task's stack is still mapped where the task is live, and no undo is begun where none was.
-use Rattle.std.proofs.Common.{◌≡◌, refl, sym, ap, subst, ◌∙◌, ℕ, ◌+◌, ◌*◌, true, false, not, cond, Bool, List, [], ◌∷◌, Option, Some, None, filter, is_some}
+use Rattle.std.proofs.Common.{◌≡◌, refl, sym, ap, subst, ◌∙◌, ℕ, ◌+◌, ◌*◌, true, false, not, cond, Bool, List, [], ◌∷◌, Some, None, filter, is_some}
 use Rattle.std.specs.Prelude.{◌==◌}
 use Rattle.std.specs.List.{find}
 use Rattle.cell_world.specs.declared.reply.TaskState.{TaskState}
@@ -12,7 +12,7 @@ use Rattle.cell_task.specs.declared.task.Task.{Task as LiveTask}
 use Rattle.cell_task.specs.declared.turned.Turned.{Turned as Answer}
 use Rattle.cell_task.specs.declared.turned.Turned.TheVariants.{Ready, Yield, Done, Fault}
 use Rattle.cell_task.specs.Ran.{ran_by}
-use Rattle.cell_task.specs.State.{TasksState, live_in, seen_as, without}
+use Rattle.cell_task.specs.State.{TasksState, live_in, seen_as}
 use Rattle.cell_task.specs.Turns.{turned_in, memory_after, IsTurn}
 use Rattle.cell_task.proofs.Turning.{after, task_after, effect, regions', still_mapped, found_changed, turned_is}
 

@@ -14,6 +14,8 @@ mod folder;
 #[cfg(test)]
 mod gnu;
 #[cfg(test)]
+mod holding;
+#[cfg(test)]
 mod layouts;
 #[cfg(test)]
 mod objects;

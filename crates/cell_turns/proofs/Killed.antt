@@ -1,5 +1,5 @@
 -- A machine without one of its tasks and that task's stack is coherent again.
-use Rattle.std.proofs.Common.{◌≡◌, refl, sym, ◌∙◌, ap, arith, ◌≤◌, Bool, true, false, cond, List, [], ◌∷◌, ◌++◌, length, map}
+use Rattle.std.proofs.Common.{◌≡◌, refl, sym, ◌∙◌, ap, arith, ◌≤◌, Bool, true, false, List, [], ◌++◌, length, map}
 use Rattle.std.specs.Prelude.{filter, flat_map, ◌==◌, not}
 use Rattle.std.proofs.lemmas.Bool.{eqb-true}
 use Rattle.std.proofs.lemmas.List.Elements.{filter-append}
@@ -9,18 +9,10 @@ use Rattle.cell_world.specs.Turn.{without_task, without_region}
 use Rattle.cell_coherent.proofs.Elements.{In, In-filtered, filter_all}
 use Rattle.cell_coherent.proofs.Distinct.{cell_shapes}
 use Rattle.cell_coherent.proofs.PlacedAll.{Put}
-use Rattle.cell_turns.proofs.Lists.{all-filter, pairs-filter, filter_same, map_filter}
+use Rattle.cell_turns.proofs.Lists.{all-filter, pairs-filter, filter_same, length-filter_le, map_filter}
 use Rattle.cell_turns.proofs.Shapes.{filter_put}
 use Rattle.cell_turns.proofs.Stacks.{cells_elsewhere, same_test, task_limit, number_limit, limits_with}
 use Rattle.cell_turns.proofs.Fixed.{remade_fixed, links_fixed, relinked}
-
-length-filter_le : {X : Type 0} (p : X → Bool) (xs : List X) → length (filter p xs) ≤ length xs
-length-filter_le p [] = omega arith
-length-filter_le p (x ∷ xs) = go (p x) (length-filter_le p xs)
-  where
-    go : (b : Bool) → length (filter p xs) ≤ length xs → length (cond b (x ∷ filter p xs) (filter p xs)) ≤ length (x ∷ xs)
-    go true h = omega (arith, h)
-    go false h = omega (arith, h)
 
 module _ (w : World) (h : IsCoherent w) (t : Task) (live : In t w.tasks) where
   abbrev other : Shape → Bool

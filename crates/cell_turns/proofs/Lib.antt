@@ -12,7 +12,6 @@ pub mod Executed
 pub mod Turned
 pub mod Commands
 pub mod Spawned
-pub mod NextCoherent
 pub mod Slices
 pub mod Kept
 pub mod TurnKept

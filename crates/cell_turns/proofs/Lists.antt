@@ -1,5 +1,5 @@
 -- What filters, maps and folds leave of tests over a list.
-use Rattle.std.proofs.Common.{◌≡◌, refl, sym, ◌∙◌, ap, subst, inl, inr, Bool, true, false, cond, List, [], ◌∷◌, map, true≢false}
+use Rattle.std.proofs.Common.{◌≡◌, refl, sym, ◌∙◌, ap, subst, arith, ◌≤◌, inl, inr, Bool, true, false, cond, List, [], ◌∷◌, length, map, true≢false}
 use Rattle.std.specs.Prelude.{filter, ◌&&◌, fold}
 use Rattle.std.specs.List.{list_all}
 use Rattle.std.proofs.lemmas.Bool.{and_parts, and_from}
@@ -33,6 +33,14 @@ module _ {X : Type 0} where
       go false false e ih = ih
       go true false e ih = absurd (true≢false e)
       go false true e ih = absurd (true≢false (sym e))
+
+  pub length-filter_le : (p : X → Bool) (xs : List X) → length (filter p xs) ≤ length xs
+  length-filter_le p [] = omega arith
+  length-filter_le p (x ∷ xs) = go (p x) (length-filter_le p xs)
+    where
+      go : (b : Bool) → length (filter p xs) ≤ length xs → length (cond b (x ∷ filter p xs) (filter p xs)) ≤ length (x ∷ xs)
+      go true h = omega (arith, h)
+      go false h = omega (arith, h)
 
   -- a map that leaves each element leaves the list
   pub In-fixed : (f : X → X) (xs : List X) → ((x : X) → In x xs → f x ≡ x) → map f xs ≡ xs

@@ -2,11 +2,8 @@
 #![tactic(auto)]
 
 ghost use Rattle.std.specs.Prelude.{ℕ, ◌≡◌, List, Some, Ok};
-ghost use Rattle.cell_world.specs.declared.command.Command.{Command};
 ghost use Rattle.cell_world.specs.Answer.{Done};
-ghost use Rattle.cell_world.specs.Coherent.{AreSound, IsCoherent};
-ghost use Rattle.cell_world.specs.Gather.{Source};
-ghost use Rattle.cell_world.specs.Next.{next};
+ghost use Rattle.cell_world.specs.Coherent.{IsCoherent};
 ghost use Rattle.cell_world.specs.SpawnCommand.{next_spawn};
 ghost use Rattle.cell_world.specs.TaskCommands.{next_step, next_run, next_kill, next_tasks};
 ghost use Rattle.cell_world.specs.Turn.{turn};
@@ -48,9 +45,4 @@ pub fn kill_keeps_coherent()
 /// `tasks` keeps the machine coherent: it changes nothing.
 pub fn tasks_keeps_coherent()
     ensures { (w : World) (d : Done) → IsCoherent w → next_tasks w ≡ Ok d → IsCoherent d.world }
-{}
-
-/// Each command keeps the machine coherent, be it accepted or refused.
-pub fn next_keeps_coherent()
-    ensures { (sources : List Source) (w : World) (command : Command) → AreSound sources → IsCoherent w → IsCoherent (next sources w command).world }
 {}

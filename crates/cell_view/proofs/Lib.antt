@@ -1,2 +1,6 @@
+pub mod Gathering
+pub mod LinkOrder
+pub mod LinksShown
 pub mod PresentCells
 pub mod Showing
+pub mod Sorting

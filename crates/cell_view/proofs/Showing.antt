@@ -57,7 +57,7 @@ module _ (m : Machine) (cell : ℕ) (p : NewCell) where
         let b = In-map attached m.cells.items (attached p) a in
         subst (λ (c : NewCell). In c m.cells.items) (ap (λ (c : Cell). c.placed) (sym b.2)) b.1
 
-    present : present_cell (world_of m) cell ≡ Ok (attached p)
+    pub present : present_cell (world_of m) cell ≡ Ok (attached p)
     present = ap (λ (o : Option Cell). found o (Unknown (decimal cell))) here
 
     pub shown : (section : ℕ) (s : ObjectSection) → Some s ≡ section_of p.object section → (start : ℕ) → start ≡ start_of p s.number

@@ -4,7 +4,7 @@
 --     execute m registers pc    the instruction at the pc
 -- From the RISC-V unprivileged manual, "RV32I Base Integer Instruction Set", "RV64I" and "M Extension"; the causes of
 -- traps and their order are this product's.
-use Rattle.std.specs.Prelude.{ℕ, zero, suc, ◌+◌, ◌*◌, ◌%◌, ◌==◌, nat_lt, nat_le, Bool, true, false, not, ◌&&◌, List, Option, Some, None, ◌-◌, map, slice_index, slice_range, slice_set, if◌then◌else◌}
+use Rattle.std.specs.Prelude.{ℕ, zero, suc, ◌+◌, ◌*◌, ◌%◌, ◌==◌, nat_lt, nat_le, Bool, true, false, not, ◌&&◌, List, Some, None, ◌-◌, map, slice_index, slice_range, slice_set, if◌then◌else◌}
 use Rattle.std.specs.List.{list_any}
 use Rattle.cell_num.specs.declared.ids.Cause.{Cause}
 use Rattle.cell_num.specs.declared.ids.Cause.TheVariants.{Fetch, Jump as BadJump, Illegal, Break, LoadAlign, Load, StoreAlign, Store as BadStore}

@@ -13,6 +13,8 @@ pub mod Fit
 pub mod Answer
 pub mod Execute
 pub mod Turn
+pub mod Closure
+pub mod Kept
 pub mod NsCommand
 pub mod LoadCommand
 pub mod FindCommand
@@ -20,5 +22,7 @@ pub mod MapCommand
 pub mod DumpCommand
 pub mod SpawnCommand
 pub mod TaskCommands
+pub mod LinkCommands
+pub mod UnloadCommand
 pub mod Next
 pub mod Coherent

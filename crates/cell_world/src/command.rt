@@ -1,6 +1,13 @@
 //! Commands.
 
-use cell_num::Name;
+use cell_num::{Listed, Name};
+
+/// An attached cell, by its namespace and stem.
+#[derive(Drop)]
+pub struct CellName {
+    pub ns: Name,
+    pub stem: Name,
+}
 
 /// What the machine is told to do.
 #[derive(Drop)]
@@ -17,10 +24,18 @@ pub enum Command {
     Run { turns: u32 },
     /// End a task.
     Kill { task: u32 },
+    /// Remove cells that nobody keeps.
+    Unload { cells: Listed<CellName> },
+    /// Remove the cells that were put aside and that nobody keeps.
+    Purge,
     /// Show all live tasks.
     Tasks,
     /// Show which section provides a name for a namespace.
     Find { ns: Name, symbol: Name },
+    /// Show the links of a cell.
+    Deps { cell: u32 },
+    /// Show the links into a cell.
+    Users { cell: u32 },
     /// Show all cells with their sections.
     Map,
     /// Show the bytes of a section of a cell.

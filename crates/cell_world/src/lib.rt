@@ -8,8 +8,8 @@ mod refusal;
 mod reply;
 mod state;
 
-pub use command::Command;
+pub use command::{CellName, Command};
 pub use file::File;
 pub use refusal::{Many, Refusal};
-pub use reply::{Found, MapCell, MapSection, Reply, TaskLine, TaskRun, TaskState};
-pub use state::{LinkRow, Namespace, NewCell, Permission, Region, SecPlace, Target};
+pub use reply::{Found, LinkLine, MapCell, MapSection, Reply, TaskLine, TaskRun, TaskState};
+pub use state::{LinkRow, Namespace, NewCell, Permission, Placed, Region, SecPlace, Target};

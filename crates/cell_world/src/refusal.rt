@@ -1,6 +1,6 @@
 //! Refusals.
 
-use cell_num::{Cause, CellId, Name, RelKind};
+use cell_num::{Cause, CellId, Holder, Name, RelKind};
 
 /// What there may be only so much of.
 #[derive(Clone, Copy, Debug, PartialEq, Eq)]
@@ -74,5 +74,10 @@ pub enum Refusal {
         section: u16,
         offset: u32,
         kind: RelKind,
+    },
+    /// The cell has to stay, by that holder.
+    Held {
+        cell: CellId,
+        holder: Holder,
     },
 }

@@ -1,6 +1,6 @@
 //! Replies.
 
-use cell_num::{Bytes, Cause, CellId, Listed, Name, SecKey};
+use cell_num::{Bytes, Cause, CellId, Listed, Name, RelKind, SecKey};
 
 /// A place in a section, and its address.
 #[derive(Clone, Copy, Debug, PartialEq, Eq)]
@@ -59,6 +59,15 @@ pub struct TaskLine {
     pub fault: Option<Cause>,
 }
 
+/// A link as `deps` and `users` show it: the field of its entry, the entry's kind, and the section.
+#[derive(Clone, Copy, Debug, PartialEq, Eq)]
+pub struct LinkLine {
+    pub user: SecKey,
+    pub offset: u32,
+    pub kind: RelKind,
+    pub target: SecKey,
+}
+
 /// What a command that was done answers.
 #[derive(Drop)]
 pub enum Reply {
@@ -87,6 +96,13 @@ pub enum Reply {
     Kill {
         task: u32,
     },
+    /// The cells that were removed.
+    Unload {
+        removed: Listed<CellId>,
+    },
+    Purge {
+        removed: Listed<CellId>,
+    },
     /// All live tasks.
     Tasks {
         tasks: Listed<TaskLine>,
@@ -94,6 +110,16 @@ pub enum Reply {
     /// Where the provider of the name has it.
     Find {
         found: Option<Found>,
+    },
+    /// The links of the cell.
+    Deps {
+        cell: CellId,
+        links: Listed<LinkLine>,
+    },
+    /// The links into the cell.
+    Users {
+        cell: CellId,
+        links: Listed<LinkLine>,
     },
     /// All cells.
     Map {

@@ -1,5 +1,5 @@
-use Rattle.std.proofs.Common.{◌≡◌, sym, ap, ◌∙◌, map, string_bytes}
-use Rattle.clap.specs.Words.{App, app_of, fault_of, is_simple, is_simple_and_free, matches_of}
+use Rattle.std.proofs.Common.{sym, ap, ◌∙◌, map, string_bytes}
+use Rattle.clap.specs.Words.{App, fault_of, is_simple, is_simple_and_free, matches_of}
 use Rattle.cell_arguments.proofs.Reading.{is_simple-command, is_free-command, has_fault}
 use Rattle.cell_arguments.proofs.command.matches_in.Goals as goal
 

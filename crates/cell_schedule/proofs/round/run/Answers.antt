@@ -4,7 +4,7 @@ use Rattle.cell_world.specs.declared.reply.Reply.TheVariants.{Run as RunDone}
 use Rattle.cell_world.specs.declared.reply.TaskRun.{TaskRun}
 use Rattle.cell_world.specs.TaskCommands.{next_run}
 use Rattle.cell_machine.specs.Machine.{world_of}
-use Rattle.cell_schedule.specs.Does.{IsDone}
+use Rattle.cell_machine.specs.Does.{IsDone}
 use Rattle.cell_schedule.proofs.OneStep.{lacking}
 use Rattle.cell_schedule.proofs.Rounds.{all_gone, ready_due}
 use Rattle.cell_schedule.proofs.round.run.Goals as goal

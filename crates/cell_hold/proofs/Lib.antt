@@ -1,0 +1,11 @@
+pub mod Adding
+pub mod Wording
+pub mod Laying
+pub mod Linking
+pub mod Reaching
+pub mod Rooting
+pub mod Claiming
+pub mod Spreading
+pub mod Counting
+pub mod Keeping
+pub mod Sample

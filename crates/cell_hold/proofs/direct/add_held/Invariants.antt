@@ -1,0 +1,11 @@
+use Rattle.std.proofs.Common.{◌≡◌, take, vec_capacity}
+use Rattle.std.specs.List.{list_any}
+use Rattle.cell_hold.specs.Adds.{Adds}
+use Rattle.cell_hold.specs.Reached.{root_holds}
+use Rattle.cell_hold.proofs.direct.add_held.Given as goal
+
+abbrev pub invariant-loop-root : goal.invariant-loop-root
+invariant-loop-root l = record {
+  added : Adds (λ c. list_any (λ root. root_holds l.memory l.places root c) (take l.root-index l.roots)) (vec_capacity l.fn.into) l.fn.into.items l.into.items;
+  room : vec_capacity l.into ≡ vec_capacity l.fn.into;
+}

@@ -1,0 +1,23 @@
+use Rattle.std.proofs.Common.{rules, ◌≡◌, ◌∙◌, refl, subst, sym, List, vec_capacity}
+use Rattle.cell_world.specs.declared.state.LinkRow.{LinkRow}
+use Rattle.cell_hold.proofs.Linking.{TargetsSoFar, targets_begun, targets_more, targets_done}
+use Rattle.cell_hold.proofs.reached.add_targets.Goals as goal
+
+pub loop-link-init : goal.loop-link-init
+loop-link-init c =
+    let same : c.into_iter-link-iterator.result ≡ c.deps_of-links.result = search rules in
+    record {
+      added =
+          subst (λ (rows : List LinkRow). TargetsSoFar c.args.graph.now c.args.key rows (vec_capacity c.args.into.now) c.args.into.now.items c.args.into.now.items) (sym same)
+          (targets_begun c.args.graph.now c.args.key _ _ c.deps_of-links.result c.deps_of-links.ensures);
+      room = refl;
+    }
+
+pub loop-link-preserved : goal.loop-link-preserved
+loop-link-preserved c = record {
+  added = targets_more _ _ _ _ _ _ _ _ _ _ (c.in-Some.ensures {u = tt}).steps c.loop-link.invariant.room c.loop-link.invariant.added c.add.ensures.added;
+  room = c.add.ensures.room ∙ c.loop-link.invariant.room;
+}
+
+pub returns-clause-added : goal.returns-clause-added
+returns-clause-added c = targets_done _ _ _ _ _ _ (c.in-None.ensures {u = tt}).steps.0 c.loop-link.invariant.added

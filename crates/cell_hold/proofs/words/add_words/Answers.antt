@@ -1,0 +1,15 @@
+use Rattle.std.proofs.Common.{◌∙◌, refl, arith}
+use Rattle.cell_hold.proofs.Wording.{so_far_begun, so_far_more, so_far_done}
+use Rattle.cell_hold.proofs.words.add_words.Goals as goal
+
+pub loop-rest-init : goal.loop-rest-init
+loop-rest-init c = record { added = so_far_begun _ _ _ _; room = refl }
+
+pub loop-rest-preserved : goal.loop-rest-preserved
+loop-rest-preserved c = record {
+  added = so_far_more _ _ _ _ _ _ _ _ _ _ (omega arith) c.first_word-word.ensures c.after-rest.ensures c.loop-rest.invariant.room c.loop-rest.invariant.added c.add_word.ensures.added;
+  room = c.add_word.ensures.room ∙ c.loop-rest.invariant.room;
+}
+
+pub returns-clause-added : goal.returns-clause-added
+returns-clause-added c = so_far_done _ _ _ _ _ _ (omega arith) c.loop-rest.invariant.added

@@ -1,0 +1,4 @@
+pub mod Roots
+pub mod Places
+pub mod Adds
+pub mod Reached

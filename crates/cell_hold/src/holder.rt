@@ -1,0 +1,108 @@
+//! The holder of a cell.
+
+ghost use Rattle.std.specs.Prelude.{◌≡◌, ◌==◌, ◌&&◌, ℕ, List, map, not};
+ghost use Rattle.cell_world.specs.Kept.{holder_in, holding_task, kept_in, reaches};
+ghost use Rattle.cell_hold.specs.Places.{AreAll, AreLaid};
+ghost use Rattle.cell_hold.specs.Reached.{claimant, first_reaching, linked, rooted, task_holds};
+ghost use Rattle.cell_hold.specs.Roots.{holding_by};
+
+use crate::bytes::stack_bytes;
+use crate::leads::reaches;
+use crate::roots::{Root, TaskView};
+use crate::words::{numbers_lead, word_leads, words_lead};
+use cell_graph::Graph;
+use cell_mem::Memory;
+use cell_num::{CellId, Holder};
+use cell_world::Placed;
+
+/// Whether a task began in the cell or has a word in it.
+fn task_holds(memory: &Memory, places: &[Placed], task: &TaskView, cell: CellId) -> bool
+    requires { AreLaid places.now }
+    ensures { result ≡ task_holds memory.now places.now task.now cell.0 }
+{
+    if task.root.0 == cell.0 || word_leads(places, task.pc, cell) {
+        return true;
+    }
+    let numbers = &task.x[1..];
+    if numbers_lead(places, numbers, cell) {
+        return true;
+    }
+    let bytes = stack_bytes(memory, task);
+    words_lead(places, bytes, cell)
+}
+
+/// The task that holds the cell by this root.
+fn held_by(memory: &Memory, places: &[Placed], root: &Root, cell: CellId) -> Option<u32>
+    requires { AreLaid places.now }
+    ensures { result ≡ claimant memory.now places.now root.now cell.0 }
+{
+    match root {
+        Root::Task(task) if task_holds(memory, places, task, cell) => Some(task.task),
+        Root::Word(task, word) if word_leads(places, *word, cell) => Some(*task),
+        _ => None,
+    }
+}
+
+/// The first task that holds the cell.
+fn holding_task(memory: &Memory, places: &[Placed], roots: &[Root], cell: CellId) -> Option<Holder>
+    requires { AreLaid places.now }
+    ensures { result ≡ holding_task (rooted memory.now places.now roots.now) cell.0 }
+{
+    for root in roots {
+        match held_by(memory, places, root, cell) {
+            Some(task) => return Some(Holder::Task(task)),
+            None => {}
+        }
+    }
+    None
+}
+
+/// Whether another cell reaches the cell.
+fn is_holder(graph: &Graph, memory: &Memory, places: &[Placed], other: CellId, cell: CellId) -> bool
+    requires laid { AreLaid places.now }
+    requires whole { AreAll graph.now places.now }
+    ensures { result ≡ (not (other.0 == cell.0) && reaches (linked graph.now memory.now places.now) other.0 cell.0) }
+{
+    other.0 != cell.0 && reaches(graph, memory, places, other, cell)
+}
+
+/// The first other of the cells that reaches the cell.
+fn holding_cell(
+    graph: &Graph,
+    memory: &Memory,
+    places: &[Placed],
+    cells: &[CellId],
+    cell: CellId,
+) -> Option<Holder>
+    requires laid { AreLaid places.now }
+    requires whole { AreAll graph.now places.now }
+    ensures { result ≡ first_reaching (linked graph.now memory.now places.now) (map (λ c. c.0) cells.now) cell.0 }
+{
+    for other in cells {
+        if is_holder(graph, memory, places, *other, cell) {
+            return Some(Holder::Cell(*other));
+        }
+    }
+    None
+}
+
+/// What keeps a cell: the first task, in the order of the roots, that began in it or has a word in
+/// it, or else the lowest of the kept cells, other than the cell itself, that reaches it. None
+/// where nothing does. `kept` has the kept cells, ascending. This takes no memory.
+pub fn holder_of(
+    graph: &Graph,
+    memory: &Memory,
+    places: &[Placed],
+    roots: &[Root],
+    kept: &[CellId],
+    cell: CellId,
+) -> Option<Holder>
+    requires laid { AreLaid places.now }
+    requires whole { AreAll graph.now places.now }
+    ensures { (cells : List ℕ) → map (λ c. c.0) kept.now ≡ kept_in (holding_by cells graph.now memory.now places.now roots.now) → result ≡ holder_in (holding_by cells graph.now memory.now places.now roots.now) cell.0 }
+{
+    match holding_task(memory, places, roots, cell) {
+        Some(task) => Some(task),
+        None => holding_cell(graph, memory, places, kept, cell),
+    }
+}

@@ -1,0 +1,87 @@
+//! Lines of links.
+
+ghost use Rattle.std.specs.Prelude.{◌≡◌, ◌++◌, OnOk};
+ghost use Rattle.std.specs.List.{flat_map};
+ghost use Rattle.cell_world.specs.declared.reply.Reply.TheVariants.{Deps, Users};
+ghost use Rattle.cell_print.specs.Lines.{link_line, links_lines, reply_lines, Extends};
+
+use crate::put_line;
+use crate::word::{key_word, kind_word, place_word};
+use cell_num::CellId;
+use cell_world::LinkLine;
+use itoa::Buffer;
+use std::alloc::AllocError;
+
+/// Appends the links of a cell.
+pub fn put_deps(
+    line: u32,
+    cell: CellId,
+    links: &[LinkLine],
+    into: &mut Vec<u8>,
+) -> Result<(), AllocError>
+    ensures ok { OnOk result (into.new.items ≡ into.old.items ++ reply_lines line (Deps cell links.now)) }
+    ensures extends { Extends into.old.items into.new.items }
+{
+    put_links(line, b" ok deps #", cell, links, into)
+}
+
+/// Appends the links into a cell.
+pub fn put_users(
+    line: u32,
+    cell: CellId,
+    links: &[LinkLine],
+    into: &mut Vec<u8>,
+) -> Result<(), AllocError>
+    ensures ok { OnOk result (into.new.items ≡ into.old.items ++ reply_lines line (Users cell links.now)) }
+    ensures extends { Extends into.old.items into.new.items }
+{
+    put_links(line, b" ok users #", cell, links, into)
+}
+
+/// Appends a cell, on a line with the words of a command, and then links.
+fn put_links(
+    line: u32,
+    words: &[u8],
+    cell: CellId,
+    links: &[LinkLine],
+    into: &mut Vec<u8>,
+) -> Result<(), AllocError>
+    ensures ok { OnOk result (into.new.items ≡ into.old.items ++ links_lines line words.now cell links.now) }
+    ensures extends { Extends into.old.items into.new.items }
+{
+    let mut number = Buffer::new();
+    let number = number.format(line).as_bytes();
+    let mut of_cell = Buffer::new();
+    let of_cell = of_cell.format(cell.0).as_bytes();
+    put_line(&[number, words, of_cell], into)?;
+    put_each(links, into)
+}
+
+fn put_each(links: &[LinkLine], into: &mut Vec<u8>) -> Result<(), AllocError>
+    ensures ok { OnOk result (into.new.items ≡ into.old.items ++ flat_map link_line links.now) }
+    ensures extends { Extends into.old.items into.new.items }
+{
+    for link in links {
+        put_link(*link, into)?;
+    }
+    Ok(())
+}
+
+fn put_link(link: LinkLine, into: &mut Vec<u8>) -> Result<(), AllocError>
+    ensures ok { OnOk result (into.new.items ≡ into.old.items ++ link_line link) }
+    ensures extends { Extends into.old.items into.new.items }
+{
+    let place = place_word(*into.allocator(), link.user, link.offset)?;
+    let target = key_word(*into.allocator(), link.target)?;
+    put_line(
+        &[
+            b"  ",
+            place.as_slice(),
+            b" ",
+            kind_word(link.kind),
+            b" -> ",
+            target.as_slice(),
+        ],
+        into,
+    )
+}

@@ -1,0 +1,17 @@
+pub mod Closures
+pub mod KeptPaths
+pub mod Holders
+pub mod Lookups
+pub mod TargetsLeft
+pub mod Freed
+pub mod LinksLeft
+pub mod ShapesLeft
+pub mod BytesLeft
+pub mod NeedsLeft
+pub mod RemoveCoherent
+pub mod PutAside
+pub mod Removals
+pub mod WordsLeft
+pub mod PathsLeft
+pub mod AllKept
+pub mod NextCoherent

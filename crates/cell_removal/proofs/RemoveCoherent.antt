@@ -1,0 +1,83 @@
+-- Removing cells into which no cell that stays has a link, and which are no task's root, keeps the machine coherent.
+use Rattle.std.proofs.Common.{◌≡◌, ◌∙◌, ap, arith, ℕ, ◌≤◌, Bool, true, false, List, length}
+use Rattle.std.specs.Prelude.{is_some, not}
+use Rattle.std.proofs.lemmas.Bool.{leb-true, le-leb}
+use Rattle.cell_num.specs.Lists.{holds}
+use Rattle.cell_world.specs.World.{World, Cell, Region, Task}
+use Rattle.cell_world.specs.Relink.{remade}
+use Rattle.cell_world.specs.UnloadCommand.{without_cells}
+use Rattle.cell_world.specs.Coherent.{IsCoherent, IsLoadable, is_supplied, is_fitting, is_in_space, is_placed, is_known_cell, is_sound_task, may_both_stand, has_each_name_once, ends_before, are_limits_kept}
+use Rattle.cell_coherent.proofs.Elements.{In, In-all, All-In, In-All, In-filtered, filter-Passes}
+use Rattle.cell_coherent.proofs.Ready.{LimitParts, limit_parts, limits_from}
+use Rattle.cell_turns.proofs.Changed.{TaskParts, live_parts, task_from}
+use Rattle.cell_turns.proofs.Fixed.{relinked}
+use Rattle.cell_turns.proofs.Lists.{all-filter, pairs-filter, length-filter_le}
+use Rattle.cell_removal.proofs.Lookups.{unnot}
+use Rattle.cell_removal.proofs.TargetsLeft.{Closed, cell_same}
+use Rattle.cell_removal.proofs.LinksLeft.{links_left}
+use Rattle.cell_removal.proofs.ShapesLeft.{lost_starts, shapes_left}
+use Rattle.cell_removal.proofs.BytesLeft.{remade_left}
+use Rattle.cell_removal.proofs.NeedsLeft.{supplied_left, fitting_left}
+
+module _ (w : World) (h : IsCoherent w) (numbers : List ℕ) (closed : Closed w numbers) (roots : (t : Task) → In t w.tasks → holds numbers t.root ≡ false) where
+  abbrev left : World
+  left = without_cells w numbers
+
+  abbrev stay : Cell → Bool
+  stay c = not (holds numbers c.id.0)
+
+  -- a cell that is left was there, and isn't one of those that are removed
+  was : (c : Cell) → In c left.cells → In c w.cells × (holds numbers c.id.0 ≡ false)
+  was c i = (In-filtered stay w.cells c i, unnot (holds numbers c.id.0) (filter-Passes stay w.cells c i))
+
+  bytes_left : (r : Region) → In r left.regions → remade left r ≡ r
+  bytes_left r i = remade_left w h numbers closed r (In-filtered (λ x. not (holds (lost_starts w h numbers) x.start)) w.regions r i)
+      (unnot (holds (lost_starts w h numbers) r.start) (filter-Passes (λ (x : Region). not (holds (lost_starts w h numbers) x.start)) w.regions r i))
+
+  task_left : (t : Task) → In t w.tasks → is_sound_task left t ≡ true
+  task_left t i =
+      let p : TaskParts w t = live_parts w h t i in
+      task_from left t (record { number = p.number; root = ap is_some (cell_same w h numbers t.root (roots t i)) ∙ p.root; registers = p.registers; first = p.first })
+
+  fewer : length left.cells ≤ 1024
+  fewer = omega (arith, length-filter_le stay w.cells, leb-true (length w.cells) 1024 (limit_parts w h.ready.limits).cells)
+
+  limits_left : are_limits_kept left ≡ true
+  limits_left =
+      let l : LimitParts w = limit_parts w h.ready.limits in
+      limits_from left (record {
+        namespaces = l.namespaces;
+        cells = le-leb (length left.cells) 1024 fewer;
+        tasks = l.tasks;
+        next_cell = l.next_cell;
+        next_task = l.next_task;
+        swaps = l.swaps;
+        fewest = l.fewest;
+        most = l.most;
+        aligned = l.aligned;
+        lowest = l.lowest;
+        highest = l.highest;
+      })
+
+  pub remove_coherent : IsCoherent left
+  remove_coherent = record {
+    ready = record {
+      names = pairs-filter (may_both_stand w) stay w.cells h.ready.names;
+      own_names = all-filter has_each_name_once stay w.cells h.ready.own_names;
+      regions = shapes_left w h numbers;
+      in_space = all-filter (is_in_space w) _ w.regions h.ready.in_space;
+      apart = pairs-filter ends_before _ w.regions h.ready.apart;
+      placed = all-filter is_placed stay w.cells h.ready.placed;
+      supplied = In-all (is_supplied left) left.cells (λ c i. let p = was c i in supplied_left w h numbers closed c p.0 p.1);
+      fitting = In-all (is_fitting left) left.cells (λ c i. let p = was c i in fitting_left w h numbers closed c p.0 p.1);
+      spaces = h.ready.spaces;
+      space_names = h.ready.space_names;
+      cell_order = pairs-filter _ stay w.cells h.ready.cell_order;
+      cells = all-filter (is_known_cell w) stay w.cells h.ready.cells;
+      objects = In-All (λ (c : Cell). IsLoadable c.object) left.cells (λ c i. All-In (λ (c : Cell). IsLoadable c.object) w.cells h.ready.objects c (was c i).0);
+      task_order = h.ready.task_order;
+      tasks = In-all (is_sound_task left) w.tasks task_left;
+      limits = limits_left;
+    };
+    linked = relinked left (links_left w h numbers closed) bytes_left;
+  }

@@ -1,0 +1,196 @@
+-- What the parts of the machine are once the cells have gone from each of them.
+use Rattle.std.proofs.Common.{◌≡◌, refl, sym, ◌∙◌, ap, subst, arith, ℕ, ◌+◌, ◌*◌, ◌<◌, ◌^◌, Bool, true, false, not, true≢false, ◌&&◌, ◌||◌, List, length, map}
+use Rattle.std.specs.Prelude.{◌==◌, ◌%◌, All, IsTrue, filter, is_some, nat_lt, slice_index_or}
+use Rattle.std.proofs.lemmas.Bool.{eqb-true, eq-eqb, leb-true}
+use Rattle.cell_coherent.proofs.Elements.{In, In-All, In-map, any-Has, find_there, map-In, none-In}
+use Rattle.cell_coherent.proofs.Inside.{ready_linkable}
+use Rattle.cell_coherent.proofs.Ready.{LimitParts, limit_parts}
+use Rattle.cell_commit.specs.Seals.{seal_table}
+use Rattle.cell_graph.specs.Removal.{is_listed, is_outside_use, is_used_outside, links_without, sections_without}
+use Rattle.cell_machine.specs.Machine.{IsSound, cells_of, field_bytes, keys_of, section_keys, world_of}
+use Rattle.cell_machine.specs.declared.machine.Machine.{Machine}
+use Rattle.cell_mem.specs.Index.{IsLaid}
+use Rattle.cell_mem.specs.State.{MemoryState}
+use Rattle.cell_num.specs.Lists.{each_pair, holds}
+use Rattle.cell_num.specs.declared.ids.CellId.{CellId}
+use Rattle.cell_num.specs.declared.ids.SecKey.{SecKey}
+use Rattle.cell_object.specs.declared.object.Section.{Section as ObjectSection}
+use Rattle.cell_space.specs.Machine.{called}
+use Rattle.cell_space.specs.Named.{is_numbered}
+use Rattle.cell_space.specs.Spaces.{HasCell}
+use Rattle.cell_space.specs.declared.cell.SpaceCell.{SpaceCell}
+use Rattle.cell_stage.proofs.Low.{is_low, limits_of}
+use Rattle.cell_task.specs.State.{TasksState}
+use Rattle.cell_world.specs.Answer.{numbers_of}
+use Rattle.cell_world.specs.UnloadCommand.{without_cells}
+use Rattle.cell_world.specs.World.{Cell, Region, World, attached, key_of}
+use Rattle.cell_world.specs.declared.state.LinkRow.{LinkRow}
+use Rattle.cell_world.specs.declared.state.Namespace.{Namespace}
+use Rattle.cell_world.specs.declared.state.NewCell.{NewCell}
+use Rattle.cell_world.specs.declared.state.SecPlace.{SecPlace}
+use Rattle.cell_swap.specs.Removed.{IsRemoved}
+use Rattle.cell_swap.specs.Unmapped.{CanLeave, IsTabled, lost_starts, without_regions}
+use Rattle.cell_swap.proofs.Leaving.{lost_apart, lost_there}
+use Rattle.cell_swap.proofs.Leftovers.{filter_equal, filter_flat, filter_mapped, holds_numbers}
+use Rattle.cell_swap.proofs.SealsLeft.{seals_after, table_long}
+use Rattle.cell_swap.proofs.Unmapping.{IsWell, regions_left, same_base, same_maps, same_pages, same_patches, same_undo}
+
+abbrev pub numbers : List CellId → List ℕ
+numbers cells = map (λ c. c.0) cells
+
+-- the links
+
+only_users : (user target : Bool) → (target && not user) ≡ false → not user ≡ not (user || target)
+only_users true target h = refl
+only_users false true h = absurd (true≢false h)
+only_users false false h = refl
+
+pub links_gone : (cells : List CellId) (rows : List LinkRow) → is_used_outside cells rows ≡ false
+    → links_without cells rows ≡ filter (λ link. not (holds (numbers cells) link.user.cell.0 || holds (numbers cells) link.target.cell.0)) rows
+links_gone cells rows h = filter_equal (λ (r : LinkRow). not (is_listed cells r.user)) (λ (r : LinkRow). not (holds (numbers cells) r.user.cell.0 || holds (numbers cells) r.target.cell.0)) rows (λ r i.
+    only_users (is_listed cells r.user) (is_listed cells r.target) (none-In (is_outside_use cells) rows h r i)
+    ∙ (ap (λ b. not (b || is_listed cells r.target)) (holds_numbers cells r.user.cell.0)
+    ∙ ap (λ b. not (holds (numbers cells) r.user.cell.0 || b)) (holds_numbers cells r.target.cell.0)))
+
+-- the sections
+
+abbrev pub stay : List CellId → NewCell → Bool
+stay cells c = not (holds (numbers cells) c.id.0)
+
+pub keys_left : (cells : List CellId) (present : List NewCell) → sections_without cells (keys_of present) ≡ keys_of (filter (stay cells) present)
+keys_left cells present = filter_flat (λ (k : SecKey). not (is_listed cells k)) (stay cells) section_keys (λ c k i. go c k (In-map (λ (s : ObjectSection). key_of c.id.0 s.number) c.object.sections k i)) present
+  where
+    go : (c : NewCell) (k : SecKey) → (s : ObjectSection) × In s c.object.sections × (k ≡ key_of c.id.0 s.number) → not (is_listed cells k) ≡ stay cells c
+    go c k s = ap (λ (x : SecKey). not (is_listed cells x)) s.2 ∙ ap not (holds_numbers cells c.id.0)
+
+-- the names
+
+pub known_left : (cells : List CellId) (present : List NewCell)
+    → filter (λ c. not (holds (numbers cells) c.cell.0)) (map called (cells_of present)) ≡ map called (cells_of (filter (stay cells) present))
+known_left cells present =
+    filter_mapped (λ (c : SpaceCell). not (holds (numbers cells) c.cell.0)) called (cells_of present)
+    ∙ ap (map called) (filter_mapped (λ (c : Cell). not (holds (numbers cells) c.id.0)) attached present)
+
+module _ (old : Machine) (sound : IsSound old) (cells : List CellId) where
+  abbrev w : World
+  w = world_of old
+
+  abbrev starts : List ℕ
+  starts = lost_starts (cells_of old.cells.items) (numbers cells)
+
+  limits : LimitParts w
+  limits = limit_parts w sound.settled.coherent.ready.limits
+
+  pub can_leave : CanLeave old.memory starts
+  can_leave = record { there = lost_there w sound.settled.coherent (numbers cells); apart = lost_apart w sound.settled.coherent (numbers cells) }
+
+  pub tabled : IsTabled old.memory old.space
+  tabled = record { base = sound.base; table = sound.table; aligned = eqb-true (old.memory.base % 4096) 0 limits.aligned; most = leb-true old.memory.pages 4096 limits.most }
+
+  -- the places of each cell rise
+  pub places_rise : All (λ c. IsTrue (each_pair (λ a b. nat_lt a.section b.section) c.places)) old.cells.items
+  places_rise = In-All (λ (c : NewCell). IsTrue (each_pair (λ (a b : SecPlace). nat_lt a.section b.section) c.places)) old.cells.items
+      (λ c i. (is_low w (ready_linkable w sound.settled.coherent.ready) ends c (map-In attached old.cells.items c i)).ordered)
+    where
+      ends : w.base + 4096 * w.pages < 2 ^ 63
+      ends = let l = limits_of w sound.settled.coherent.ready.limits in let p = l.pages in let b = l.base in omega (arith, p, b)
+
+  -- the spaces have each of the cells
+  pub all_named : All (λ c. IsTrue (holds (numbers_of w.cells) c.0)) cells → All (λ c. HasCell old.spaces c.0) cells
+  all_named h j d l = named (slice_index_or cells j d).0 (h j d l)
+    where
+      named : (n : ℕ) → IsTrue (holds (numbers_of w.cells) n) → HasCell old.spaces n
+      named n t =
+          let y = any-Has (λ y. y == n) (numbers_of w.cells) t in
+          let c = In-map (λ (x : Cell). x.id.0) w.cells y.0 y.1 in
+          let i : In (called c.0) old.spaces.cells = subst (λ (xs : List SpaceCell). In (called c.0) xs) (sym sound.known) (map-In called w.cells c.0 c.1) in
+          ap is_some (find_there (is_numbered n) old.spaces.cells (called c.0) i (eq-eqb c.0.id.0 n (sym c.2 ∙ eqb-true y.0 n y.2))).1
+
+  pub record IsTaken (new : Machine) : Type 0 where
+    pub laid : IsLaid old.memory.base old.memory.regions (old.memory.base + 4096 * old.memory.pages)
+    pub memory : new.memory ≡ without_regions old.memory starts
+    pub tabled : IsTabled new.memory new.space
+    pub names : new.spaces.cells ≡ filter (λ c. not (holds (numbers cells) c.cell.0)) old.spaces.cells
+    pub namespaces : new.spaces.namespaces ≡ old.spaces.namespaces
+    pub rows : new.graph.rows ≡ links_without cells old.graph.rows
+    pub sections : new.graph.sections ≡ sections_without cells old.graph.sections
+    pub left : new.cells.items ≡ filter (stay cells) old.cells.items
+    pub next : new.next ≡ old.next
+    pub tasks : new.tasks ≡ old.tasks
+
+  module _ (unused : is_used_outside cells old.graph.rows ≡ false) (new : Machine) (is : IsTaken new) where
+    abbrev world_by : ℕ → ℕ → List Region → List Namespace → List Cell → List LinkRow → ℕ → TasksState → World
+    world_by base pages regions namespaces cells rows next tasks =
+        record {
+          base = base;
+          pages = pages;
+          namespaces = namespaces;
+          cells = cells;
+          links = rows;
+          regions = regions;
+          tasks = tasks.tasks;
+          next_cell = next;
+          next_task = tasks.next;
+          swaps = 0;
+        }
+
+    base_is : new.memory.base ≡ old.memory.base
+    base_is = ap (λ (m : MemoryState). m.base) is.memory ∙ same_base starts old.memory
+
+    pages_is : new.memory.pages ≡ old.memory.pages
+    pages_is = ap (λ (m : MemoryState). m.pages) is.memory ∙ same_pages starts old.memory
+
+    abbrev regions_after : List Region
+    regions_after = filter (λ r. not (holds starts r.start)) old.memory.regions
+
+    regions_is : new.memory.regions ≡ regions_after
+    regions_is = ap (λ (m : MemoryState). m.regions) is.memory ∙ regions_left starts old.memory
+
+    abbrev cells_after : List Cell
+    cells_after = filter (λ c. not (holds (numbers cells) c.id.0)) w.cells
+
+    cells_is : cells_of new.cells.items ≡ cells_after
+    cells_is = ap cells_of is.left ∙ sym (filter_mapped (λ (c : Cell). not (holds (numbers cells) c.id.0)) attached old.cells.items)
+
+    abbrev rows_after : List LinkRow
+    rows_after = filter (λ link. not (holds (numbers cells) link.user.cell.0 || holds (numbers cells) link.target.cell.0)) old.graph.rows
+
+    rows_is : new.graph.rows ≡ rows_after
+    rows_is = is.rows ∙ links_gone cells old.graph.rows unused
+
+    world_is : world_of new ≡ without_cells w (numbers cells)
+    world_is =
+        ap (λ n. world_by n new.memory.pages new.memory.regions new.spaces.namespaces (cells_of new.cells.items) new.graph.rows new.next new.tasks) base_is
+        ∙ (ap (λ n. world_by old.memory.base n new.memory.regions new.spaces.namespaces (cells_of new.cells.items) new.graph.rows new.next new.tasks) pages_is
+        ∙ (ap (λ (rs : List Region). world_by old.memory.base old.memory.pages rs new.spaces.namespaces (cells_of new.cells.items) new.graph.rows new.next new.tasks) regions_is
+        ∙ (ap (λ (ns : List Namespace). world_by old.memory.base old.memory.pages regions_after ns (cells_of new.cells.items) new.graph.rows new.next new.tasks) is.namespaces
+        ∙ (ap (λ (cs : List Cell). world_by old.memory.base old.memory.pages regions_after old.spaces.namespaces cs new.graph.rows new.next new.tasks) cells_is
+        ∙ (ap (λ (rows : List LinkRow). world_by old.memory.base old.memory.pages regions_after old.spaces.namespaces cells_after rows new.next new.tasks) rows_is
+        ∙ (ap (λ n. world_by old.memory.base old.memory.pages regions_after old.spaces.namespaces cells_after rows_after n new.tasks) is.next
+        ∙ ap (λ (tasks : TasksState). world_by old.memory.base old.memory.pages regions_after old.spaces.namespaces cells_after rows_after old.next tasks) is.tasks))))))
+
+    well : IsWell old.memory
+    well = record { laid = is.laid; long = ap length sound.seals ∙ table_long old.memory.base (4096 * old.memory.pages) (field_bytes old.cells.items) }
+
+    seals_is : new.memory.sealed ≡ seal_table new.memory.base (4096 * new.memory.pages) (field_bytes new.cells.items)
+    seals_is =
+        ap (λ (m : MemoryState). m.sealed) is.memory
+        ∙ (seals_after w sound.settled.coherent (numbers cells) old.cells.items refl old.memory well refl sound.seals can_leave
+        ∙ (ap (λ n. seal_table n (4096 * old.memory.pages) (field_bytes (filter (stay cells) old.cells.items))) (sym base_is)
+        ∙ (ap (λ n. seal_table new.memory.base (4096 * n) (field_bytes (filter (stay cells) old.cells.items))) (sym pages_is)
+        ∙ ap (λ (cs : List NewCell). seal_table new.memory.base (4096 * new.memory.pages) (field_bytes cs)) (sym is.left))))
+
+    pub removed_is : IsRemoved old cells new
+    removed_is = record {
+      world = world_is;
+      known = is.names
+          ∙ (ap (filter (λ (c : SpaceCell). not (holds (numbers cells) c.cell.0))) sound.known
+          ∙ (known_left cells old.cells.items ∙ ap (λ (cs : List NewCell). map called (cells_of cs)) (sym is.left)));
+      table = is.tabled.table;
+      base = is.tabled.base;
+      sections = is.sections ∙ (ap (sections_without cells) sound.sections ∙ (keys_left cells old.cells.items ∙ ap keys_of (sym is.left)));
+      seals = seals_is;
+      undo = ap (λ (m : MemoryState). m.writes_left) is.memory ∙ (same_undo starts old.memory ∙ sound.undo);
+      patches = ap (λ (m : MemoryState). m.patches) is.memory ∙ same_patches starts old.memory;
+      maps = ap (λ (m : MemoryState). m.maps) is.memory ∙ same_maps starts old.memory;
+    }

@@ -1,0 +1,68 @@
+-- What is looked at before cells go, and what a sweep leaves.
+--     cell_numbered w name         the number of the attached cell of that name, or the refusal
+--     cells_numbered w names       the numbers of the cells of these names, or the first refusal
+--     aside_in m cells             the machine with the cells put aside
+--     holding_in m cells           what is looked at then
+--     IsSurvey m cells s           s is what is read of it
+--     refusal_of h c               the refusal for the cell, if it is kept
+--     unless_kept kept c           the cell, if it isn't among those that are kept
+--     Sweeps old cells result new  all cells that nobody keeps are gone; or one of the cells is kept, and nothing is changed
+use Rattle.std.specs.Prelude.{ℕ, suc, ◌≡◌, List, [], ◌∷◌, Option, Some, None, Ok, Err, Result, Vec, map, flat_map, if◌then◌else◌}
+use Rattle.std.specs.List.Sorted.{IsPermutation}
+use Rattle.cell_num.specs.Lists.{holds}
+use Rattle.cell_num.specs.declared.ids.CellId.{CellId}
+use Rattle.cell_gather.specs.declared.fail.LoadFail.{LoadFail}
+use Rattle.cell_gather.specs.declared.fail.LoadFail.TheVariants.{Refused, OutOfMemory}
+use Rattle.cell_hold.specs.Places.{AreLaid}
+use Rattle.cell_hold.specs.Roots.{attached_by, claims_by}
+use Rattle.cell_machine.specs.declared.machine.Machine.{Machine}
+use Rattle.cell_machine.specs.Machine.{world_of}
+use Rattle.cell_machine.specs.Same.{IsSame}
+use Rattle.cell_world.specs.Answer.{numbers_of}
+use Rattle.cell_world.specs.Kept.{Holding, holding_of, kept_in, placed_in}
+use Rattle.cell_world.specs.Outcome.{Outcome, ◌>>=◌}
+use Rattle.cell_world.specs.UnloadCommand.{attached_cell, detach, first_held, garbage_of, held_refusal, named_cells}
+use Rattle.cell_world.specs.World.{World}
+use Rattle.cell_world.specs.declared.command.CellName.{CellName}
+use Rattle.cell_world.specs.declared.refusal.Refusal.{Refusal}
+use Rattle.cell_swap.specs.declared.survey.Survey.{Survey}
+use Rattle.cell_swap.specs.Removed.{IsRemoved}
+
+abbrev pub cell_numbered : World → CellName → Outcome ℕ
+cell_numbered w name = attached_cell w name >>= (λ c. Ok c.id.0)
+
+abbrev pub cells_numbered : World → List CellName → Outcome (List ℕ)
+cells_numbered w names = named_cells w names >>= (λ cells. Ok (numbers_of cells))
+
+abbrev pub aside_in : Machine → List CellId → World
+aside_in m cells = detach (suc (world_of m).swaps) (map (λ c. c.0) cells) (world_of m)
+
+abbrev pub holding_in : Machine → List CellId → Holding
+holding_in m cells = holding_of (aside_in m cells)
+
+abbrev pub refusal_of : Holding → ℕ → Option Refusal
+refusal_of h c = if holds (kept_in h) c then held_refusal h c else None
+
+abbrev pub unless_kept : List ℕ → ℕ → List ℕ
+unless_kept kept c = if holds kept c then [] else c ∷ []
+
+pub record IsSurvey (m : Machine) (cells : List CellId) (s : Survey) : Type 0 where
+  pub sections : IsPermutation (flat_map placed_in (world_of m).cells) s.places.items
+  pub laid : AreLaid s.places.items
+  pub attached : flat_map attached_by s.roots.items ≡ (holding_in m cells).attached
+  pub claims : flat_map (claims_by m.memory.regions) s.roots.items ≡ (holding_in m cells).claims
+  pub kept : map (λ c. c.0) s.kept.items ≡ kept_in (holding_in m cells)
+
+pub record IsSwept (old : Machine) (cells removed : List CellId) (new : Machine) : Type 0 where
+  pub free : first_held (holding_in old cells) (map (λ c. c.0) cells) ≡ None
+  pub are : map (λ c. c.0) removed ≡ garbage_of (aside_in old cells)
+  pub left : IsRemoved old removed new
+
+-- one of the cells is kept, or memory was lacking
+abbrev pub IsUnswept : Machine → List CellId → LoadFail → Machine → Type 0
+IsUnswept old cells (Refused refusal) new = (first_held (holding_in old cells) (map (λ c. c.0) cells) ≡ Some refusal) × IsSame old new
+IsUnswept old cells OutOfMemory new = IsSame old new
+
+abbrev pub Sweeps : {Z : Type 0} → Machine → List CellId → Result (Vec CellId Z) LoadFail → Machine → Type 0
+Sweeps old cells (Ok removed) new = IsSwept old cells removed.items new
+Sweeps old cells (Err fail) new = IsUnswept old cells fail new

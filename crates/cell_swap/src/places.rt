@@ -1,0 +1,68 @@
+//! The sections of all cells, by their addresses.
+
+ghost use Rattle.std.specs.Prelude.{◌≡◌, ◌++◌, IfOk, IsTrue, OnOk, flat_map, nat_lt};
+ghost use Rattle.std.specs.List.Sorted.{IsPermutation};
+ghost use Rattle.cell_num.specs.Lists.{each_pair};
+ghost use Rattle.cell_coherent.specs.Grown.{In};
+ghost use Rattle.cell_hold.specs.Places.{AreLaid};
+ghost use Rattle.cell_machine.specs.Machine.{IsSound, world_of};
+ghost use Rattle.cell_world.specs.Kept.{placed_at, placed_in};
+ghost use Rattle.cell_world.specs.World.{attached};
+ghost use Rattle.cell_world.specs.declared.state.NewCell.{NewCell};
+
+use cell_machine::Machine;
+use cell_num::SecKey;
+use cell_object::Section;
+use cell_target::start_of;
+use cell_world::{NewCell, Placed};
+use std::alloc::{AllocError, Global};
+
+fn placed(cell: &NewCell, section: &Section) -> Placed
+    requires { IsTrue (each_pair (λ a b. nat_lt a.section b.section) cell.now.places) }
+    ensures { result ≡ placed_at (attached cell.now) section.now }
+{
+    Placed {
+        key: SecKey {
+            cell: cell.id,
+            section: section.number,
+        },
+        start: start_of(cell, section.number),
+        size: section.size,
+        write: section.write,
+    }
+}
+
+/// Adds the sections of a cell.
+fn add_sections(cell: &NewCell, into: &mut Vec<Placed>) -> Result<(), AllocError>
+    requires { IsTrue (each_pair (λ a b. nat_lt a.section b.section) cell.now.places) }
+    ensures { OnOk result (into.new.items ≡ into.old.items ++ placed_in (attached cell.now)) }
+{
+    for section in cell.object.sections.as_slice() {
+        into.push(placed(cell, section))?;
+    }
+    Ok(())
+}
+
+/// Adds the sections of the cells.
+fn add_cells(cells: &[NewCell], into: &mut Vec<Placed>) -> Result<(), AllocError>
+    requires { (c : NewCell) → In c cells.now → IsTrue (each_pair (λ a b. nat_lt a.section b.section) c.places) }
+    ensures { OnOk result (into.new.items ≡ into.old.items ++ flat_map (λ c. placed_in (attached c)) cells.now) }
+{
+    for place in 0..cells.len() {
+        add_sections(&cells[place], into)?;
+    }
+    Ok(())
+}
+
+/// The sections of all cells, each of which ends at or before the start of each later one.
+pub fn places(alloc: Global, machine: &Machine) -> Result<Vec<Placed>, AllocError>
+    requires { IsSound machine.now }
+    ensures all { IfOk result (λ places. IsPermutation (flat_map placed_in (world_of machine.now).cells) places.items) }
+    ensures laid { IfOk result (λ places. AreLaid places.items) }
+{
+    let mut places = Vec::new(alloc);
+    add_cells(&machine.cells, &mut places)?;
+    // An empty section stands before one that begins where it does.
+    places.sort_unstable_by_key(|place| (place.start, place.size));
+    Ok(places)
+}

@@ -1,0 +1,83 @@
+//! Where holding begins in a machine.
+
+ghost use Rattle.std.specs.Prelude.{◌≡◌, ◌++◌, IfOk, IsTrue, OnOk, flat_map, map, nat_lt};
+ghost use Rattle.std.specs.List.{list_all};
+ghost use Rattle.cell_num.specs.Lists.{each_pair, holds};
+ghost use Rattle.cell_hold.specs.Roots.{attached_by, claims_by, named_by};
+ghost use Rattle.cell_machine.specs.Machine.{IsSound, world_of};
+ghost use Rattle.cell_swap.specs.Begun.{is_aside, root_of, root_of_task};
+ghost use Rattle.cell_swap.specs.Sweep.{holding_in};
+ghost use Rattle.cell_task.specs.State.{seen_as};
+ghost use Rattle.cell_world.specs.Answer.{numbers_of};
+
+use cell_hold::{Root, TaskView};
+use cell_machine::Machine;
+use cell_num::CellId;
+use cell_task::{Task, Tasks};
+use cell_world::NewCell;
+use std::alloc::{AllocError, Global};
+
+fn is_aside(aside: &[CellId], cell: CellId) -> bool
+    ensures { result ≡ is_aside aside.now cell }
+{
+    aside.iter().any(|other| other.0 == cell.0)
+}
+
+/// Adds a cell, unless it is put aside.
+fn add_cell(cell: &NewCell, aside: &[CellId], into: &mut Vec<Root>) -> Result<(), AllocError>
+    ensures { OnOk result (into.new.items ≡ into.old.items ++ root_of aside.now cell.now) }
+{
+    if !is_aside(aside, cell.id) {
+        into.push(Root::Attached(cell.id))?;
+    }
+    Ok(())
+}
+
+/// Adds the cells that stay attached.
+fn add_cells(cells: &[NewCell], aside: &[CellId], into: &mut Vec<Root>) -> Result<(), AllocError>
+    ensures { OnOk result (into.new.items ≡ into.old.items ++ flat_map (root_of aside.now) cells.now) }
+{
+    for place in 0..cells.len() {
+        add_cell(&cells[place], aside, into)?;
+    }
+    Ok(())
+}
+
+fn root_of_task(number: u32, task: &Task) -> Root
+    ensures { result ≡ root_of_task (seen_as number task.now) }
+{
+    Root::Task(TaskView {
+        task: number,
+        root: task.root,
+        pc: task.hart.pc,
+        x: task.hart.x,
+        stack: task.stack,
+    })
+}
+
+/// Adds the live tasks, by their numbers.
+fn add_tasks(tasks: &Tasks, into: &mut Vec<Root>) -> Result<(), AllocError>
+    requires { IsTrue (each_pair (λ a b. nat_lt a.number b.number) tasks.now.tasks) }
+    ensures { OnOk result (into.new.items ≡ into.old.items ++ map root_of_task tasks.now.tasks) }
+{
+    for number in tasks.live() {
+        match tasks.get(number) {
+            Some(task) => into.push(root_of_task(number, task))?,
+            None => unreachable!(),
+        }
+    }
+    Ok(())
+}
+
+/// The attached cells but those that are put aside, and the live tasks.
+pub fn roots(alloc: Global, machine: &Machine, aside: &[CellId]) -> Result<Vec<Root>, AllocError>
+    requires { IsSound machine.now }
+    ensures attached { IfOk result (λ roots. flat_map attached_by roots.items ≡ (holding_in machine.now aside.now).attached) }
+    ensures claims { IfOk result (λ roots. flat_map (claims_by machine.now.memory.regions) roots.items ≡ (holding_in machine.now aside.now).claims) }
+    ensures present { IfOk result (λ roots. IsTrue (list_all (λ root. list_all (holds (numbers_of (world_of machine.now).cells)) (named_by root)) roots.items)) }
+{
+    let mut roots = Vec::new(alloc);
+    add_cells(&machine.cells, aside, &mut roots)?;
+    add_tasks(&machine.tasks, &mut roots)?;
+    Ok(roots)
+}

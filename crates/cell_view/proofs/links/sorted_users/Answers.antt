@@ -1,0 +1,5 @@
+use Rattle.std.proofs.lemmas.List.Sorted.{IsPermutation-trans}
+use Rattle.cell_view.proofs.links.sorted_users.Goals as goal
+
+pub returns-clause-links : goal.returns-clause-links
+returns-clause-links c = IsPermutation-trans _ _ _ c.in_ok-rows.ensures c.in_order.ensures.links

@@ -1,0 +1,4 @@
+.text
+.globl filter::twice
+filter::twice: add a0,a0,a0
+ret
