@@ -1,5 +1,5 @@
 -- Words in bytes, and the cells that they lie in.
-use Rattle.std.proofs.Common.{◌≡◌, refl, sym, ◌∙◌, ap, subst, arith, ℕ, ◌+◌, ◌≤◌, ◌<◌, Bool, true, false, cond, ◌&&◌, ◌||◌, List, [], ◌∷◌, ◌++◌, length, take, drop, append_assoc, append-nil}
+use Rattle.std.proofs.Common.{◌≡◌, refl, sym, ◌∙◌, ap, subst, ℕ, ◌+◌, ◌≤◌, ◌<◌, Bool, true, false, cond, ◌&&◌, ◌||◌, List, [], ◌∷◌, ◌++◌, length, take, drop, append_assoc, append-nil}
 use Rattle.std.specs.Prelude.{◌==◌, nat_le, filter}
 use Rattle.std.specs.List.{list_any}
 use Rattle.std.proofs.lemmas.List.Folds.{list_any-append}
@@ -8,6 +8,7 @@ use Rattle.cell_num.specs.Bits.{little}
 use Rattle.cell_world.specs.declared.state.Placed.{Placed}
 use Rattle.cell_world.specs.Kept.{is_inside}
 use Rattle.cell_world.specs.Words.{words_in}
+use Rattle.cell_task.proofs.Wording.{words_first, words_none}
 use Rattle.cell_hold.specs.Adds.{Adds}
 use Rattle.cell_hold.specs.Places.{is_at, is_cells_at}
 use Rattle.cell_hold.specs.Reached.{touches}
@@ -38,28 +39,6 @@ word_added word places found i room old new le is a =
     (λ c. ap (λ ss. list_any (λ (s : Placed). s.key.cell.0 == c) ss) is ∙ cells_found c word places)
     (added_all (λ (s : Placed) c. s.key.cell.0 == c) found i room old new le a)
 
-pub words_more : (xs : List ℕ) → 8 ≤ length xs → words_in xs ≡ little (take 8 xs) ∷ words_in (drop 8 xs)
-words_more (a ∷ b ∷ c ∷ d ∷ e ∷ f ∷ g ∷ h ∷ rest) le = refl
-words_more [] le = absurd (omega (arith, le))
-words_more (a ∷ []) le = absurd (omega (arith, le))
-words_more (a ∷ b ∷ []) le = absurd (omega (arith, le))
-words_more (a ∷ b ∷ c ∷ []) le = absurd (omega (arith, le))
-words_more (a ∷ b ∷ c ∷ d ∷ []) le = absurd (omega (arith, le))
-words_more (a ∷ b ∷ c ∷ d ∷ e ∷ []) le = absurd (omega (arith, le))
-words_more (a ∷ b ∷ c ∷ d ∷ e ∷ f ∷ []) le = absurd (omega (arith, le))
-words_more (a ∷ b ∷ c ∷ d ∷ e ∷ f ∷ g ∷ []) le = absurd (omega (arith, le))
-
-pub words_less : (xs : List ℕ) → length xs < 8 → words_in xs ≡ []
-words_less (a ∷ b ∷ c ∷ d ∷ e ∷ f ∷ g ∷ h ∷ rest) lt = absurd (omega (arith, lt))
-words_less [] lt = refl
-words_less (a ∷ []) lt = refl
-words_less (a ∷ b ∷ []) lt = refl
-words_less (a ∷ b ∷ c ∷ []) lt = refl
-words_less (a ∷ b ∷ c ∷ d ∷ []) lt = refl
-words_less (a ∷ b ∷ c ∷ d ∷ e ∷ []) lt = refl
-words_less (a ∷ b ∷ c ∷ d ∷ e ∷ f ∷ []) lt = refl
-words_less (a ∷ b ∷ c ∷ d ∷ e ∷ f ∷ g ∷ []) lt = refl
-
 -- the words before the rest have been gone over
 pub record SoFar (places : List Placed) (room : ℕ) (bytes rest : List ℕ) (old new : List CellId) : Type 0 where
   pub done : List ℕ
@@ -79,7 +58,7 @@ so_far_more places now room bytes rest next word old mid new le is after e s a =
     record {
       done = s.done ++ word ∷ [];
       left =
-          s.left ∙ ap (λ xs. s.done ++ xs) (words_more rest le ∙ (ap (λ w. w ∷ words_in (drop 8 rest)) (sym is) ∙ ap (λ xs. word ∷ words_in xs) (sym after)))
+          s.left ∙ ap (λ xs. s.done ++ xs) (words_first rest le ∙ (ap (λ w. w ∷ words_in (drop 8 rest)) (sym is) ∙ ap (λ xs. word ∷ words_in xs) (sym after)))
           ∙ sym (append_assoc s.done (word ∷ []) (words_in next));
       added =
           added_same (λ c. touches places s.done c || is_cells_at c word places) (touches places (s.done ++ word ∷ [])) room old new same
@@ -94,13 +73,13 @@ so_far_more places now room bytes rest next word old mid new le is after e s a =
 pub so_far_done : (places : List Placed) (room : ℕ) (bytes rest : List ℕ) (old new : List CellId) → length rest < 8 → SoFar places room bytes rest old new → Adds (touches places (words_in bytes)) room old new
 so_far_done places room bytes rest old new lt s =
     subst (λ words. Adds (touches places words) room old new)
-    (sym (s.left ∙ (ap (λ xs. s.done ++ xs) (words_less rest lt) ∙ append-nil s.done))) s.added
+    (sym (s.left ∙ (ap (λ xs. s.done ++ xs) (words_none rest lt) ∙ append-nil s.done))) s.added
 
 -- the word that the rest begins with doesn't lead there: the others decide
 pub lead_more : (places : List Placed) (c : ℕ) (bytes rest next : List ℕ) (word : ℕ) → 8 ≤ length rest → word ≡ little (take 8 rest) → next ≡ drop 8 rest → is_cells_at c word places ≡ false
     → touches places (words_in bytes) c ≡ touches places (words_in rest) c → touches places (words_in bytes) c ≡ touches places (words_in next) c
 lead_more places c bytes rest next word le is after apart e =
-    e ∙ (ap (λ words. touches places words c) (words_more rest le)
+    e ∙ (ap (λ words. touches places words c) (words_first rest le)
     ∙ (ap (λ w. is_cells_at c w places || touches places (words_in (drop 8 rest)) c) (sym is)
     ∙ (ap (λ b. b || touches places (words_in (drop 8 rest)) c) apart ∙ ap (λ xs. touches places (words_in xs) c) (sym after))))
 
@@ -108,10 +87,10 @@ lead_more places c bytes rest next word le is after apart e =
 pub lead_found : (places : List Placed) (c : ℕ) (bytes rest : List ℕ) (word : ℕ) → 8 ≤ length rest → word ≡ little (take 8 rest) → is_cells_at c word places ≡ true
     → touches places (words_in bytes) c ≡ touches places (words_in rest) c → true ≡ touches places (words_in bytes) c
 lead_found places c bytes rest word le is there e =
-    sym (e ∙ (ap (λ words. touches places words c) (words_more rest le)
+    sym (e ∙ (ap (λ words. touches places words c) (words_first rest le)
     ∙ (ap (λ w. is_cells_at c w places || touches places (words_in (drop 8 rest)) c) (sym is)
     ∙ ap (λ b. b || touches places (words_in (drop 8 rest)) c) there)))
 
 -- no word is left
 pub lead_none : (places : List Placed) (c : ℕ) (bytes rest : List ℕ) → length rest < 8 → touches places (words_in bytes) c ≡ touches places (words_in rest) c → false ≡ touches places (words_in bytes) c
-lead_none places c bytes rest lt e = sym (e ∙ ap (λ words. touches places words c) (words_less rest lt))
+lead_none places c bytes rest lt e = sym (e ∙ ap (λ words. touches places words c) (words_none rest lt))

@@ -5,16 +5,14 @@ ghost use Rattle.cell_num.specs.Bits.{little};
 ghost use Rattle.cell_world.specs.Kept.{words_inside};
 ghost use Rattle.cell_world.specs.Memory.{read_in};
 ghost use Rattle.cell_world.specs.Relink.{gap};
-ghost use Rattle.cell_world.specs.Words.{stack_from, stack_words, words_in};
+ghost use Rattle.cell_world.specs.Words.{stack_words, words_in};
 ghost use Rattle.cell_hold.specs.Roots.{task_of};
 
 use crate::roots::TaskView;
 use byteorder::{ByteOrder, LittleEndian};
 use cell_mem::Memory;
+use cell_task::stack_bytes;
 use cell_world::Placed;
-
-/// The bytes of a stack.
-const STACK_SIZE: u64 = 16384;
 
 /// So many bytes from an address on; none where they aren't mapped.
 fn read(memory: &Memory, addr: u64, count: u64) -> &[u8]
@@ -59,20 +57,9 @@ pub fn section_bytes<'a>(memory: &'a Memory, place: &Placed) -> &'a [u8]
     after(bytes, to_aligned(place.start))
 }
 
-/// How many bytes of the stack don't count: those below x2, where x2 is in the stack.
-fn below_top(task: &TaskView) -> usize
-    ensures { result ≡ stack_from (task_of task.now) }
-{
-    let top = task.x[2];
-    if task.stack <= top && top - task.stack <= STACK_SIZE {
-        return ((top - task.stack) / 8 * 8) as usize;
-    }
-    0
-}
-
-/// The bytes of the stack that count.
-pub fn stack_bytes<'a>(memory: &'a Memory, task: &TaskView) -> &'a [u8]
+/// The bytes of a task's stack that count.
+pub fn stack_of<'a>(memory: &'a Memory, task: &TaskView) -> &'a [u8]
     ensures { words_in result.now ≡ stack_words memory.now.regions (task_of task.now) }
 {
-    after(read(memory, task.stack, STACK_SIZE), below_top(task))
+    stack_bytes(memory, task.stack, task.x[2])
 }

@@ -7,7 +7,7 @@ ghost use Rattle.cell_hold.specs.Places.{AreLaid};
 ghost use Rattle.cell_hold.specs.Reached.{root_holds, rooted, task_holds};
 
 use crate::added::add;
-use crate::bytes::stack_bytes;
+use crate::bytes::stack_of;
 use crate::roots::{Root, TaskView};
 use crate::words::{add_numbers, add_word, add_words};
 use cell_mem::Memory;
@@ -24,7 +24,7 @@ fn add_task(memory: &Memory, places: &[Placed], task: &TaskView, into: &mut Vec<
     add_word(places, task.pc, into);
     let numbers = &task.x[1..];
     add_numbers(places, numbers, into);
-    let bytes = stack_bytes(memory, task);
+    let bytes = stack_of(memory, task);
     add_words(places, bytes, into);
 }
 

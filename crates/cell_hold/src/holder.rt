@@ -6,7 +6,7 @@ ghost use Rattle.cell_hold.specs.Places.{AreAll, AreLaid};
 ghost use Rattle.cell_hold.specs.Reached.{claimant, first_reaching, linked, rooted, task_holds};
 ghost use Rattle.cell_hold.specs.Roots.{holding_by};
 
-use crate::bytes::stack_bytes;
+use crate::bytes::stack_of;
 use crate::leads::reaches;
 use crate::roots::{Root, TaskView};
 use crate::words::{numbers_lead, word_leads, words_lead};
@@ -27,7 +27,7 @@ fn task_holds(memory: &Memory, places: &[Placed], task: &TaskView, cell: CellId)
     if numbers_lead(places, numbers, cell) {
         return true;
     }
-    let bytes = stack_bytes(memory, task);
+    let bytes = stack_of(memory, task);
     words_lead(places, bytes, cell)
 }
 

@@ -16,7 +16,7 @@ use cell_machine::Machine;
 use cell_mem::Perm;
 use cell_place::NoRun;
 use cell_stage::namespace;
-use cell_task::Tasks;
+use cell_task::{STACK_SIZE, Tasks};
 use cell_world::{Many, Permission, Refusal, Reply};
 use std::alloc::{AllocError, Global};
 
@@ -25,9 +25,6 @@ const MAX_TASKS: usize = 64;
 
 /// The last number of a task.
 const LAST_NUMBER: u32 = 65535;
-
-/// The bytes of a stack.
-const STACK_SIZE: usize = 16384;
 
 /// A stack may be read and written.
 const READ_WRITE: Permission = Permission {
@@ -79,7 +76,7 @@ fn start(alloc: Global, machine: &mut Machine, entry: Entry, arg: u64) -> Result
     requires present { is_some (cell_of (world_of machine.old) entry.cell.0) ≡ true }
     ensures { Does (started (world_of machine.old) (entry_as entry) arg) machine.old result machine.new }
 {
-    let bytes = zeros(alloc, STACK_SIZE)?;
+    let bytes = zeros(alloc, STACK_SIZE as usize)?;
     machine.memory.reserve(1)?;
     let run = match machine.space.take(STACK_PAGES) {
         Ok(run) => run,

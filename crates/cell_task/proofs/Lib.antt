@@ -4,4 +4,4 @@ mod Ending
 mod Places
 mod Standing
 mod Turning
-mod Wording
+pub mod Wording

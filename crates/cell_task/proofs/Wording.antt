@@ -1,6 +1,6 @@
 -- The words that bytes are.
 use Rattle.std.proofs.Common.{◌≡◌, refl, sym, ap, ◌∙◌, arith, ℕ, ◌+◌, ◌-◌, ◌*◌, ◌/◌, ◌<◌, ◌≤◌, Bool, true, false, List, [], ◌∷◌, ◌++◌, Option, Some, None, length, take, drop, leb, append_assoc, append-nil, length-drop}
-use Rattle.std.specs.Prelude.{slice_range, option_and_then}
+use Rattle.std.specs.Prelude.{Ok, Err, OnOk, Result, slice_range, option_and_then}
 use Rattle.std.proofs.lemmas.Bool.{leb-true}
 use Rattle.std.proofs.lemmas.List.{take_rest, drop-drop, length-take-le}
 use Rattle.byteorder.specs.Endian.{little_number}
@@ -13,12 +13,12 @@ use Rattle.cell_mem.proofs.Laid.{covers_low, found_passes}
 use Rattle.cell_mem.proofs.Little.{little_number_is}
 
 -- the first word and the others
-words_first : (xs : List ℕ) → 8 ≤ length xs → words_in xs ≡ little (take 8 xs) ∷ words_in (drop 8 xs)
+pub words_first : (xs : List ℕ) → 8 ≤ length xs → words_in xs ≡ little (take 8 xs) ∷ words_in (drop 8 xs)
 words_first (a ∷ b ∷ c ∷ d ∷ e ∷ f ∷ g ∷ h ∷ rest) le = refl
 words_first _ le = absurd (omega (arith, le))
 
 -- fewer than eight bytes are no word
-words_none : (xs : List ℕ) → length xs < 8 → words_in xs ≡ []
+pub words_none : (xs : List ℕ) → length xs < 8 → words_in xs ≡ []
 words_none (a ∷ b ∷ c ∷ d ∷ e ∷ f ∷ g ∷ h ∷ rest) lt = absurd (omega (arith, lt))
 words_none _ lt = refl
 
@@ -59,3 +59,13 @@ length-read regions addr n bytes e = go (region_in regions addr) refl e
     go : (o : Option Region) → region_in regions addr ≡ o → Some bytes ≡ option_and_then (λ r. part_of r addr n) o → length bytes ≡ n
     go None f e = absurd cc
     go (Some r) f e = here r (found_passes (λ s. covers s addr) regions r f) (leb (addr + n) (end_of r)) refl e
+
+-- the pc, the registers and the words of the stack stand behind what was there
+pub put_all : {E : Type 0} (result : Result (Unit {0}) E) (pc : ℕ) (old one two three new numbers words stack : List ℕ) → one ≡ old → two ≡ one ++ pc ∷ [] → three ≡ two ++ numbers → words ≡ stack
+    → OnOk result (new ≡ three ++ words) → OnOk result (new ≡ old ++ pc ∷ (numbers ++ stack))
+put_all (Err e) pc old one two three new numbers words stack a b c d done = tt
+put_all (Ok u) pc old one two three new numbers words stack a b c d done =
+    done
+    ∙ ap (λ xs. xs ++ words) (c ∙ ap (λ xs. xs ++ numbers) (b ∙ ap (λ xs. xs ++ pc ∷ []) a) ∙ append_assoc old (pc ∷ []) numbers)
+    ∙ append_assoc old (pc ∷ numbers) words
+    ∙ ap (λ xs. old ++ pc ∷ (numbers ++ xs)) d

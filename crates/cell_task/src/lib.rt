@@ -11,8 +11,9 @@ mod words;
 
 pub use numbers::Numbers;
 pub use task::{Task, TaskFault};
-pub use tasks::Tasks;
+pub use tasks::{STACK_SIZE, Tasks};
 pub use turned::Turned;
+pub use words::stack_bytes;
 
 #[cfg(test)]
 mod tests;

@@ -1,8 +1,9 @@
 //! The words of a task: what of it may point into cells.
 
-ghost use Rattle.std.specs.Prelude.{◌≡◌, ◌+◌, ◌-◌, ◌*◌, ◌/◌, ◌≤◌, ◌++◌, ◌&&◌, nat_le, if◌then◌else◌, length, option_map, IfSome, OnOk};
+ghost use Rattle.std.specs.Prelude.{◌≡◌, ◌≤◌, ◌++◌, slice_index, length, option_map, IfSome, OnOk};
 ghost use Rattle.cell_world.specs.Memory.{read_in};
-ghost use Rattle.cell_world.specs.Words.{words_in, words_of};
+ghost use Rattle.cell_world.specs.Words.{stack_from, stack_words, words_in, words_of};
+ghost use Rattle.cell_world.specs.World.{Task as LiveTask};
 ghost use Rattle.cell_task.specs.State.{seen_as};
 
 use crate::Task;
@@ -16,13 +17,33 @@ const MOST_WORDS: usize = 2080;
 
 /// How many bytes of the stack stand below its first word: none where `top` is outside the stack.
 fn stack_from(stack: u64, top: u64) -> usize
-    ensures value { result ≡ (if nat_le stack top && nat_le top (stack + 16384) then (top - stack) / 8 * 8 else 0) }
+    ensures value { (t : LiveTask) → t.stack ≡ stack → slice_index t.registers 2 ≡ top → result ≡ stack_from t }
     ensures inside { result ≤ 16384 }
 {
     if stack <= top && top - stack <= STACK_SIZE {
         return ((top - stack) / 8 * 8) as usize;
     }
     0
+}
+
+/// The bytes of a stack, where it is mapped.
+fn whole_stack(memory: &Memory, stack: u64) -> Option<&[u8]>
+    ensures bytes { option_map (λ bytes. bytes.now) result ≡ read_in memory.now.regions stack 16384 }
+    ensures size { IfSome result (λ bytes. length bytes.now ≡ 16384) }
+{
+    memory.bytes(stack, STACK_SIZE)
+}
+
+/// The bytes of a stack that count: those from the word on that x2, here `top`, points into, or all
+/// of them where it is outside the stack. A stack that isn't mapped has none.
+pub fn stack_bytes(memory: &Memory, stack: u64, top: u64) -> &[u8]
+    ensures { (t : LiveTask) → t.stack ≡ stack → slice_index t.registers 2 ≡ top → words_in result.now ≡ stack_words memory.now.regions t }
+{
+    let from = stack_from(stack, top);
+    match whole_stack(memory, stack) {
+        Some(bytes) => &bytes[from..],
+        None => &[],
+    }
 }
 
 /// Appends the whole words that the bytes are.
@@ -35,14 +56,6 @@ fn put_whole_words(bytes: &[u8], into: &mut Vec<u64>) -> Result<(), AllocError>
     Ok(())
 }
 
-/// The bytes of a stack, where it is mapped.
-fn stack_bytes(memory: &Memory, stack: u64) -> Option<&[u8]>
-    ensures bytes { option_map (λ bytes. bytes.now) result ≡ read_in memory.now.regions stack 16384 }
-    ensures size { IfSome result (λ bytes. length bytes.now ≡ 16384) }
-{
-    memory.bytes(stack, STACK_SIZE)
-}
-
 /// Appends the words of a task. A stack that isn't mapped has none.
 pub fn put_words(live: &Task, memory: &Memory, into: &mut Vec<u64>) -> Result<(), AllocError>
     ensures { OnOk result (into.new.items ≡ into.old.items ++ words_of memory.now.regions (seen_as 0 live.now)) }
@@ -50,9 +63,6 @@ pub fn put_words(live: &Task, memory: &Memory, into: &mut Vec<u64>) -> Result<()
     into.reserve(MOST_WORDS)?;
     into.push(live.hart.pc)?;
     into.extend_from_slice(&live.hart.x[1..])?;
-    let from = stack_from(live.stack, live.hart.x[2]);
-    let Some(stack) = stack_bytes(memory, live.stack) else {
-        return Ok(());
-    };
-    put_whole_words(&stack[from..], into)
+    let stack = stack_bytes(memory, live.stack, live.hart.x[2]);
+    put_whole_words(stack, into)
 }

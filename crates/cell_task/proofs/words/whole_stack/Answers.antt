@@ -3,7 +3,7 @@ use Rattle.std.specs.Prelude.{option_map, IfSome}
 use Rattle.cell_world.specs.World.{Region}
 use Rattle.cell_world.specs.Memory.{read_in}
 use Rattle.cell_task.proofs.Wording.{length-read}
-use Rattle.cell_task.proofs.words.stack_bytes.Goals as goal
+use Rattle.cell_task.proofs.words.whole_stack.Goals as goal
 
 sized : (regions : List Region) (addr n : ℕ) (o : Option (Bor (List ℕ))) → option_map (λ bytes. bytes.now) o ≡ read_in regions addr n → IfSome o (λ bytes. length bytes.now ≡ n)
 sized regions addr n None e = tt
