@@ -6,6 +6,7 @@ As a program:
     objects.py images CRATES     the files of byte tables in cell_elfw, cell_assemble and cell_tests, into the folder `crates`
     objects.py example FOLDER    the two objects of examples/first, into a folder
     objects.py large FOLDER      folders with large objects and their scripts, for bench/read.sh
+    objects.py spaces FOLDER     folders that show what namespaces cost, for bench/spaces.sh
     objects.py links             the dumps that cells has to show of the GNU objects, as GNU ld links them
     objects.py check             looks at the offsets of three objects that were worked out by hand
 
@@ -573,6 +574,20 @@ def large(folder):
         write_folder(folder, "commands-" + part, files, loads + "dump 1 1\n" * (50000 * size))
 
 
+def spaces(folder):
+    """What namespaces cost: loads and dumps with the one namespace and with all that there may be, in a chain."""
+    last = 255
+    chain = "".join("ns n%d under %s\n" % (n, "n%d" % (n - 1) if n > 1 else "k") for n in range(1, last + 1))
+    for name, ns in [("load-deep", "n%d" % last), ("load-k", "k")]:
+        write_folder(folder, name, {"%s#a.o" % ns: definitions(10000)}, chain + "load %s a\n" % ns)
+    write_folder(folder, "load-none", {}, chain)
+    for name, before in [("dumps-256", chain), ("dumps-1", "")]:
+        write_folder(folder, name, {"k#a.o": seven()}, before + "load k a\n" + "dump 1 1\n" * 20000)
+    files = {"k#c%d.o" % n: crate_of_many(n, 1000) for n in range(1000)}
+    write_folder(folder, "load-1000", files, "load k c0\n")
+    write_folder(folder, "read-1000", files, "# the files are read, and none is loaded\n")
+
+
 def write_folder(top, name, files, script):
     folder = os.path.join(top, name)
     os.makedirs(folder)
@@ -609,6 +624,8 @@ if __name__ == "__main__":
         images(sys.argv[2])
     elif sys.argv[1:2] == ["large"] and len(sys.argv) == 3:
         large(sys.argv[2])
+    elif sys.argv[1:2] == ["spaces"] and len(sys.argv) == 3:
+        spaces(sys.argv[2])
     elif sys.argv[1:] == ["links"]:
         links()
     elif sys.argv[1:] == ["check"]:

@@ -2,7 +2,7 @@
 use Rattle.std.proofs.Common.{◌≡◌, ℕ, ◌≤◌, ◌<◌, ◌^◌, List, length, Ok, None, sym, subst, arith}
 use Rattle.std.specs.Prelude.{find}
 use Rattle.cell_object.specs.declared.object.Object.{Object}
-use Rattle.cell_image.specs.Writable.{IsWritable}
+use Rattle.cell_object.specs.Writable.{IsWritable}
 use Rattle.cell_asm.specs.declared.laid.Laid.{Laid}
 use Rattle.cell_asm.specs.Objects.{symbols, object_of}
 use Rattle.cell_asm.specs.Assembled.{has_lost, placed_lines, assembled}

@@ -10,7 +10,7 @@ use Rattle.std.proofs.lemmas.Bool.Decides.{nat_tests}
 use Rattle.std.proofs.lemmas.List.Elements.{filter-append}
 use Rattle.cell_num.specs.Lists.{numbered_from}
 use Rattle.cell_object.specs.declared.object.Entry.{Entry}
-use Rattle.cell_elfw.specs.Parts.{entries_for}
+use Rattle.cell_object.specs.ImageParts.{entries_for}
 use Rattle.cell_asm.specs.declared.statement.Part.{Part}
 use Rattle.cell_asm.specs.declared.statement.Part.TheVariants.{Text, Rodata, Data, Bss}
 use Rattle.cell_asm.specs.declared.laid.Laid.{Laid}

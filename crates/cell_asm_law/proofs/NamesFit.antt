@@ -10,7 +10,7 @@ use Rattle.std.proofs.lemmas.Bool.{leb-true, ltb-true, eqb-true, le-leb, ne_eqb,
 use Rattle.cell_object.specs.Bytes.{is_zero}
 use Rattle.cell_object.specs.Symbols as object_names
 use Rattle.cell_object.specs.Symbols.{is_global_name}
-use Rattle.cell_image.specs.Writable.{IsPlain}
+use Rattle.cell_object.specs.Writable.{IsPlain}
 use Rattle.cell_asm.specs.Names.{is_name, is_name_byte, is_letter, begins_with_digit, ends}
 use Rattle.cell_asm.specs.Numbers.{begins}
 use Rattle.cell_asm.specs.declared.laid.Key.{Key}

@@ -10,12 +10,12 @@ use Rattle.cell_object.specs.declared.object.Entry.{Entry}
 use Rattle.cell_object.specs.declared.object.Object.{Object}
 use Rattle.cell_object.specs.declared.object.Fill.{Fill}
 use Rattle.cell_object.specs.declared.object.Fill.TheVariants.{Prog, Note, Zero}
-use Rattle.cell_elfw.specs.Before.{with_before, with_before_from}
-use Rattle.cell_elfw.specs.Strings.{string, string_table, name_place}
-use Rattle.cell_elfw.specs.Rows.{stored, fields, symbol_bytes, entry_bytes}
-use Rattle.cell_elfw.specs.Parts as parts
-use Rattle.cell_elfw.specs.Parts.{padded, offset_after, symtab_number, entries_for, has_entries, relocated, content, filled, symbol_part_bytes, symbols_part, symbol_strings, table, own_names, table_name, names_before_tables, section_strings, parts_before_tables, parts_before_strings, parts_before_names}
-use Rattle.cell_elfw.specs.Image.{own_row, symtab_row, strtab_row, shstrtab_row, table_row, section_rows, local_count}
+use Rattle.cell_object.specs.Before.{with_before, with_before_from}
+use Rattle.cell_object.specs.Strings.{string, string_table, name_place}
+use Rattle.cell_object.specs.Rows.{stored, fields, symbol_bytes, entry_bytes}
+use Rattle.cell_object.specs.ImageParts as parts
+use Rattle.cell_object.specs.ImageParts.{padded, offset_after, symtab_number, entries_for, has_entries, relocated, content, filled, symbol_part_bytes, symbols_part, symbol_strings, table, own_names, table_name, names_before_tables, section_strings, parts_before_tables, parts_before_strings, parts_before_names}
+use Rattle.cell_object.specs.Image.{own_row, symtab_row, strtab_row, shstrtab_row, table_row, section_rows, local_count}
 use Rattle.cell_asm.specs.declared.statement.Part.{Part}
 use Rattle.cell_asm.specs.declared.statement.Part.TheVariants.{Text, Rodata, Data, Bss}
 use Rattle.cell_asm.specs.declared.laid.Laid.{Laid}
@@ -26,7 +26,7 @@ use Rattle.cell_asm.specs.Objects as objects
 use Rattle.cell_asm.specs.Objects.{parts_of, part_name, section_of, sections, globals, local_labels, mentions, holds_key, other_names, local_symbol, global_symbol, symbols, entries, object_of}
 use Rattle.cell_asm.specs.Assembled.{placed_lines}
 use Rattle.cell_asm.proofs.PartCounts.{few}
-use Rattle.cell_image.specs.Writable.{IsWhole}
+use Rattle.cell_object.specs.Writable.{IsWhole}
 use Rattle.cell_asm_law.proofs.Members.{In, In-append, In-filtered, In-map}
 use Rattle.cell_asm_law.proofs.Tallies.{total, total-append, total_times, flat_length, mapped_length, filter_le, fold_length}
 use Rattle.cell_asm_law.proofs.SectionsFit.{section_whole}

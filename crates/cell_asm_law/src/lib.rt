@@ -4,7 +4,7 @@
 
 ghost use Rattle.std.specs.Prelude.{◌≡◌, ◌≤◌, length, Ok};
 ghost use Rattle.cell_object.specs.declared.object.Object.{Object};
-ghost use Rattle.cell_image.specs.Writable.{IsWritable};
+ghost use Rattle.cell_object.specs.Writable.{IsWritable};
 ghost use Rattle.cell_asm.specs.Assembled.{assembled};
 
 /// The object that a source of at most 1 MiB is assembled to can be written.

@@ -6,7 +6,7 @@ use Rattle.cell_object.specs.declared.object.Object.{Object}
 use Rattle.cell_object.specs.Reads.{reads}
 use Rattle.cell_asm.specs.Assembled.{assembled}
 use Rattle.cell_asm_law.proofs.AssembledFits.{assembled_fits}
-use Rattle.cell_elfw.specs.Image.{image}
+use Rattle.cell_object.specs.Image.{image}
 use Rattle.cell_image.proofs.RoundTrip.{read_again}
 use Rattle.cell_assemble.specs.declared.make.Stop.{Stop}
 use Rattle.cell_assemble.specs.Gives.{Stops, Gives}

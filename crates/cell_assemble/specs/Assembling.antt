@@ -9,7 +9,7 @@ use Rattle.cell_io.specs.Written.{AppendsPartOf}
 use Rattle.cell_object.specs.declared.object.Object.{Object}
 use Rattle.cell_asm.specs.declared.kind.AsmKind.{AsmKind}
 use Rattle.cell_asm.specs.Assembled.{assembled}
-use Rattle.cell_elfw.specs.Image.{image}
+use Rattle.cell_object.specs.Image.{image}
 use Rattle.cell_assemble.specs.declared.status.AsStatus.{AsStatus}
 use Rattle.cell_assemble.specs.declared.status.AsStatus.TheVariants as statuses
 use Rattle.cell_assemble.specs.declared.status.Refusal.{Refusal}

@@ -5,7 +5,7 @@ ghost use Rattle.std.specs.List.{list_any};
 ghost use Rattle.cell_io.specs.Causes.{HasCause};
 ghost use Rattle.cell_io.specs.Files.{names_in, bytes_in, folder};
 ghost use Rattle.cell_object.specs.Reads.{reads};
-ghost use Rattle.cell_elfw.specs.Image.{image};
+ghost use Rattle.cell_object.specs.Image.{image};
 ghost use Rattle.cell_assemble.specs.Gives.{IfTold, Gives};
 ghost use Rattle.cell_assemble.specs.Assembling.{listing, within_limit, source_in, object_of, object_in};
 
@@ -13,6 +13,7 @@ use crate::status::{MAX_NAMES, MAX_SOURCE_BYTES, Refusal};
 use cell_asm::{AsmFail, assemble};
 use cell_elfw::{WriteFail, write_object};
 use cell_io::{Host, HostFault};
+use cell_num::Shared;
 use cell_object::Object;
 use std::alloc::{AllocError, Global};
 
@@ -41,9 +42,9 @@ pub fn object_in<H: Host>(
     dir: &str,
     source: &str,
     host: &mut H,
-) -> Result<Vec<u8>, Stop>
+) -> Result<Shared, Stop>
     ensures object { IfTold (H.files host.old) (λ all.
-        Gives (λ bytes. bytes.items) result (object_in source.now (folder dir.now all))) }
+        Gives (λ bytes. bytes) result (object_in source.now (folder dir.now all))) }
     ensures cause { HasCause (H.faults host.old) (H.faults host.new) (IsErrOf result Stop.ReadFault) }
 {
     let text = source_in(alloc, dir, source, host)?;
@@ -127,9 +128,9 @@ fn read_source<H: Host>(
 }
 
 /// The bytes of the object that a source is assembled to.
-fn object_of(alloc: Global, text: &[u8]) -> Result<Vec<u8>, Stop>
+fn object_of(alloc: Global, text: &[u8]) -> Result<Shared, Stop>
     requires { length text.now ≤ 1048576 }
-    ensures object { Gives (λ bytes. bytes.items) result (object_of text.now) }
+    ensures object { Gives (λ bytes. bytes) result (object_of text.now) }
     ensures no_fault { result ≢ Err Stop.ReadFault }
 {
     match assemble(alloc, text) {
@@ -140,9 +141,9 @@ fn object_of(alloc: Global, text: &[u8]) -> Result<Vec<u8>, Stop>
 }
 
 /// The image of an object that is read from it again.
-fn image_of(alloc: Global, object: &Object) -> Result<Vec<u8>, AllocError>
+fn image_of(alloc: Global, object: &Object) -> Result<Shared, AllocError>
     requires { reads (image object.now) ≡ Ok object.now }
-    ensures { IfOk result (λ bytes. bytes.items ≡ image object.now) }
+    ensures { IfOk result (λ bytes. bytes ≡ image object.now) }
 {
     match write_object(alloc, object) {
         Ok(bytes) => Ok(bytes),

@@ -26,7 +26,7 @@ lower_parents spaces h ns space p e f =
     go : (o : Option ℕ) → o ≡ Some p → elim o as (λ _. Bool) [ None ↦ ns == 0 | Some parent ↦ nat_lt parent ns ] ≡ true → nat_lt p ns ≡ true
     go o f k = subst (λ o. elim o as (λ _. Bool) [ None ↦ ns == 0 | Some parent ↦ nat_lt parent ns ] ≡ true) f k
 
-chain_same : (spaces more : List Namespace) → Lower spaces → (n m ns : ℕ) → ns < n → ns < m → ns < length spaces → chain_within n (spaces ++ more) ns ≡ chain_within m spaces ns
+pub chain_same : (spaces more : List Namespace) → Lower spaces → (n m ns : ℕ) → ns < n → ns < m → ns < length spaces → chain_within n (spaces ++ more) ns ≡ chain_within m spaces ns
 chain_same spaces more l zero m ns a b c = absurd (omega (arith, a))
 chain_same spaces more l (suc n) zero ns a b c = absurd (omega (arith, b))
 chain_same spaces more l (suc n) (suc m) ns a b c =

@@ -16,8 +16,10 @@ use Rattle.cell_num.specs.Lists.{each_pair}
 use Rattle.cell_world.specs.World.{World, Cell, Region}
 use Rattle.cell_world.specs.Target.{start_of}
 use Rattle.cell_world.specs.Field.{fields_among, fields_of, place_of, is_at}
-use Rattle.cell_world.specs.Relink.{Class, Text, ReadOnly, Writable, is_in_class, sections_in, class_start, image_of, laid_out, to_pages, own_bytes, gap, permission_of, Patch, patch_of, patches_of, bound_entries}
-use Rattle.cell_world.specs.Place.{offset_from, offset_in, class_of}
+use Rattle.cell_world.specs.Relink.{class_start, Patch, patch_of, patches_of, bound_entries}
+use Rattle.cell_world.specs.Layout.{is_in_class, sections_in, image_of, laid_out, to_pages, own_bytes, gap, permission_of, offset_from, offset_in, class_of}
+use Rattle.cell_world.specs.declared.layout.Class.TheVariants.{Text, ReadOnly, Writable}
+use Rattle.cell_world.specs.declared.layout.Class.{Class}
 use Rattle.cell_world.specs.Coherent.{Shape, shape_of, with_shape, class_shape, stack_shape, wanted_shapes, is_placed, stands_by_rule, ends_before, IsLoadable}
 use Rattle.cell_coherent.proofs.Elements.{In, all-In, found-In, filter-In, In-map, In-left, In-filtered, In-flat_map, flat_map-In, pairs-In, first_has}
 use Rattle.cell_coherent.proofs.Known.{object_sound}
@@ -99,7 +101,7 @@ paged [] = omega arith
 paged (b ∷ bytes) = omega (arith, length-append (b ∷ bytes) (replicate (gap (length (b ∷ bytes)) 4096) 0))
 
 -- each section is of a class
-class_In : (s : ObjectSection) → is_in_class (class_of s) s ≡ true
+pub class_In : (s : ObjectSection) → is_in_class (class_of s) s ≡ true
 class_In s = go s.exec refl s.write refl
   where
     go : (e : Bool) → s.exec ≡ e → (v : Bool) → s.write ≡ v → is_in_class (cond e Text (cond v Writable ReadOnly)) s ≡ true
@@ -135,15 +137,15 @@ module _ (w : World) (regions : map shape_of w.regions ≡ wanted_shapes w) (apa
       let m = In-map shape_of w.regions s (subst (λ (l : List Shape). In s l) (sym regions) (shape-In c k class start h)) in
       (m.0, m.1, ap (λ (x : Shape). x.start) (sym m.2), ap (λ (x : Shape). x.size) (sym m.2))
 
-  stands : (c : Cell) → In c w.cells → (class : Class) (s : ObjectSection) → In s (sections_in class c.object) → start_of c.placed s.number ≡ unwrap_or (class_start c class) 0 + offset_in (sections_in class c.object) s.number
+  pub stands : (c : Cell) → In c w.cells → (class : Class) (s : ObjectSection) → In s (sections_in class c.object) → start_of c.placed s.number ≡ unwrap_or (class_start c class) 0 + offset_in (sections_in class c.object) s.number
   stands c k class s m =
       eqb-true _ _ (all-In (λ s. start_of c.placed s.number == unwrap_or (class_start c class) 0 + offset_in (sections_in class c.object) s.number) (sections_in class c.object)
       (all-In (stands_by_rule c) classes (and_parts _ (list_all (stands_by_rule c) classes) (all-In is_placed w.cells placed c k)).1 class (class-In class)) s m)
 
   -- a section of a placed cell stands in the region of its class
-  pub section_region : (c : Cell) → In c w.cells → (s : ObjectSection) → In s c.object.sections
-      → (q : Region) × In q w.regions × (q.start ≤ start_of c.placed s.number) × (start_of c.placed s.number + s.size ≤ q.start + length q.bytes) × ((class : Class) × (class_start c class ≡ Some q.start))
-  section_region c k s m =
+  pub section_class : (c : Cell) → In c w.cells → (s : ObjectSection) → In s c.object.sections
+      → (q : Region) × In q w.regions × (q.start ≤ start_of c.placed s.number) × (start_of c.placed s.number + s.size ≤ q.start + length q.bytes) × (class_start c (class_of s) ≡ Some q.start)
+  section_class c k s m =
       let p : IsSoundObject c.object = object_sound w objects c k in
       let d : Class = class_of s in
       let n : In s (sections_in d c.object) = filter-In (is_in_class d) c.object.sections s m (class_In s) in
@@ -152,7 +154,7 @@ module _ (w : World) (regions : map shape_of w.regions ≡ wanted_shapes w) (apa
       let q = region_There c k d (start_of c.placed f.0.number) b in
       let at : start_of c.placed s.number ≡ start_of c.placed f.0.number + offset_in (sections_in d c.object) s.number = stands c k d s n ∙ ap (λ (o : Option ℕ). unwrap_or o 0 + offset_in (sections_in d c.object) s.number) b in
       let e : offset_in (sections_in d c.object) s.number + s.size ≤ length (laid_out [] (sections_in d c.object)) = ends_laid (sections_in d c.object) [] 0 refl (sized p d) s n (unique p d) in
-      (q.0, q.1, omega (arith, q.2, at), omega (arith, q.2, q.3, at, e, paged (laid_out [] (sections_in d c.object))), (d, b ∙ ap (λ (x : ℕ). Some x) (sym q.2)))
+      (q.0, q.1, omega (arith, q.2, at), omega (arith, q.2, q.3, at, e, paged (laid_out [] (sections_in d c.object))), b ∙ ap (λ (x : ℕ). Some x) (sym q.2))
     where
       sized : IsSoundObject c.object → (class : Class) → Sized (sections_in class c.object)
       sized p class t i = own_length t t.fill (and_parts _ (is_zero t.fill || length t.bytes == t.size) (all-In is_sound_section c.object.sections p.sections t (In-filtered (is_in_class class) c.object.sections t i))).1
@@ -164,6 +166,10 @@ module _ (w : World) (regions : map shape_of w.regions ≡ wanted_shapes w) (apa
           pick (inl x) = x
           pick (inr (inl x)) = absurd (omega (arith, ltb-true t.number s.number x, e))
           pick (inr (inr x)) = absurd (omega (arith, ltb-true s.number t.number x, e))
+
+  pub section_region : (c : Cell) → In c w.cells → (s : ObjectSection) → In s c.object.sections
+      → (q : Region) × In q w.regions × (q.start ≤ start_of c.placed s.number) × (start_of c.placed s.number + s.size ≤ q.start + length q.bytes) × ((class : Class) × (class_start c class ≡ Some q.start))
+  section_region c k s m = let r = section_class c k s m in (r.0, r.1, r.2, r.3, (class_of s, r.4))
 
   pub section_inside : (c : Cell) → In c w.cells → (s : ObjectSection) → In s c.object.sections → (q : Region) × In q w.regions × (q.start ≤ start_of c.placed s.number) × (start_of c.placed s.number + s.size ≤ q.start + length q.bytes)
   section_inside c k s m = let r = section_region c k s m in (r.0, r.1, r.2, r.3)

@@ -25,7 +25,6 @@ pub record Ranks (w : World) : Type 0 where
   pub objects : All (λ c. IsLoadable c.object) w.cells
   pub few : nat_le (length w.cells) 1024 ≡ true
   pub last : nat_le w.next_cell 65536 ≡ true
-  pub swaps : nat_lt w.swaps w.next_cell ≡ true
 
 below_next : (n m : ℕ) → nat_lt n m ≡ true → nat_lt n (suc m) ≡ true
 below_next n m h = lt-ltb n (suc m) (omega (arith, ltb-true n m h))
@@ -66,7 +65,6 @@ module _ (w : World) (f : Source) (ns : ℕ) (w' : World) (app : Appended w f ns
     objects = objects_more r;
     few = subst (λ (v : World). nat_le (length v.cells) 1024 ≡ true) app.is (le-leb _ 1024 (omega (arith, length-append w.cells (new_cell w ns f app.object ∷ []), ltb-true (length w.cells) 1024 app.room)));
     last = subst (λ (v : World). nat_le v.next_cell 65536 ≡ true) app.is (le-leb (suc w.next_cell) 65536 (omega (arith, leb-true w.next_cell 65535 app.numbers)));
-    swaps = subst (λ (v : World). nat_lt v.swaps v.next_cell ≡ true) app.is (below_next w.swaps w.next_cell r.swaps);
   }
 
 -- w with new cells and a greater next number, and nothing else changed
@@ -97,14 +95,14 @@ extends_more v w f ns w' app x =
 pub extends_grows : (w w' : World) → Extends w w' → Grows w w'
 extends_grows w w' x = record { spaces = λ ns k. ap (λ (u : World). chain u.namespaces ns) (sym x.is); new = x.new; cells = ap (λ (u : World). u.cells) (sym x.is); attached = x.attached }
 
-loadable : (f : Source) (object : Object) → f.reading ≡ Ok object → IsLoadableReading f.reading → IsLoadable object
+pub loadable : (f : Source) (object : Object) → f.reading ≡ Ok object → IsLoadableReading f.reading → IsLoadable object
 loadable f object e h = subst IsLoadableReading e h
 
 module _ (sources : List Source) (sound : AreSound sources) (v : World) where
-  abbrev Good : World → Type 0
+  abbrev pub Good : World → Type 0
   Good w = Ranks w × Extends v w
 
-  good_append : (w : World) (f : Source) (ns : ℕ) (w' : World) → In f sources → is_some (slice_get w.namespaces ns) ≡ true → append_cell w f ns ≡ Ok w' → Good w → Good w'
+  pub good_append : (w : World) (f : Source) (ns : ℕ) (w' : World) → In f sources → is_some (slice_get w.namespaces ns) ≡ true → append_cell w f ns ≡ Ok w' → Good w → Good w'
   good_append w f ns w' k t h g =
       let app : Appended w f ns w' = append_ok w f ns w' h in (
         append_ranks w f ns w' app (loadable f app.object app.reading (All-In (λ (f : Source). IsLoadableReading f.reading) sources sound f k)) (lt-ltb ns (length w.namespaces) (there_below w.namespaces ns t)) g.0,

@@ -38,3 +38,4 @@ pub mod After
 pub mod NewRegions
 pub mod LoadGrown
 pub mod LoadLinks
+pub mod TextPlaces

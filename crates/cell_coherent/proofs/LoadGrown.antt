@@ -7,7 +7,9 @@ use Rattle.cell_num.specs.Lists.{equals}
 use Rattle.cell_world.specs.declared.refusal.Refusal.TheVariants.{Unknown, NoObject}
 use Rattle.cell_world.specs.World.{World, Cell, is_attached}
 use Rattle.cell_world.specs.Names.{namespace_named}
-use Rattle.cell_world.specs.Relink.{Class, class_start, image_of, sections_in, permission_of}
+use Rattle.cell_world.specs.Relink.{class_start}
+use Rattle.cell_world.specs.Layout.{image_of, sections_in, permission_of}
+use Rattle.cell_world.specs.declared.layout.Class.{Class}
 use Rattle.cell_world.specs.Place.{place_all}
 use Rattle.cell_world.specs.Gather.{Source, depot_files, one_file, bring, first_lack, fresh_cells}
 use Rattle.cell_world.specs.Fit.{first_misfit}
@@ -27,17 +29,18 @@ use Rattle.cell_coherent.proofs.Renamed.{bare, all_bare}
 use Rattle.cell_coherent.proofs.PlacedAll.{Placed, all_placed}
 use Rattle.cell_coherent.proofs.NewPlaced.{AllPlaced, new_placed, shapes_of}
 use Rattle.cell_coherent.proofs.NewRegions.{AllOwn, all_own}
-use Rattle.cell_coherent.proofs.Ready.{grown, append_same}
-use Rattle.cell_coherent.proofs.LoadCoherent.{ready_ranks, fresh_is, placed_linkable, placed_ready}
+use Rattle.cell_coherent.proofs.Ready.{grown, append_same, IsBase, ready_base}
+use Rattle.cell_coherent.proofs.LoadCoherent.{ready_ranks, fresh_is, placed_linkable, placed_ready, placed_grows, supplied_still, fitting_still, swaps_below}
 use Rattle.cell_coherent.proofs.Distinct.{shape_there}
+use Rattle.cell_coherent.proofs.Attach.{Grows}
 
-module _ (v : World) (ready : IsReady v) (new : List Cell) (next : ℕ) where
+module _ (v : World) (base : IsBase v) (new : List Cell) (next : ℕ) where
   abbrev bare_world : World
   bare_world = grown v (v.cells ++ new) next v.regions
 
   module _ (w : World) (ranks : Ranks bare_world) (attached : list_all (λ c. is_attached c.standing) new ≡ true) (fresh : list_all (λ c. nat_le v.next_cell c.id.0) new ≡ true) (places : place_all bare_world new ≡ Ok w) where
     spaced : Spaced bare_world
-    spaced = record { in_space = ready.in_space; apart = ready.apart }
+    spaced = record { in_space = base.in_space; apart = base.apart }
 
     rest : Placed bare_world w
     rest = all_placed bare_world new w spaced places
@@ -57,7 +60,7 @@ module _ (v : World) (ready : IsReady v) (new : List Cell) (next : ℕ) where
     fresh_new : fresh_cells v.next_cell w ≡ all.new
     fresh_new =
         ap (filter (λ c. nat_le v.next_cell c.id.0)) all.cells
-        ∙ fresh_is v ready all.new next (all_bare (λ c. nat_le v.next_cell c.id.0) (λ c. refl) all.new new new_same fresh)
+        ∙ fresh_is v base all.new next (all_bare (λ c. nat_le v.next_cell c.id.0) (λ c. refl) all.new new new_same fresh)
 
     shape_new : (c : Cell) → In c all.new → (class : Class) (start : ℕ) → class_start c class ≡ Some start → In (record { start = start; permission = permission_of class; size = length (image_of (sections_in class c.object)) }) (flat_map shapes_of all.new)
     shape_new c k class start e =
@@ -92,7 +95,7 @@ module _ (sources : List Source) (v : World) (name stem : List ℕ) (a g : World
   back = sym extends.is
 
   same : fresh_cells v.next_cell (grown v (v.cells ++ extends.new) extends.next v.regions) ≡ extends.new
-  same = fresh_is v ready extends.new extends.next extends.fresh
+  same = fresh_is v (ready_base v ready) extends.new extends.next extends.fresh
 
   ranks : Ranks (grown v (v.cells ++ extends.new) extends.next v.regions)
   ranks = subst Ranks back all_gathered.0.0
@@ -104,15 +107,20 @@ module _ (sources : List Source) (v : World) (name stem : List ℕ) (a g : World
         (subst (λ (u : World). place_all u (fresh_cells v.next_cell u) ≡ Ok w) back placed)
 
     pub load_grown : IsGrown v w (fresh_cells v.next_cell w)
-    load_grown = placed_grown v ready extends.new extends.next w ranks extends.attached extends.fresh places
+    load_grown = placed_grown v (ready_base v ready) extends.new extends.next w ranks extends.attached extends.fresh places
 
     lacks : first_lack (grown v (v.cells ++ extends.new) extends.next v.regions) extends.new ≡ None
     lacks =
         subst (λ (cs : List Cell). first_lack (grown v (v.cells ++ extends.new) extends.next v.regions) cs ≡ None) same
         (subst (λ (u : World). first_lack u (fresh_cells v.next_cell u) ≡ None) back all_gathered.1)
 
+    grows : Grows v w
+    grows = placed_grows v (ready_base v ready) extends.new extends.next w ranks extends.attached extends.fresh lacks places
+
     pub load_placed_linkable : IsLinkable w
-    load_placed_linkable = placed_linkable v ready extends.new extends.next w ranks extends.attached extends.fresh lacks places
+    load_placed_linkable = placed_linkable v (ready_base v ready) extends.new extends.next w ranks extends.attached extends.fresh lacks places (supplied_still v w ready grows)
 
     pub load_placed_ready : first_misfit w (fresh_cells v.next_cell w) ≡ None → IsReady w
-    load_placed_ready fit = placed_ready v ready extends.new extends.next w ranks extends.attached extends.fresh lacks places fit
+    load_placed_ready fit =
+        placed_ready v (ready_base v ready) extends.new extends.next w ranks extends.attached extends.fresh lacks places (supplied_still v w ready grows)
+        (swaps_below v g ready extends) (fitting_still v w ready grows) fit

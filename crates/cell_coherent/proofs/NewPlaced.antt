@@ -9,8 +9,11 @@ use Rattle.cell_num.specs.Lists.{each_pair}
 use Rattle.cell_object.specs.declared.object.Section.{Section as ObjectSection}
 use Rattle.cell_object.specs.Sound.{IsSoundObject}
 use Rattle.cell_world.specs.World.{World, Cell, Region}
-use Rattle.cell_world.specs.Relink.{Class, Text, ReadOnly, Writable, sections_in, image_of, laid_out, permission_of}
-use Rattle.cell_world.specs.Place.{Placing, Starts, places_in, start_in, with_region, with_run, with_places, start_of_run, place_sections, place_cell, place_all}
+use Rattle.cell_world.specs.Layout.{sections_in, image_of, laid_out, permission_of, places_in, start_in}
+use Rattle.cell_world.specs.declared.layout.Starts.{Starts}
+use Rattle.cell_world.specs.declared.layout.Class.TheVariants.{Text, ReadOnly, Writable}
+use Rattle.cell_world.specs.declared.layout.Class.{Class}
+use Rattle.cell_world.specs.Place.{Placing, with_region, with_run, with_places, start_of_run, place_sections, place_cell, place_all}
 use Rattle.cell_world.specs.Coherent.{Shape, shape_of, with_shape, class_shape, is_in_space, is_placed}
 use Rattle.cell_coherent.proofs.Elements.{In, all-In, In-append, In-right}
 use Rattle.cell_coherent.proofs.Outcomes.{bind_ok}

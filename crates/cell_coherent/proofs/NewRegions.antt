@@ -4,8 +4,11 @@ use Rattle.std.specs.Prelude.{Some, length, nat_lt, ◌/◌}
 use Rattle.cell_object.specs.declared.object.Section.{Section as ObjectSection}
 use Rattle.cell_object.specs.Sound.{IsSoundObject}
 use Rattle.cell_world.specs.World.{World, Cell, Region}
-use Rattle.cell_world.specs.Relink.{Class, Text, ReadOnly, Writable, sections_in, image_of, permission_of}
-use Rattle.cell_world.specs.Place.{Placing, Starts, start_in, with_run, with_places, start_of_run, place_sections, place_cell, place_all}
+use Rattle.cell_world.specs.Layout.{sections_in, image_of, permission_of, start_in}
+use Rattle.cell_world.specs.declared.layout.Starts.{Starts}
+use Rattle.cell_world.specs.declared.layout.Class.TheVariants.{Text, ReadOnly, Writable}
+use Rattle.cell_world.specs.declared.layout.Class.{Class}
+use Rattle.cell_world.specs.Place.{Placing, with_run, with_places, start_of_run, place_sections, place_cell, place_all}
 use Rattle.cell_coherent.specs.Grown.{IsOwn}
 use Rattle.cell_coherent.proofs.Elements.{In, In-left}
 use Rattle.cell_coherent.proofs.Outcomes.{bind_ok}

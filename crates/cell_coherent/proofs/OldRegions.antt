@@ -8,7 +8,10 @@ use Rattle.std.proofs.lemmas.List.Concat.{flat_map-append}
 use Rattle.std.proofs.lemmas.List.Sums.{fold-append}
 use Rattle.cell_num.specs.Lists.{first}
 use Rattle.cell_world.specs.World.{World, Cell, Region}
-use Rattle.cell_world.specs.Relink.{Class, Text, ReadOnly, class_start, sections_in, image_of, is_region_of, images_for, Patch, patch_of, patched, patches_of, restored, remade}
+use Rattle.cell_world.specs.Relink.{class_start, is_region_of, images_for, Patch, patch_of, patched, patches_of, restored, remade}
+use Rattle.cell_world.specs.Layout.{sections_in, image_of}
+use Rattle.cell_world.specs.declared.layout.Class.TheVariants.{Text, ReadOnly}
+use Rattle.cell_world.specs.declared.layout.Class.{Class}
 use Rattle.cell_world.specs.Names.{chain}
 use Rattle.cell_world.specs.Field.{Bound, fields_of}
 use Rattle.cell_world.specs.Coherent.{IsCoherent}
@@ -25,7 +28,7 @@ fixed-In f (y ∷ xs) h x (inl e) = let k : f y ≡ y = cc in subst (λ v. f v �
 fixed-In f (y ∷ xs) h x (inr k) = let t : map f xs ≡ xs = cc in fixed-In f xs t x k
 
 -- no class of the cells starts at the region
-none_there : (class : Class) (r : Region) (cells : List Cell) → ((c : Cell) → In c cells → (start : ℕ) → class_start c class ≡ Some start → start ≡ r.start → ⊥) → filter (is_region_of class r) cells ≡ []
+pub none_there : (class : Class) (r : Region) (cells : List Cell) → ((c : Cell) → In c cells → (start : ℕ) → class_start c class ≡ Some start → start ≡ r.start → ⊥) → filter (is_region_of class r) cells ≡ []
 none_there class r [] n = refl
 none_there class r (c ∷ cells) n =
     subst (λ b. cond b (c ∷ filter (is_region_of class r) cells) (filter (is_region_of class r) cells) ≡ []) (sym (go (class_start c class) refl))

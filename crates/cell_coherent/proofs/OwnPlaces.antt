@@ -11,8 +11,11 @@ use Rattle.cell_object.specs.Sound.{IsSoundObject}
 use Rattle.cell_world.specs.declared.state.SecPlace.{SecPlace}
 use Rattle.cell_world.specs.World.{Cell}
 use Rattle.cell_world.specs.Target.{start_of}
-use Rattle.cell_world.specs.Relink.{Class, Text, ReadOnly, Writable, is_in_class, sections_in, class_start, image_of, permission_of, gap}
-use Rattle.cell_world.specs.Place.{Starts, class_of, start_in, place_in, places_in, offset_from, offset_in}
+use Rattle.cell_world.specs.Relink.{class_start}
+use Rattle.cell_world.specs.Layout.{is_in_class, sections_in, image_of, permission_of, gap, class_of, start_in, place_in, places_in, offset_from, offset_in}
+use Rattle.cell_world.specs.declared.layout.Starts.{Starts}
+use Rattle.cell_world.specs.declared.layout.Class.TheVariants.{Text, ReadOnly, Writable}
+use Rattle.cell_world.specs.declared.layout.Class.{Class}
 use Rattle.cell_world.specs.Coherent.{Shape, class_shape, stands_by_rule, is_placed}
 use Rattle.cell_coherent.proofs.Elements.{In, In-all, In-filtered, filter-Passes, pairs-In}
 use Rattle.cell_coherent.proofs.Relinked.{map_twice}

@@ -7,7 +7,10 @@ use Rattle.cell_num.specs.declared.kinds.RelKind.TheVariants.{Abs32, Abs64, Bran
 use Rattle.cell_num.specs.Kinds.{width_of}
 use Rattle.cell_world.specs.World.{World, Cell, Region}
 use Rattle.cell_world.specs.Memory.{covers, pasted}
-use Rattle.cell_world.specs.Relink.{Class, Text, ReadOnly, class_start, sections_in, image_of, is_region_of, images_for, Patch, patch_of, patched, patches_of, bound_entries, restored, remade}
+use Rattle.cell_world.specs.Relink.{class_start, is_region_of, images_for, Patch, patch_of, patched, patches_of, bound_entries, restored, remade}
+use Rattle.cell_world.specs.Layout.{sections_in, image_of}
+use Rattle.cell_world.specs.declared.layout.Class.TheVariants.{Text, ReadOnly}
+use Rattle.cell_world.specs.declared.layout.Class.{Class}
 use Rattle.cell_world.specs.Field.{fields_of, place_of}
 use Rattle.cell_world.specs.Coherent.{IsReady, IsCoherent, ends_before}
 use Rattle.cell_coherent.specs.Grown.{IsOwn, IsGrown, with_fields}
@@ -18,7 +21,7 @@ use Rattle.cell_coherent.proofs.Distinct.{one_class}
 use Rattle.cell_coherent.proofs.OldRegions.{remade_grown}
 
 -- a field has a byte
-wide : (kind : RelKind) → 0 < width_of kind
+pub wide : (kind : RelKind) → 0 < width_of kind
 wide Abs32 = omega arith
 wide Abs64 = omega arith
 wide Branch = omega arith
@@ -63,7 +66,7 @@ starts_at class c r h = go (class_start c class) h
     go (Some m) k = ap (λ (x : ℕ). Some x) (eqb-true m r.start k)
 
 -- the bytes that are there already
-restore_same : (o : Option (List ℕ)) (r : Region) → ((bytes : List ℕ) → o ≡ Some bytes → bytes ≡ r.bytes) → restore o r ≡ r
+pub restore_same : (o : Option (List ℕ)) (r : Region) → ((bytes : List ℕ) → o ≡ Some bytes → bytes ≡ r.bytes) → restore o r ≡ r
 restore_same None r f = refl
 restore_same (Some bytes) r f = ap (λ (b : List ℕ). record r { bytes = b }) (f bytes refl)
 

@@ -4,8 +4,11 @@ use Rattle.std.specs.Prelude.{fold, ◌/◌, ◌%◌}
 use Rattle.cell_object.specs.declared.object.Object.{Object}
 use Rattle.cell_object.specs.declared.object.Section.{Section as ObjectSection}
 use Rattle.cell_world.specs.World.{World, Cell, Region}
-use Rattle.cell_world.specs.Relink.{Class, Text, ReadOnly, Writable, sections_in, image_of, laid_out, permission_of}
-use Rattle.cell_world.specs.Place.{Placing, Starts, with_run, start_of_run, place_sections, place_class, with_places, place_cell, place_all}
+use Rattle.cell_world.specs.Layout.{sections_in, image_of, laid_out, permission_of}
+use Rattle.cell_world.specs.declared.layout.Starts.{Starts}
+use Rattle.cell_world.specs.declared.layout.Class.TheVariants.{Text, ReadOnly, Writable}
+use Rattle.cell_world.specs.declared.layout.Class.{Class}
+use Rattle.cell_world.specs.Place.{Placing, with_run, start_of_run, place_sections, place_class, with_places, place_cell, place_all}
 use Rattle.cell_world.specs.Coherent.{Shape, with_shape}
 use Rattle.cell_world.specs.Outcome.{Outcome, each}
 use Rattle.std.proofs.lemmas.Bool.{cases_lt}

@@ -6,7 +6,7 @@ use Rattle.std.specs.List.{list_all}
 use Rattle.std.proofs.lemmas.Bool.{and_parts, and_from, cases_lt, ltb-true, ltb-false, lt-ltb, leb-true, le-leb, le-ltb, eqb-true, eq-eqb}
 use Rattle.cell_num.specs.Lists.{each_pair, from_on, upto}
 use Rattle.cell_world.specs.World.{World, Region}
-use Rattle.cell_world.specs.Relink.{to_pages, gap}
+use Rattle.cell_world.specs.Layout.{to_pages, gap}
 use Rattle.cell_world.specs.Memory.{covers}
 use Rattle.cell_world.specs.Pages.{is_free, is_free_run, lowest_run, longest_run}
 use Rattle.cell_world.specs.Place.{is_taken, page_table, with_region, start_of_run}

@@ -1,8 +1,8 @@
 -- The machine with the new cells in their places is ready to be linked.
-use Rattle.std.proofs.Common.{◌≡◌, refl, sym, ◌∙◌, ap, subst, ℕ, ◌⊎◌, inl, inr, Bool, true, ◌&&◌, List, [], ◌∷◌, ◌++◌, map, length, None}
+use Rattle.std.proofs.Common.{◌≡◌, refl, sym, ◌∙◌, ap, subst, ℕ, ◌⊎◌, inl, inr, Bool, true, ◌&&◌, List, [], ◌∷◌, ◌++◌, map, length, None, arith, not}
 use Rattle.std.specs.Prelude.{All, flat_map, is_some, nat_lt, nat_le, slice_index, ◌%◌, ◌==◌}
 use Rattle.std.specs.List.{list_all}
-use Rattle.std.proofs.lemmas.Bool.{and_parts, and_from}
+use Rattle.std.proofs.lemmas.Bool.{and_parts, and_from, ltb-true, lt-ltb}
 use Rattle.std.proofs.lemmas.List.{length-map, map-append}
 use Rattle.std.proofs.lemmas.List.Sums.{fold-append}
 use Rattle.std.proofs.lemmas.Grind.{flat_map-append}
@@ -10,11 +10,11 @@ use Rattle.cell_world.specs.World.{World, Cell, Region, Task, is_attached, cell_
 use Rattle.cell_world.specs.Names.{needs_of, provider_of}
 use Rattle.cell_world.specs.Gather.{first_lack, fresh_cells}
 use Rattle.cell_world.specs.Fit.{first_misfit}
-use Rattle.cell_world.specs.Coherent.{IsReady, IsLoadable, Shape, shape_of, with_shape, stack_shape, wanted_shapes, may_both_stand, has_each_name_once, is_placed, is_supplied, is_fitting, is_known_cell, is_sound_task, are_limits_kept}
+use Rattle.cell_world.specs.Coherent.{IsReady, IsLoadable, Shape, shape_of, with_shape, stack_shape, wanted_shapes, may_both_stand, has_each_name_once, is_placed, is_supplied, is_fitting, is_known_cell, is_sound_task, are_limits_kept, is_in_space, ends_before, begins_with_k, is_sound_parent}
 use Rattle.cell_coherent.specs.Linkable.{IsLinkable}
 use Rattle.cell_coherent.proofs.Elements.{In, Has, all-In, In-all, All-In, In-All, In-append, In-right, In-map, filter-In, some_has}
 use Rattle.cell_coherent.proofs.Attach.{Grows, cell_grown}
-use Rattle.cell_coherent.proofs.Supplied.{still_supplied, still_fitting, none_lacking}
+use Rattle.cell_coherent.proofs.Supplied.{none_lacking}
 use Rattle.cell_coherent.proofs.Gathered.{Ranks}
 use Rattle.cell_coherent.proofs.Fitting.{new_fits}
 use Rattle.cell_coherent.proofs.Places.{Spaced}
@@ -22,6 +22,7 @@ use Rattle.cell_coherent.proofs.Renamed.{bare, In-bare, all_bare, pairs_bare, pr
 use Rattle.cell_coherent.proofs.PlacedAll.{Put, puts_past}
 use Rattle.cell_coherent.proofs.NewPlaced.{Adds, shapes_of}
 use Rattle.cell_coherent.proofs.FieldsInside.{In-fold_shape}
+use Rattle.cell_num.specs.Lists.{each_pair, equals, numbered}
 
 -- w with other cells, next number and regions
 abbrev pub grown : World → List Cell → ℕ → List Region → World
@@ -67,6 +68,48 @@ limits_from w l =
     (and_from _ (nat_lt w.swaps w.next_cell) (and_from _ (nat_le w.next_task 65536) (and_from _ (nat_le w.next_cell 65536) (and_from _ (nat_le (length w.tasks) 64)
     (and_from (nat_le (length w.namespaces) 256) (nat_le (length w.cells) 1024) l.namespaces l.cells) l.tasks) l.next_cell) l.next_task) l.swaps) l.fewest) l.most) l.aligned) l.lowest) l.highest
 
+-- what cells find that come to a machine, providers and fits aside. How many swaps there were is left open
+pub record IsBase (v : World) : Type 0 where
+  pub regions : map shape_of v.regions ≡ wanted_shapes v
+  pub in_space : list_all (is_in_space v) v.regions ≡ true
+  pub apart : each_pair ends_before v.regions ≡ true
+  pub placed : list_all is_placed v.cells ≡ true
+  pub spaces : (begins_with_k v.namespaces && list_all is_sound_parent (numbered v.namespaces)) ≡ true
+  pub space_names : each_pair (λ a b. not (equals a.name b.name)) v.namespaces ≡ true
+  pub known : list_all (is_known_cell v) v.cells ≡ true
+  pub task_order : each_pair (λ a b. nat_lt a.number b.number) v.tasks ≡ true
+  pub tasks : list_all (is_sound_task v) v.tasks ≡ true
+  pub limits : are_limits_kept (record v { swaps = 0 }) ≡ true
+
+pub ready_base : (v : World) → IsReady v → IsBase v
+ready_base v r = record {
+  regions = r.regions;
+  in_space = r.in_space;
+  apart = r.apart;
+  placed = r.placed;
+  spaces = r.spaces;
+  space_names = r.space_names;
+  known = r.cells;
+  task_order = r.task_order;
+  tasks = r.tasks;
+  limits = limits_from (record v { swaps = 0 }) (record {
+    namespaces = l.namespaces;
+    cells = l.cells;
+    tasks = l.tasks;
+    next_cell = l.next_cell;
+    next_task = l.next_task;
+    swaps = lt-ltb 0 v.next_cell (omega (arith, ltb-true v.swaps v.next_cell l.swaps));
+    fewest = l.fewest;
+    most = l.most;
+    aligned = l.aligned;
+    lowest = l.lowest;
+    highest = l.highest;
+  });
+}
+  where
+    l : LimitParts v
+    l = limit_parts v r.limits
+
 pub append_same : {X : Type 0} (front xs ys : List X) → front ++ xs ≡ front ++ ys → xs ≡ ys
 append_same [] xs ys e = e
 append_same (x ∷ front) xs ys e = append_same front xs ys (tail_same e)
@@ -74,8 +117,8 @@ append_same (x ∷ front) xs ys e = append_same front xs ys (tail_same e)
     tail_same : x ∷ (front ++ xs) ≡ x ∷ (front ++ ys) → front ++ xs ≡ front ++ ys
     tail_same e = cc
 
--- v is ready, and the cells `new` come without places to it; with their places they are `placed`
-module _ (v : World) (ready : IsReady v) (new placed : List Cell) (next : ℕ) (regions : List Region)
+-- the cells `new` come without places to v; with their places they are `placed`, and the cells of v are supplied then
+module _ (v : World) (base : IsBase v) (new placed : List Cell) (next : ℕ) (regions : List Region)
     (ranks : Ranks (grown v (v.cells ++ new) next v.regions))
     (attached : list_all (λ c. is_attached c.standing) new ≡ true)
     (fresh : list_all (λ c. nat_le v.next_cell c.id.0) new ≡ true)
@@ -84,6 +127,7 @@ module _ (v : World) (ready : IsReady v) (new placed : List Cell) (next : ℕ) (
     (same : map bare (v.cells ++ placed) ≡ map bare (v.cells ++ new))
     (by_rule : list_all is_placed placed ≡ true)
     (adds : Adds v (grown v (v.cells ++ placed) next regions) (flat_map shapes_of placed))
+    (old_supplied : (c : Cell) → In c v.cells → is_supplied (grown v (v.cells ++ placed) next regions) c ≡ true)
   where
     abbrev bare_world : World
     bare_world = grown v (v.cells ++ new) next v.regions
@@ -122,14 +166,14 @@ module _ (v : World) (ready : IsReady v) (new placed : List Cell) (next : ℕ) (
     stacks_apart : (s t : Shape) → In s (flat_map shapes_of placed) → In t (map stack_shape v.tasks) → s.start ≡ t.start → ⊥
     stacks_apart s t k l e =
         let i : In t (wanted_shapes v) = In-fold_shape (flat_map shapes_of v.cells ++ map stack_shape v.tasks) [] t (inr (In-right (flat_map shapes_of v.cells) (map stack_shape v.tasks) t l)) in
-        let r = In-map shape_of v.regions t (subst (λ (xs : List Shape). In t xs) (sym ready.regions) i) in
+        let r = In-map shape_of v.regions t (subst (λ (xs : List Shape). In t xs) (sym base.regions) i) in
         adds.apart s k r.0 r.1 (e ∙ ap (λ (x : Shape). x.start) r.2)
 
     regions_wanted : map shape_of after.regions ≡ wanted_shapes after
     regions_wanted =
         let put = λ (acc xs ys : List Shape). fold-append (λ shapes s. with_shape s shapes) acc xs ys in
         adds.shapes
-        ∙ (ap (λ (xs : List Shape). Put xs (flat_map shapes_of placed)) (ready.regions ∙ put [] (flat_map shapes_of v.cells) (map stack_shape v.tasks))
+        ∙ (ap (λ (xs : List Shape). Put xs (flat_map shapes_of placed)) (base.regions ∙ put [] (flat_map shapes_of v.cells) (map stack_shape v.tasks))
         ∙ (puts_past (flat_map shapes_of placed) (map stack_shape v.tasks) (Put [] (flat_map shapes_of v.cells)) stacks_apart
         ∙ (ap (λ (xs : List Shape). Put xs (map stack_shape v.tasks)) (sym (put [] (flat_map shapes_of v.cells) (flat_map shapes_of placed)))
         ∙ (sym (put [] (flat_map shapes_of v.cells ++ flat_map shapes_of placed) (map stack_shape v.tasks))
@@ -149,9 +193,9 @@ module _ (v : World) (ready : IsReady v) (new placed : List Cell) (next : ℕ) (
         go : (c : Cell) → (d : Cell) × In d bare_world.cells × (bare c ≡ bare d) → IsLoadable c.object
         go c d = subst (λ (x : Cell). IsLoadable x.object) (sym d.2) (All-In (λ (c : Cell). IsLoadable c.object) bare_world.cells ranks.objects d.0 d.1)
 
-    limits_after : are_limits_kept after ≡ true
-    limits_after =
-        let l : LimitParts v = limit_parts v ready.limits in
+    limits_after : nat_lt v.swaps next ≡ true → are_limits_kept after ≡ true
+    limits_after swaps =
+        let l : LimitParts (record v { swaps = 0 }) = limit_parts (record v { swaps = 0 }) base.limits in
         let count : length after.cells ≡ length bare_world.cells = sym (length-map after.cells bare) ∙ (ap length same ∙ length-map bare_world.cells bare) in
         limits_from after (record {
           namespaces = l.namespaces;
@@ -159,7 +203,7 @@ module _ (v : World) (ready : IsReady v) (new placed : List Cell) (next : ℕ) (
           tasks = l.tasks;
           next_cell = ranks.last;
           next_task = l.next_task;
-          swaps = ranks.swaps;
+          swaps = swaps;
           fewest = l.fewest;
           most = l.most;
           aligned = l.aligned;
@@ -173,15 +217,15 @@ module _ (v : World) (ready : IsReady v) (new placed : List Cell) (next : ℕ) (
       regions = regions_wanted;
       in_space = spaced.in_space;
       apart = spaced.apart;
-      placed = In-all is_placed after.cells (old_or_new (λ c. is_placed c ≡ true) (all-In is_placed v.cells ready.placed) (all-In is_placed placed by_rule));
-      supplied = In-all (is_supplied after) after.cells (old_or_new (λ c. is_supplied after c ≡ true) (λ c k. still_supplied v after grows ready.cell_order ready.cells ready.objects ready.supplied c k) new_supplied);
+      placed = In-all is_placed after.cells (old_or_new (λ c. is_placed c ≡ true) (all-In is_placed v.cells base.placed) (all-In is_placed placed by_rule));
+      supplied = In-all (is_supplied after) after.cells (old_or_new (λ c. is_supplied after c ≡ true) old_supplied new_supplied);
       cell_order = pairs_bare (λ a b. nat_lt a.id.0 b.id.0) (λ a b. refl) after.cells bare_world.cells same ranks.order;
       cells = all_bare (is_known_cell after) (λ c. refl) after.cells bare_world.cells same ranks.known;
       objects = objects_after;
     }
 
-    pub ready_after : first_misfit after (fresh_cells v.next_cell after) ≡ None → IsReady after
-    ready_after fits = record {
+    pub ready_after : nat_lt v.swaps next ≡ true → ((c : Cell) → In c v.cells → is_fitting after c ≡ true) → first_misfit after (fresh_cells v.next_cell after) ≡ None → IsReady after
+    ready_after swaps old_fitting fits = record {
       names = pairs_bare (may_both_stand after) (λ a b. refl) after.cells bare_world.cells same ranks.names;
       own_names = all_bare has_each_name_once (λ c. refl) after.cells bare_world.cells same ranks.own_names;
       regions = linkable_after.regions;
@@ -190,14 +234,14 @@ module _ (v : World) (ready : IsReady v) (new placed : List Cell) (next : ℕ) (
       placed = linkable_after.placed;
       supplied = linkable_after.supplied;
       fitting = In-all (is_fitting after) after.cells (old_or_new (λ c. is_fitting after c ≡ true)
-          (λ c k. still_fitting v after grows ready.cell_order ready.cells ready.objects ready.supplied c k (all-In (is_fitting v) v.cells ready.fitting c k))
+          old_fitting
           (λ c k. new_fits after (fresh_cells v.next_cell after) fits c (new_is_fresh c k)));
-      spaces = ready.spaces;
-      space_names = ready.space_names;
+      spaces = base.spaces;
+      space_names = base.space_names;
       cell_order = linkable_after.cell_order;
       cells = linkable_after.cells;
       objects = linkable_after.objects;
-      task_order = ready.task_order;
-      tasks = In-all (is_sound_task after) v.tasks (λ t k. task_still t (all-In (is_sound_task v) v.tasks ready.tasks t k));
-      limits = limits_after;
+      task_order = base.task_order;
+      tasks = In-all (is_sound_task after) v.tasks (λ t k. task_still t (all-In (is_sound_task v) v.tasks base.tasks t k));
+      limits = limits_after swaps;
     }

@@ -3,7 +3,8 @@ use Rattle.std.proofs.Common.{◌≡◌, refl, sym, ◌∙◌, ap, ℕ, List, []
 use Rattle.std.specs.Prelude.{fold, flat_map}
 use Rattle.cell_num.specs.Lists.{first}
 use Rattle.cell_world.specs.World.{World, Region}
-use Rattle.cell_world.specs.Relink.{Text, ReadOnly, Patch, patched, patches_of, images_for, restored, remade, links_of, relink}
+use Rattle.cell_world.specs.Relink.{Patch, patched, patches_of, images_for, restored, remade, links_of, relink}
+use Rattle.cell_world.specs.declared.layout.Class.TheVariants.{Text, ReadOnly}
 use Rattle.cell_coherent.proofs.Elements.{In, map_same}
 use Rattle.cell_coherent.proofs.Patches.{AllEndIn, patched_again, same_region, start_by, permission_by}
 

@@ -6,7 +6,9 @@ use Rattle.cell_num.specs.Lists.{first, holds, or_else, each_pair}
 use Rattle.cell_coherent.proofs.Elements.{In, all-In, In-all, In-map, map-In, pairs-map, pairs_equal}
 use Rattle.cell_world.specs.World.{World, Cell, Standing, Attached, Detached, is_attached, is_of_group}
 use Rattle.cell_world.specs.Names.{Provider, chain, first_provider, provider_for, symbol_named}
-use Rattle.cell_world.specs.Place.{Starts, places_in, with_places}
+use Rattle.cell_world.specs.Place.{with_places}
+use Rattle.cell_world.specs.Layout.{places_in}
+use Rattle.cell_world.specs.declared.layout.Starts.{Starts}
 
 -- a cell but for its places
 abbrev pub bare : Cell → Cell

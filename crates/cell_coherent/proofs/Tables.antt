@@ -8,7 +8,7 @@ use Rattle.cell_world.specs.World.{World, Region}
 use Rattle.cell_world.specs.Memory.{covers}
 use Rattle.cell_world.specs.Pages.{lowest_run, filled}
 use Rattle.cell_world.specs.Place.{Placing, is_taken, page_table, with_region, place_class}
-use Rattle.cell_world.specs.Relink.{Class}
+use Rattle.cell_world.specs.declared.layout.Class.{Class}
 use Rattle.cell_world.specs.Coherent.{is_in_space, ends_before}
 use Rattle.cell_object.specs.declared.object.Object.{Object}
 use Rattle.cell_num.specs.Lists.{each_pair}

@@ -9,7 +9,9 @@ use Rattle.std.specs.List.{list_all}
 use Rattle.cell_num.specs.Lists.{numbered}
 use Rattle.cell_world.specs.declared.state.LinkRow.{LinkRow}
 use Rattle.cell_world.specs.World.{World, Cell, Region, is_attached}
-use Rattle.cell_world.specs.Relink.{Class, class_start, permission_of, sections_in, image_of, patched, patches_of, link_of}
+use Rattle.cell_world.specs.Relink.{class_start, patched, patches_of, link_of}
+use Rattle.cell_world.specs.Layout.{permission_of, sections_in, image_of}
+use Rattle.cell_world.specs.declared.layout.Class.{Class}
 
 -- x is an element of the list
 abbrev pub In : {X : Type 0} → X → List X → Type 0

@@ -1,16 +1,13 @@
--- What a commit makes of the memory, and of the links.
+-- What a commit makes of the memory.
 --     all_mapped m regions      m with the regions, mapped one after another
 --     fields_written m fields   m with each field sealed and then written
 --     AreRoom m regions         there is room for each region, once those before it are mapped
---     AreUnbound rows new       no new link is bound already, nor by a new one before it
-use Rattle.std.specs.Prelude.{◌≡◌, ◌+◌, ◌*◌, true, false, List, [], ◌∷◌, ◌++◌, length, fold, map, is_some}
+use Rattle.std.specs.Prelude.{◌≡◌, ◌+◌, ◌*◌, true, List, [], ◌∷◌, length, fold, map, is_some}
 use Rattle.cell_num.specs.Bits.{bytes_of}
 use Rattle.cell_world.specs.World.{Region}
 use Rattle.cell_world.specs.Relink.{Patch}
-use Rattle.cell_world.specs.declared.state.LinkRow.{LinkRow}
 use Rattle.cell_mem.specs.Index.{IsLaid}
 use Rattle.cell_mem.specs.State.{MemoryState, IsRoom, is_width, mapped, patched_at, region_with, sealed_at}
-use Rattle.cell_graph.specs.Links.{is_bound}
 use Rattle.cell_link.specs.declared.value.FieldValue.{FieldValue}
 
 -- one more region
@@ -45,8 +42,3 @@ patches_from fields = map patch_from fields
 -- whole pages in the space, ascending and apart
 abbrev pub IsLaidOut : MemoryState → Type 0
 IsLaidOut m = IsLaid m.base m.regions (m.base + 4096 * m.pages)
-
--- no entry of a section is linked twice
-abbrev pub AreUnbound : List LinkRow → List LinkRow → Type 0
-AreUnbound rows [] = Unit {0}
-AreUnbound rows (r ∷ new) = (is_bound rows r.user r.entry ≡ false) × AreUnbound (rows ++ r ∷ []) new

@@ -4,7 +4,7 @@ use super::*;
 use cell_graph::{Graph, LinkRow};
 use cell_link::FieldValue;
 use cell_mem::{MemFault, Memory};
-use cell_num::{Bytes, CellId, Name, SecKey};
+use cell_num::{CellId, Listed, Name, SecKey};
 use cell_space::{NameRows, Provider, Scope, Spaces};
 use cell_world::{Permission, Region};
 use std::alloc::{AllocError, Global};
@@ -26,7 +26,7 @@ fn page(alloc: Global, start: u64, write: bool) -> Result<Region, Fail>
             write,
             exec: !write,
         },
-        bytes: Bytes::from_vec(bytes),
+        bytes: Listed::from_vec(bytes),
     })
 }
 

@@ -1,6 +1,7 @@
 pub mod NameParts
 pub mod NameChanges
 pub mod Located
+pub mod Shelved
 pub mod Depots
 pub mod MorePlaces
-pub mod InOrder
+pub mod NamesBefore

@@ -1,16 +1,17 @@
 -- Tables with one more file.
-use Rattle.std.proofs.Common.{◌≡◌, ℕ, suc, ◌+◌, ◌<◌, Bool, true, false, cond, List, [], ◌∷◌, ◌++◌, Some, length, take, get_or, refl, ap, sym, ◌∙◌, arith}
-use Rattle.std.specs.Prelude.{filter, ◌&&◌}
+use Rattle.std.proofs.Common.{◌≡◌, ℕ, suc, ◌+◌, ◌<◌, Bool, true, false, cond, List, [], ◌∷◌, ◌++◌, Some, length, take, get_or, refl, ap, subst, sym, ◌∙◌, arith}
+use Rattle.std.specs.Prelude.{filter, slice_get, ◌&&◌}
 use Rattle.std.proofs.lemmas.List.{take_more, length-take}
 use Rattle.cell_num.specs.Lists.{first, numbered_from, equals, or_else, where_true}
 use Rattle.cell_world.specs.declared.file.File.{File}
 use Rattle.cell_world.specs.Gather.{ns_of_file, stem_of_file}
 use Rattle.cell_depot.specs.declared.names.NameMap.{NameMap}
 use Rattle.cell_depot.specs.declared.shelves.Shelves.{Shelves}
-use Rattle.cell_depot.specs.Files.{places_where, places_for, is_named_for, has_name}
+use Rattle.cell_depot.specs.Files.{shelf, places_where, is_named_for, has_name}
 use Rattle.cell_depot.specs.Values.{value_of}
-use Rattle.cell_depot.specs.Shelves.{first_places, with_place, places_at, AreTables}
+use Rattle.cell_depot.specs.Shelves.{first_places, with_place, places_at, AreKnown, AreTables}
 use Rattle.cell_depot.proofs.Located.{places, places_from}
+use Rattle.cell_depot.proofs.Shelved.{read_at, shelf_more, shelf_known, shelf_noted}
 
 single : {X : Type 0} (b : Bool) (n : ℕ) (x : X) → places (cond b ((n, x) ∷ []) []) ≡ cond b (n ∷ []) []
 single true n x = refl
@@ -40,19 +41,6 @@ places_more test xs i x lt e =
     ∙ ap (λ y. places_where test (take i xs) ++ places_from test i (y ∷ [])) (sym e)
     ∙ ap (λ qs. places_where test (take i xs) ++ qs) (single (test x) i x)
 
-noted : (ps : List ℕ) (place : ℕ) → Some (with_place (first_places ps) place) ≡ first_places (ps ++ place ∷ [])
-noted [] place = refl
-noted (p ∷ []) place = refl
-noted (p ∷ q ∷ ps) place = refl
-
-nothing_more : (ps : List ℕ) → ps ≡ ps ++ []
-nothing_more [] = refl
-nothing_more (p ∷ ps) = ap (λ qs. p ∷ qs) (nothing_more ps)
-
-shelved_more : (b : Bool) (ps : List ℕ) (place : ℕ) → cond b (Some (with_place (first_places ps) place)) (first_places ps) ≡ first_places (ps ++ cond b (place ∷ []) [])
-shelved_more true ps place = noted ps place
-shelved_more false ps place = ap first_places (nothing_more ps)
-
 named_more : (b : Bool) (ps : List ℕ) (place : ℕ) → or_else (first ps) (where_true b place) ≡ first (ps ++ cond b (place ∷ []) [])
 named_more true [] place = refl
 named_more false [] place = refl
@@ -61,23 +49,27 @@ named_more b (p ∷ ps) place = refl
 -- the tables of one more file
 pub with_file : (files : List File) (i : ℕ) (f : File) (before after : Shelves) (names_before names_after : NameMap ℕ) (name ns stem : List ℕ)
     → i < length files → f ≡ get_or files i f → name ≡ f.name → ns ≡ ns_of_file name → stem ≡ stem_of_file name
-    → AreTables (take i files) before names_before
-    → ((n s : List ℕ) → places_at after n s ≡ cond (equals ns n && equals stem s) (Some (with_place (places_at before n s) i)) (places_at before n s))
+    → AreTables files (take i files) before names_before
+    → ((n s : List ℕ) → places_at after n s ≡ cond (equals ns n && equals stem s) (Some (with_place files (places_at before n s) i)) (places_at before n s))
     → ((q : List ℕ) → value_of names_after q ≡ or_else (value_of names_before q) (where_true (equals name q) i))
-    → AreTables (take (i + 1) files) after names_after
-with_file files i f before after names_before names_after name ns stem lt at is is_ns is_stem are shelved named = record {
-  shelved = λ n s.
-      let o = places_at before n s in
-      shelved n s
-      ∙ ap (λ b. cond b (Some (with_place o i)) o) (
-      let same : (equals ns n && equals stem s) ≡ is_named_for n s f = rw (is_ns, is_stem, is) in same)
-      ∙ ap (λ noted. cond (is_named_for n s f) (Some (with_place noted i)) noted) (are.shelved n s)
-      ∙ shelved_more (is_named_for n s f) (places_for n s (take i files)) i
-      ∙ ap first_places (sym (places_more (is_named_for n s) files i f lt at));
-  named = λ q.
-      named q
-      ∙ ap (λ found. or_else found (where_true (equals name q) i)) (are.named q)
-      ∙ ap (λ text. or_else (first (places_where (has_name q) (take i files))) (where_true (equals text q) i)) is
-      ∙ named_more (has_name q f) (places_where (has_name q) (take i files)) i
-      ∙ ap first (sym (places_more (has_name q) files i f lt at));
-}
+    → AreTables files (take (i + 1) files) after names_after
+with_file files i f before after names_before names_after name ns stem lt at is is_ns is_stem are shelved named =
+    let there : slice_get files i ≡ Some f = read_at files i f lt at in
+    record {
+      shelved = λ n s.
+          let o = places_at before n s in
+          shelved n s
+          ∙ ap (λ b. cond b (Some (with_place files o i)) o) (
+          let same : (equals ns n && equals stem s) ≡ is_named_for n s f = rw (is_ns, is_stem, is) in same)
+          ∙ ap (λ noted. cond (is_named_for n s f) (Some (with_place files noted i)) noted) (are.shelved n s)
+          ∙ shelf_noted (is_named_for n s f) files i f (shelf n s (take i files)) there (are.known n s)
+          ∙ ap first_places (sym (shelf_more n s files i f lt at));
+      known = λ n s.
+          subst (AreKnown files) (sym (shelf_more n s files i f lt at)) (shelf_known (is_named_for n s f) files i f (shelf n s (take i files)) there (are.known n s));
+      named = λ q.
+          named q
+          ∙ ap (λ found. or_else found (where_true (equals name q) i)) (are.named q)
+          ∙ ap (λ text. or_else (first (places_where (has_name q) (take i files))) (where_true (equals text q) i)) is
+          ∙ named_more (has_name q f) (places_where (has_name q) (take i files)) i
+          ∙ ap first (sym (places_more (has_name q) files i f lt at));
+    }

@@ -18,7 +18,8 @@ use std::marker::Model;
 pub enum DepotFault {
     /// No file.
     NoObject,
-    /// Two files or more. The first two stand at these places of the list.
+    /// Two files or more. The two whose names come first in byte order stand at these places of
+    /// the list.
     Ambiguous { one: u32, two: u32 },
 }
 
@@ -39,7 +40,7 @@ impl Model for Depot {
 
     ghost view = { λ d. d.files.items };
 
-    ghost invariant = { λ d. AreTables d.files.items d.shelves d.names };
+    ghost invariant = { λ d. AreTables d.files.items d.files.items d.shelves d.names };
 }
 
 impl Depot {
@@ -55,7 +56,13 @@ impl Depot {
         let mut names = NameMap::new(alloc);
         for (place, file) in files.iter().enumerate() {
             let name = file.name.bytes();
-            shelves.add(alloc, namespace_of(name), stem_of(name), place as u32)?;
+            shelves.add(
+                alloc,
+                &files,
+                namespace_of(name),
+                stem_of(name),
+                place as u32,
+            )?;
             names.put_first(alloc, name, place as u32)?;
         }
         Ok(Depot {

@@ -2,6 +2,7 @@
 
 ghost use Rattle.std.specs.Prelude.{◌≡◌, ◌==◌, ◌||◌, ◌≤◌, drop, length, position};
 ghost use Rattle.std.specs.List.{position_or_len};
+ghost use Rattle.cell_num.specs.Lists.{is_before};
 ghost use Rattle.cell_world.specs.Gather.{ns_of_file, stem_of_file};
 
 fn first_hash(name: &[u8]) -> Option<usize>
@@ -55,4 +56,11 @@ pub fn stem_of(name: &[u8]) -> &[u8]
 {
     let rest = behind_first(&name[hash_place(name)..]);
     &rest[..stem_end(rest)]
+}
+
+/// Whether the one name comes before the other in byte order.
+pub fn is_before(one: &[u8], other: &[u8]) -> bool
+    ensures { result ≡ is_before one.now other.now }
+{
+    one.cmp(other).is_lt()
 }

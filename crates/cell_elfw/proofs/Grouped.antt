@@ -8,7 +8,7 @@ use Rattle.std.proofs.lemmas.List.Elements.{filter_more, filter-append}
 use Rattle.cell_num.specs.Lists.{numbered_from}
 use Rattle.cell_object.specs.declared.object.Section.{Section}
 use Rattle.cell_object.specs.declared.object.Entry.{Entry}
-use Rattle.cell_elfw.specs.Parts.{entries_for, has_entries, relocated}
+use Rattle.cell_object.specs.ImageParts.{entries_for, has_entries, relocated}
 use Rattle.cell_elfw.specs.Drafts.{AreTables, IsEntryPut}
 
 numbered_push : {X : Type 0} (a : ℕ) (xs : List X) (y : X) → numbered_from a (xs ++ (y ∷ [])) ≡ numbered_from a xs ++ ((a + length xs, y) ∷ [])

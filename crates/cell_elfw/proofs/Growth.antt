@@ -3,9 +3,9 @@ use Rattle.std.proofs.Common.{◌≡◌, ℕ, ◌+◌, ◌≤◌, List, [], ◌�
 use Rattle.std.specs.List.{flat_map}
 use Rattle.std.proofs.lemmas.List.{length-replicate, take-replicate}
 use Rattle.std.proofs.lemmas.Grind.{flat_map-append}
-use Rattle.cell_elfw.specs.Before.{with_before, with_before_from}
-use Rattle.cell_elfw.specs.Strings.{string, string_table, place_in, name_place}
-use Rattle.cell_elfw.specs.Parts.{padding, padded, offset_after}
+use Rattle.cell_object.specs.Before.{with_before, with_before_from}
+use Rattle.cell_object.specs.Strings.{string, string_table, place_in, name_place}
+use Rattle.cell_object.specs.ImageParts.{padding, padded, offset_after}
 use Rattle.cell_elfw.specs.Drafts.{file_of}
 
 pub flat_map_push : {X A : Type 0} (f : X → List A) (xs : List X) (y : X) → flat_map f (xs ++ (y ∷ [])) ≡ flat_map f xs ++ f y

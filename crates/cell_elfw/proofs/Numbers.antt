@@ -2,7 +2,7 @@
 use Rattle.std.proofs.Common.{◌≡◌, ℕ, zero, suc, ◌+◌, ◌-◌, ◌/◌, ◌%◌, ◌<◌, ◌≤◌, List, [], ◌∷◌, ◌++◌, sym, ap, ◌∙◌, arith, append_assoc, append-nil, length, take, get_or}
 use Rattle.std.specs.List.{flat_map}
 use Rattle.std.proofs.lemmas.List.{take_more}
-use Rattle.cell_elfw.specs.Rows.{stored}
+use Rattle.cell_object.specs.Rows.{stored}
 use Rattle.cell_elfw.proofs.Growth.{flat_map_push}
 use Rattle.cell_num.specs.Bits.{bytes_of}
 

@@ -7,11 +7,11 @@ use Rattle.cell_object.specs.declared.object.Object.{Object}
 use Rattle.cell_object.specs.declared.object.Section.{Section}
 use Rattle.cell_object.specs.declared.object.Symbol.{Symbol}
 use Rattle.cell_object.specs.declared.object.Entry.{Entry}
-use Rattle.cell_elfw.specs.Before.{with_before}
-use Rattle.cell_elfw.specs.Strings.{string, string_table, place_in, name_place}
-use Rattle.cell_elfw.specs.Rows.{section_row_bytes, symbol_bytes, entry_bytes}
-use Rattle.cell_elfw.specs.Parts.{padded, offset_after, content, contents, own_names, symtab_number, table, table_name, names_before_tables, parts_before_tables, symbol_part_bytes, entries_for, has_entries, relocated}
-use Rattle.cell_elfw.specs.Image.{own_row, section_row, table_row, rela_row}
+use Rattle.cell_object.specs.Before.{with_before}
+use Rattle.cell_object.specs.Strings.{string, string_table, place_in, name_place}
+use Rattle.cell_object.specs.Rows.{section_row_bytes, symbol_bytes, entry_bytes}
+use Rattle.cell_object.specs.ImageParts.{padded, offset_after, content, contents, own_names, symtab_number, table, table_name, names_before_tables, parts_before_tables, symbol_part_bytes, entries_for, has_entries, relocated}
+use Rattle.cell_object.specs.Image.{own_row, section_row, table_row, rela_row}
 use Rattle.cell_elfw.specs.Drafts.{file_of, HoldsSections, HoldsTables, HoldsSymbols}
 use Rattle.cell_elfw.proofs.Growth.{part_put, file_length, name_put, row_put, flat_map_push, with_before_push}
 use Rattle.cell_elfw.proofs.Grouped.{relocated_more}

@@ -7,12 +7,12 @@ use Rattle.std.proofs.lemmas.List.{length-replicate, drop-append-le, drop_all, t
 use Rattle.std.proofs.lemmas.List.Folds.{flat_map-map}
 use Rattle.std.proofs.lemmas.Grind.{flat_map-append}
 use Rattle.cell_object.specs.declared.object.Object.{Object}
-use Rattle.cell_elfw.specs.declared.rows.SectionRow.{SectionRow}
-use Rattle.cell_elfw.specs.Before.{with_before}
-use Rattle.cell_elfw.specs.Strings.{string, string_table, place_in, name_place}
-use Rattle.cell_elfw.specs.Rows.{stored, fields, header_bytes, section_row_bytes}
-use Rattle.cell_elfw.specs.Parts.{padded, offset_after, contents, own_names, symtab_number, shstrtab_number, relocated, table, names_before_tables, parts_before_tables, parts_before_strings, parts_before_names, parts, symbols_part, symbol_strings, section_strings, symbol_part_bytes}
-use Rattle.cell_elfw.specs.Image.{null_row, own_row, symtab_row_at, symtab_row, strings_row, strtab_row, shstrtab_row, table_row, section_rows, image_header, image}
+use Rattle.cell_object.specs.declared.headers.SectionHeader.{SectionHeader}
+use Rattle.cell_object.specs.Before.{with_before}
+use Rattle.cell_object.specs.Strings.{string, string_table, place_in, name_place}
+use Rattle.cell_object.specs.Rows.{stored, fields, header_bytes, section_row_bytes}
+use Rattle.cell_object.specs.ImageParts.{padded, offset_after, contents, own_names, symtab_number, shstrtab_number, relocated, table, names_before_tables, parts_before_tables, parts_before_strings, parts_before_names, parts, symbols_part, symbol_strings, section_strings, symbol_part_bytes}
+use Rattle.cell_object.specs.Image.{null_row, own_row, symtab_row_at, symtab_row, strings_row, strtab_row, shstrtab_row, table_row, section_rows, image_header, image}
 use Rattle.cell_elfw.specs.Drafts.{file_of, HoldsSections, HoldsSymbols, HoldsTables}
 use Rattle.cell_elfw.proofs.Growth.{part_put, file_length, name_put, place_is}
 
@@ -20,11 +20,11 @@ pub header_length : (a b c : ℕ) → length (header_bytes a b c) ≡ 64
 unfolding header_bytes fields stored
 header_length a b c = refl
 
-row_length : (h : SectionRow) → length (section_row_bytes h) ≡ 64
+row_length : (h : SectionHeader) → length (section_row_bytes h) ≡ 64
 unfolding section_row_bytes fields stored
 row_length h = refl
 
-rows_length : (rows : List SectionRow) → length (flat_map section_row_bytes rows) ≡ 64 * length rows
+rows_length : (rows : List SectionHeader) → length (flat_map section_row_bytes rows) ≡ 64 * length rows
 rows_length [] = refl
 rows_length (r ∷ rows) =
     let e : 64 + 64 * length rows ≡ 64 * suc (length rows) = omega arith in
@@ -32,7 +32,7 @@ rows_length (r ∷ rows) =
     ∙ ap (λ n. n + length (flat_map section_row_bytes rows)) (row_length r)
     ∙ ap (λ n. 64 + n) (rows_length rows) ∙ e
 
-rows_count : (rows : List SectionRow) → length (flat_map section_row_bytes rows) / 64 ≡ length rows
+rows_count : (rows : List SectionHeader) → length (flat_map section_row_bytes rows) / 64 ≡ length rows
 rows_count rows = let e = rows_length rows in omega (arith, e)
 
 drop_room : (xs : List ℕ) → drop 64 (replicate 64 0 ++ xs) ≡ xs
@@ -56,7 +56,7 @@ whole_is file headers whole object symtab f h s w =
     ∙ ap (λ k. header_bytes (offset_after (parts object)) (length (section_rows object)) k ++ body) n
     ∙ ap (λ v. image_header object ++ (v ++ rows)) (drop_room (flat_map padded (parts object)))
 
-headers_are : (own tables headers : List ℕ) (object : Object) (a b c : SectionRow)
+headers_are : (own tables headers : List ℕ) (object : Object) (a b c : SectionHeader)
     → own ≡ flat_map (λ row. section_row_bytes (own_row row)) (with_before object.sections)
     → tables ≡ flat_map (λ row. section_row_bytes (table_row object row)) (with_before (relocated object.sections object.entries))
     → a ≡ symtab_row object → b ≡ strtab_row object → c ≡ shstrtab_row object
@@ -75,7 +75,7 @@ headers_are own tables headers object a b c o t x y z h =
     ∙ ap (λ v. null ++ v) (sym (flat_map-append section_row_bytes (map own_row firsts) (symtab_row object ∷ strtab_row object ∷ shstrtab_row object ∷ map (table_row object) lasts)))
 
 -- a header by what its name and its part are
-row_is : (row : ℕ → ℕ → ℕ → SectionRow) (names : List (List ℕ)) (name : List ℕ) (before : List (List ℕ)) (part table file bytes : List ℕ) (place offset size : ℕ)
+row_is : (row : ℕ → ℕ → ℕ → SectionHeader) (names : List (List ℕ)) (name : List ℕ) (before : List (List ℕ)) (part table file bytes : List ℕ) (place offset size : ℕ)
     → table ≡ string_table names → place ≡ place_in (length table) name → file ≡ file_of before → offset ≡ length file → bytes ≡ part → size ≡ length bytes
     → row place offset size ≡ row (name_place names name) (offset_after before) (length part)
 row_is row names name before part table file bytes place offset size t p f o b s =
@@ -136,7 +136,7 @@ fourth_is object symtab file names own rows strings file2 names2 tables file3 fi
     part_put file3 file4 (section_strings object) (parts_before_names object) (third_is object symtab file names own rows strings file2 names2 tables file3 file4 s)
     (s.fourth ∙ ap (λ v. file3 ++ padded v) (names_are file2 names2 tables object s.tables))
 
-pub image_is : (object : Object) (symtab : ℕ) (file names own rows strings file2 names2 tables file3 file4 headers whole : List ℕ) (a b c : SectionRow) (an ao az bn bo bz cn co cz : ℕ)
+pub image_is : (object : Object) (symtab : ℕ) (file names own rows strings file2 names2 tables file3 file4 headers whole : List ℕ) (a b c : SectionHeader) (an ao az bn bo bz cn co cz : ℕ)
     → Stages object symtab file names own rows strings file2 names2 tables file3 file4
     → an ≡ place_in (length names) (codes ".symtab") → bn ≡ place_in (length (names ++ string (codes ".symtab"))) (codes ".strtab") → cn ≡ place_in (length ((names ++ string (codes ".symtab")) ++ string (codes ".strtab"))) (codes ".shstrtab")
     → ao ≡ length file → bo ≡ length file2 → co ≡ length file3

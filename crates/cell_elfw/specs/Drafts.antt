@@ -5,11 +5,11 @@ use Rattle.cell_object.specs.declared.object.Object.{Object}
 use Rattle.cell_object.specs.declared.object.Section.{Section}
 use Rattle.cell_object.specs.declared.object.Symbol.{Symbol}
 use Rattle.cell_object.specs.declared.object.Entry.{Entry}
-use Rattle.cell_elfw.specs.Before.{with_before}
-use Rattle.cell_elfw.specs.Strings.{string_table}
-use Rattle.cell_elfw.specs.Rows.{section_row_bytes}
-use Rattle.cell_elfw.specs.Parts.{padded, contents, own_names, names_before_tables, parts_before_tables, table, table_name, entries_for, symbol_part_bytes}
-use Rattle.cell_elfw.specs.Image.{own_row, table_row}
+use Rattle.cell_object.specs.Before.{with_before}
+use Rattle.cell_object.specs.Strings.{string_table}
+use Rattle.cell_object.specs.Rows.{section_row_bytes}
+use Rattle.cell_object.specs.ImageParts.{padded, contents, own_names, names_before_tables, parts_before_tables, table, table_name, entries_for, symbol_part_bytes}
+use Rattle.cell_object.specs.Image.{own_row, table_row}
 
 -- room for the ELF header, and the parts
 abbrev pub file_of : List (List ℕ) → List ℕ

@@ -1,16 +1,15 @@
 //! The file as far as it is written.
 
 ghost use Rattle.std.specs.Prelude.{◌≡◌, ◌+◌, ◌++◌, [], ◌∷◌, length, map, codes, IfOk, OnOk};
-ghost use Rattle.cell_elfw.specs.Strings.{string, string_table, place_in};
-ghost use Rattle.cell_elfw.specs.Parts.{padded, content as content_of, own_names, names_before_tables, parts_before_tables, table_name, relocated, entries_for};
-ghost use Rattle.cell_elfw.specs.Rows.{section_row_bytes, entry_bytes};
-ghost use Rattle.cell_elfw.specs.Image.{section_row as section_row_of, rela_row as rela_row_of};
+ghost use Rattle.cell_object.specs.Strings.{string, string_table, place_in};
+ghost use Rattle.cell_object.specs.ImageParts.{padded, content as content_of, own_names, names_before_tables, parts_before_tables, table_name, relocated, entries_for};
+ghost use Rattle.cell_object.specs.Rows.{section_row_bytes, entry_bytes};
+ghost use Rattle.cell_object.specs.Image.{section_row as section_row_of, rela_row as rela_row_of};
 ghost use Rattle.cell_elfw.specs.Drafts.{AreTables, HoldsSections, HoldsTables};
 ghost use Rattle.std.specs.List.{flat_map};
 
-use crate::headers::{content, rela_row, section_row};
+use crate::headers::{Place, content, put_rela_row, put_section_row};
 use crate::parts::put_part;
-use crate::rows::put_section_row;
 use crate::strings::put_string;
 use crate::tables::table_bytes;
 use cell_object::{Entry, Object, Section};
@@ -46,7 +45,7 @@ impl Draft {
     {
         let name = put_string(section.name.as_slice(), &mut self.names)?;
         let offset = put_part(content(section), &mut self.file)?;
-        put_section_row(&section_row(name, offset, section), &mut self.own_rows)
+        put_section_row(name, offset, section, &mut self.own_rows)
     }
 
     /// The object's sections, their names and their headers.
@@ -95,8 +94,12 @@ impl Draft {
         let table = table_bytes(*self.file.allocator(), entries)?;
         let name = self.put_table_name(section.name.as_slice())?;
         let offset = put_part(&table, &mut self.file)?;
-        let row = rela_row(symtab, name, offset, table.len() as u64, number);
-        put_section_row(&row, &mut self.table_rows)
+        let place = Place {
+            name,
+            offset,
+            size: table.len() as u64,
+        };
+        put_rela_row(symtab, &place, number, &mut self.table_rows)
     }
 
     /// The relocations of the sections that have entries, their names and their headers.

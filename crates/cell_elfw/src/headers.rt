@@ -1,35 +1,26 @@
 //! The section headers. gABI, "Sections"
 
-ghost use Rattle.std.specs.Prelude.{◌≡◌, ◌<◌};
-ghost use Rattle.cell_elfw.specs.Parts.{content as content_of};
-ghost use Rattle.cell_elfw.specs.Image.{section_row as section_row_of, section_flags as flags_of, fill_type as type_of_fill, rela_row as rela_row_of, strings_row as strings_row_of, symtab_row_at, null_row as the_null_row};
+ghost use Rattle.std.specs.Prelude.{◌≡◌, ◌<◌, ◌++◌, OnOk};
+ghost use Rattle.cell_object.specs.ImageParts.{content as content_of, strtab_number as strtab_number_of};
+ghost use Rattle.cell_object.specs.Image.{section_row as section_row_of, section_flags as flags_of, fill_type as type_of_fill, rela_row as rela_row_of, strings_row as strings_row_of, symtab_row_at, null_row as the_null_row};
+ghost use Rattle.cell_object.specs.Rows.{section_row_bytes};
 
-use crate::rows::SectionRow;
+use crate::number::put_fields;
 use crate::symbols::local_count;
+use cell_object::elf::{
+    ROW_LEN, SHF_ALLOC, SHF_EXECINSTR, SHF_INFO_LINK, SHF_WRITE, SHT_NOBITS, SHT_NOTE,
+    SHT_PROGBITS, SHT_RELA, SHT_STRTAB, SHT_SYMTAB,
+};
 use cell_object::{Fill, Object, Section};
+use std::alloc::AllocError;
 
-const PROGBITS: u64 = 1;
-
-const SYMTAB: u64 = 2;
-
-const STRTAB: u64 = 3;
-
-const RELA: u64 = 4;
-
-const NOTE: u64 = 7;
-
-const NOBITS: u64 = 8;
-
-const WRITE: u64 = 1;
-
-const ALLOC: u64 = 2;
-
-const EXECINSTR: u64 = 4;
-
-const INFO_LINK: u64 = 0x40;
-
-/// How long a symbol and a relocation entry are.
-const ENTRY_LEN: u64 = 24;
+/// Where the name of a section and its bytes stand, and how many bytes there are.
+#[derive(Clone, Copy)]
+pub struct Place {
+    pub name: u64,
+    pub offset: u64,
+    pub size: u64,
+}
 
 /// The bytes of a section that stand in the file.
 pub fn content(section: &Section) -> &[u8]
@@ -45,84 +36,137 @@ fn fill_type(fill: Fill) -> u64
     ensures { result ≡ type_of_fill fill }
 {
     match fill {
-        Fill::Prog => PROGBITS,
-        Fill::Note => NOTE,
-        Fill::Zero => NOBITS,
+        Fill::Prog => SHT_PROGBITS as u64,
+        Fill::Note => SHT_NOTE as u64,
+        Fill::Zero => SHT_NOBITS as u64,
     }
 }
 
 fn section_flags(section: &Section) -> u64
     ensures { result ≡ flags_of section.now }
 {
-    let write = if section.write { WRITE } else { 0 };
-    let exec = if section.exec { EXECINSTR } else { 0 };
-    ALLOC + write + exec
+    let write = if section.write { SHF_WRITE } else { 0 };
+    let exec = if section.exec { SHF_EXECINSTR } else { 0 };
+    SHF_ALLOC + write + exec
 }
 
-/// The header of a section of the object.
-pub fn section_row(name: u64, offset: u64, section: &Section) -> SectionRow
-    ensures { result ≡ section_row_of name offset section.now }
+/// The number of the section of the symbols' names.
+fn strtab_number(object: &Object) -> u64
+    ensures { result ≡ strtab_number_of object.now }
 {
-    SectionRow {
-        sh_name: name,
-        sh_type: fill_type(section.fill),
-        sh_flags: section_flags(section),
-        sh_offset: offset,
-        sh_size: u64::from(section.size),
-        sh_link: 0,
-        sh_info: 0,
-        sh_addralign: u64::from(section.align),
-        sh_entsize: 0,
-    }
+    object.sections.as_slice().len() as u64 + 2
 }
 
-/// The header of the relocations of the section with a number.
-pub fn rela_row(symtab: u64, name: u64, offset: u64, size: u64, number: u64) -> SectionRow
-    ensures { result ≡ rela_row_of symtab name offset size number }
+/// Appends section header 0.
+#[tactic(auto, unfolding(cell_object::specs::Rows::section_row_bytes))]
+pub fn put_null_row(into: &mut Vec<u8>) -> Result<(), AllocError>
+    ensures { OnOk result (into.new.items ≡ into.old.items ++ section_row_bytes the_null_row) }
 {
-    SectionRow {
-        sh_name: name,
-        sh_type: RELA,
-        sh_flags: INFO_LINK,
-        sh_offset: offset,
-        sh_size: size,
-        sh_link: symtab,
-        sh_info: number,
-        sh_addralign: 8,
-        sh_entsize: ENTRY_LEN,
-    }
+    let fields = [
+        (0, 4),
+        (0, 4),
+        (0, 8),
+        (0, 8),
+        (0, 8),
+        (0, 8),
+        (0, 4),
+        (0, 4),
+        (0, 8),
+        (0, 8),
+    ];
+    put_fields(&fields, into)
 }
 
-/// The header of the symbols, whose names stand in the section after theirs.
-pub fn symtab_row(object: &Object, name: u64, offset: u64, size: u64) -> SectionRow
-    ensures { result ≡ symtab_row_at object.now name offset size }
+/// Appends the header of a section of the object.
+#[tactic(auto, unfolding(cell_object::specs::Rows::section_row_bytes))]
+pub fn put_section_row(
+    name: u64,
+    offset: u64,
+    section: &Section,
+    into: &mut Vec<u8>,
+) -> Result<(), AllocError>
+    ensures { OnOk result (into.new.items ≡ into.old.items ++ section_row_bytes (section_row_of name offset section.now)) }
 {
-    SectionRow {
-        sh_name: name,
-        sh_type: SYMTAB,
-        sh_flags: 0,
-        sh_offset: offset,
-        sh_size: size,
-        sh_link: object.sections.as_slice().len() as u64 + 2,
-        sh_info: local_count(object.symbols.as_slice()) as u64 + 1,
-        sh_addralign: 8,
-        sh_entsize: ENTRY_LEN,
-    }
+    let kind = fill_type(section.fill);
+    let flags = section_flags(section);
+    let fields = [
+        (name, 4),
+        (kind, 4),
+        (flags, 8),
+        (0, 8),
+        (offset, 8),
+        (section.size as u64, 8),
+        (0, 4),
+        (0, 4),
+        (section.align as u64, 8),
+        (0, 8),
+    ];
+    put_fields(&fields, into)
 }
 
-/// The header of a string table.
-pub fn strings_row(name: u64, offset: u64, size: u64) -> SectionRow
-    ensures { result ≡ strings_row_of name offset size }
+/// Appends the header of the relocations of the section with a number.
+#[tactic(auto, unfolding(cell_object::specs::Rows::section_row_bytes))]
+pub fn put_rela_row(
+    symtab: u64,
+    place: &Place,
+    number: u64,
+    into: &mut Vec<u8>,
+) -> Result<(), AllocError>
+    ensures { OnOk result (into.new.items ≡ into.old.items ++ section_row_bytes (rela_row_of symtab place.now.name place.now.offset place.now.size number)) }
 {
-    SectionRow {
-        sh_name: name,
-        sh_type: STRTAB,
-        sh_flags: 0,
-        sh_offset: offset,
-        sh_size: size,
-        sh_link: 0,
-        sh_info: 0,
-        sh_addralign: 1,
-        sh_entsize: 0,
-    }
+    let fields = [
+        (place.name, 4),
+        (SHT_RELA as u64, 4),
+        (SHF_INFO_LINK, 8),
+        (0, 8),
+        (place.offset, 8),
+        (place.size, 8),
+        (symtab, 4),
+        (number, 4),
+        (8, 8),
+        (ROW_LEN as u64, 8),
+    ];
+    put_fields(&fields, into)
+}
+
+/// Appends the header of the symbols, whose names stand in the section after theirs.
+#[tactic(auto, unfolding(cell_object::specs::Rows::section_row_bytes))]
+pub fn put_symtab_row(object: &Object, place: &Place, into: &mut Vec<u8>) -> Result<(), AllocError>
+    ensures { OnOk result (into.new.items ≡ into.old.items ++ section_row_bytes (symtab_row_at object.now place.now.name place.now.offset place.now.size)) }
+{
+    let strtab = strtab_number(object);
+    let info = local_count(object.symbols.as_slice()) as u64 + 1;
+    let fields = [
+        (place.name, 4),
+        (SHT_SYMTAB as u64, 4),
+        (0, 8),
+        (0, 8),
+        (place.offset, 8),
+        (place.size, 8),
+        (strtab, 4),
+        (info, 4),
+        (8, 8),
+        (ROW_LEN as u64, 8),
+    ];
+    put_fields(&fields, into)
+}
+
+/// Appends the header of a string table.
+#[tactic(auto, unfolding(cell_object::specs::Rows::section_row_bytes))]
+pub fn put_strings_row(place: &Place, into: &mut Vec<u8>) -> Result<(), AllocError>
+    ensures { OnOk result (into.new.items ≡ into.old.items ++ section_row_bytes (strings_row_of place.now.name place.now.offset place.now.size)) }
+{
+    let fields = [
+        (place.name, 4),
+        (SHT_STRTAB as u64, 4),
+        (0, 8),
+        (0, 8),
+        (place.offset, 8),
+        (place.size, 8),
+        (0, 4),
+        (0, 4),
+        (1, 8),
+        (0, 8),
+    ];
+    put_fields(&fields, into)
 }

@@ -1,12 +1,12 @@
 //! Numbers as bytes.
 
 ghost use Rattle.std.specs.Prelude.{◌≡◌, ◌++◌, OnOk};
-ghost use Rattle.cell_elfw.specs.Rows.{stored, fields};
+ghost use Rattle.cell_object.specs.Rows.{stored, fields};
 
 use std::alloc::AllocError;
 
 /// Appends so many low bytes of a number, the lowest first.
-#[tactic(auto, using(crate::proofs::Numbers::bytes_put), unfolding(crate::specs::Rows::stored))]
+#[tactic(auto, using(crate::proofs::Numbers::bytes_put), unfolding(cell_object::specs::Rows::stored))]
 pub fn put_number(number: u64, count: u8, into: &mut Vec<u8>) -> Result<(), AllocError>
     ensures { OnOk result (into.new.items ≡ into.old.items ++ stored count number) }
 {
@@ -19,7 +19,7 @@ pub fn put_number(number: u64, count: u8, into: &mut Vec<u8>) -> Result<(), Allo
 }
 
 /// Appends numbers, each with how many bytes it takes.
-#[tactic(auto, using(crate::proofs::Numbers::field_put), unfolding(crate::specs::Rows::fields))]
+#[tactic(auto, using(crate::proofs::Numbers::field_put), unfolding(cell_object::specs::Rows::fields))]
 pub fn put_fields(numbers: &[(u64, u8)], into: &mut Vec<u8>) -> Result<(), AllocError>
     ensures { OnOk result (into.new.items ≡ into.old.items ++ fields numbers.now) }
 {

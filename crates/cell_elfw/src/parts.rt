@@ -1,7 +1,7 @@
 //! The parts of the file.
 
 ghost use Rattle.std.specs.Prelude.{◌≡◌, ◌++◌, length, IfOk, OnOk};
-ghost use Rattle.cell_elfw.specs.Parts.{padded};
+ghost use Rattle.cell_object.specs.ImageParts.{padded};
 
 use std::alloc::AllocError;
 

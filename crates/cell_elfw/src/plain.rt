@@ -35,7 +35,7 @@ pub struct Plain {
 }
 
 fn bytes(alloc: Global, from: &[u8]) -> Result<Bytes, AllocError> {
-    Ok(Listed::from_vec(Vec::from_slice(alloc, from)?))
+    Ok(Bytes::from_vec(Vec::from_slice(alloc, from)?))
 }
 
 fn section(alloc: Global, plain: &PlainSection) -> Result<Section, AllocError> {

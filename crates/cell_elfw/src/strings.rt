@@ -1,7 +1,7 @@
 //! String tables. gABI, "String Table"
 
 ghost use Rattle.std.specs.Prelude.{◌≡◌, ◌++◌, length, IfOk, OnOk};
-ghost use Rattle.cell_elfw.specs.Strings.{string, place_in};
+ghost use Rattle.cell_object.specs.Strings.{string, place_in};
 
 use std::alloc::AllocError;
 

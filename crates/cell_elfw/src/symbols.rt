@@ -3,9 +3,9 @@
 ghost use Rattle.std.specs.Prelude.{◌≡◌, ◌++◌, ◌≤◌, length, IfOk, OnOk};
 ghost use Rattle.std.specs.List.{filter};
 ghost use Rattle.cell_object.specs.Parts.{is_local as is_local_bind};
-ghost use Rattle.cell_elfw.specs.Strings.{string, place_in};
+ghost use Rattle.cell_object.specs.Strings.{string, place_in};
 ghost use Rattle.cell_elfw.specs.Drafts.{HoldsSymbols};
-ghost use Rattle.cell_elfw.specs.Rows.{symbol_bytes};
+ghost use Rattle.cell_object.specs.Rows.{symbol_bytes};
 
 use crate::rows::put_symbol;
 use crate::strings::put_string;

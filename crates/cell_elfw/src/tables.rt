@@ -3,7 +3,7 @@
 ghost use Rattle.std.specs.Prelude.{◌≡◌, [], length, IfOk, OnOk};
 ghost use Rattle.std.specs.List.{flat_map};
 ghost use Rattle.cell_elfw.specs.Drafts.{AreTables, IsEntryPut};
-ghost use Rattle.cell_elfw.specs.Rows.{entry_bytes};
+ghost use Rattle.cell_object.specs.Rows.{entry_bytes};
 
 use crate::rows::put_entry;
 use cell_object::Entry;

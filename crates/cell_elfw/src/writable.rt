@@ -36,21 +36,22 @@ fn images_by_hand(rt: HostRuntime) -> Result<(), Fail> {
         .ok_or("the first can be written")?;
     assert!(rt; seven.as_slice() == SEVEN.as_slice());
     assert!(rt;
-        &seven[40..48] == [168, 0, 0, 0, 0, 0, 0, 0].as_slice(),
+        &seven.as_slice()[40..48] == [168, 0, 0, 0, 0, 0, 0, 0].as_slice(),
         "e_shoff"
     );
     assert!(rt;
-        &seven[60..64] == [5, 0, 4, 0].as_slice(),
+        &seven.as_slice()[60..64] == [5, 0, 4, 0].as_slice(),
         "e_shnum, e_shstrndx"
     );
     let cut = ReadFail::BadObject { rule: 6, at: 40 };
-    assert!(rt; read_object(alloc, &seven[..487]).err() == Some(cut));
+    assert_eq!(rt; seven.len(), 488);
+    assert!(rt; read_object(alloc, &seven.part(0, 487)?).err() == Some(cut));
     let pointer = write_object(alloc, &object(alloc, &POINTER_PARTS)?)
         .ok()
         .ok_or("the second can be written")?;
     assert!(rt; pointer.as_slice() == POINTER.as_slice());
     assert!(rt;
-        &pointer[40..48] == [240, 0, 0, 0, 0, 0, 0, 0].as_slice(),
+        &pointer.as_slice()[40..48] == [240, 0, 0, 0, 0, 0, 0, 0].as_slice(),
         "e_shoff"
     );
     Ok(())

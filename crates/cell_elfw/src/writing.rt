@@ -2,32 +2,32 @@
 
 ghost use Rattle.std.specs.Prelude.{◌≡◌, ◌≤◌, ◌/◌, ◌++◌, length, drop, IfOk};
 ghost use Rattle.cell_object.specs.Reads.{reads};
-ghost use Rattle.cell_elfw.specs.Image.{image as image_of, null_row};
-ghost use Rattle.cell_elfw.specs.Rows.{header_bytes, section_row_bytes};
+ghost use Rattle.cell_object.specs.Image.{image as image_of, null_row, symtab_row_at, strings_row};
+ghost use Rattle.cell_object.specs.Rows.{header_bytes, section_row_bytes};
 ghost use Rattle.cell_elfw.specs.Written.{IsReadAgain};
 
 use crate::WriteFail;
 use crate::draft::{Draft, TableNames};
-use crate::headers::{strings_row, symtab_row};
+use crate::headers::{Place, put_null_row, put_strings_row, put_symtab_row};
 use crate::parts::put_part;
-use crate::rows::{Directory, SectionRow, put_header, put_section_row};
+use crate::rows::{Directory, put_header};
 use crate::same::same_object;
 use crate::strings::put_string;
 use crate::symbols::SymbolTables;
 use crate::tables::by_section;
 use cell_elf::{ReadFail, read_object};
+use cell_num::Shared;
 use cell_object::Object;
+use cell_object::elf::HEADER_LEN;
 use std::alloc::{AllocError, Global};
-
-const HEADER_LEN: usize = 64;
 
 /// Writes an object as the image that is read as it again: an ELF file with the object's sections in
 /// their order, the symbols, and one table of relocations for each section that has entries.
-pub fn write_object(alloc: Global, object: &Object) -> Result<Vec<u8>, WriteFail>
-    ensures image { IfOk result (λ file. file.items ≡ image_of object.now) }
+pub fn write_object(alloc: Global, object: &Object) -> Result<Shared, WriteFail>
+    ensures image { IfOk result (λ file. file ≡ image_of object.now) }
     ensures read { IsReadAgain object.now result (reads (image_of object.now)) }
 {
-    let file = image(alloc, object)?;
+    let file = Shared::from_vec(alloc, image(alloc, object)?)?;
     match read_object(alloc, &file) {
         Ok(other) => {
             if same_object(&other, object) {
@@ -41,12 +41,12 @@ pub fn write_object(alloc: Global, object: &Object) -> Result<Vec<u8>, WriteFail
     }
 }
 
-/// The headers of the three tables.
-#[derive(Drop)]
-struct TableRows {
-    symtab: SectionRow,
-    strtab: SectionRow,
-    shstrtab: SectionRow,
+/// Where the three tables stand.
+#[derive(Clone, Copy)]
+struct TablePlaces {
+    symtab: Place,
+    strtab: Place,
+    shstrtab: Place,
 }
 
 /// The image of an object.
@@ -63,30 +63,42 @@ fn image(alloc: Global, object: &Object) -> Result<Vec<u8>, AllocError>
     draft.add_tables(object, &tables)?;
     let strtab_offset = put_part(&symbols.strings, &mut draft.file)?;
     let shstrtab_offset = put_part(&draft.names, &mut draft.file)?;
-    let rows = TableRows {
-        symtab: symtab_row(
-            object,
-            names.symtab,
-            symtab_offset,
-            symbols.symbols.len() as u64,
-        ),
-        strtab: strings_row(names.strtab, strtab_offset, symbols.strings.len() as u64),
-        shstrtab: strings_row(names.shstrtab, shstrtab_offset, draft.names.len() as u64),
+    let places = TablePlaces {
+        symtab: Place {
+            name: names.symtab,
+            offset: symtab_offset,
+            size: symbols.symbols.len() as u64,
+        },
+        strtab: Place {
+            name: names.strtab,
+            offset: strtab_offset,
+            size: symbols.strings.len() as u64,
+        },
+        shstrtab: Place {
+            name: names.shstrtab,
+            offset: shstrtab_offset,
+            size: draft.names.len() as u64,
+        },
     };
-    let headers = headers(alloc, &draft, &rows)?;
+    let headers = headers(alloc, &draft, object, &places)?;
     finished(draft.file, &headers, symtab + 2)
 }
 
 /// The section headers in their order.
-fn headers(alloc: Global, draft: &Draft, rows: &TableRows) -> Result<Vec<u8>, AllocError>
-    ensures { IfOk result (λ headers. headers.items ≡ section_row_bytes null_row ++ (draft.now.own_rows.items ++ (section_row_bytes rows.now.symtab ++ (section_row_bytes rows.now.strtab ++ (section_row_bytes rows.now.shstrtab ++ draft.now.table_rows.items))))) }
+fn headers(
+    alloc: Global,
+    draft: &Draft,
+    object: &Object,
+    places: &TablePlaces,
+) -> Result<Vec<u8>, AllocError>
+    ensures { IfOk result (λ headers. let p = places.now in headers.items ≡ section_row_bytes null_row ++ (draft.now.own_rows.items ++ (section_row_bytes (symtab_row_at object.now p.symtab.name p.symtab.offset p.symtab.size) ++ (section_row_bytes (strings_row p.strtab.name p.strtab.offset p.strtab.size) ++ (section_row_bytes (strings_row p.shstrtab.name p.shstrtab.offset p.shstrtab.size) ++ draft.now.table_rows.items))))) }
 {
     let mut headers = Vec::new(alloc);
-    put_section_row(&SectionRow::null(), &mut headers)?;
+    put_null_row(&mut headers)?;
     headers.extend_from_slice(&draft.own_rows)?;
-    put_section_row(&rows.symtab, &mut headers)?;
-    put_section_row(&rows.strtab, &mut headers)?;
-    put_section_row(&rows.shstrtab, &mut headers)?;
+    put_symtab_row(object, &places.symtab, &mut headers)?;
+    put_strings_row(&places.strtab, &mut headers)?;
+    put_strings_row(&places.shstrtab, &mut headers)?;
     headers.extend_from_slice(&draft.table_rows)?;
     Ok(headers)
 }
@@ -98,7 +110,7 @@ fn finished(mut file: Vec<u8>, headers: &[u8], shstrndx: u64) -> Result<Vec<u8>,
 {
     let directory = Directory {
         shoff: file.len() as u64,
-        shnum: (headers.len() / HEADER_LEN) as u64,
+        shnum: headers.len() as u64 / HEADER_LEN as u64,
         shstrndx,
     };
     let mut header = Vec::new(*file.allocator());

@@ -11,14 +11,14 @@ use Rattle.cell_world.specs.declared.state.NewCell.{NewCell}
 use Rattle.cell_world.specs.World.{World, attached}
 use Rattle.cell_world.specs.Gather.{Source, Need, source_of, file_named, append_cell, bring_one, bring}
 use Rattle.cell_world.specs.Outcome.{Outcome, ◌>>=◌, found, each}
-use Rattle.cell_depot.specs.Files.{has_name, are_in_order}
+use Rattle.cell_depot.specs.Files.{has_name}
 use Rattle.cell_space.specs.Spaces.{SpacesState}
-use Rattle.cell_gather.specs.declared.fail.LoadFail.{LoadFail}
-use Rattle.cell_gather.specs.declared.fail.LoadFail.TheVariants.{Refused, OutOfMemory}
+use Rattle.cell_world.specs.declared.fail.Fail.{Fail}
+use Rattle.cell_world.specs.declared.fail.Fail.TheVariants.{Refused, OutOfMemory}
 use Rattle.cell_gather.specs.declared.want.Want.{Want}
 use Rattle.cell_gather.specs.Appending.{append_now}
 use Rattle.cell_gather.specs.Choosing.{choose_now}
-use Rattle.cell_gather.specs.Following.{FailsAs}
+use Rattle.cell_world.specs.Following.{FailsAs}
 use Rattle.cell_gather.specs.Gathering.{IsOf, append_wanted, gather, grown}
 use Rattle.cell_gather.specs.Growing.{Ends, with_new}
 use Rattle.cell_gather.proofs.Brings.{bring_is}
@@ -30,14 +30,14 @@ named_by files word name o same e = sym (e ∙ ap (λ (n : List ℕ). find (has_
 
 module _ (spaces : SpacesState) (next : ℕ) where
   -- what is said otherwise comes to the same
-  pub ends_same : (said other : World → Outcome World) (r : Result (Unit {0}) LoadFail) (new : List NewCell) → ((w : World) → IsOf spaces next w → other w ≡ said w)
+  pub ends_same : (said other : World → Outcome World) (r : Result (Unit {0}) Fail) (new : List NewCell) → ((w : World) → IsOf spaces next w → other w ≡ said w)
       → Ends spaces next said r new → Ends spaces next other r new
   ends_same said other (Ok x) new same ends = λ w is. same w is ∙ ends w is
   ends_same said other (Err (Refused refusal)) new same ends = λ w is. same w is ∙ ends w is
   ends_same said other (Err OutOfMemory) new same ends = tt
 
   -- a first step that is refused
-  pub ends_refused : {X : Type 0} (said : World → Outcome World) (step : Outcome X) (go : World → X → Outcome World) (fail : LoadFail) (new : List NewCell)
+  pub ends_refused : {X : Type 0} (said : World → Outcome World) (step : Outcome X) (go : World → X → Outcome World) (fail : Fail) (new : List NewCell)
       → ((w : World) → IsOf spaces next w → said w ≡ (step >>= go w)) → FailsAs fail step → Ends spaces next said (Err fail) new
   ends_refused said step go (Refused refusal) new same e = λ w is. same w is ∙ ap (λ o. o >>= go w) e
   ends_refused said step go OutOfMemory new same e = tt
@@ -49,7 +49,7 @@ module _ (spaces : SpacesState) (next : ℕ) where
     abbrev said : World → Outcome World
     said w = append_cell (grown w cells) (source_of f) ns
 
-    pub append_refused : (fail : LoadFail) (new : List NewCell) → FailsAs fail appended → Ends spaces next said (Err fail) new
+    pub append_refused : (fail : Fail) (new : List NewCell) → FailsAs fail appended → Ends spaces next said (Err fail) new
     append_refused fail new e =
         ends_refused said appended (λ w c. Ok (grown w (cells ++ c ∷ []))) fail new (λ w is. append_grown spaces next w is cells f ns) e
 
@@ -71,7 +71,7 @@ module _ (spaces : SpacesState) (next : ℕ) where
     abbrev with_file : World → Option Source → Outcome World
     with_file w o = found o (Unknown want.file) >>= (λ f. append_cell (grown w cells) f want.ns)
 
-    pub wanted_found : (f : File) (r : Result (Unit {0}) LoadFail) (new : List NewCell) → find (has_name want.file) files ≡ Some f
+    pub wanted_found : (f : File) (r : Result (Unit {0}) Fail) (new : List NewCell) → find (has_name want.file) files ≡ Some f
         → Ends spaces next (λ w. append_cell (grown w cells) (source_of f) want.ns) r new
         → Ends spaces next (λ w. append_wanted (map source_of files) (grown w cells) want) r new
     wanted_found f r new e =
@@ -82,31 +82,31 @@ module _ (spaces : SpacesState) (next : ℕ) where
         → append_wanted (map source_of files) (grown w cells) want ≡ Err (Unknown word)
     wanted_unknown word is e w = ap (with_file w) (named_is want.file files ∙ ap (option_map source_of) e) ∙ ap (λ (x : List ℕ). Err (Unknown x)) (sym is)
 
-  module _ (files : List File) (ordered : are_in_order files ≡ true) (cells : List NewCell) (ns : ℕ) (id : CellId) (name : List ℕ) where
-    abbrev chosen : Outcome (ℕ × File)
-    chosen = choose_now files (with_new spaces cells) ns id name
+  module _ (files : List File) (cells : List NewCell) (ns : ℕ) (id : CellId) (name : List ℕ) where
+    abbrev chosen : Outcome (ℕ × Source)
+    chosen = choose_now (map source_of files) (with_new spaces cells) ns id name
 
     abbrev brings : NewCell → World → Outcome World
     brings c w = bring_one (map source_of files) (grown w cells) (let lack : Need = record { cell = attached c; name = name } in lack)
 
-    abbrev goes_on : World → ℕ × File → Outcome World
-    goes_on w p = append_cell (grown w cells) (source_of p.1) p.0
+    abbrev goes_on : World → ℕ × Source → Outcome World
+    goes_on w p = append_cell (grown w cells) p.1 p.0
 
     brings_is : (c : NewCell) → c.ns ≡ ns → c.id ≡ id → (w : World) → IsOf spaces next w → brings c w ≡ (chosen >>= goes_on w)
     brings_is c at numbered w is =
-        bring_is files ordered (with_new spaces cells) (next + length cells) (grown w cells) (grown_is spaces next w is cells) c name
-        ∙ ap (λ (m : ℕ). choose_now files (with_new spaces cells) m c.id name >>= goes_on w) at
-        ∙ ap (λ (i : CellId). choose_now files (with_new spaces cells) ns i name >>= goes_on w) numbered
+        bring_is (map source_of files) (with_new spaces cells) (next + length cells) (grown w cells) (grown_is spaces next w is cells) c name
+        ∙ ap (λ (m : ℕ). choose_now (map source_of files) (with_new spaces cells) m c.id name >>= goes_on w) at
+        ∙ ap (λ (i : CellId). choose_now (map source_of files) (with_new spaces cells) ns i name >>= goes_on w) numbered
 
-    pub bring_refused : (fail : LoadFail) (new : List NewCell) → FailsAs fail chosen → (c : NewCell) → c.ns ≡ ns → c.id ≡ id → Ends spaces next (brings c) (Err fail) new
+    pub bring_refused : (fail : Fail) (new : List NewCell) → FailsAs fail chosen → (c : NewCell) → c.ns ≡ ns → c.id ≡ id → Ends spaces next (brings c) (Err fail) new
     bring_refused fail new e c at numbered = ends_refused (brings c) chosen goes_on fail new (brings_is c at numbered) e
 
-    pub bring_chosen : (space : ℕ) (f : File) (r : Result (Unit {0}) LoadFail) (new : List NewCell) → (let p : ℕ × File = (space, f) in chosen ≡ Ok p)
+    pub bring_chosen : (space : ℕ) (f : File) (r : Result (Unit {0}) Fail) (new : List NewCell) → (let p : ℕ × Source = (space, source_of f) in chosen ≡ Ok p)
         → Ends spaces next (λ w. append_cell (grown w cells) (source_of f) space) r new
         → (c : NewCell) → c.ns ≡ ns → c.id ≡ id → Ends spaces next (brings c) r new
     bring_chosen space f r new e ends c at numbered =
         ends_same (λ w. append_cell (grown w cells) (source_of f) space) (brings c) r new
-        (λ w is. brings_is c at numbered w is ∙ ap (λ (o : Outcome (ℕ × File)). o >>= goes_on w) e) ends
+        (λ w is. brings_is c at numbered w is ∙ ap (λ (o : Outcome (ℕ × Source)). o >>= goes_on w) e) ends
 
   -- the wanted cells, one after another
   module _ (files : List File) where
@@ -125,7 +125,7 @@ module _ (spaces : SpacesState) (next : ℕ) where
         ∙ ap (all_from w cells) (sym (drop_more wants i want lt ∙ ap (λ x. x ∷ drop (i + 1) wants) (sym item)))
         ∙ far w is
 
-    pub one_refused : (old cells new : List NewCell) (wants : List Want) (i : ℕ) (want : Want) (fail : LoadFail) → i < length wants → want ≡ get_or wants i want
+    pub one_refused : (old cells new : List NewCell) (wants : List Want) (i : ℕ) (want : Want) (fail : Fail) → i < length wants → want ≡ get_or wants i want
         → AreLeft old wants cells (drop i wants) → Ends spaces next (λ w. append_wanted (map source_of files) (grown w cells) want) (Err fail) new
         → Ends spaces next (λ w. all_from w old wants) (Err fail) new
     one_refused old cells new wants i want OutOfMemory lt item far ends = tt

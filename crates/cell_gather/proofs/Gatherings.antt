@@ -7,8 +7,8 @@ use Rattle.cell_world.specs.Gather.{source_of, bring}
 use Rattle.cell_world.specs.Outcome.{Outcome, each}
 use Rattle.cell_world.specs.World.{World}
 use Rattle.cell_space.specs.Spaces.{SpacesState}
-use Rattle.cell_gather.specs.declared.fail.LoadFail.{LoadFail}
-use Rattle.cell_gather.specs.declared.fail.LoadFail.TheVariants.{Refused, OutOfMemory}
+use Rattle.cell_world.specs.declared.fail.Fail.{Fail}
+use Rattle.cell_world.specs.declared.fail.Fail.TheVariants.{Refused, OutOfMemory}
 use Rattle.cell_gather.specs.declared.gathering.Gathered.{Gathered}
 use Rattle.cell_gather.specs.declared.want.Want.{Want}
 use Rattle.cell_gather.specs.Gathering.{IsOf, append_wanted, grown, Gathers}
@@ -26,7 +26,7 @@ module _ (files : List File) (spaces : SpacesState) (next : ℕ) (wants : List W
   abbrev brings : World → Outcome World
   brings w = bring (map source_of files) next (grown w mid)
 
-  pub append_failed : (fail : LoadFail) (new : List NewCell) → Ends spaces next (appends first) (Err fail) new → Gathers files spaces next wants (Err fail)
+  pub append_failed : (fail : Fail) (new : List NewCell) → Ends spaces next (appends first) (Err fail) new → Gathers files spaces next wants (Err fail)
   append_failed OutOfMemory new ends = tt
   append_failed (Refused refusal) new ends = λ w is.
       gather_refused spaces next files wants w is refusal (ap (λ cells. appends cells w) (sym (no_cells first none)) ∙ ends w is)
@@ -34,7 +34,7 @@ module _ (files : List File) (spaces : SpacesState) (next : ℕ) (wants : List W
   appended : (x : Unit {0}) → Ends spaces next (appends first) (Ok x) mid → (w : World) → IsOf spaces next w → appends [] w ≡ Ok (grown w mid)
   appended x ends w is = ap (λ cells. appends cells w) (sym (no_cells first none)) ∙ ends w is
 
-  pub bring_failed : (x : Unit {0}) (fail : LoadFail) (new : List NewCell) → Ends spaces next (appends first) (Ok x) mid → Ends spaces next brings (Err fail) new
+  pub bring_failed : (x : Unit {0}) (fail : Fail) (new : List NewCell) → Ends spaces next (appends first) (Ok x) mid → Ends spaces next brings (Err fail) new
       → Gathers files spaces next wants (Err fail)
   bring_failed x OutOfMemory new begun ends = tt
   bring_failed x (Refused refusal) new begun ends = λ w is. gather_brings spaces next files wants w is mid (Err refusal) (appended x begun w is) (ends w is)

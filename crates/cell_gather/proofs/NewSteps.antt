@@ -14,9 +14,9 @@ use Rattle.cell_world.specs.World.{Alias}
 use Rattle.cell_space.specs.declared.cell.SpaceCell.{SpaceCell}
 use Rattle.cell_space.specs.Named.{clash_stem, clash_name}
 use Rattle.cell_space.specs.Spaces.{SpacesState}
-use Rattle.cell_gather.specs.declared.fail.LoadFail.{LoadFail}
+use Rattle.cell_world.specs.declared.fail.Fail.{Fail}
 use Rattle.cell_gather.specs.Appending.{clash_among_now, stem_free, names_free, room_now, cell_from, append_now}
-use Rattle.cell_gather.specs.Following.{FailsAs}
+use Rattle.cell_world.specs.Following.{FailsAs}
 use Rattle.cell_gather.proofs.Failing.{then_fails, fails_same}
 
 -- spaces of the same namespaces and cells
@@ -72,7 +72,7 @@ module _ (s : SpacesState) (present first fresh many : ℕ) (counted : fresh ≡
           ∙ ap (λ (x : List ℕ). names_free s ns x names) stem_is
           ∙ ap (λ (x : List Alias). names_free s ns (stem_of_file f.name) x) named)
 
-      pub not_free : (fail : LoadFail) → FailsAs fail (names_free l ns stem names) → FailsAs fail appended
+      pub not_free : (fail : Fail) → FailsAs fail (names_free l ns stem names) → FailsAs fail appended
       not_free fail e =
           fails_same fail (cell_of object) appended with_object
           (then_fails fail (names_free s ns (stem_of_file f.name) (definitions_of object)) (Ok (cell_from (first + many) ns f object))

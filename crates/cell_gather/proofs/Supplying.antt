@@ -11,7 +11,7 @@ use Rattle.cell_world.specs.World.{World, attached}
 use Rattle.cell_space.specs.declared.cell.CellState.TheVariants.{Attached}
 use Rattle.cell_space.specs.Named.{provider_for}
 use Rattle.cell_space.specs.Spaces.{SpacesState}
-use Rattle.cell_gather.specs.declared.fail.LoadFail.{LoadFail}
+use Rattle.cell_world.specs.declared.fail.Fail.{Fail}
 use Rattle.cell_gather.specs.declared.gathering.Gathered.{Gathered}
 use Rattle.cell_gather.specs.Gathering.{grown}
 use Rattle.cell_gather.specs.Growing.{AreSupplied, Ends, IsGrowing, IsLed, IsNext, IsOneMore, Leads, called_new}
@@ -43,7 +43,7 @@ module _ (files : List File) (spaces : SpacesState) (next : ℕ) (given : All (�
       led_on files spaces next old mid.cells.items new.cells.items led
       (led_once files spaces next mid.cells.items new.cells.items lack lacks more (λ w is. ends n.turn.cell n.turn.ns_is n.turn.id_is w is))
 
-  pub turn_failed : (fail : LoadFail) → ((c : NewCell) → c.ns ≡ ns → c.id ≡ id → Ends spaces next (brings c) (Err fail) new.cells.items) → Leads files spaces next old (Err fail) new.cells.items
+  pub turn_failed : (fail : Fail) → ((c : NewCell) → c.ns ≡ ns → c.id ≡ id → Ends spaces next (brings c) (Err fail) new.cells.items) → Leads files spaces next old (Err fail) new.cells.items
   turn_failed fail ends =
       let few = few_with spaces next mid place growing (within mid.cells.items place n.turn.cell n.turn.at) in
       leads_on files spaces next old mid.cells.items new.cells.items (Err fail) led few
@@ -57,7 +57,7 @@ one_longer cells new more = let l = length-append cells (more.cell ∷ []) in le
 
 -- all turns for a cell, and then for all cells
 module _ (files : List File) (spaces : SpacesState) (next : ℕ) (old new : List NewCell) (mid : Gathered) (place : ℕ) (growing : IsGrowing spaces next mid)
-    (lt : place < length mid.cells.items) (led : IsLed files spaces next old mid.cells.items) (fail : LoadFail) (leads : Leads files spaces next mid.cells.items (Err fail) new) where
+    (lt : place < length mid.cells.items) (led : IsLed files spaces next old mid.cells.items) (fail : Fail) (leads : Leads files spaces next mid.cells.items (Err fail) new) where
   pub needs_failed : Leads files spaces next old (Err fail) new
   needs_failed = leads_on files spaces next old mid.cells.items new (Err fail) led (few_with spaces next mid place growing lt) leads
 

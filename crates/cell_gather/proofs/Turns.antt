@@ -8,8 +8,8 @@ use Rattle.cell_world.specs.World.{World}
 use Rattle.cell_world.specs.Gather.{Source, Need, source_of, first_lack, fresh_cells, bring_one, bring_within}
 use Rattle.cell_world.specs.Outcome.{Outcome, ◌>>=◌}
 use Rattle.cell_space.specs.Spaces.{SpacesState}
-use Rattle.cell_gather.specs.declared.fail.LoadFail.{LoadFail}
-use Rattle.cell_gather.specs.declared.fail.LoadFail.TheVariants.{Refused, OutOfMemory}
+use Rattle.cell_world.specs.declared.fail.Fail.{Fail}
+use Rattle.cell_world.specs.declared.fail.Fail.TheVariants.{Refused, OutOfMemory}
 use Rattle.cell_gather.specs.Gathering.{IsOf, grown}
 use Rattle.cell_gather.specs.Growing.{Ends, IsLed, IsOneMore, Leads}
 
@@ -65,7 +65,7 @@ module _ (files : List File) (spaces : SpacesState) (next : ℕ) where
   length_led old new led = ap length led.is ∙ length-append old led.added
 
   -- what comes after some turns comes after the turns before them too
-  pub leads_on : (old mid new : List NewCell) (r : Result (Unit {0}) LoadFail) → IsLed files spaces next old mid → length spaces.cells + length mid ≤ 1024
+  pub leads_on : (old mid new : List NewCell) (r : Result (Unit {0}) Fail) → IsLed files spaces next old mid → length spaces.cells + length mid ≤ 1024
       → Leads files spaces next mid r new → Leads files spaces next old r new
   leads_on old mid new (Ok x) led few leads = led_on old mid new led leads
   leads_on old mid new (Err OutOfMemory) led few leads = tt
@@ -87,7 +87,7 @@ module _ (files : List File) (spaces : SpacesState) (next : ℕ) where
           ∙ ap (λ o. o >>= (λ u. within turns u)) (brought w is)
 
   -- one turn of a need, whatever it comes to
-  pub turn_leads : (cells new : List NewCell) (lack : Need) (fail : LoadFail) → Lacks cells lack → length spaces.cells + length cells ≤ 1024
+  pub turn_leads : (cells new : List NewCell) (lack : Need) (fail : Fail) → Lacks cells lack → length spaces.cells + length cells ≤ 1024
       → Ends spaces next (λ w. bring_one (map source_of files) (grown w cells) lack) (Err fail) new → Leads files spaces next cells (Err fail) new
   turn_leads cells new lack OutOfMemory lacks few ends = tt
   turn_leads cells new lack (Refused refusal) lacks few ends = refused_turn cells new lack refusal lacks few ends
@@ -107,7 +107,7 @@ module _ (files : List File) (spaces : SpacesState) (next : ℕ) where
       let e : turns ≡ left + length led.added = omega (arith, long, le, enough) in
       ap (λ (n : ℕ). within n (grown w old)) e ∙ led.same w is left ∙ turn_ends (map source_of files) next (grown w new) left (none w is)
 
-  pub refused : (old new : List NewCell) (turns : ℕ) (fail : LoadFail) → 1024 < turns → Leads files spaces next old (Err fail) new
+  pub refused : (old new : List NewCell) (turns : ℕ) (fail : Fail) → 1024 < turns → Leads files spaces next old (Err fail) new
       → Ends spaces next (λ w. within turns (grown w old)) (Err fail) new
   refused old new turns OutOfMemory enough leads = tt
   refused old new turns (Refused refusal) enough leads = λ w is. leads w is turns (omega (arith, enough))

@@ -14,8 +14,8 @@ use Rattle.cell_world.specs.Outcome.{Outcome, ◌>>=◌, found, each}
 use Rattle.cell_world.specs.World.{World, attached}
 use Rattle.cell_space.specs.Machine.{called}
 use Rattle.cell_space.specs.Spaces.{SpacesState}
-use Rattle.cell_gather.specs.declared.fail.LoadFail.{LoadFail}
-use Rattle.cell_gather.specs.declared.fail.LoadFail.TheVariants.{Refused, OutOfMemory}
+use Rattle.cell_world.specs.declared.fail.Fail.{Fail}
+use Rattle.cell_world.specs.declared.fail.Fail.TheVariants.{Refused, OutOfMemory}
 use Rattle.cell_gather.specs.declared.gathering.Gathered.{Gathered}
 use Rattle.cell_gather.specs.declared.want.Want.{Want}
 
@@ -42,7 +42,7 @@ pub record IsGathered (files : List File) (spaces : SpacesState) (next : ℕ) (w
   pub names : g.names.items ≡ map (λ c. definitions_of c.object) g.cells.items
   pub loadable : All (λ c. IsLoadable c.object) g.cells.items
 
-abbrev pub Gathers : List File → SpacesState → ℕ → List Want → Result Gathered LoadFail → Type 0
+abbrev pub Gathers : List File → SpacesState → ℕ → List Want → Result Gathered Fail → Type 0
 Gathers files spaces next wants (Ok g) = IsGathered files spaces next wants g
 Gathers files spaces next wants (Err (Refused refusal)) =
     (w : World) → IsOf spaces next w → gather (map source_of files) w wants ≡ Err refusal

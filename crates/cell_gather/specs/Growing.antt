@@ -17,8 +17,8 @@ use Rattle.cell_space.specs.declared.cell.SpaceCell.{SpaceCell}
 use Rattle.cell_space.specs.Machine.{called}
 use Rattle.cell_space.specs.Named.{provider_for}
 use Rattle.cell_space.specs.Spaces.{SpacesState}
-use Rattle.cell_gather.specs.declared.fail.LoadFail.{LoadFail}
-use Rattle.cell_gather.specs.declared.fail.LoadFail.TheVariants.{Refused, OutOfMemory}
+use Rattle.cell_world.specs.declared.fail.Fail.{Fail}
+use Rattle.cell_world.specs.declared.fail.Fail.TheVariants.{Refused, OutOfMemory}
 use Rattle.cell_gather.specs.declared.gathering.Gathered.{Gathered}
 use Rattle.cell_gather.specs.Gathering.{IsOf, grown}
 
@@ -39,7 +39,7 @@ pub record IsGrowing (spaces : SpacesState) (next : ℕ) (g : Gathered) : Type 0
   pub few : 0 < length g.cells.items → length spaces.cells + length g.cells.items ≤ 1024
 
 -- over each machine that the spaces are those of
-abbrev pub Ends : SpacesState → ℕ → (World → Outcome World) → Result (Unit {0}) LoadFail → List NewCell → Type 0
+abbrev pub Ends : SpacesState → ℕ → (World → Outcome World) → Result (Unit {0}) Fail → List NewCell → Type 0
 Ends spaces next said (Ok _) cells = (w : World) → IsOf spaces next w → said w ≡ Ok (grown w cells)
 Ends spaces next said (Err (Refused refusal)) cells = (w : World) → IsOf spaces next w → said w ≡ Err refusal
 Ends spaces next said (Err OutOfMemory) cells = Unit {0}
@@ -56,7 +56,7 @@ pub record IsLed (files : List File) (spaces : SpacesState) (next : ℕ) (old ne
       → bring_within (turns + length added) (map source_of files) next (grown w old) ≡ bring_within turns (map source_of files) next (grown w new)
 
 -- where there are turns for all cells that may be there
-abbrev pub Leads : List File → SpacesState → ℕ → List NewCell → Result (Unit {0}) LoadFail → List NewCell → Type 0
+abbrev pub Leads : List File → SpacesState → ℕ → List NewCell → Result (Unit {0}) Fail → List NewCell → Type 0
 Leads files spaces next old (Ok _) new = IsLed files spaces next old new
 Leads files spaces next old (Err (Refused refusal)) new =
     (w : World) → IsOf spaces next w → (turns : ℕ) → 1024 < turns + (length spaces.cells + length old)

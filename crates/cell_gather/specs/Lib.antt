@@ -1,6 +1,5 @@
 pub mod Gathering
 pub mod Layers
-pub mod Following
 pub mod Appending
 pub mod Choosing
 pub mod Growing

@@ -10,9 +10,9 @@ ghost use Rattle.cell_gather.specs.Growing.{Ends, IsGrowing, IsOneMore, with_new
 
 use crate::fresh::Fresh;
 use crate::load::Load;
-use crate::{Gathered, LoadFail, Want};
+use crate::{Gathered, Want};
 use cell_num::Name;
-use cell_world::{File, Refusal};
+use cell_world::{Fail, File, Refusal};
 use std::alloc::{AllocError, Global};
 
 impl<'a> Load<'a> {
@@ -43,7 +43,7 @@ impl<'a> Load<'a> {
         gathered: &mut Gathered,
         file: &File,
         ns: u16,
-    ) -> Result<(), LoadFail>
+    ) -> Result<(), Fail>
         requires growing { IsGrowing self.now.spaces.now self.now.next gathered.old }
         requires small { length file.now.bytes ≤ 1048576 }
         requires there { ns < length self.now.spaces.now.namespaces }
@@ -57,12 +57,7 @@ impl<'a> Load<'a> {
     }
 
     /// Appends the cell of a wanted file.
-    fn append_wanted(
-        &self,
-        alloc: Global,
-        gathered: &mut Gathered,
-        want: &Want,
-    ) -> Result<(), LoadFail>
+    fn append_wanted(&self, alloc: Global, gathered: &mut Gathered, want: &Want) -> Result<(), Fail>
         requires growing { IsGrowing self.now.spaces.now self.now.next gathered.old }
         requires there { want.now.ns < length self.now.spaces.now.namespaces }
         ensures growing { OnOk result (IsGrowing self.now.spaces.now self.now.next gathered.new) }
@@ -72,7 +67,7 @@ impl<'a> Load<'a> {
             Some(file) => self.append(alloc, gathered, file, want.ns),
             None => {
                 let word = want.file.copy(alloc)?;
-                Err(LoadFail::Refused(Refusal::Unknown { word }))
+                Err(Fail::Refused(Refusal::Unknown { word }))
             }
         }
     }
@@ -83,7 +78,7 @@ impl<'a> Load<'a> {
         alloc: Global,
         gathered: &mut Gathered,
         wants: &[Want],
-    ) -> Result<(), LoadFail>
+    ) -> Result<(), Fail>
         requires growing { IsGrowing self.now.spaces.now self.now.next gathered.old }
         requires there { All (λ want. want.ns < length self.now.spaces.now.namespaces) wants.now }
         ensures growing { OnOk result (IsGrowing self.now.spaces.now self.now.next gathered.new) }

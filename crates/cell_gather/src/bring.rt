@@ -7,9 +7,10 @@ ghost use Rattle.cell_world.specs.declared.state.NewCell.{NewCell as SomeCell};
 ghost use Rattle.cell_gather.specs.Gathering.{grown};
 ghost use Rattle.cell_gather.specs.Growing.{Ends, IsGrowing, IsOneMore};
 
+use crate::Gathered;
 use crate::load::Load;
-use crate::{Gathered, LoadFail};
 use cell_num::CellId;
+use cell_world::Fail;
 use std::alloc::Global;
 
 impl<'a> Load<'a> {
@@ -21,7 +22,7 @@ impl<'a> Load<'a> {
         ns: u16,
         needed_by: CellId,
         name: &[u8],
-    ) -> Result<(), LoadFail>
+    ) -> Result<(), Fail>
         requires growing { IsGrowing self.now.spaces.now self.now.next gathered.old }
         requires there { ns < length self.now.spaces.now.namespaces }
         ensures growing { OnOk result (IsGrowing self.now.spaces.now self.now.next gathered.new) }

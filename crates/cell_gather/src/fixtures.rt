@@ -4,9 +4,7 @@ ghost use Rattle.std.specs.Prelude.{◌≡◌, ◌<◌, ◌≤◌, true, All, If
 ghost use Rattle.cell_depot.specs.ObjectName.{is_object_name};
 
 use crate::Want;
-use cell_elfw::write_object;
-use cell_num::{Bytes, CellId, Listed, Name, RelKind};
-use cell_object::{Bind, Entry, Fill, Home, Object, Section, Sort, Symbol};
+use cell_num::{CellId, Name, Shared};
 use cell_space::{NameRows, Spaces};
 use cell_world::File;
 use std::alloc::{AllocError, Global};
@@ -32,72 +30,117 @@ impl Space {
     }
 }
 
-fn bytes(alloc: Global, from: &[u8]) -> Result<Bytes, AllocError> {
-    Ok(Listed::from_vec(Vec::from_slice(alloc, from)?))
-}
-
-fn symbol(alloc: Global, name: &[u8], home: Home) -> Result<Symbol, AllocError> {
-    Ok(Symbol {
-        name: bytes(alloc, name)?,
-        bind: Bind::Global,
-        sort: Sort::NoType,
-        home,
-        value: 0,
-        size: 0,
-    })
-}
-
-/// How many there are, where they are few.
-fn few(count: usize) -> u32
-    ensures { result < 256 }
-{
-    (count % 256) as u32
-}
-
-/// A section of data with so many words of zeros.
-fn data(alloc: Global, words: u32) -> Result<Section, AllocError>
-    requires { words < 256 }
-{
-    let size = 8 * words;
-    let mut zeros = Vec::new(alloc);
-    for _ in 0..size {
-        zeros.push(0u8)?;
+/// Appends numbers, each in so many bytes, the lowest first.
+fn put(fields: &[(u64, u8)], into: &mut Vec<u8>) -> Result<(), AllocError> {
+    for (number, count) in fields {
+        let mut rest = *number;
+        for _ in 0..*count {
+            into.push((rest % 256) as u8)?;
+            rest /= 256;
+        }
     }
-    Ok(Section {
-        number: 1,
-        name: bytes(alloc, b".data")?,
-        write: true,
-        exec: false,
-        fill: Fill::Prog,
-        align: 8,
-        size,
-        bytes: Listed::from_vec(zeros),
-    })
+    Ok(())
 }
 
-/// An object that defines names in its data and has a word for each name that it needs.
-fn object(alloc: Global, defines: &[&[u8]], needs: &[&[u8]]) -> Result<Object, AllocError> {
-    let mut symbols = Vec::new(alloc);
-    for name in defines {
-        symbols.push(symbol(alloc, name, Home::Inside(1))?)?;
+/// The parts of an object file with a section of words of data.
+#[derive(Drop)]
+struct Parts {
+    data: Vec<u8>,
+    symbols: Vec<u8>,
+    entries: Vec<u8>,
+    strings: Vec<u8>,
+}
+
+impl Parts {
+    /// Symbol 0 and the empty name.
+    fn new(alloc: Global) -> Result<Parts, AllocError> {
+        Ok(Parts {
+            data: Vec::new(alloc),
+            symbols: Vec::from_slice(alloc, &[0; 24])?,
+            entries: Vec::new(alloc),
+            strings: Vec::from_slice(alloc, b"\0")?,
+        })
     }
-    let mut entries = Vec::new(alloc);
-    for name in needs {
-        let offset = 8 * few(entries.len());
-        symbols.push(symbol(alloc, name, Home::Undef)?)?;
-        entries.push(Entry {
-            section: 1,
-            offset,
-            kind: RelKind::Abs64,
-            symbol: few(symbols.len()),
-            addend: 0,
-        })?;
+
+    /// A GLOBAL in the section of data, or an undefined one.
+    fn add_symbol(&mut self, name: &[u8], section: u64) -> Result<(), AllocError> {
+        let place = self.strings.len() as u64;
+        put(
+            &[(place, 4), (0x10, 2), (section, 2), (0, 8), (0, 8)],
+            &mut self.symbols,
+        )?;
+        self.strings.extend_from_slice(name)?;
+        self.strings.push(0)?;
+        Ok(())
     }
-    Ok(Object {
-        sections: Listed::from_vec(vec![in alloc; data(alloc, few(needs.len()))?]?),
-        symbols: Listed::from_vec(symbols),
-        entries: Listed::from_vec(entries),
-    })
+
+    /// A word of data that is the address of a name.
+    fn add_need(&mut self, name: &[u8]) -> Result<(), AllocError> {
+        let number = self.symbols.len() as u64 / 24;
+        self.add_symbol(name, 0)?;
+        let offset = self.data.len() as u64;
+        put(
+            &[(offset, 8), (2, 4), (number, 4), (0, 8)],
+            &mut self.entries,
+        )?;
+        put(&[(0, 8)], &mut self.data)
+    }
+
+    /// The object file: the ELF header, the parts, and the headers of section 0, of the data, the
+    /// symbols, the strings and the entries.
+    fn file(&self, alloc: Global) -> Result<Vec<u8>, AllocError> {
+        let mut body = Vec::new(alloc);
+        let data = add_part(&self.data, &mut body)?;
+        let symbols = add_part(&self.symbols, &mut body)?;
+        let strings = add_part(&self.strings, &mut body)?;
+        let entries = add_part(&self.entries, &mut body)?;
+        let shoff = 64 + body.len() as u64;
+        put(&[(0, 64)], &mut body)?;
+        put_header(1, 3, data, [0, 0, 8, 0], &mut body)?;
+        put_header(2, 0, symbols, [3, 1, 8, 24], &mut body)?;
+        put_header(3, 0, strings, [0, 0, 1, 0], &mut body)?;
+        put_header(4, 0, entries, [2, 1, 8, 24], &mut body)?;
+        let mut file = Vec::from_slice(alloc, b"\x7FELF\x02\x01\x01")?;
+        put(
+            &[
+                (0, 9),
+                (1, 2),
+                (243, 2),
+                (1, 4),
+                (0, 16),
+                (shoff, 8),
+                (0, 4),
+            ],
+            &mut file,
+        )?;
+        put(&[(64, 2), (0, 4), (64, 2), (5, 2), (3, 2)], &mut file)?;
+        file.extend_from_slice(&body)?;
+        Ok(file)
+    }
+}
+
+/// Appends a part of the file, and gives its offset and its length.
+fn add_part(part: &[u8], body: &mut Vec<u8>) -> Result<(u64, u64), AllocError> {
+    let offset = 64 + body.len() as u64;
+    body.extend_from_slice(part)?;
+    Ok((offset, part.len() as u64))
+}
+
+/// Appends a section header: sh_type and sh_flags, the part, and sh_link, sh_info, sh_addralign and
+/// sh_entsize.
+fn put_header(
+    kind: u64,
+    flags: u64,
+    part: (u64, u64),
+    last: [u64; 4],
+    body: &mut Vec<u8>,
+) -> Result<(), AllocError> {
+    put(&[(0, 4), (kind, 4), (flags, 8), (0, 8)], body)?;
+    put(&[(part.0, 8), (part.1, 8)], body)?;
+    put(
+        &[(last[0], 4), (last[1], 4), (last[2], 8), (last[3], 8)],
+        body,
+    )
 }
 
 /// A file whose object defines names and needs names.
@@ -107,15 +150,20 @@ pub fn file(alloc: Global, name: &[u8], defines: &[&[u8]], needs: &[&[u8]]) -> R
     ensures name { IfOk result (λ f. f.name ≡ name.now) }
     ensures small { IfOk result (λ f. length f.bytes ≤ 1048576) }
 {
-    let image = write_object(alloc, &object(alloc, defines, needs)?)
-        .ok()
-        .ok_or("the object can be written")?;
+    let mut parts = Parts::new(alloc)?;
+    for name in defines {
+        parts.add_symbol(name, 1)?;
+    }
+    for name in needs {
+        parts.add_need(name)?;
+    }
+    let image = parts.file(alloc)?;
     if image.len() > 1048576 {
         return Err("the file is small".into());
     }
     Ok(File {
         name: Name::of(alloc, name)?,
-        bytes: Listed::from_vec(image),
+        bytes: Shared::from_vec(alloc, image)?,
     })
 }
 

@@ -4,19 +4,19 @@ ghost use Rattle.std.specs.Prelude.{◌≡◌, ◌<◌, ◌≤◌, ◌+◌, IfOk
 ghost use Rattle.cell_world.specs.Coherent.{IsLoadable};
 ghost use Rattle.cell_world.specs.Names.{definitions_of};
 ghost use Rattle.cell_gather.specs.Appending.{append_now, cell_from};
-ghost use Rattle.cell_gather.specs.Following.{Follows};
+ghost use Rattle.cell_world.specs.Following.{Follows};
 ghost use Rattle.cell_gather.specs.Growing.{IsGrowing, with_new};
 
+use crate::Gathered;
 use crate::clashes::check_names;
 use crate::definitions::definitions;
 use crate::load::Load;
 use crate::read::read;
-use crate::{Gathered, LoadFail};
 use cell_depot::stem_of;
 use cell_num::{CellId, Listed, Name};
 use cell_object::Object;
 use cell_space::NameRows;
-use cell_world::{File, NewCell};
+use cell_world::{Fail, File, NewCell};
 use std::alloc::{AllocError, Global};
 
 /// A new cell, and what it defines.
@@ -55,7 +55,7 @@ impl<'a> Load<'a> {
         gathered: &Gathered,
         file: &File,
         ns: u16,
-    ) -> Result<Fresh, LoadFail>
+    ) -> Result<Fresh, Fail>
         requires growing { IsGrowing self.now.spaces.now self.now.next gathered.now }
         requires small { length file.now.bytes ≤ 1048576 }
         requires there { ns < length self.now.spaces.now.namespaces }

@@ -1,14 +1,13 @@
 //! The cells of a load.
 
-ghost use Rattle.std.specs.Prelude.{◌≡◌, ◌<◌, ◌≤◌, All, length, true};
-ghost use Rattle.cell_depot.specs.Files.{are_in_order};
+ghost use Rattle.std.specs.Prelude.{◌≡◌, ◌<◌, ◌≤◌, All, length};
 ghost use Rattle.cell_gather.specs.Gathering.{Gathers};
 
+use crate::Want;
 use crate::load::Load;
-use crate::{LoadFail, Want};
 use cell_depot::Depot;
 use cell_space::{NameRows, Spaces};
-use cell_world::NewCell;
+use cell_world::{Fail, NewCell};
 use std::alloc::Global;
 
 /// New cells, attached to spaces of their own, and what each of them defines. They have no places yet.
@@ -33,12 +32,11 @@ pub fn gather(
     present: u32,
     next: u32,
     wants: &[Want],
-) -> Result<Gathered, LoadFail>
+) -> Result<Gathered, Fail>
     requires present { present ≡ length spaces.now.cells }
     requires given { All (λ c. c.cell.0 < next) spaces.now.cells }
     requires there { All (λ want. want.ns < length spaces.now.namespaces) wants.now }
     requires small { All (λ f. length f.bytes ≤ 1048576) depot.now }
-    requires ordered { are_in_order depot.now ≡ true }
     ensures { Gathers depot.now spaces.now next wants.now result }
 {
     let load = Load {

@@ -6,7 +6,6 @@ mod both;
 mod bring;
 mod clashes;
 mod definitions;
-mod fail;
 mod fresh;
 mod gathering;
 mod layers;
@@ -17,7 +16,6 @@ mod read;
 mod supply;
 mod want;
 
-pub use fail::LoadFail;
 pub use gathering::{Gathered, gather};
 pub use layers::Layers;
 pub use want::Want;

@@ -1,15 +1,14 @@
 //! What a load is gathered from.
 
-ghost use Rattle.std.specs.Prelude.{◌≡◌, ◌<◌, ◌≤◌, ◌+◌, ◌++◌, All, IfOk, length, map, true};
-ghost use Rattle.cell_depot.specs.Files.{are_in_order};
+ghost use Rattle.std.specs.Prelude.{◌≡◌, ◌<◌, ◌≤◌, ◌+◌, ◌++◌, All, IfOk, length, map};
 ghost use Rattle.cell_gather.specs.Appending.{room_now};
-ghost use Rattle.cell_gather.specs.Following.{Follows};
+ghost use Rattle.cell_world.specs.Following.{Follows};
 ghost use Rattle.cell_gather.specs.Growing.{IsGrowing, called_new};
 
-use crate::{Gathered, Layers, LoadFail};
+use crate::{Gathered, Layers};
 use cell_depot::Depot;
 use cell_space::Spaces;
-use cell_world::{Many, Refusal};
+use cell_world::{Fail, Many, Refusal};
 use std::alloc::{AllocError, Global};
 
 const MAX_CELLS: usize = 1024;
@@ -26,7 +25,6 @@ pub struct Load<'a> {
     ghost counted: { present ≡ length spaces.now.cells },
     ghost given: { All (λ c. c.cell.0 < next) spaces.now.cells },
     ghost small: { All (λ f. length f.bytes ≤ 1048576) depot.now },
-    ghost ordered: { are_in_order depot.now ≡ true },
 }
 
 impl<'a> Load<'a> {
@@ -52,19 +50,19 @@ impl<'a> Load<'a> {
     }
 
     /// Sees that there may be one more cell, where so many are new.
-    pub fn check_room(&self, fresh: usize) -> Result<(), LoadFail>
+    pub fn check_room(&self, fresh: usize) -> Result<(), Fail>
         requires { fresh ≤ 1024 }
         ensures { Follows (λ _. tt) result (room_now (length self.now.spaces.now.cells + fresh) (self.now.next + fresh)) }
     {
         let (present, next) = (self.present, self.next);
         if present as usize + fresh >= MAX_CELLS {
-            return Err(LoadFail::Refused(Refusal::TooMany {
+            return Err(Fail::Refused(Refusal::TooMany {
                 kind: Many::Cells,
                 limit: MAX_CELLS as u32,
             }));
         }
         if next as usize + fresh > MAX_CELL_NUMBER {
-            return Err(LoadFail::Refused(Refusal::TooMany {
+            return Err(Fail::Refused(Refusal::TooMany {
                 kind: Many::CellNumbers,
                 limit: MAX_CELL_NUMBER as u32,
             }));

@@ -1,19 +1,19 @@
 //! The file that brings a name.
 
-ghost use Rattle.std.specs.Prelude.{◌≡◌, ◌<◌, ◌≤◌, IfOk, IfSome, length, option_map};
+ghost use Rattle.std.specs.Prelude.{◌≡◌, ◌<◌, ◌≤◌, IfOk, IfSome, length, map, option_map};
+ghost use Rattle.cell_world.specs.Gather.{source_of, depot_files};
 ghost use Rattle.cell_world.specs.Names.{chain};
-ghost use Rattle.cell_depot.specs.Files.{files_for};
 ghost use Rattle.cell_gather.specs.Choosing.{choose_now, nearest_now, one_in, space_name, lacking};
-ghost use Rattle.cell_gather.specs.Following.{Follows};
+ghost use Rattle.cell_world.specs.Following.{Follows};
 ghost use Rattle.cell_gather.specs.Growing.{IsGrowing, with_new};
 ghost use Rattle.cell_world.specs.declared.refusal.Refusal.TheVariants.{Ambiguous};
 
+use crate::Gathered;
 use crate::load::Load;
-use crate::{Gathered, LoadFail};
 use cell_depot::DepotFault;
 use cell_num::{CellId, Name};
 use cell_space::crate_of;
-use cell_world::{File, Refusal};
+use cell_world::{Fail, File, Refusal};
 use std::alloc::{AllocError, Global};
 
 /// A file, and the namespace in whose depot it is.
@@ -42,9 +42,9 @@ fn ambiguous(alloc: Global, one: &File, two: &File) -> Result<Refusal, AllocErro
 
 impl<'a> Load<'a> {
     /// The one file of a stem in the namespace's own depot.
-    fn in_depot(&self, alloc: Global, ns: u16, stem: &[u8]) -> Result<Option<&'a File>, LoadFail>
+    fn in_depot(&self, alloc: Global, ns: u16, stem: &[u8]) -> Result<Option<&'a File>, Fail>
         requires { ns < length self.now.spaces.now.namespaces }
-        ensures file { Follows (λ file. option_map (λ f. f.now) file) result (one_in (files_for (space_name self.now.spaces.now.namespaces ns) stem.now self.now.depot.now)) }
+        ensures file { Follows (λ file. option_map (λ f. source_of f.now) file) result (one_in (depot_files (map source_of self.now.depot.now) (space_name self.now.spaces.now.namespaces ns) stem.now)) }
         ensures small { IfOk result (λ file. IfSome file (λ f. length f.now.bytes ≤ 1048576)) }
     {
         let depot = self.depot;
@@ -53,15 +53,15 @@ impl<'a> Load<'a> {
             Err(DepotFault::NoObject) => Ok(None),
             Err(DepotFault::Ambiguous { one, two }) => {
                 let refusal = ambiguous(alloc, depot.at(one), depot.at(two))?;
-                Err(LoadFail::Refused(refusal))
+                Err(Fail::Refused(refusal))
             }
         }
     }
 
     /// The one file of a stem in the nearest depot that has one, from the namespace itself up to `k`.
-    fn nearest(&self, alloc: Global, ns: u16, stem: &[u8]) -> Result<Option<Near<'a>>, LoadFail>
+    fn nearest(&self, alloc: Global, ns: u16, stem: &[u8]) -> Result<Option<Near<'a>>, Fail>
         requires { ns < length self.now.spaces.now.namespaces }
-        ensures file { Follows (λ near. option_map (λ n. (n.ns, n.file.now)) near) result (nearest_now self.now.depot.now self.now.spaces.now.namespaces (chain self.now.spaces.now.namespaces ns) stem.now) }
+        ensures file { Follows (λ near. option_map (λ n. (n.ns, source_of n.file.now)) near) result (nearest_now (map source_of self.now.depot.now) self.now.spaces.now.namespaces (chain self.now.spaces.now.namespaces ns) stem.now) }
         ensures there { IfOk result (λ near. IfSome near (λ n. n.ns < length self.now.spaces.now.namespaces)) }
         ensures small { IfOk result (λ near. IfSome near (λ n. length n.file.now.bytes ≤ 1048576)) }
     {
@@ -82,23 +82,23 @@ impl<'a> Load<'a> {
         ns: u16,
         needed_by: CellId,
         name: &[u8],
-    ) -> Result<Near<'a>, LoadFail>
+    ) -> Result<Near<'a>, Fail>
         requires growing { IsGrowing self.now.spaces.now self.now.next gathered.now }
         requires there { ns < length self.now.spaces.now.namespaces }
-        ensures file { Follows (λ n. (n.ns, n.file.now)) result (choose_now self.now.depot.now (with_new self.now.spaces.now gathered.now.cells.items) ns needed_by name.now) }
+        ensures file { Follows (λ n. (n.ns, source_of n.file.now)) result (choose_now (map source_of self.now.depot.now) (with_new self.now.spaces.now gathered.now.cells.items) ns needed_by name.now) }
         ensures there { IfOk result (λ n. n.ns < length self.now.spaces.now.namespaces) }
         ensures small { IfOk result (λ n. length n.file.now.bytes ≤ 1048576) }
     {
         let Some(end) = crate_of(name) else {
-            return Err(LoadFail::Refused(missing(alloc, name, needed_by)?));
+            return Err(Fail::Refused(missing(alloc, name, needed_by)?));
         };
         let stem = &name[..end];
         if self.layers(gathered).has_stem(ns, stem) {
-            return Err(LoadFail::Refused(missing(alloc, name, needed_by)?));
+            return Err(Fail::Refused(missing(alloc, name, needed_by)?));
         }
         match self.nearest(alloc, ns, stem)? {
             Some(near) => Ok(near),
-            None => Err(LoadFail::Refused(missing(alloc, name, needed_by)?)),
+            None => Err(Fail::Refused(missing(alloc, name, needed_by)?)),
         }
     }
 }

@@ -4,34 +4,33 @@ ghost use Rattle.std.specs.Prelude.{◌≡◌, ◌≤◌, IfOk, length};
 ghost use Rattle.cell_world.specs.Coherent.{IsLoadable};
 ghost use Rattle.cell_world.specs.Gather.{source_of, object_in};
 ghost use Rattle.cell_gather.specs.Reading.{FailsToRead};
-ghost use Rattle.cell_gather.specs.Following.{Follows};
+ghost use Rattle.cell_world.specs.Following.{Follows};
 
-use crate::LoadFail;
 use cell_elf::{ReadFail, read_object};
 use cell_object::Object;
-use cell_world::{File, Refusal};
+use cell_world::{Fail, File, Refusal};
 use std::alloc::Global;
 
 /// Why the file is not read.
-fn read_failed(alloc: Global, file: &File, fail: ReadFail) -> LoadFail
+fn read_failed(alloc: Global, file: &File, fail: ReadFail) -> Fail
     ensures { FailsToRead file.now fail result }
 {
     match fail {
         ReadFail::BadObject { rule, at } => match file.name.copy(alloc) {
-            Ok(file) => LoadFail::Refused(Refusal::BadObject { file, rule, at }),
-            Err(_) => LoadFail::OutOfMemory,
+            Ok(file) => Fail::Refused(Refusal::BadObject { file, rule, at }),
+            Err(_) => Fail::OutOfMemory,
         },
-        ReadFail::OutOfMemory => LoadFail::OutOfMemory,
+        ReadFail::OutOfMemory => Fail::OutOfMemory,
     }
 }
 
 /// The object of a file.
-pub fn read(alloc: Global, file: &File) -> Result<Object, LoadFail>
+pub fn read(alloc: Global, file: &File) -> Result<Object, Fail>
     requires { length file.now.bytes ≤ 1048576 }
     ensures object { Follows (λ object. object) result (object_in (source_of file.now)) }
     ensures loadable { IfOk result IsLoadable }
 {
-    match read_object(alloc, file.bytes.as_slice()) {
+    match read_object(alloc, &file.bytes) {
         Ok(object) => Ok(object),
         Err(fail) => Err(read_failed(alloc, file, fail)),
     }

@@ -8,10 +8,11 @@ ghost use Rattle.cell_space.specs.declared.cell.CellState.TheVariants.{Attached}
 ghost use Rattle.cell_gather.specs.Gathering.{grown};
 ghost use Rattle.cell_gather.specs.Growing.{AreSupplied, Ends, IsGrowing, IsNext, IsProvided, IsTurnOf, Leads, called_new};
 
+use crate::Gathered;
 use crate::load::Load;
 use crate::needs::needs;
-use crate::{Gathered, LoadFail};
 use cell_num::{CellId, Name};
+use cell_world::Fail;
 use std::alloc::Global;
 
 impl<'a> Load<'a> {
@@ -34,7 +35,7 @@ impl<'a> Load<'a> {
         ns: u16,
         needed_by: CellId,
         name: &[u8],
-    ) -> Result<(), LoadFail>
+    ) -> Result<(), Fail>
         requires growing { IsGrowing self.now.spaces.now self.now.next gathered.old }
         requires there { ns < length self.now.spaces.now.namespaces }
         requires next { IsNext self.now.spaces.now gathered.old.cells.items place ns needed_by name.now }
@@ -57,7 +58,7 @@ impl<'a> Load<'a> {
         ns: u16,
         needed_by: CellId,
         needs: &[Name],
-    ) -> Result<(), LoadFail>
+    ) -> Result<(), Fail>
         requires growing { IsGrowing self.now.spaces.now self.now.next gathered.old }
         requires there { ns < length self.now.spaces.now.namespaces }
         requires turn { IsTurnOf self.now.spaces.now gathered.old.cells.items place ns needed_by needs.now }
@@ -72,12 +73,7 @@ impl<'a> Load<'a> {
     }
 
     /// Brings what the new cell at a place needs, where no cell before it lacks anything.
-    fn supply_cell(
-        &self,
-        alloc: Global,
-        gathered: &mut Gathered,
-        place: usize,
-    ) -> Result<(), LoadFail>
+    fn supply_cell(&self, alloc: Global, gathered: &mut Gathered, place: usize) -> Result<(), Fail>
         requires growing { IsGrowing self.now.spaces.now self.now.next gathered.old }
         requires there { place < length gathered.old.cells.items }
         requires supplied { AreSupplied self.now.spaces.now gathered.old.cells.items place }
@@ -92,7 +88,7 @@ impl<'a> Load<'a> {
     }
 
     /// Brings what the new cells need, and what those need that are brought.
-    pub fn bring(&self, alloc: Global, gathered: &mut Gathered) -> Result<(), LoadFail>
+    pub fn bring(&self, alloc: Global, gathered: &mut Gathered) -> Result<(), Fail>
         requires { IsGrowing self.now.spaces.now self.now.next gathered.old }
         ensures growing { OnOk result (IsGrowing self.now.spaces.now self.now.next gathered.new) }
         ensures ends { Ends self.now.spaces.now self.now.next (λ w. bring (map source_of self.now.depot.now) self.now.next (grown w gathered.old.cells.items)) result gathered.new.cells.items }

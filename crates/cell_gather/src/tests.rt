@@ -1,12 +1,12 @@
 ghost use Rattle.std.specs.Prelude.{◌≡◌, ◌≤◌, true, All, length};
 ghost use Rattle.std.specs.List.{list_all};
-ghost use Rattle.cell_depot.specs.Files.{are_apart, are_in_order};
+ghost use Rattle.cell_depot.specs.Files.{are_apart};
 ghost use Rattle.cell_depot.specs.ObjectName.{is_object_name};
 
 use super::*;
 use crate::fixtures::{Space, file, spaces, wants};
 use cell_depot::Depot;
-use cell_world::{File, NewCell, Refusal};
+use cell_world::{Fail as LoadFail, File, NewCell, Refusal};
 use std::alloc::Global;
 use std::test::*;
 
@@ -94,7 +94,6 @@ fn loads(
     requires apart { are_apart files.items ≡ true }
     requires named { list_all (λ f. is_object_name f.name) files.items ≡ true }
     requires small { All (λ f. length f.bytes ≤ 1048576) files.items }
-    requires ordered { are_in_order files.items ≡ true }
 {
     let depot = Depot::of_files(alloc, files)?;
     let spaces = spaces(alloc)?;

@@ -20,19 +20,6 @@ module _ (p : LinkRow → Bool) where
   any_at (r ∷ rows) zero at = ap (λ b. b || list_any p rows) at
   any_at (r ∷ rows) (suc place) at = any_later (p r) (list_any p rows) (any_at rows place at)
 
-  -- the first that passes does pass
-  pub first_passes : (rows : List LinkRow) → list_any p rows ≡ true → IsSomeAnd (slice_get rows (position_or_len p rows)) (λ r. IsTrue (p r))
-  first_passes [] any = absurd (cc any)
-  first_passes (r ∷ rows) any = go (p r) refl (first_passes rows) any
-    where
-      go : (b : Bool) → p r ≡ b
-          → (list_any p rows ≡ true → IsSomeAnd (slice_get rows (position_or_len p rows)) (λ r. IsTrue (p r)))
-          → (b || list_any p rows) ≡ true → IsSomeAnd (slice_get (r ∷ rows) (cond (not b) (1 + position_or_len p rows) 0)) (λ r. IsTrue (p r))
-      go true e later any = e
-      go false e later any =
-          let next : suc (position_or_len p rows) ≡ 1 + position_or_len p rows = omega arith in
-          subst (λ place. IsSomeAnd (slice_get (r ∷ rows) place) (λ r. IsTrue (p r))) next (later any)
-
   -- none is found where none passes
   pub none_found : (rows : List LinkRow) → list_any p rows ≡ false → find p rows ≡ None
   none_found [] none = refl
@@ -48,48 +35,12 @@ moved_nothing [] = refl
 moved_nothing (r ∷ rows) = ap (λ rs. r ∷ rs) (moved_nothing rows)
 
 -- another link stays as it is
-unmoved : (to row : LinkRow) → is_link_of to.user to.entry row ≡ false → moved_row (to ∷ []) row ≡ row
+pub unmoved : (to row : LinkRow) → is_link_of to.user to.entry row ≡ false → moved_row (to ∷ []) row ≡ row
 unmoved to row other = ap (λ b. record row { target = option_map_or (λ m. m.target) (cond b (Some to) None) row.target }) (link_swapped row to ∙ other)
 
 -- the named link gets its target
-retargeted : (to row : LinkRow) → is_link_of to.user to.entry row ≡ true → moved_row (to ∷ []) row ≡ record row { target = to.target }
+pub retargeted : (to row : LinkRow) → is_link_of to.user to.entry row ≡ true → moved_row (to ∷ []) row ≡ record row { target = to.target }
 retargeted to row named = ap (λ b. record row { target = option_map_or (λ m. m.target) (cond b (Some to) None) row.target }) (link_swapped row to ∙ named)
-
--- other links stay as they are
-unmoved_all : (to : LinkRow) (rows : List LinkRow) → is_bound rows to.user to.entry ≡ false → moved rows (to ∷ []) ≡ rows
-unmoved_all to [] none = refl
-unmoved_all to (r ∷ rows) none = go (is_link_of to.user to.entry r) refl (unmoved_all to rows) none
-  where
-    go : (b : Bool) → is_link_of to.user to.entry r ≡ b → (is_bound rows to.user to.entry ≡ false → moved rows (to ∷ []) ≡ rows)
-        → (b || is_bound rows to.user to.entry) ≡ false → moved (r ∷ rows) (to ∷ []) ≡ r ∷ rows
-    go true e later none = absurd (cc none)
-    go false e later none = λ i. unmoved to r e i ∷ later none i
-
--- the named link is at that place, and no other is named so
-pub set_moved : (to : LinkRow) (rows : List LinkRow) (place : ℕ) (d : LinkRow) → AreApart rows
-    → IsSomeAnd (slice_get rows place) (λ r. IsTrue (is_link_of to.user to.entry r))
-    → slice_set rows place (record (slice_index_or rows place d) { target = to.target }) ≡ moved rows (to ∷ [])
-set_moved to [] place d apart at = absurd at
-set_moved to (r ∷ rows) zero d apart at =
-    let none : is_bound rows to.user to.entry ≡ false =
-    ap (λ u. is_bound rows u to.entry) (sym (link_user to.user to.entry r at))
-    ∙ ap (λ e. is_bound rows r.user e) (sym (link_entry to.user to.entry r at))
-    ∙ apart.0
-    in
-    λ i. sym (retargeted to r at) i ∷ sym (unmoved_all to rows none) i
-set_moved to (r ∷ rows) (suc place) d apart at = go (is_link_of to.user to.entry r) refl (set_moved to rows place d apart.1 at)
-  where
-    go : (b : Bool) → is_link_of to.user to.entry r ≡ b
-        → slice_set rows place (record (slice_index_or rows place d) { target = to.target }) ≡ moved rows (to ∷ [])
-        → r ∷ slice_set rows place (record (slice_index_or rows place d) { target = to.target }) ≡ moved (r ∷ rows) (to ∷ [])
-    go true e later =
-        let none : is_bound rows to.user to.entry ≡ false =
-        ap (λ u. is_bound rows u to.entry) (sym (link_user to.user to.entry r e))
-        ∙ ap (λ x. is_bound rows r.user x) (sym (link_entry to.user to.entry r e))
-        ∙ apart.0
-        in
-        absurd (cc (any_at (is_link_of to.user to.entry) rows place at, none))
-    go false e later = λ i. sym (unmoved to r e) i ∷ later i
 
 -- a move and then others, which name other links
 moved_row_after : (to : LinkRow) (moves : List LinkRow) (row : LinkRow) → is_bound moves to.user to.entry ≡ false

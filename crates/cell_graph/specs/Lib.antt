@@ -1,4 +1,15 @@
+pub mod Chains
+pub mod Dropped
+pub mod Edits
+pub mod Heads
+pub mod Inside
 pub mod Links
+pub mod Listed
+pub mod Lists
 pub mod Moves
+pub mod Order
+pub mod Places
 pub mod Removal
+pub mod Skips
+pub mod Walks
 pub mod Weaks

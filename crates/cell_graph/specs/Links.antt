@@ -8,7 +8,7 @@ use Rattle.std.specs.List.{list_any}
 use Rattle.cell_num.specs.declared.ids.SecKey.{SecKey}
 use Rattle.cell_world.specs.declared.state.LinkRow.{LinkRow}
 
--- the present sections, by cell and number, the links in the order in which they were bound, and how many more of each
+-- the present sections, by cell and number, the links by the cell of the user and the entry, and how many more of each
 -- there is room for
 pub record Links : Type 0 where
   pub sections : List SecKey

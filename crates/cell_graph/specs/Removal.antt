@@ -4,7 +4,7 @@
 --     uses_from_outside user cells rows   the section is of another cell and has a link into a listed one
 --     links_without cells rows            the links whose users stay
 --     sections_without cells keys         the sections that stay
-use Rattle.std.specs.Prelude.{◌==◌, Bool, not, ◌&&◌, List, filter}
+use Rattle.std.specs.Prelude.{◌≡◌, ℕ, ◌==◌, Bool, false, not, ◌&&◌, List, Contains, filter}
 use Rattle.std.specs.List.{list_any}
 use Rattle.cell_num.specs.declared.ids.CellId.{CellId}
 use Rattle.cell_num.specs.declared.ids.SecKey.{SecKey}
@@ -29,3 +29,17 @@ links_without cells rows = filter (λ r. not (is_listed cells r.user)) rows
 
 abbrev pub sections_without : List CellId → List SecKey → List SecKey
 sections_without cells keys = filter (λ k. not (is_listed cells k)) keys
+
+-- a section of a cell that isn't listed has this link to the section
+pub record IsUsedBy (cells : List CellId) (sec user : SecKey) (rows : List LinkRow) : Type 0 where
+  pub row : LinkRow
+  pub has : Contains rows row
+  pub user_is : row.user ≡ user
+  pub target_is : row.target ≡ sec
+  pub outside : is_listed cells row.user ≡ false
+
+-- and into one of the cell
+pub record IsCellUsedBy (cells : List CellId) (cell : ℕ) (user : SecKey) (rows : List LinkRow) : Type 0 where
+  pub sec : SecKey
+  pub of : sec.cell.0 ≡ cell
+  pub used : IsUsedBy cells sec user rows

@@ -1,21 +1,30 @@
 //! The graph.
 
-ghost use Rattle.std.specs.Prelude.{◌≡◌, ◌↔◌, ◌<◌, ◌≤◌, ◌-◌, ◌+◌, ◌++◌, ◌∷◌, [], false, All, Contains, IfErr, IfSome, IsOk, IsSome, IsTrue, OnErr, OnOk, length, map};
+ghost use Rattle.std.specs.Prelude.{◌≡◌, ◌↔◌, ◌*◌, ◌<◌, ◌≤◌, ◌+◌, ◌++◌, ◌∷◌, [], ◌==◌, ◌≢◌, false, true, filter, not, slice_index_or, All, Contains, IfErr, IfNone, IfSome, IsOk, IsSome, IsTrue, OnErr, OnOk, length, map};
+ghost use Rattle.std.specs.List.{remove};
 ghost use Rattle.std.specs.List.Sorted.{IsPermutation, IsStrictlyIncreasing};
 ghost use Rattle.cell_world.specs.World.{key_of};
-ghost use Rattle.cell_graph.specs.Links.{links_from, links_to, is_bound};
+ghost use Rattle.cell_graph.specs.Links.{is_bound, links_from, links_to};
 ghost use Rattle.cell_graph.specs.Moves.{AreApart, moved};
-ghost use Rattle.cell_graph.specs.Removal.{is_used_outside, links_without, sections_without, uses_from_outside};
+ghost use Rattle.cell_world.specs.declared.state.LinkRow.{LinkRow as Row};
+ghost use Rattle.cell_graph.specs.Removal.{is_listed, is_used_outside, links_without, sections_without, uses_from_outside, IsCellUsedBy, IsUsedBy};
+ghost use Rattle.cell_graph.specs.Order.{below_link, below_section, with_link, without_link, Rises};
 ghost use Rattle.cell_graph.specs.Weaks.{made_for};
 
-use crate::moves::move_rows;
-use crate::removal::{StillUsed, outside_use, remove_links, remove_sections};
-use crate::room::put;
+use crate::links::{
+    add_section, bind_row, cell_rows, cell_sections, has_section, move_row, remove_rows,
+    remove_sections, row_index, section_place, unbind_at,
+};
+use crate::order::{RowPlace, SectionPlace};
+use crate::removal::{StillUsed, is_listed};
+use crate::rows::Rows;
+use crate::section::Section;
 use crate::steps::Steps;
-use crate::walks::{Deps, Users};
+use crate::walks::{CellDeps, Deps, Users};
 use crate::weak::Weak;
 use cell_num::{CellId, SecKey};
 use cell_world::LinkRow;
+use slab::Slab;
 use std::alloc::{AllocError, Global};
 use std::marker::Model;
 use std::sync::ledger::Ledger;
@@ -24,20 +33,22 @@ use std::sync::ledger::Ledger;
 /// takes no memory.
 #[derive(Drop)]
 pub struct Graph {
-    sections: Vec<SecKey>,
-    rows: Vec<LinkRow>,
+    sections: Slab<Section>,
+    rows: Rows,
+    section_list: Vec<SectionPlace>,
+    row_list: Vec<RowPlace>,
 }
 
 impl Model for Graph {
-    ghost use Rattle.std.specs.Prelude.{◌-◌, vec_capacity, vec_len};
     ghost use Rattle.cell_graph.specs.Links.{Links};
-    ghost use Rattle.cell_graph.specs.Moves.{AreApart};
 
     ghost Value = { Links };
 
-    ghost view = { λ g. record { sections = g.sections.items; rows = g.rows.items; spare_sections = vec_capacity g.sections - vec_len g.sections; spare_rows = vec_capacity g.rows - vec_len g.rows } };
+    ghost use Rattle.cell_graph.specs.Inside.{IsSound, links_of};
 
-    ghost invariant = { λ g. AreApart g.rows.items };
+    ghost view = { links_of };
+
+    ghost invariant = { IsSound };
 }
 
 impl Graph {
@@ -47,9 +58,20 @@ impl Graph {
         ensures rows { result.rows ≡ [] }
     {
         Graph {
-            sections: Vec::new(alloc),
-            rows: Vec::new(alloc),
+            sections: Slab::new(alloc),
+            rows: Rows::new(alloc),
+            section_list: Vec::new(alloc),
+            row_list: Vec::new(alloc),
         }
+    }
+
+    /// The sections and the links stand in order, each once: the links by the user's cell, then the
+    /// entry, then the user's section.
+    pub fn in_order(&self)
+        ensures sections { Rises below_section self.now.sections }
+        ensures rows { Rises below_link self.now.rows }
+    {
+        let _ = &self.rows;
     }
 
     /// Makes room for so many more sections and links. After an error some of it may be there.
@@ -62,7 +84,21 @@ impl Graph {
         ensures same_rows { self.new.rows ≡ self.old.rows }
     {
         self.sections.reserve(sections as usize)?;
-        self.rows.reserve(links as usize)
+        self.section_list.reserve(sections as usize)?;
+        self.rows.reserve(links as usize)?;
+        self.row_list.reserve(links as usize)
+    }
+
+    /// Adds one section, which is above all others.
+    fn add_section(&mut self, key: SecKey)
+        requires above { All (λ k. below_section k key ≡ true) self.old.sections }
+        requires room { 0 < self.old.spare_sections }
+        ensures added { self.new.sections ≡ self.old.sections ++ key ∷ [] }
+        ensures room { self.old.spare_sections ≤ self.new.spare_sections + 1 }
+        ensures same_rows { self.new.rows ≡ self.old.rows }
+        ensures same_room_for_links { self.new.spare_rows ≡ self.old.spare_rows }
+    {
+        add_section(&mut self.sections, &mut self.section_list, key);
     }
 
     /// Adds the sections of a new cell, which is above all others.
@@ -80,7 +116,7 @@ impl Graph {
                 cell,
                 section: *section,
             };
-            put(&mut self.sections, key);
+            self.add_section(key);
         }
     }
 
@@ -90,12 +126,18 @@ impl Graph {
         requires user { Contains self.old.sections row.user }
         requires target { Contains self.old.sections row.target }
         requires unbound { is_bound self.old.rows row.user row.entry ≡ false }
-        ensures added { self.new.rows ≡ self.old.rows ++ row ∷ [] }
+        ensures added { self.new.rows ≡ with_link row self.old.rows }
         ensures room { self.old.spare_rows ≤ self.new.spare_rows + 1 }
         ensures same_sections { self.new.sections ≡ self.old.sections }
         ensures same_room_for_sections { self.old.spare_sections ≤ self.new.spare_sections }
     {
-        put(&mut self.rows, row);
+        bind_row(
+            &mut self.sections,
+            &mut self.rows,
+            &self.section_list,
+            &mut self.row_list,
+            row,
+        );
     }
 
     /// The links of a section that is there to others, in no stated order.
@@ -103,7 +145,15 @@ impl Graph {
         requires { Contains self.now.sections sec }
         ensures { IsPermutation (links_from sec self.now.rows) result }
     {
-        Deps::of(self.rows.as_slice(), sec)
+        let list = cell_rows(&self.row_list, sec.cell);
+        Deps::of(&self.rows, list, sec)
+    }
+
+    /// The links of a cell's sections to others, by the entry and then the user's section.
+    pub fn deps_of_cell(&self, cell: CellId) -> CellDeps<'_>
+        ensures { result ≡ filter (λ r. r.user.cell.0 == cell.0) self.now.rows }
+    {
+        CellDeps::of(&self.rows, cell_rows(&self.row_list, cell))
     }
 
     /// The links of others to a section that is there, in no stated order.
@@ -111,7 +161,11 @@ impl Graph {
         requires { Contains self.now.sections sec }
         ensures { IsPermutation (links_to sec self.now.rows) result }
     {
-        Users::of(self.rows.as_slice(), sec)
+        let place = section_place(&self.section_list, sec);
+        match self.sections.get(place) {
+            Some(section) => Users::of(&self.rows, section.first, section.users),
+            None => unreachable!(),
+        }
     }
 
     /// A reference to a section that is there, which doesn't keep it there.
@@ -119,7 +173,17 @@ impl Graph {
         requires { Contains self.now.sections sec }
         ensures { made_for result ≡ sec }
     {
-        Weak::of(sec)
+        Weak::of(sec, section_place(&self.section_list, sec))
+    }
+
+    /// Whether the section stands at the place.
+    fn stands_at(&self, place: usize, key: SecKey) -> bool
+        ensures { IsTrue result → Contains self.now.sections key }
+    {
+        match self.sections.get(place) {
+            Some(section) => section.key == key,
+            None => false,
+        }
     }
 
     /// The section that the reference was made for, where a section of that cell and number is there.
@@ -128,31 +192,152 @@ impl Graph {
         ensures section { IfSome result (λ sec. sec ≡ made_for weak) }
     {
         let key = weak.key();
-        if self.sections.contains(&key) {
+        if self.stands_at(weak.place(), key) || has_section(&self.section_list, key) {
             Some(key)
         } else {
             None
         }
     }
 
-    /// Gives each named user and entry its new target. Takes no memory. Each link is looked up by
-    /// halving, which finds it where the links were bound in rising order of cell and entry, and else
-    /// by a look at all. Nothing is claimed of `steps`.
+    /// Gives one link its new target.
+    fn move_one<L: Ledger>(&mut self, to: LinkRow, steps: &mut Steps<L>)
+        requires bound { IsTrue (is_bound self.old.rows to.user to.entry) }
+        requires present { Contains self.old.sections to.target }
+        ensures moved { self.new.rows ≡ moved self.old.rows (to ∷ []) }
+        ensures steps { steps.new ≡ steps.old + 1 }
+        ensures same_sections { self.new.sections ≡ self.old.sections }
+        ensures same_room_for_links { self.new.spare_rows ≡ self.old.spare_rows }
+        ensures same_room_for_sections { self.new.spare_sections ≡ self.old.spare_sections }
+    {
+        move_row(
+            &mut self.sections,
+            &mut self.rows,
+            &self.section_list,
+            &self.row_list,
+            to,
+            steps,
+        );
+    }
+
+    /// Gives each named user and entry its new target. Takes no memory. For each, one link is read.
     pub fn move_users<L: Ledger>(&mut self, moves: &[LinkRow], steps: &mut Steps<L>)
         requires bound { All (λ m. IsTrue (is_bound self.old.rows m.user m.entry)) moves.now }
         requires distinct { AreApart moves.now }
         requires present { All (λ m. Contains self.old.sections m.target) moves.now }
         ensures moved { self.new.rows ≡ moved self.old.rows moves.now }
+        ensures steps { steps.new ≤ steps.old + 4 * length moves.now }
         ensures same_sections { self.new.sections ≡ self.old.sections }
         ensures same_room_for_links { self.old.spare_rows ≤ self.new.spare_rows }
         ensures same_room_for_sections { self.old.spare_sections ≤ self.new.spare_sections }
     {
-        move_rows(&mut self.rows, moves);
+        for to in moves {
+            self.move_one(*to, steps);
+        }
+    }
+
+    /// Takes the link at an index away.
+    fn unbind_index(&mut self, index: usize)
+        requires { index < length self.old.rows }
+        ensures left { self.new.rows ≡ remove self.old.rows index }
+        ensures room { self.new.spare_rows ≡ self.old.spare_rows + 1 }
+        ensures same_sections { self.new.sections ≡ self.old.sections }
+        ensures same_room_for_sections { self.new.spare_sections ≡ self.old.spare_sections }
+    {
+        let _ = self.rows.capacity();
+        let _ = self.row_list.capacity();
+        unbind_at(
+            &mut self.sections,
+            &mut self.rows,
+            &self.section_list,
+            &mut self.row_list,
+            index,
+        );
+    }
+
+    /// Takes a link away that is there. Its room is in reserve again.
+    pub fn unbind(&mut self, row: LinkRow)
+        requires { Contains self.old.rows row }
+        ensures gone { self.new.rows ≡ without_link row.user row.entry self.old.rows }
+        ensures room { self.old.spare_rows + 1 ≤ self.new.spare_rows }
+        ensures same_sections { self.new.sections ≡ self.old.sections }
+        ensures same_room_for_sections { self.old.spare_sections ≤ self.new.spare_sections }
+    {
+        let index = row_index(&self.row_list, row.user, row.entry);
+        self.unbind_index(index);
+    }
+
+    /// A section of a cell that isn't listed, which has a link to the section.
+    fn outside_user(&self, cells: &[CellId], sec: SecKey) -> Option<SecKey>
+        requires { Contains self.now.sections sec }
+        ensures none { IfNone result ((r : Row) → Contains self.now.rows r → r.target ≡ sec → is_listed cells.now r.user ≡ true) }
+        ensures some { IfSome result (λ user. IsUsedBy cells.now sec user self.now.rows) }
+    {
+        for row in self.users_of(sec) {
+            if !is_listed(cells, row.user) {
+                return Some(row.user);
+            }
+        }
+        None
+    }
+
+    /// The same for all sections of a cell.
+    fn outside_user_of(&self, cells: &[CellId], cell: CellId) -> Option<SecKey>
+        ensures none { IfNone result ((r : Row) → Contains self.now.rows r → r.target.cell.0 ≡ cell.0 → is_listed cells.now r.user ≡ true) }
+        ensures some { IfSome result (λ user. IsCellUsedBy cells.now cell.0 user self.now.rows) }
+    {
+        for at in cell_sections(&self.section_list, cell) {
+            if let Some(user) = self.outside_user(cells, at.key) {
+                return Some(user);
+            }
+        }
+        None
+    }
+
+    /// The same for all listed cells.
+    fn outside_user_of_any(&self, cells: &[CellId]) -> Option<SecKey>
+        ensures none { IfNone result (is_used_outside cells.now self.now.rows ≡ false) }
+        ensures some { IfSome result (λ user. IsTrue (uses_from_outside user cells.now self.now.rows)) }
+        ensures used { IfSome result (λ user. IsTrue (is_used_outside cells.now self.now.rows)) }
+    {
+        for cell in cells {
+            if let Some(user) = self.outside_user_of(cells, *cell) {
+                return Some(user);
+            }
+        }
+        None
+    }
+
+    /// Takes away the links that the sections of the cells use.
+    fn remove_links(&mut self, cells: &[CellId])
+        ensures left { self.new.rows ≡ links_without cells.now self.old.rows }
+        ensures room { self.old.spare_rows ≤ self.new.spare_rows }
+        ensures same_sections { self.new.sections ≡ self.old.sections }
+        ensures same_room_for_sections { self.new.spare_sections ≡ self.old.spare_sections }
+    {
+        let _ = self.rows.capacity();
+        remove_rows(
+            &mut self.sections,
+            &mut self.rows,
+            &self.section_list,
+            &mut self.row_list,
+            cells,
+        );
+    }
+
+    /// Takes away the sections of the cells, which have no links.
+    fn remove_sections(&mut self, cells: &[CellId])
+        requires { All (λ r. is_listed cells.now r.target ≡ false) self.old.rows }
+        ensures left { self.new.sections ≡ sections_without cells.now self.old.sections }
+        ensures room { self.old.spare_sections ≤ self.new.spare_sections }
+        ensures same_rows { self.new.rows ≡ self.old.rows }
+        ensures same_room_for_links { self.new.spare_rows ≡ self.old.spare_rows }
+    {
+        let _ = self.sections.capacity();
+        remove_sections(&mut self.sections, &mut self.section_list, cells);
     }
 
     /// Takes away the sections of the cells and the links that they use, unless another cell has a link
-    /// into one of them: the answer then names a section that has such a link. Takes no memory. Each
-    /// link and section is looked up in the list, so the work grows with both.
+    /// into one of them: the answer then names a section that has such a link. Takes no memory.
     pub fn remove_cells(&mut self, cells: &[CellId]) -> Result<(), StillUsed>
         ensures unused { IsOk result ↔ (is_used_outside cells.now self.old.rows ≡ false) }
         ensures user { IfErr result (λ e. IsTrue (uses_from_outside e.user cells.now self.old.rows)) }
@@ -166,11 +351,11 @@ impl Graph {
         ensures same_rows { OnErr result (self.new.rows ≡ self.old.rows) }
         ensures same_sections { OnErr result (self.new.sections ≡ self.old.sections) }
     {
-        if let Some(row) = outside_use(cells, &self.rows) {
-            return Err(StillUsed { user: row.user });
+        if let Some(user) = self.outside_user_of_any(cells) {
+            return Err(StillUsed { user });
         }
-        remove_links(&mut self.rows, cells);
-        remove_sections(&mut self.sections, cells);
+        self.remove_links(cells);
+        self.remove_sections(cells);
         Ok(())
     }
 }

@@ -1,10 +1,14 @@
-//! The sections that are present, and the links between them.
+//! The sections that are present, and the links between them: two arenas, with two sorted lists of
+//! places beside them.
 #![tactic(auto)]
 
+mod chains;
 mod graph;
-mod moves;
+mod links;
+mod order;
 mod removal;
-mod room;
+mod rows;
+mod section;
 mod steps;
 mod walks;
 mod weak;
@@ -12,8 +16,9 @@ mod weak;
 pub use cell_world::LinkRow;
 pub use graph::Graph;
 pub use removal::StillUsed;
+pub use rows::{ChainRow, Rows};
 pub use steps::Steps;
-pub use walks::{Deps, Users};
+pub use walks::{CellDeps, Deps, Users};
 pub use weak::Weak;
 
 #[cfg(test)]

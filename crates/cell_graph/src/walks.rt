@@ -1,42 +1,70 @@
 //! Walks over the links of a section.
 
-ghost use Rattle.std.specs.Prelude.{◌≡◌};
+ghost use Rattle.std.specs.Prelude.{◌≡◌, ◌<◌, Some};
 ghost use Rattle.std.specs.Iterator.{YieldsFirst, item_count};
-ghost use Rattle.cell_graph.specs.Links.{is_same, links_from, links_to};
+ghost use Rattle.std.specs.List.{AllByRecursion};
+ghost use Rattle.slab.specs.Slab.{ContainsKey, get};
 
+use crate::order::{RowPlace, is_same};
+use crate::rows::{ChainRow, Rows};
+use crate::steps::Steps;
 use cell_num::SecKey;
 use cell_world::LinkRow;
-use std::marker::Model;
+use std::marker::{Brand, Model};
+use std::sync::ledger::{Blank, Ledger};
 
-/// Whether the two are one section.
-pub fn is_same(a: SecKey, b: SecKey) -> bool
-    ensures { result ≡ is_same a b }
+/// Reads a link with a counter of its own.
+fn read_counted<L: Ledger>(rows: &Rows, place: usize, blank: Blank) -> ChainRow
+    requires name { blank.name ≡ L.name }
+    requires parts { blank.parts ≡ L.parts }
+    requires countable { 0 < blank.parts }
+    requires stands { ContainsKey rows.now place }
+    ensures { get rows.now place ≡ Some result }
 {
-    a == b
+    let mut steps = Steps::<L>::new(blank);
+    rows.read(place, &mut steps)
+}
+
+/// Reads a link where nobody counts.
+pub fn read_at(rows: &Rows, place: usize) -> ChainRow
+    requires { ContainsKey rows.now place }
+    ensures { get rows.now place ≡ Some result }
+{
+    read_counted::<Brand>(rows, place, Blank::new(1))
 }
 
 /// The links whose user is a section, each once. Contracts see those that are still to come.
 #[derive(Drop)]
 pub struct Deps<'a> {
-    rows: &'a [LinkRow],
+    rows: &'a Rows,
+    list: &'a [RowPlace],
     user: SecKey,
 }
 
 impl<'a> Model for Deps<'a> {
     ghost use Rattle.std.specs.Prelude.{List};
+    ghost use Rattle.std.specs.List.{AllByRecursion};
+    ghost use Rattle.slab.specs.Slab.{get};
     ghost use Rattle.cell_world.specs.declared.state.LinkRow.{LinkRow as Row};
-    ghost use Rattle.cell_graph.specs.Links.{links_from};
+    ghost use Rattle.cell_graph.specs.Listed.{IsListed};
+    ghost use Rattle.cell_graph.specs.Walks.{named_deps};
 
     ghost Value = { List Row };
 
-    ghost view = { λ d. links_from d.user d.rows.now };
+    ghost view = { λ d. named_deps (get d.rows.now) d.user d.list.now };
+
+    ghost invariant = { λ d. AllByRecursion (λ r. IsListed (get d.rows.now) r) d.list.now };
 }
 
 impl<'a> Deps<'a> {
-    pub(crate) fn of(rows: &'a [LinkRow], user: SecKey) -> Deps<'a>
-        ensures { result ≡ links_from user rows.now }
+    ghost use Rattle.cell_graph.specs.Listed.{IsListed};
+    ghost use Rattle.cell_graph.specs.Walks.{named_deps};
+
+    pub(crate) fn of(rows: &'a Rows, list: &'a [RowPlace], user: SecKey) -> Deps<'a>
+        requires { AllByRecursion (λ r. IsListed (get rows.now) r) list.now }
+        ensures { result ≡ named_deps (get rows.now) user list.now }
     {
-        Deps { rows, user }
+        Deps { rows, list, user }
     }
 }
 
@@ -48,38 +76,96 @@ impl<'a> Iterator for Deps<'a> {
     ghost remaining = { item_count (λ s. s) };
 
     fn next(&mut self) -> Option<LinkRow> {
-        while let [row, rest @ ..] = self.rows {
-            self.rows = rest;
-            if is_same(row.user, self.user) {
-                return Some(*row);
+        while let [at, rest @ ..] = self.list {
+            self.list = rest;
+            if is_same(at.user, self.user) {
+                return Some(read_at(self.rows, at.place).row);
             }
         }
         None
     }
 }
 
+/// The links whose users are sections of a cell. Contracts see those that are still to come.
+#[derive(Drop)]
+pub struct CellDeps<'a> {
+    rows: &'a Rows,
+    list: &'a [RowPlace],
+}
+
+impl<'a> Model for CellDeps<'a> {
+    ghost use Rattle.std.specs.Prelude.{List, map};
+    ghost use Rattle.std.specs.List.{AllByRecursion};
+    ghost use Rattle.slab.specs.Slab.{get};
+    ghost use Rattle.cell_world.specs.declared.state.LinkRow.{LinkRow as Row};
+    ghost use Rattle.cell_graph.specs.Listed.{IsListed};
+    ghost use Rattle.cell_graph.specs.Places.{link_at};
+
+    ghost Value = { List Row };
+
+    ghost view = { λ d. map (link_at (get d.rows.now)) d.list.now };
+
+    ghost invariant = { λ d. AllByRecursion (λ r. IsListed (get d.rows.now) r) d.list.now };
+}
+
+impl<'a> CellDeps<'a> {
+    ghost use Rattle.std.specs.Prelude.{map};
+    ghost use Rattle.cell_graph.specs.Listed.{IsListed};
+    ghost use Rattle.cell_graph.specs.Places.{link_at};
+
+    pub(crate) fn of(rows: &'a Rows, list: &'a [RowPlace]) -> CellDeps<'a>
+        requires { AllByRecursion (λ r. IsListed (get rows.now) r) list.now }
+        ensures { result ≡ map (link_at (get rows.now)) list.now }
+    {
+        CellDeps { rows, list }
+    }
+}
+
+impl<'a> Iterator for CellDeps<'a> {
+    type Item = LinkRow;
+
+    ghost next_gives = { YieldsFirst (λ s. s) };
+
+    ghost remaining = { item_count (λ s. s) };
+
+    fn next(&mut self) -> Option<LinkRow> {
+        let [at, rest @ ..] = self.list else {
+            return None;
+        };
+        self.list = rest;
+        Some(read_at(self.rows, at.place).row)
+    }
+}
+
 /// The links whose target is a section, each once. Contracts see those that are still to come.
 #[derive(Drop)]
 pub struct Users<'a> {
-    rows: &'a [LinkRow],
-    target: SecKey,
+    rows: &'a Rows,
+    first: Option<usize>,
+    left: usize,
 }
 
 impl<'a> Model for Users<'a> {
     ghost use Rattle.std.specs.Prelude.{List};
+    ghost use Rattle.slab.specs.Slab.{get};
     ghost use Rattle.cell_world.specs.declared.state.LinkRow.{LinkRow as Row};
-    ghost use Rattle.cell_graph.specs.Links.{links_to};
+    ghost use Rattle.cell_graph.specs.Walks.{IsRun, walked};
 
     ghost Value = { List Row };
 
-    ghost view = { λ u. links_to u.target u.rows.now };
+    ghost view = { λ u. walked (get u.rows.now) u.left u.first };
+
+    ghost invariant = { λ u. IsRun (get u.rows.now) u.first u.left };
 }
 
 impl<'a> Users<'a> {
-    pub(crate) fn of(rows: &'a [LinkRow], target: SecKey) -> Users<'a>
-        ensures { result ≡ links_to target rows.now }
+    ghost use Rattle.cell_graph.specs.Walks.{IsRun, walked};
+
+    pub(crate) fn of(rows: &'a Rows, first: Option<usize>, left: usize) -> Users<'a>
+        requires { IsRun (get rows.now) first left }
+        ensures { result ≡ walked (get rows.now) left first }
     {
-        Users { rows, target }
+        Users { rows, first, left }
     }
 }
 
@@ -91,12 +177,10 @@ impl<'a> Iterator for Users<'a> {
     ghost remaining = { item_count (λ s. s) };
 
     fn next(&mut self) -> Option<LinkRow> {
-        while let [row, rest @ ..] = self.rows {
-            self.rows = rest;
-            if is_same(row.target, self.target) {
-                return Some(*row);
-            }
-        }
-        None
+        let place = self.first?;
+        let chain = read_at(self.rows, place);
+        self.left -= 1;
+        self.first = chain.after;
+        Some(chain.row)
     }
 }

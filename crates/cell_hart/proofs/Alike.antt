@@ -1,8 +1,8 @@
 -- An instruction does the same where two views of the same regions agree on the seals of what may be stored to.
-use Rattle.std.proofs.Common.{◌≡◌, refl, ap, arith, ℕ, ◌+◌, ◌≤◌, Bool, true, false, cond, not, ◌&&◌, List, map, Option, Some, None}
+use Rattle.std.proofs.Common.{◌≡◌, refl, ap, arith, ℕ, ◌+◌, ◌≤◌, Bool, true, false, cond, not, ◌&&◌, List, Option, Some, None}
 use Rattle.std.specs.Prelude.{◌==◌, ◌%◌, slice_index}
 use Rattle.cell_num.specs.declared.ids.Cause.TheVariants.{Fetch, Illegal, StoreAlign, Store as BadStore}
-use Rattle.cell_num.specs.Bits.{bytes_of, wrap, wrap_ℤ}
+use Rattle.cell_num.specs.Bits.{wrap, wrap_ℤ}
 use Rattle.cell_isa.specs.declared.insn.Insn.{Insn}
 use Rattle.cell_isa.specs.declared.insn.Op.{Op}
 use Rattle.cell_isa.specs.declared.insn.Op.TheVariants.{Lui, Auipc, Jal, Jalr, Beq, Bne, Blt, Bge, Bltu, Bgeu, Lb, Lh, Lw, Ld, Lbu, Lhu, Lwu, Sb, Sh, Sw, Sd, Addi, Slti, Sltiu, Xori, Ori, Andi, Slli, Srli, Srai, Add, Sub, Sll, Slt, Sltu, Xor, Srl, Sra, Or, And, Addiw, Slliw, Srliw, Sraiw, Addw, Subw, Sllw, Srlw, Sraw, Mul, Mulh, Mulhsu, Mulhu, Div, Divu, Rem, Remu, Mulw, Divw, Divuw, Remw, Remuw, Fence, Ecall, Ebreak}
@@ -11,7 +11,6 @@ use Rattle.cell_alu.specs.declared.memory.Access.{Access}
 use Rattle.cell_alu.specs.declared.memory.Access.TheVariants.{Untouched, Loads, Stores}
 use Rattle.cell_alu.specs.Meaning.{result_of, is_taken, aim_of, access_of}
 use Rattle.cell_world.specs.World.{Region}
-use Rattle.cell_world.specs.Memory.{written}
 use Rattle.cell_world.specs.Execute.{Seen, Effect, Goes, Traps, allows, number_read, jumped, stored, accessed, stepped, performed, execute_word, execute}
 
 abbrev pub seen : List Region → (ℕ → ℕ → Bool) → Seen
@@ -92,7 +91,7 @@ stores_some Ebreak = tt
 module _ (regions : List Region) (f g : ℕ → ℕ → Bool)
     (agree : (addr n : ℕ) → 1 ≤ n → allows regions (λ p. p.write) addr n ≡ true → f addr n ≡ g addr n) where
   abbrev tried : List ℕ → ℕ → ℕ → ℕ → ℕ → Bool → Effect
-  tried xs pc addr n value b = cond (not b) (Traps BadStore) (Goes xs (wrap (pc + 4)) (map (λ r. written r addr (bytes_of n value)) regions))
+  tried xs pc addr n value b = cond (not b) (Traps BadStore) (Goes xs (wrap (pc + 4)) (Some (record { addr = addr; width = n; value = value })))
 
   stored_alike : (xs : List ℕ) (pc addr n value : ℕ) → 1 ≤ n → stored (seen regions f) xs pc addr n value ≡ stored (seen regions g) xs pc addr n value
   stored_alike xs pc addr n value some = go (addr % n == 0) (allows regions (λ p. p.write) addr n) refl

@@ -13,7 +13,7 @@ use Rattle.cell_alu.specs.declared.memory.Access.{Access}
 use Rattle.cell_alu.specs.declared.memory.Access.TheVariants.{Untouched, Loads, Stores}
 use Rattle.cell_alu.specs.Meaning.{result_of, is_taken, aim_of, access_of}
 use Rattle.cell_world.specs.World.{Region}
-use Rattle.cell_world.specs.Memory.{covers, end_of, region_in, written}
+use Rattle.cell_world.specs.Memory.{covers, end_of, put_by, region_in, written}
 use Rattle.cell_world.specs.Execute.{Seen, Effect, Goes, Calls, Traps, with_register, allows, number_read, extended, computed, jumped, loaded, stored, accessed, stepped, performed, execute_word, execute}
 use Rattle.cell_mem.specs.Index.{IsLaid}
 use Rattle.cell_mem.specs.Writing.{put}
@@ -28,7 +28,7 @@ abbrev pub SameSizes : List Region → List Region → Type 0
 SameSizes old new = (start : ℕ) → size_from start new ≡ size_from start old
 
 abbrev pub KeepsSizes : List Region → Effect → Type 0
-KeepsSizes old (Goes registers pc regions) = SameSizes old regions
+KeepsSizes old (Goes registers pc store) = SameSizes old (put_by old store)
 KeepsSizes old Calls = Unit {0}
 KeepsSizes old (Traps cause) = Unit {0}
 
@@ -71,7 +71,7 @@ module _ (m : Seen) (base end : ℕ) (laid : IsLaid base m.regions end) where
   sizes_jumped : (registers : List ℕ) (aim rd value : ℕ) → KeepsSizes m.regions (jumped m registers aim rd value)
   sizes_jumped registers aim rd value = go (aim % 4 == 0)
     where
-      go : (b : Bool) → KeepsSizes m.regions (cond b (Goes (with_register registers rd value) aim m.regions) (Traps BadJump))
+      go : (b : Bool) → KeepsSizes m.regions (cond b (Goes (with_register registers rd value) aim None) (Traps BadJump))
       go true = λ start. refl
       go false = tt
 
@@ -87,7 +87,7 @@ module _ (m : Seen) (base end : ℕ) (laid : IsLaid base m.regions end) where
   sizes_stored registers pc addr n value = go (addr % n == 0) (allows m.regions (λ p. p.write) addr n) (m.is_sealed addr n) refl
     where
       go : (b c d : Bool) → allows m.regions (λ p. p.write) addr n ≡ c
-          → KeepsSizes m.regions (cond (not b) (Traps StoreAlign) (cond (not (c && not d)) (Traps BadStore) (Goes registers (wrap (pc + 4)) (map (λ r. written r addr (bytes_of n value)) m.regions))))
+          → KeepsSizes m.regions (cond (not b) (Traps StoreAlign) (cond (not (c && not d)) (Traps BadStore) (Goes registers (wrap (pc + 4)) (Some (record { addr = addr; width = n; value = value })))))
       go false c d p = tt
       go true false d p = tt
       go true true true p = tt

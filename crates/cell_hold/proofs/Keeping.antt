@@ -18,7 +18,7 @@ use Rattle.cell_removal.proofs.KeptPaths.{In-holds, holds-In, directly_kept, kep
 use Rattle.cell_hold.specs.declared.roots.Root.{Root}
 use Rattle.cell_hold.specs.declared.roots.Root.TheVariants.{Attached, Task, Word}
 use Rattle.cell_hold.specs.Adds.{Adds, IsOnceEach, Spreads, has_cell, has_or_full}
-use Rattle.cell_hold.specs.Places.{AreAll, has_section, is_cells_at}
+use Rattle.cell_hold.specs.Places.{HasTargets, has_section, is_cells_at}
 use Rattle.cell_hold.specs.Reached.{linked, root_holds, rooted, touches}
 use Rattle.cell_hold.specs.Roots.{AreCells, HasRoom, holding_by, named_by, task_of}
 use Rattle.cell_hold.proofs.Adding.{full_more}
@@ -44,16 +44,16 @@ module _ (graph : Links) (memory : MemoryState) (places : List Placed) (roots : 
     words_named : (b : ℕ) (words : List ℕ) → touches places words b ≡ true → holds cells b ≡ true
     words_named b words h = let r : (w : ℕ) × In w words × (is_cells_at b w places ≡ true) = any-Has (λ w. is_cells_at b w places) words h in word_named b r.0 r.2
 
-    link_named : AreAll graph places → (a b : ℕ) → has_link_to (linked graph memory places) a b ≡ true → holds cells b ≡ true
+    link_named : HasTargets graph places → (a b : ℕ) → has_link_to (linked graph memory places) a b ≡ true → holds cells b ≡ true
     link_named whole a b h =
         let r : (row : LinkRow) × In row graph.rows × ((row.user.cell.0 == a && row.target.cell.0 == b) ≡ true) = any-Has (λ (row : LinkRow). row.user.cell.0 == a && row.target.cell.0 == b) graph.rows h in
         let p : ((r.0.user.cell.0 == a) ≡ true) × ((r.0.target.cell.0 == b) ≡ true) = and_parts (r.0.user.cell.0 == a) (r.0.target.cell.0 == b) r.2 in
-        let there : has_section places r.0.target ≡ true = all-In (λ (row : LinkRow). has_section places row.target) graph.rows whole.targets r.0 r.1 in
+        let there : has_section places r.0.target ≡ true = all-In (λ (row : LinkRow). has_section places row.target) graph.rows whole r.0 r.1 in
         let q : (s : Placed) × In s places × (is_same s.key r.0.target ≡ true) = any-Has (λ (s : Placed). is_same s.key r.0.target) places there in
         let m : ((q.0.key.cell.0 == r.0.target.cell.0) ≡ true) × ((q.0.key.section == r.0.target.section) ≡ true) = and_parts (q.0.key.cell.0 == r.0.target.cell.0) (q.0.key.section == r.0.target.section) q.2 in
         place_named q.0 q.1 b (eqb-true q.0.key.cell.0 r.0.target.cell.0 m.0 ∙ eqb-true r.0.target.cell.0 b p.1)
 
-    reached_named : AreAll graph places → (a b : ℕ) → reaches (linked graph memory places) a b ≡ true → holds cells b ≡ true
+    reached_named : HasTargets graph places → (a b : ℕ) → reaches (linked graph memory places) a b ≡ true → holds cells b ≡ true
     reached_named whole a b h = go (or_cases (has_link_to (linked graph memory places) a b) (has_word_in (linked graph memory places) b (writable_words (linked graph memory places) a)) h)
       where
         go : (has_link_to (linked graph memory places) a b ≡ true) ⊎ (has_word_in (linked graph memory places) b (writable_words (linked graph memory places) a) ≡ true) → holds cells b ≡ true
@@ -74,7 +74,7 @@ module _ (graph : Links) (memory : MemoryState) (places : List Placed) (roots : 
         let r : (root : Root) × In root roots × (root_holds memory places root c ≡ true) = any-Has (λ root. root_holds memory places root c) roots (by_roots memory places c roots ∙ h) in
         root_named r.0 (all-In (λ root. list_all (holds cells) (named_by root)) roots named.of_roots r.0 r.1) c r.2
 
-  module _ (whole : AreAll graph places) (room : ℕ) (has_room : HasRoom places roots room) (mid new : List CellId)
+  module _ (whole : HasTargets graph places) (room : ℕ) (has_room : HasRoom places roots room) (mid new : List CellId)
       (begun : Adds (is_held_directly (rooted memory places roots)) room [] mid)
       (spread : Spreads (reaches (linked graph memory places)) room room mid new) where
     sound : (cells : List ℕ) → AreCells cells places roots → (c : ℕ) → has_cell new c ≡ true → IsKept (all_of cells) c
@@ -149,7 +149,7 @@ module _ (graph : Links) (memory : MemoryState) (places : List Placed) (roots : 
               subst (λ n. In n (map (λ (x : CellId). x.0) sorted)) (eqb-true r.0.0 c r.2) (map-In (λ (x : CellId). x.0) sorted r.0 r.1)
 
 -- the same, from an empty list, with room that stays
-pub kept_after : (graph : Links) (memory : MemoryState) (places : List Placed) (roots : List Root) → AreAll graph places → (room now : ℕ) → HasRoom places roots room → (old mid new sorted : List CellId) → old ≡ [] → now ≡ room
+pub kept_after : (graph : Links) (memory : MemoryState) (places : List Placed) (roots : List Root) → HasTargets graph places → (room now : ℕ) → HasRoom places roots room → (old mid new sorted : List CellId) → old ≡ [] → now ≡ room
     → Adds (is_held_directly (rooted memory places roots)) room old mid → Spreads (reaches (linked graph memory places)) now now mid new → IsPermutation new sorted → IsNonDecreasingBy (λ x. x.0) sorted
     → (cells : List ℕ) → AreCells cells places roots → map (λ x. x.0) sorted ≡ kept_in (holding_by cells graph memory places roots)
 kept_after graph memory places roots whole room now has_room old mid new sorted none same begun spread moved up =

@@ -1,6 +1,9 @@
 pub mod Adding
 pub mod Wording
-pub mod Laying
+pub mod Rows
+pub mod Starts
+pub mod Indexing
+pub mod Nearing
 pub mod Linking
 pub mod Reaching
 pub mod Rooting

@@ -10,9 +10,9 @@ use Rattle.cell_graph.specs.Links.{Links, is_same}
 use Rattle.cell_world.specs.World.{key_of}
 use Rattle.cell_world.specs.declared.state.LinkRow.{LinkRow}
 use Rattle.cell_world.specs.declared.state.Placed.{Placed}
-use Rattle.cell_coherent.proofs.Elements.{In, all-In, any-Has, All-In, In-All, map-In}
+use Rattle.cell_coherent.proofs.Elements.{In, any-Has, All-In}
 use Rattle.cell_hold.specs.declared.roots.Root.{Root}
-use Rattle.cell_hold.specs.Places.{AreAll, AreLaid, has_section}
+use Rattle.cell_hold.specs.Places.{HasTargets, has_section}
 use Rattle.cell_hold.specs.Roots.{HasRoom, named_by}
 
 abbrev pub nine : List ℕ
@@ -26,28 +26,8 @@ placed_keys = key_of 1 1 ∷ key_of 2 1 ∷ key_of 3 1 ∷ key_of 4 1 ∷ key_of
 abbrev pub graph_keys : List SecKey
 graph_keys = key_of 1 1 ∷ key_of 1 2 ∷ key_of 2 1 ∷ key_of 2 2 ∷ key_of 3 1 ∷ key_of 4 1 ∷ key_of 4 2 ∷ key_of 5 1 ∷ key_of 6 1 ∷ key_of 7 1 ∷ key_of 8 1 ∷ key_of 9 1 ∷ []
 
-abbrev pub user_keys : List SecKey
-user_keys = key_of 5 1 ∷ key_of 6 1 ∷ key_of 7 1 ∷ key_of 8 1 ∷ key_of 9 1 ∷ []
-
 abbrev pub target_keys : List SecKey
 target_keys = key_of 6 1 ∷ key_of 7 1 ∷ key_of 5 1 ∷ key_of 9 1 ∷ key_of 8 1 ∷ []
-
-abbrev pub place : ℕ → ℕ → ℕ → ℕ → Bool → Placed
-place cell section start size write = record { key = key_of cell section; start = start; size = size; write = write }
-
--- each section ends where the next begins, or before
-pub sample_laid : (a b c d e f g h i j k l : Placed)
-    → a ≡ place 1 1 0x10000000 16 false → b ≡ place 2 1 0x10000010 16 false → c ≡ place 3 1 0x10000020 0 false → d ≡ place 4 1 0x10000020 16 false
-    → e ≡ place 5 1 0x10000040 16 false → f ≡ place 6 1 0x10000060 16 false → g ≡ place 7 1 0x10000080 16 false → h ≡ place 8 1 0x100000a0 16 false
-    → i ≡ place 9 1 0x100000c0 16 false → j ≡ place 1 2 0x10001000 32 true → k ≡ place 4 2 0x10001024 16 true → l ≡ place 2 2 0x10001040 16 false
-    → AreLaid (a ∷ b ∷ c ∷ d ∷ e ∷ f ∷ g ∷ h ∷ i ∷ j ∷ k ∷ l ∷ [])
-sample_laid a b c d e f g h i j k l ea eb ec ed ee ef eg eh ei ej ek el = subst AreLaid (sym same) refl
-  where
-    same : a ∷ b ∷ c ∷ d ∷ e ∷ f ∷ g ∷ h ∷ i ∷ j ∷ k ∷ l ∷ []
-        ≡ place 1 1 0x10000000 16 false ∷ place 2 1 0x10000010 16 false ∷ place 3 1 0x10000020 0 false ∷ place 4 1 0x10000020 16 false
-        ∷ place 5 1 0x10000040 16 false ∷ place 6 1 0x10000060 16 false ∷ place 7 1 0x10000080 16 false ∷ place 8 1 0x100000a0 16 false
-        ∷ place 9 1 0x100000c0 16 false ∷ place 1 2 0x10001000 32 true ∷ place 4 2 0x10001024 16 true ∷ place 2 2 0x10001040 16 false ∷ []
-    same = cc
 
 all_keys : (p : SecKey → Bool) (places : List Placed) → list_all (λ s. p s.key) places ≡ list_all p (map (λ s. s.key) places)
 all_keys p [] = refl
@@ -76,9 +56,6 @@ there_at key h =
 pub code_there : (now : List SecKey) (key : SecKey) (cell : ℕ) → now ≡ graph_keys → key ≡ key_of cell 1 → list_any (λ x. is_same x (key_of cell 1)) graph_keys ≡ true → Contains now key
 code_there now key cell same is h = subst (λ ks. Contains ks key) (sym same) (subst (λ k. Contains graph_keys k) (sym is) (there_at (key_of cell 1) h))
 
-contained : (key : SecKey) → In key placed_keys → Contains graph_keys key
-contained key i = there_at key (all-In (λ k. list_any (λ x. is_same x k) graph_keys) placed_keys refl key i)
-
 module _ (places : List Placed) (keys : map (λ (s : Placed). s.key) places ≡ placed_keys) where
   there : (k : SecKey) → has_section places k ≡ list_any (λ x. is_same x k) placed_keys
   there k = any_keys (λ x. is_same x k) places ∙ ap (λ ks. list_any (λ x. is_same x k) ks) keys
@@ -89,15 +66,8 @@ module _ (places : List Placed) (keys : map (λ (s : Placed). s.key) places ≡ 
       all_ends (λ r. has_section places (end r)) end (λ k. list_any (λ x. is_same x k) placed_keys) (λ r. there (end r)) rows
       ∙ (ap (λ ks. list_all (λ k. list_any (λ x. is_same x k) placed_keys) ks) e ∙ t)
 
-  pub sample_whole : (graph : Links) → graph.sections ≡ graph_keys → map (λ (r : LinkRow). r.user) graph.rows ≡ user_keys → map (λ (r : LinkRow). r.target) graph.rows ≡ target_keys → AreAll graph places
-  sample_whole graph sections users targets =
-      record {
-        present =
-            In-All (λ (s : Placed). Contains graph.sections s.key) places
-            (λ s i. subst (λ ss. Contains ss s.key) (sym sections) (contained s.key (subst (λ ks. In s.key ks) keys (map-In (λ (s : Placed). s.key) places s i))));
-        users = ends_there (λ r. r.user) graph.rows user_keys users refl;
-        targets = ends_there (λ r. r.target) graph.rows target_keys targets refl;
-      }
+  pub sample_targets : (graph : Links) → map (λ (r : LinkRow). r.target) graph.rows ≡ target_keys → HasTargets graph places
+  sample_targets graph targets = ends_there (λ r. r.target) graph.rows target_keys targets refl
 
   pub sample_room : (roots : List Root) (room : ℕ) → list_all (λ root. list_all (holds nine) (named_by root)) roots ≡ true → room ≡ 10 → HasRoom places roots room
   sample_room roots room named e =

@@ -14,31 +14,6 @@ use Rattle.cell_hold.specs.Places.{is_at, is_cells_at}
 use Rattle.cell_hold.specs.Reached.{touches}
 use Rattle.cell_hold.proofs.Adding.{none_added, added_all, added_same, added_then, in_room}
 
--- a cell of one of the sections at the word is a cell that the word lies in
-pub cells_found : (c word : ℕ) (places : List Placed) → list_any (λ s. s.key.cell.0 == c) (filter (is_at word) places) ≡ is_cells_at c word places
-cells_found c word [] = refl
-cells_found c word (s ∷ places) =
-    go (s.key.cell.0 == c) (nat_le s.start word) (nat_le word (s.start + s.size)) refl (cells_found c word places)
-  where
-    go : (e low high : Bool) → (s.key.cell.0 == c) ≡ e → list_any (λ t. t.key.cell.0 == c) (filter (is_at word) places) ≡ list_any (is_inside c word) places
-        → list_any (λ t. t.key.cell.0 == c) (cond (low && high) (s ∷ filter (is_at word) places) (filter (is_at word) places)) ≡ ((e && low && high) || list_any (is_inside c word) places)
-    go true true true k ih = ap (λ b. b || list_any (λ t. t.key.cell.0 == c) (filter (is_at word) places)) k
-    go false true true k ih = ap (λ b. b || list_any (λ t. t.key.cell.0 == c) (filter (is_at word) places)) k ∙ ih
-    go true false true k ih = ih
-    go true true false k ih = ih
-    go true false false k ih = ih
-    go false false true k ih = ih
-    go false true false k ih = ih
-    go false false false k ih = ih
-
--- all sections at the word have been gone over
-pub word_added : (word : ℕ) (places found : List Placed) (i room : ℕ) (old new : List CellId) → length found ≤ i → found ≡ filter (is_at word) places
-    → Adds (λ c. list_any (λ (s : Placed). s.key.cell.0 == c) (take i found)) room old new → Adds (λ c. is_cells_at c word places) room old new
-word_added word places found i room old new le is a =
-    added_same (λ c. list_any (λ (s : Placed). s.key.cell.0 == c) found) (λ c. is_cells_at c word places) room old new
-    (λ c. ap (λ ss. list_any (λ (s : Placed). s.key.cell.0 == c) ss) is ∙ cells_found c word places)
-    (added_all (λ (s : Placed) c. s.key.cell.0 == c) found i room old new le a)
-
 -- the words before the rest have been gone over
 pub record SoFar (places : List Placed) (room : ℕ) (bytes rest : List ℕ) (old new : List CellId) : Type 0 where
   pub done : List ℕ

@@ -1,4 +1,6 @@
 pub mod Roots
 pub mod Places
+pub mod Spots
+pub mod Spans
 pub mod Adds
 pub mod Reached

@@ -1,8 +1,8 @@
 -- Where words, links and roots lead, part by part.
 --     touches places words c        one of the words lies in a section of the cell
---     links_lead graph key c        a link of the section has the cell as target
---     section_leads .. s c          a link or an aligned word of the section leads into the cell, the word where it may be written
---     cell_leads .. a s c           the section is one of a, and leads into c
+--     links_lead graph a c          a link of the one cell has the other as target
+--     section_leads .. s c          the section may be written, and an aligned word of it lies in the cell
+--     cell_leads .. a s c           the same, where the section is one of a
 --     root_holds .. root c          the cell is held by this root
 --     claimant .. root c            the task that holds the cell by this root
 --     linked, rooted                a Holding of no roots, and one of no links
@@ -10,9 +10,8 @@ use Rattle.std.specs.Prelude.{ℕ, ◌==◌, Bool, not, ◌&&◌, ◌||◌, List
 use Rattle.std.specs.List.{list_any}
 use Rattle.cell_num.specs.declared.ids.Holder.{Holder}
 use Rattle.cell_num.specs.declared.ids.Holder.TheVariants.{Cell}
-use Rattle.cell_num.specs.declared.ids.SecKey.{SecKey}
 use Rattle.cell_num.specs.Lists.{where_true}
-use Rattle.cell_graph.specs.Links.{Links, links_from}
+use Rattle.cell_graph.specs.Links.{Links}
 use Rattle.cell_mem.specs.State.{MemoryState}
 use Rattle.cell_world.specs.declared.state.Placed.{Placed}
 use Rattle.cell_world.specs.Kept.{Holding, reaches, words_inside}
@@ -26,15 +25,14 @@ use Rattle.cell_hold.specs.Roots.{attached_by, claims_by, holding_by, task_of}
 abbrev pub touches : List Placed → List ℕ → ℕ → Bool
 touches places words c = list_any (λ word. is_cells_at c word places) words
 
-abbrev pub links_lead : Links → SecKey → ℕ → Bool
-links_lead graph key c = list_any (λ row. row.target.cell.0 == c) (links_from key graph.rows)
+abbrev pub links_lead : Links → ℕ → ℕ → Bool
+links_lead graph a c = list_any (λ row. row.user.cell.0 == a && row.target.cell.0 == c) graph.rows
 
-abbrev pub section_leads : Links → MemoryState → List Placed → Placed → ℕ → Bool
-section_leads graph memory places s c = links_lead graph s.key c || s.write && touches places (words_inside memory.regions s) c
+abbrev pub section_leads : MemoryState → List Placed → Placed → ℕ → Bool
+section_leads memory places s c = s.write && touches places (words_inside memory.regions s) c
 
--- the section is one of a, and leads into c
-abbrev pub cell_leads : Links → MemoryState → List Placed → ℕ → Placed → ℕ → Bool
-cell_leads graph memory places a s c = s.key.cell.0 == a && section_leads graph memory places s c
+abbrev pub cell_leads : MemoryState → List Placed → ℕ → Placed → ℕ → Bool
+cell_leads memory places a s c = s.key.cell.0 == a && section_leads memory places s c
 
 -- the task began in the cell or has a word in it
 abbrev pub task_holds : MemoryState → List Placed → TaskView → ℕ → Bool

@@ -4,7 +4,7 @@ ghost use Rattle.std.specs.Prelude.{◌≡◌, ◌≤◌, [], drop, length, take
 ghost use Rattle.cell_num.specs.Bits.{little};
 ghost use Rattle.cell_world.specs.Kept.{words_inside};
 ghost use Rattle.cell_world.specs.Memory.{read_in};
-ghost use Rattle.cell_world.specs.Relink.{gap};
+ghost use Rattle.cell_world.specs.Layout.{gap};
 ghost use Rattle.cell_world.specs.Words.{stack_words, words_in};
 ghost use Rattle.cell_hold.specs.Roots.{task_of};
 

@@ -3,20 +3,18 @@
 ghost use Rattle.std.specs.Prelude.{◌≡◌, vec_capacity};
 ghost use Rattle.cell_world.specs.Kept.{is_held_directly};
 ghost use Rattle.cell_hold.specs.Adds.{Adds};
-ghost use Rattle.cell_hold.specs.Places.{AreLaid};
 ghost use Rattle.cell_hold.specs.Reached.{root_holds, rooted, task_holds};
 
 use crate::added::add;
 use crate::bytes::stack_of;
+use crate::places::Places;
 use crate::roots::{Root, TaskView};
 use crate::words::{add_numbers, add_word, add_words};
 use cell_mem::Memory;
 use cell_num::CellId;
-use cell_world::Placed;
 
 /// Adds the cell that a task began in, and those that its pc, registers and stack lead into.
-fn add_task(memory: &Memory, places: &[Placed], task: &TaskView, into: &mut Vec<CellId>)
-    requires { AreLaid places.now }
+fn add_task(memory: &Memory, places: &Places, task: &TaskView, into: &mut Vec<CellId>)
     ensures added { Adds (task_holds memory.now places.now task.now) (vec_capacity into.old) into.old.items into.new.items }
     ensures room { vec_capacity into.new ≡ vec_capacity into.old }
 {
@@ -29,8 +27,7 @@ fn add_task(memory: &Memory, places: &[Placed], task: &TaskView, into: &mut Vec<
 }
 
 /// Adds the cells that a root holds.
-fn add_root(memory: &Memory, places: &[Placed], root: &Root, into: &mut Vec<CellId>)
-    requires { AreLaid places.now }
+fn add_root(memory: &Memory, places: &Places, root: &Root, into: &mut Vec<CellId>)
     ensures added { Adds (root_holds memory.now places.now root.now) (vec_capacity into.old) into.old.items into.new.items }
     ensures room { vec_capacity into.new ≡ vec_capacity into.old }
 {
@@ -42,8 +39,7 @@ fn add_root(memory: &Memory, places: &[Placed], root: &Root, into: &mut Vec<Cell
 }
 
 /// Adds the cells that are held directly.
-pub fn add_held(memory: &Memory, places: &[Placed], roots: &[Root], into: &mut Vec<CellId>)
-    requires { AreLaid places.now }
+pub fn add_held(memory: &Memory, places: &Places, roots: &[Root], into: &mut Vec<CellId>)
     ensures added { Adds (is_held_directly (rooted memory.now places.now roots.now)) (vec_capacity into.old) into.old.items into.new.items }
     ensures room { vec_capacity into.new ≡ vec_capacity into.old }
 {

@@ -2,22 +2,20 @@
 
 ghost use Rattle.std.specs.Prelude.{◌≡◌, ◌==◌, ◌&&◌, ℕ, List, map, not};
 ghost use Rattle.cell_world.specs.Kept.{holder_in, holding_task, kept_in, reaches};
-ghost use Rattle.cell_hold.specs.Places.{AreAll, AreLaid};
 ghost use Rattle.cell_hold.specs.Reached.{claimant, first_reaching, linked, rooted, task_holds};
 ghost use Rattle.cell_hold.specs.Roots.{holding_by};
 
 use crate::bytes::stack_of;
 use crate::leads::reaches;
+use crate::places::Places;
 use crate::roots::{Root, TaskView};
 use crate::words::{numbers_lead, word_leads, words_lead};
 use cell_graph::Graph;
 use cell_mem::Memory;
 use cell_num::{CellId, Holder};
-use cell_world::Placed;
 
 /// Whether a task began in the cell or has a word in it.
-fn task_holds(memory: &Memory, places: &[Placed], task: &TaskView, cell: CellId) -> bool
-    requires { AreLaid places.now }
+fn task_holds(memory: &Memory, places: &Places, task: &TaskView, cell: CellId) -> bool
     ensures { result ≡ task_holds memory.now places.now task.now cell.0 }
 {
     if task.root.0 == cell.0 || word_leads(places, task.pc, cell) {
@@ -32,8 +30,7 @@ fn task_holds(memory: &Memory, places: &[Placed], task: &TaskView, cell: CellId)
 }
 
 /// The task that holds the cell by this root.
-fn held_by(memory: &Memory, places: &[Placed], root: &Root, cell: CellId) -> Option<u32>
-    requires { AreLaid places.now }
+fn held_by(memory: &Memory, places: &Places, root: &Root, cell: CellId) -> Option<u32>
     ensures { result ≡ claimant memory.now places.now root.now cell.0 }
 {
     match root {
@@ -44,8 +41,7 @@ fn held_by(memory: &Memory, places: &[Placed], root: &Root, cell: CellId) -> Opt
 }
 
 /// The first task that holds the cell.
-fn holding_task(memory: &Memory, places: &[Placed], roots: &[Root], cell: CellId) -> Option<Holder>
-    requires { AreLaid places.now }
+fn holding_task(memory: &Memory, places: &Places, roots: &[Root], cell: CellId) -> Option<Holder>
     ensures { result ≡ holding_task (rooted memory.now places.now roots.now) cell.0 }
 {
     for root in roots {
@@ -58,9 +54,7 @@ fn holding_task(memory: &Memory, places: &[Placed], roots: &[Root], cell: CellId
 }
 
 /// Whether another cell reaches the cell.
-fn is_holder(graph: &Graph, memory: &Memory, places: &[Placed], other: CellId, cell: CellId) -> bool
-    requires laid { AreLaid places.now }
-    requires whole { AreAll graph.now places.now }
+fn is_holder(graph: &Graph, memory: &Memory, places: &Places, other: CellId, cell: CellId) -> bool
     ensures { result ≡ (not (other.0 == cell.0) && reaches (linked graph.now memory.now places.now) other.0 cell.0) }
 {
     other.0 != cell.0 && reaches(graph, memory, places, other, cell)
@@ -70,12 +64,10 @@ fn is_holder(graph: &Graph, memory: &Memory, places: &[Placed], other: CellId, c
 fn holding_cell(
     graph: &Graph,
     memory: &Memory,
-    places: &[Placed],
+    places: &Places,
     cells: &[CellId],
     cell: CellId,
 ) -> Option<Holder>
-    requires laid { AreLaid places.now }
-    requires whole { AreAll graph.now places.now }
     ensures { result ≡ first_reaching (linked graph.now memory.now places.now) (map (λ c. c.0) cells.now) cell.0 }
 {
     for other in cells {
@@ -92,13 +84,11 @@ fn holding_cell(
 pub fn holder_of(
     graph: &Graph,
     memory: &Memory,
-    places: &[Placed],
+    places: &Places,
     roots: &[Root],
     kept: &[CellId],
     cell: CellId,
 ) -> Option<Holder>
-    requires laid { AreLaid places.now }
-    requires whole { AreAll graph.now places.now }
     ensures { (cells : List ℕ) → map (λ c. c.0) kept.now ≡ kept_in (holding_by cells graph.now memory.now places.now roots.now) → result ≡ holder_in (holding_by cells graph.now memory.now places.now roots.now) cell.0 }
 {
     match holding_task(memory, places, roots, cell) {

@@ -1,23 +1,23 @@
-//! Whether a root or a cell leads into a cell.
+//! Whether a cell leads into another.
 
-ghost use Rattle.std.specs.Prelude.{◌≡◌, Contains};
+ghost use Rattle.std.specs.Prelude.{◌≡◌};
+ghost use Rattle.std.specs.List.{list_any};
 ghost use Rattle.cell_world.specs.Kept.{reaches};
-ghost use Rattle.cell_hold.specs.Places.{AreAll, AreLaid};
 ghost use Rattle.cell_hold.specs.Reached.{cell_leads, linked, links_lead, section_leads};
 
 use crate::bytes::section_bytes;
+use crate::places::Places;
 use crate::words::words_lead;
 use cell_graph::Graph;
 use cell_mem::Memory;
-use cell_num::{CellId, SecKey};
+use cell_num::CellId;
 use cell_world::Placed;
 
-/// Whether a link of the section has the cell as target.
-fn has_link(graph: &Graph, key: SecKey, cell: CellId) -> bool
-    requires { Contains graph.now.sections key }
-    ensures { result ≡ links_lead graph.now key cell.0 }
+/// Whether a link of one cell has the other as target.
+fn has_link(graph: &Graph, from: CellId, cell: CellId) -> bool
+    ensures { result ≡ links_lead graph.now from.0 cell.0 }
 {
-    let links = graph.deps_of(key);
+    let links = graph.deps_of_cell(from);
     for link in links {
         if link.target.cell.0 == cell.0 {
             return true;
@@ -26,21 +26,10 @@ fn has_link(graph: &Graph, key: SecKey, cell: CellId) -> bool
     false
 }
 
-/// Whether a section leads into a cell.
-fn section_leads(
-    graph: &Graph,
-    memory: &Memory,
-    places: &[Placed],
-    place: &Placed,
-    cell: CellId,
-) -> bool
-    requires laid { AreLaid places.now }
-    requires present { Contains graph.now.sections place.now.key }
-    ensures { result ≡ section_leads graph.now memory.now places.now place.now cell.0 }
+/// Whether a section may be written and has a word that lies in the cell.
+fn section_leads(memory: &Memory, places: &Places, place: &Placed, cell: CellId) -> bool
+    ensures { result ≡ section_leads memory.now places.now place.now cell.0 }
 {
-    if has_link(graph, place.key, cell) {
-        return true;
-    }
     if !place.write {
         return false;
     }
@@ -48,38 +37,25 @@ fn section_leads(
     words_lead(places, bytes, cell)
 }
 
-/// Whether a section is one of a cell, and leads into another.
-fn cell_leads(
-    graph: &Graph,
-    memory: &Memory,
-    places: &[Placed],
-    from: CellId,
-    place: &Placed,
-    cell: CellId,
-) -> bool
-    requires laid { AreLaid places.now }
-    requires present { Contains graph.now.sections place.now.key }
-    ensures { result ≡ cell_leads graph.now memory.now places.now from.0 place.now cell.0 }
+/// The same for all sections of a cell.
+fn sections_lead(memory: &Memory, places: &Places, from: CellId, cell: CellId) -> bool
+    ensures { result ≡ list_any (λ s. cell_leads memory.now places.now from.0 s cell.0) places.now }
 {
-    place.key.cell.0 == from.0 && section_leads(graph, memory, places, place, cell)
-}
-
-/// Whether one cell reaches another.
-pub fn reaches(
-    graph: &Graph,
-    memory: &Memory,
-    places: &[Placed],
-    from: CellId,
-    cell: CellId,
-) -> bool
-    requires laid { AreLaid places.now }
-    requires whole { AreAll graph.now places.now }
-    ensures { result ≡ reaches (linked graph.now memory.now places.now) from.0 cell.0 }
-{
-    for place in places {
-        if cell_leads(graph, memory, places, from, place, cell) {
+    let own = places.own(from);
+    for place in own {
+        if section_leads(memory, places, place, cell) {
             return true;
         }
     }
     false
+}
+
+/// Whether one cell reaches another.
+pub fn reaches(graph: &Graph, memory: &Memory, places: &Places, from: CellId, cell: CellId) -> bool
+    ensures { result ≡ reaches (linked graph.now memory.now places.now) from.0 cell.0 }
+{
+    if has_link(graph, from, cell) {
+        return true;
+    }
+    sections_lead(memory, places, from, cell)
 }

@@ -2,7 +2,6 @@ ghost use Rattle.std.specs.Prelude.{◌≡◌, ◌≤◌, ◌∷◌, [], IfOk, N
 ghost use Rattle.std.specs.List.{list_all};
 ghost use Rattle.cell_num.specs.Lists.{holds};
 ghost use Rattle.cell_world.specs.World.{key_of};
-ghost use Rattle.cell_hold.specs.Places.{AreLaid};
 ghost use Rattle.cell_hold.specs.Roots.{named_by};
 
 use super::*;
@@ -37,8 +36,7 @@ fn section(cell: u32, section: u16, start: u64, size: u32, write: bool) -> Place
 /// each other. Cell 1 has writable data, cell 2 has constants, and cell 4 has writable data that
 /// begins and ends within a word.
 fn sections() -> [Placed; 12]
-    ensures laid { AreLaid result }
-    ensures keys { map (λ s. s.key) result ≡ key_of 1 1 ∷ key_of 2 1 ∷ key_of 3 1 ∷ key_of 4 1 ∷ key_of 5 1 ∷ key_of 6 1 ∷ key_of 7 1 ∷ key_of 8 1 ∷ key_of 9 1 ∷ key_of 1 2 ∷ key_of 4 2 ∷ key_of 2 2 ∷ [] }
+    ensures { map (λ s. s.key) result ≡ key_of 1 1 ∷ key_of 2 1 ∷ key_of 3 1 ∷ key_of 4 1 ∷ key_of 5 1 ∷ key_of 6 1 ∷ key_of 7 1 ∷ key_of 8 1 ∷ key_of 9 1 ∷ key_of 1 2 ∷ key_of 4 2 ∷ key_of 2 2 ∷ [] }
 {
     [
         section(1, 1, BASE, 0x10, false),
@@ -54,6 +52,14 @@ fn sections() -> [Placed; 12]
         section(4, 2, DATA + 0x24, 0x10, true),
         section(2, 2, DATA + 0x40, 0x10, false),
     ]
+}
+
+/// These sections, to be found.
+fn places(alloc: Global) -> Result<Places, AllocError>
+    ensures { IfOk result (λ p. map (λ s. s.key) p ≡ key_of 1 1 ∷ key_of 2 1 ∷ key_of 3 1 ∷ key_of 4 1 ∷ key_of 5 1 ∷ key_of 6 1 ∷ key_of 7 1 ∷ key_of 8 1 ∷ key_of 9 1 ∷ key_of 1 2 ∷ key_of 4 2 ∷ key_of 2 2 ∷ []) }
+{
+    let list = Vec::from_slice(alloc, &sections())?;
+    Places::of(alloc, list)
 }
 
 /// A link from the first section of a cell to that of another.
@@ -96,7 +102,6 @@ fn unlinked(alloc: Global) -> Result<Graph, AllocError>
 /// The cycle of three, and the two that hold each other.
 fn links(alloc: Global) -> Result<Graph, AllocError>
     ensures sections { IfOk result (λ g. g.sections ≡ key_of 1 1 ∷ key_of 1 2 ∷ key_of 2 1 ∷ key_of 2 2 ∷ key_of 3 1 ∷ key_of 4 1 ∷ key_of 4 2 ∷ key_of 5 1 ∷ key_of 6 1 ∷ key_of 7 1 ∷ key_of 8 1 ∷ key_of 9 1 ∷ []) }
-    ensures users { IfOk result (λ g. map (λ r. r.user) g.rows ≡ key_of 5 1 ∷ key_of 6 1 ∷ key_of 7 1 ∷ key_of 8 1 ∷ key_of 9 1 ∷ []) }
     ensures targets { IfOk result (λ g. map (λ r. r.target) g.rows ≡ key_of 6 1 ∷ key_of 7 1 ∷ key_of 5 1 ∷ key_of 9 1 ∷ key_of 8 1 ∷ []) }
 {
     let mut graph = unlinked(alloc)?;
@@ -168,7 +173,7 @@ fn all_kept(rt: &HostRuntime, memory: &Memory, roots: &[Root]) -> Result<Vec<Cel
         return Err(Fail::from("no such cell"));
     }
     let graph = links(rt.alloc())?;
-    let places = sections();
+    let places = places(rt.alloc())?;
     let mut into = Vec::with_capacity(rt.alloc(), 10)?;
     kept(&graph, memory, &places, roots, &mut into);
     Ok(into)
@@ -197,7 +202,7 @@ fn holder(
 ) -> Result<Option<Holder>, Fail> {
     let into = all_kept(rt, memory, roots)?;
     let graph = links(rt.alloc())?;
-    let places = sections();
+    let places = places(rt.alloc())?;
     Ok(holder_of(&graph, memory, &places, roots, &into, CellId(cell)))
 }
 

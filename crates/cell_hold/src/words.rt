@@ -1,47 +1,112 @@
 //! The cells that words lie in.
 
-ghost use Rattle.std.specs.Prelude.{◌≡◌, ◌==◌, vec_capacity};
-ghost use Rattle.std.specs.List.{list_any};
+ghost use Rattle.std.specs.Prelude.{◌≡◌, ◌==◌, true, vec_capacity};
+ghost use Rattle.std.specs.List.{list_all, list_any};
+ghost use Rattle.cell_world.specs.Kept.{is_inside};
 ghost use Rattle.cell_world.specs.Words.{words_in};
 ghost use Rattle.cell_hold.specs.Adds.{Adds};
-ghost use Rattle.cell_hold.specs.Places.{AreLaid, is_cells_at};
+ghost use Rattle.cell_hold.specs.Places.{is_at, is_cells_at};
 ghost use Rattle.cell_hold.specs.Reached.{touches};
+ghost use Rattle.cell_hold.specs.Spans.{IsSettled};
 
 use crate::added::add;
 use crate::bytes::{after, first_word};
-use crate::find::sections_at;
+use crate::places::Places;
+use crate::spots::{Span, Spot};
 use cell_num::CellId;
 use cell_world::Placed;
 
-/// Adds the cells that a word lies in.
-pub fn add_word(places: &[Placed], word: u64, into: &mut Vec<CellId>)
-    requires { AreLaid places.now }
-    ensures added { Adds (λ c. is_cells_at c word places.now) (vec_capacity into.old) into.old.items into.new.items }
+/// Whether the word lies in the section, both ends included.
+fn is_at(place: &Placed, word: u64) -> bool
+    ensures { result ≡ is_at word place.now }
+{
+    place.start <= word && word - place.start <= u64::from(place.size)
+}
+
+/// Whether the word lies in all of these sections.
+fn are_at(spots: &[Spot], word: u64) -> bool
+    ensures { result ≡ list_all (λ r. is_at word r.place) spots.now }
+{
+    spots.iter().all(
+        |spot: &Spot| -> bool
+            ensures { result ≡ is_at word spot.now.place }
+        { is_at(&spot.place, word) },
+    )
+}
+
+/// Adds the section's cell, if the word lies in the section.
+fn add_if_at(place: &Placed, word: u64, into: &mut Vec<CellId>)
+    ensures added { Adds (λ c. is_inside c word place.now) (vec_capacity into.old) into.old.items into.new.items }
     ensures room { vec_capacity into.new ≡ vec_capacity into.old }
 {
-    let found = sections_at(places, word);
-    for place in found {
-        add(place.key.cell, into);
+    if !is_at(place, word) {
+        return;
+    }
+    add(place.key.cell, into);
+}
+
+/// Adds the cells of those of the sections that the word lies in.
+fn add_at(spots: &[Spot], word: u64, into: &mut Vec<CellId>)
+    ensures added { Adds (λ c. list_any (λ r. is_inside c word r.place) spots.now) (vec_capacity into.old) into.old.items into.new.items }
+    ensures room { vec_capacity into.new ≡ vec_capacity into.old }
+{
+    for spot in spots {
+        add_if_at(&spot.place, word, into);
     }
 }
 
+/// Adds the cells that a word lies in. The answer are words that needn't be looked at any more: all
+/// cells that they lie in are added.
+fn add_found(places: &Places, word: u64, into: &mut Vec<CellId>) -> Span
+    ensures added { Adds (λ c. is_cells_at c word places.now) (vec_capacity into.old) into.old.items into.new.items }
+    ensures settled { IsSettled places.now result (vec_capacity into.old) into.new.items }
+    ensures room { vec_capacity into.new ≡ vec_capacity into.old }
+{
+    let near = places.near(word);
+    add_at(near.spots, word, into);
+    if are_at(near.spots, word) {
+        return near.span;
+    }
+    Span::none()
+}
+
+/// Adds the cells that a word lies in.
+pub fn add_word(places: &Places, word: u64, into: &mut Vec<CellId>)
+    ensures added { Adds (λ c. is_cells_at c word places.now) (vec_capacity into.old) into.old.items into.new.items }
+    ensures room { vec_capacity into.new ≡ vec_capacity into.old }
+{
+    let _ = add_found(places, word, into);
+}
+
+/// The same, unless the word is one of those that needn't be looked at.
+fn add_unsettled(places: &Places, word: u64, settled: Span, into: &mut Vec<CellId>) -> Span
+    requires { IsSettled places.now settled (vec_capacity into.old) into.old.items }
+    ensures added { Adds (λ c. is_cells_at c word places.now) (vec_capacity into.old) into.old.items into.new.items }
+    ensures settled { IsSettled places.now result (vec_capacity into.old) into.new.items }
+    ensures room { vec_capacity into.new ≡ vec_capacity into.old }
+{
+    if settled.has(word) {
+        return settled;
+    }
+    add_found(places, word, into)
+}
+
 /// Adds the cells that the whole words of these bytes lie in.
-pub fn add_words(places: &[Placed], bytes: &[u8], into: &mut Vec<CellId>)
-    requires { AreLaid places.now }
+pub fn add_words(places: &Places, bytes: &[u8], into: &mut Vec<CellId>)
     ensures added { Adds (touches places.now (words_in bytes.now)) (vec_capacity into.old) into.old.items into.new.items }
     ensures room { vec_capacity into.new ≡ vec_capacity into.old }
 {
+    let mut settled = Span::none();
     let mut rest = bytes;
     while rest.len() >= 8 {
         let word = first_word(rest);
-        add_word(places, word, into);
+        settled = add_unsettled(places, word, settled, into);
         rest = after(rest, 8);
     }
 }
 
 /// Adds the cells that these numbers, as words, lie in.
-pub fn add_numbers(places: &[Placed], words: &[u64], into: &mut Vec<CellId>)
-    requires { AreLaid places.now }
+pub fn add_numbers(places: &Places, words: &[u64], into: &mut Vec<CellId>)
     ensures added { Adds (touches places.now words.now) (vec_capacity into.old) into.old.items into.new.items }
     ensures room { vec_capacity into.new ≡ vec_capacity into.old }
 {
@@ -50,24 +115,33 @@ pub fn add_numbers(places: &[Placed], words: &[u64], into: &mut Vec<CellId>)
     }
 }
 
-/// Whether one of these sections is the cell's.
-fn has_section_of(places: &[Placed], cell: CellId) -> bool
-    ensures { result ≡ list_any (λ s. s.key.cell.0 == cell.0) places.now }
+/// Whether the word lies in the section, and the section is one of the cell.
+fn is_inside(place: &Placed, word: u64, cell: CellId) -> bool
+    ensures { result ≡ is_inside cell.0 word place.now }
 {
-    places.iter().any(|place| place.key.cell.0 == cell.0)
+    place.key.cell.0 == cell.0 && is_at(place, word)
+}
+
+/// Whether the word lies in one of these sections that is the cell's.
+fn is_cells(spots: &[Spot], word: u64, cell: CellId) -> bool
+    ensures { result ≡ list_any (λ r. is_inside cell.0 word r.place) spots.now }
+{
+    spots.iter().any(
+        |spot: &Spot| -> bool
+            ensures { result ≡ is_inside cell.0 word spot.now.place }
+        { is_inside(&spot.place, word, cell) },
+    )
 }
 
 /// Whether the word lies in a section of the cell.
-pub fn word_leads(places: &[Placed], word: u64, cell: CellId) -> bool
-    requires { AreLaid places.now }
+pub fn word_leads(places: &Places, word: u64, cell: CellId) -> bool
     ensures { result ≡ is_cells_at cell.0 word places.now }
 {
-    has_section_of(sections_at(places, word), cell)
+    is_cells(places.near(word).spots, word, cell)
 }
 
 /// Whether one of the whole words of these bytes lies in a section of the cell.
-pub fn words_lead(places: &[Placed], bytes: &[u8], cell: CellId) -> bool
-    requires { AreLaid places.now }
+pub fn words_lead(places: &Places, bytes: &[u8], cell: CellId) -> bool
     ensures { result ≡ touches places.now (words_in bytes.now) cell.0 }
 {
     let mut rest = bytes;
@@ -82,8 +156,7 @@ pub fn words_lead(places: &[Placed], bytes: &[u8], cell: CellId) -> bool
 }
 
 /// Whether one of these numbers, as a word, lies in a section of the cell.
-pub fn numbers_lead(places: &[Placed], words: &[u64], cell: CellId) -> bool
-    requires { AreLaid places.now }
+pub fn numbers_lead(places: &Places, words: &[u64], cell: CellId) -> bool
     ensures { result ≡ touches places.now words.now cell.0 }
 {
     for word in words {

@@ -18,10 +18,10 @@ use Rattle.cell_object.specs.Header.{section_header}
 use Rattle.cell_object.specs.Sections.{is_alloc}
 use Rattle.cell_object.specs.Relocations.{is_rela, is_for_loaded, rela_row, rela_row_at, entry_of_kind, entry_of, entries_below, entry_count, section_entries, entries_of}
 use Rattle.cell_object.specs.Sound.{is_known_kind}
-use Rattle.cell_elfw.specs.Rows.{kind_number, entry_bytes}
-use Rattle.cell_elfw.specs.Parts.{offset_after, parts_before_tables, table, entries_for, has_entries, relocated}
-use Rattle.cell_elfw.specs.Image.{null_row, table_row, fill_type, section_rows, image}
-use Rattle.cell_image.proofs.Rows.{read_row, FitsEntry, read_entry}
+use Rattle.cell_object.specs.Rows.{kind_number, entry_bytes}
+use Rattle.cell_object.specs.ImageParts.{offset_after, parts_before_tables, table, entries_for, has_entries, relocated}
+use Rattle.cell_object.specs.Image.{null_row, table_row, fill_type, section_rows, image}
+use Rattle.cell_image.proofs.Rows.{FitsEntry, read_entry}
 use Rattle.cell_image.proofs.Places.{even_length}
 use Rattle.cell_image.proofs.Headers.{FitsImage, tables, last_rows, rows_count, own_header, last_header, table_header, header_of_image, read_header, table_split}
 use Rattle.cell_image.proofs.Gather.{gather_all, gather_none, gather_two, gather_flat}
@@ -72,7 +72,7 @@ abbrev pub entries_at : Object → ℕ → Section → List Entry
 entries_at object j d = entries_for object.entries (table_at object j d).0
 
 abbrev pub head_at : Object → ℕ → Section → SectionHeader
-head_at object j d = read_row (table_row object (take j (tables object), table_at object j d))
+head_at object j d = (table_row object (take j (tables object), table_at object j d))
 
 -- an entry for a section is one of the object's, and for that section
 pub record IsEntryFor (entries : List Entry) (number : ℕ) (z e : Entry) : Type 0 where
@@ -141,7 +141,7 @@ no_rela Prog = refl
 no_rela Note = refl
 no_rela Zero = refl
 
-three : (object : Object) (j : ℕ) → j < 3 → is_rela (read_row (get_or (last_rows object) j null_row)) ≡ false
+three : (object : Object) (j : ℕ) → j < 3 → is_rela ((get_or (last_rows object) j null_row)) ≡ false
 three object zero lt = refl
 three object (suc zero) lt = refl
 three object (suc (suc zero)) lt = refl

@@ -9,10 +9,10 @@ use Rattle.cell_object.specs.declared.object.Object.{Object}
 use Rattle.cell_object.specs.declared.object.Section.{Section}
 use Rattle.cell_object.specs.declared.object.Fill.{Fill}
 use Rattle.cell_object.specs.declared.object.Fill.TheVariants.{Prog, Note, Zero}
-use Rattle.cell_elfw.specs.Before.{with_before}
-use Rattle.cell_elfw.specs.Strings.{string, string_table, name_place}
-use Rattle.cell_elfw.specs.Parts.{padding, padded, offset_after, contents, content, own_names, names_before_tables, table_name, table, parts, parts_before_tables, parts_before_strings, parts_before_names, symbols_part, symbol_strings, section_strings}
-use Rattle.cell_elfw.specs.Image.{null_row, own_row, fill_type, flag, symtab_row, strtab_row, shstrtab_row, table_row, section_rows, local_count}
+use Rattle.cell_object.specs.Before.{with_before}
+use Rattle.cell_object.specs.Strings.{string, string_table, name_place}
+use Rattle.cell_object.specs.ImageParts.{padding, padded, offset_after, contents, content, own_names, names_before_tables, table_name, table, parts, parts_before_tables, parts_before_strings, parts_before_names, symbols_part, symbol_strings, section_strings}
+use Rattle.cell_object.specs.Image.{null_row, own_row, fill_type, flag, symtab_row, strtab_row, shstrtab_row, table_row, section_rows, local_count}
 use Rattle.cell_image.proofs.Rows.{FitsRow}
 use Rattle.cell_image.proofs.Places.{split_at}
 use Rattle.cell_image.proofs.Headers.{FitsImage, tables, own_rows, last_rows, own_count, rows_count, symtab_split, strtab_split, content_split, table_split, get_before, length_before}

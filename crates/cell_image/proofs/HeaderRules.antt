@@ -8,10 +8,9 @@ use Rattle.cell_object.specs.declared.headers.FileHeader.{FileHeader}
 use Rattle.cell_object.specs.declared.headers.SectionHeader.{SectionHeader}
 use Rattle.cell_object.specs.Bytes.{broken_where, between}
 use Rattle.cell_object.specs.Header.{is_inside, is_section_number, rule_1, rule_2, rule_2_at, rule_3, rule_4, rule_5, rule_6, rule_7, header_rules}
-use Rattle.cell_elfw.specs.Rows.{header_bytes, section_row_bytes}
-use Rattle.cell_elfw.specs.Parts.{padded, offset_after, parts, parts_before_names, section_strings, shstrtab_number}
-use Rattle.cell_elfw.specs.Image.{shstrtab_row, section_rows, image}
-use Rattle.cell_image.proofs.Rows.{read_row}
+use Rattle.cell_object.specs.Rows.{header_bytes, section_row_bytes}
+use Rattle.cell_object.specs.ImageParts.{padded, offset_after, parts, parts_before_names, section_strings, shstrtab_number}
+use Rattle.cell_object.specs.Image.{shstrtab_row, section_rows, image}
 use Rattle.cell_image.proofs.Headers.{FitsImage, rows_count, read_header, header_of_image, shstrtab_header, rows_inside, part_inside}
 
 -- a rule whose test fails
@@ -46,7 +45,7 @@ header_rules_hold object f few =
     let n : ℕ = length (section_rows object) in
     let count = rows_count object in
     let h : FileHeader = read_header object in
-    let names : SectionHeader = read_row (shstrtab_row object) in
+    let names : SectionHeader = (shstrtab_row object) in
     let third = rows_inside object in
     let size : nat_lt (length file) (offset_after (parts object) + 64 * n) ≡ false = le-ltb (length file) (offset_after (parts object) + 64 * n) third in
     let some : (n == 0) ≡ false = ne_eqb n 0 (λ e. omega (arith, e, count)) in

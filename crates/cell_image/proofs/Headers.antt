@@ -8,12 +8,12 @@ use Rattle.cell_object.specs.declared.object.Section.{Section}
 use Rattle.cell_object.specs.declared.headers.FileHeader.{FileHeader}
 use Rattle.cell_object.specs.Header.{file_header, section_header, section_header_at}
 use Rattle.cell_object.specs.Sections.{section_bytes, section_names}
-use Rattle.cell_elfw.specs.declared.rows.SectionRow.{SectionRow}
-use Rattle.cell_elfw.specs.Before.{with_before, with_before_from}
-use Rattle.cell_elfw.specs.Rows.{stored, fields, header_bytes, section_row_bytes}
-use Rattle.cell_elfw.specs.Parts.{padding, padded, offset_after, contents, content, symtab_number, strtab_number, shstrtab_number, relocated, table, parts_before_tables, parts_before_strings, parts_before_names, parts, symbols_part, symbol_strings, section_strings}
-use Rattle.cell_elfw.specs.Image.{null_row, own_row, symtab_row, strtab_row, shstrtab_row, table_row, section_rows, image_header, image}
-use Rattle.cell_image.proofs.Rows.{FitsRow, read_row, header_is_read}
+use Rattle.cell_object.specs.declared.headers.SectionHeader.{SectionHeader}
+use Rattle.cell_object.specs.Before.{with_before, with_before_from}
+use Rattle.cell_object.specs.Rows.{stored, fields, header_bytes, section_row_bytes}
+use Rattle.cell_object.specs.ImageParts.{padding, padded, offset_after, contents, content, symtab_number, strtab_number, shstrtab_number, relocated, table, parts_before_tables, parts_before_strings, parts_before_names, parts, symbols_part, symbol_strings, section_strings}
+use Rattle.cell_object.specs.Image.{null_row, own_row, symtab_row, strtab_row, shstrtab_row, table_row, section_rows, image_header, image}
+use Rattle.cell_image.proofs.Rows.{FitsRow, header_is_read}
 use Rattle.cell_image.proofs.Places.{row_at, row_length, even_length, part_is_read, split_at}
 
 -- the numbers of the headers fit
@@ -44,10 +44,10 @@ abbrev pub tables : Object → List (ℕ × Section)
 tables object = relocated object.sections object.entries
 
 -- the headers behind those of the object's sections
-abbrev pub last_rows : Object → List SectionRow
+abbrev pub last_rows : Object → List SectionHeader
 last_rows object = symtab_row object ∷ strtab_row object ∷ shstrtab_row object ∷ map (table_row object) (with_before (tables object))
 
-abbrev pub own_rows : Object → List SectionRow
+abbrev pub own_rows : Object → List SectionHeader
 own_rows object = map own_row (with_before object.sections)
 
 pub own_count : (object : Object) → length (own_rows object) ≡ length object.sections
@@ -96,7 +96,7 @@ header_of_image object f =
     header_is_read (offset_after (parts object)) (length (section_rows object)) (shstrtab_number object) (flat_map padded (parts object) ++ flat_map section_row_bytes (section_rows object)) f.size f.count (omega (arith, n, f.count))
 
 -- the k-th section header
-pub header_k : (object : Object) (k : ℕ) → FitsImage object → k < length (section_rows object) → section_header (image object) k ≡ read_row (get_or (section_rows object) k null_row)
+pub header_k : (object : Object) (k : ℕ) → FitsImage object → k < length (section_rows object) → section_header (image object) k ≡ (get_or (section_rows object) k null_row)
 unfolding read_header
 header_k object k f lt =
     ap (λ h. section_header_at (h.e_shoff + 64 * k) (image object)) (header_of_image object f)
@@ -105,50 +105,50 @@ header_k object k f lt =
     ∙ row_at (front object) (section_rows object) k null_row lt (f.rows k lt)
 
 -- the header of the object's section with a number from 1
-pub own_header : (object : Object) (k : ℕ) (d : Section) → FitsImage object → k < length object.sections → section_header (image object) (suc k) ≡ read_row (own_row (take k object.sections, get_or object.sections k d))
+pub own_header : (object : Object) (k : ℕ) (d : Section) → FitsImage object → k < length object.sections → section_header (image object) (suc k) ≡ (own_row (take k object.sections, get_or object.sections k d))
 own_header object k d f lt =
     let n = rows_count object in
     let own = own_count object in
     header_k object (suc k) f (omega (arith, n, lt))
-    ∙ ap read_row (get_or_append_left (own_rows object) (last_rows object) null_row k (omega (arith, own, lt))
+    ∙ (get_or_append_left (own_rows object) (last_rows object) null_row k (omega (arith, own, lt))
     ∙ get_or-map own_row (with_before object.sections) k ([], d) null_row (omega (arith, lt, length_before object.sections))
     ∙ ap own_row (get_before object.sections k ([], d) d lt))
 
 -- the headers behind them
-pub last_header : (object : Object) (j : ℕ) → FitsImage object → length object.sections + 1 + j < length (section_rows object) → section_header (image object) (length object.sections + 1 + j) ≡ read_row (get_or (last_rows object) j null_row)
+pub last_header : (object : Object) (j : ℕ) → FitsImage object → length object.sections + 1 + j < length (section_rows object) → section_header (image object) (length object.sections + 1 + j) ≡ (get_or (last_rows object) j null_row)
 last_header object j f lt =
     let own = own_count object in
     let e : length object.sections + 1 + j ≡ suc (length (own_rows object) + j) = omega (arith, own) in
     header_k object (length object.sections + 1 + j) f lt
-    ∙ ap (λ i. read_row (get_or (section_rows object) i null_row)) e
-    ∙ ap read_row (get_or-append-add (own_rows object) (last_rows object) j null_row)
+    ∙ ap (λ i. get_or (section_rows object) i null_row) e
+    ∙ (get_or-append-add (own_rows object) (last_rows object) j null_row)
 
-pub symtab_header : (object : Object) → FitsImage object → section_header (image object) (symtab_number object) ≡ read_row (symtab_row object)
+pub symtab_header : (object : Object) → FitsImage object → section_header (image object) (symtab_number object) ≡ (symtab_row object)
 symtab_header object f =
     let n = rows_count object in
     let e : symtab_number object ≡ length object.sections + 1 + 0 = omega arith in
     ap (section_header (image object)) e ∙ last_header object 0 f (omega (arith, n))
 
-pub strtab_header : (object : Object) → FitsImage object → section_header (image object) (strtab_number object) ≡ read_row (strtab_row object)
+pub strtab_header : (object : Object) → FitsImage object → section_header (image object) (strtab_number object) ≡ (strtab_row object)
 strtab_header object f =
     let n = rows_count object in
     let e : strtab_number object ≡ length object.sections + 1 + 1 = omega arith in
     ap (section_header (image object)) e ∙ last_header object 1 f (omega (arith, n))
 
-pub shstrtab_header : (object : Object) → FitsImage object → section_header (image object) (shstrtab_number object) ≡ read_row (shstrtab_row object)
+pub shstrtab_header : (object : Object) → FitsImage object → section_header (image object) (shstrtab_number object) ≡ (shstrtab_row object)
 shstrtab_header object f =
     let n = rows_count object in
     let e : shstrtab_number object ≡ length object.sections + 1 + 2 = omega arith in
     ap (section_header (image object)) e ∙ last_header object 2 f (omega (arith, n))
 
 pub table_header : (object : Object) (j : ℕ) (d : ℕ × Section) → FitsImage object → j < length (tables object)
-    → section_header (image object) (length object.sections + 4 + j) ≡ read_row (table_row object (take j (tables object), get_or (tables object) j d))
+    → section_header (image object) (length object.sections + 4 + j) ≡ (table_row object (take j (tables object), get_or (tables object) j d))
 table_header object j d f lt =
     let n = rows_count object in
     let e : length object.sections + 4 + j ≡ length object.sections + 1 + suc (suc (suc j)) = omega arith in
     ap (section_header (image object)) e
     ∙ last_header object (suc (suc (suc j))) f (omega (arith, n, lt))
-    ∙ ap read_row (get_or-map (table_row object) (with_before (tables object)) j ([], d) null_row (omega (arith, lt, length_before (tables object)))
+    ∙ (get_or-map (table_row object) (with_before (tables object)) j ([], d) null_row (omega (arith, lt, length_before (tables object)))
     ∙ ap (table_row object) (get_before (tables object) j ([], d) d lt))
 
 -- a part, where its header says that it stands

@@ -12,9 +12,8 @@ use Rattle.cell_object.specs.Bytes.{string_at, broken_where, between}
 use Rattle.cell_object.specs.Header.{section_header, section_place, is_inside}
 use Rattle.cell_object.specs.Sections.{section_names, is_alloc, is_rel, is_group, is_symtab, is_alignment, has_flag, is_progbits, is_nobits, is_note, symtab_below, rule_8, rule_9, rule_10, rule_11, rule_12, section_rules, sections_rules}
 use Rattle.cell_object.specs.Symbols.{symtab}
-use Rattle.cell_elfw.specs.Parts.{contents, table, table_name, parts_before_tables, parts_before_strings, parts_before_names, symtab_number, section_strings, symbol_strings, symbols_part}
-use Rattle.cell_elfw.specs.Image.{symtab_row, strtab_row, shstrtab_row, table_row, fill_type, section_rows, image}
-use Rattle.cell_image.proofs.Rows.{read_row}
+use Rattle.cell_object.specs.ImageParts.{contents, table, table_name, parts_before_tables, parts_before_strings, parts_before_names, symtab_number, section_strings, symbol_strings, symbols_part}
+use Rattle.cell_object.specs.Image.{symtab_row, strtab_row, shstrtab_row, table_row, fill_type, section_rows, image}
 use Rattle.cell_image.proofs.Texts.{IsPlain}
 use Rattle.cell_image.proofs.Headers.{FitsImage, tables, last_parts, rows_count, own_header, symtab_header, strtab_header, shstrtab_header, table_header, header_of_image, read_header, part_inside, symtab_split, strtab_split, table_split}
 use Rattle.cell_image.proofs.Gather.{gather_none, gather_two, find_none, find_first}
@@ -67,26 +66,26 @@ symtab_is object d f =
 
 symtab_rules_hold : (object : Object) (d : Section) → FitsImage object → section_rules (image object) (symtab_number object) ≡ []
 symtab_rules_hold object d f =
-    unloaded_rules (image object) (symtab_number object) (read_row (symtab_row object)) (codes ".symtab") (symtab_header object f)
+    unloaded_rules (image object) (symtab_number object) ((symtab_row object)) (codes ".symtab") (symtab_header object f)
     (part_inside object (contents object.sections) (map (table object.entries) (tables object) ++ last_parts object) (symbols_part object) (symtab_split object))
     (symtab_name object f) (ap is_some (none_below object d f)) refl
 
 strtab_rules_hold : (object : Object) → FitsImage object → section_rules (image object) (length object.sections + 2) ≡ []
 strtab_rules_hold object f =
-    unloaded_rules (image object) (length object.sections + 2) (read_row (strtab_row object)) (codes ".strtab") (strtab_header object f)
+    unloaded_rules (image object) (length object.sections + 2) ((strtab_row object)) (codes ".strtab") (strtab_header object f)
     (part_inside object (parts_before_strings object) (section_strings object ∷ []) (symbol_strings object) (strtab_split object))
     (strtab_name object f) refl refl
 
 shstrtab_rules_hold : (object : Object) → FitsImage object → section_rules (image object) (length object.sections + 3) ≡ []
 shstrtab_rules_hold object f =
-    unloaded_rules (image object) (length object.sections + 3) (read_row (shstrtab_row object)) (codes ".shstrtab") (shstrtab_header object f)
+    unloaded_rules (image object) (length object.sections + 3) ((shstrtab_row object)) (codes ".shstrtab") (shstrtab_header object f)
     (part_inside object (parts_before_names object) [] (section_strings object) refl)
     (shstrtab_name object f) refl refl
 
 table_rules_hold : (object : Object) (j : ℕ) (d : Section) → FitsImage object → j < length (tables object) → IsPlain (get_or (tables object) j (0, d)).1.name → section_rules (image object) (length object.sections + 4 + j) ≡ []
 table_rules_hold object j d f lt plain =
     let row : ℕ × Section = get_or (tables object) j (0, d) in
-    unloaded_rules (image object) (length object.sections + 4 + j) (read_row (table_row object (take j (tables object), row))) (table_name row) (table_header object j (0, d) f lt)
+    unloaded_rules (image object) (length object.sections + 4 + j) ((table_row object (take j (tables object), row))) (table_name row) (table_header object j (0, d) f lt)
     (part_inside object (parts_before_tables object ++ map (table object.entries) (take j (tables object))) _ (table object.entries row) (table_split object j (0, d) lt))
     (table_name_is object j (0, d) f lt plain) refl refl
 

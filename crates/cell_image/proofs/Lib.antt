@@ -1,3 +1,4 @@
+pub mod Between
 pub mod Stored
 pub mod Rows
 pub mod Places

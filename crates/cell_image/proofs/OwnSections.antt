@@ -11,11 +11,10 @@ use Rattle.cell_object.specs.declared.headers.SectionHeader.{SectionHeader}
 use Rattle.cell_object.specs.Bytes.{string_at, between}
 use Rattle.cell_object.specs.Sections.{section_bytes, section_names, is_alloc, is_nobits, has_flag}
 use Rattle.cell_object.specs.Reads.{fill_of, loaded_section, loaded_sections}
-use Rattle.cell_elfw.specs.Strings.{string_table, name_place}
-use Rattle.cell_elfw.specs.Parts.{offset_after, contents, content, filled, own_names, names_before_tables, table_name, section_strings}
-use Rattle.cell_elfw.specs.Image.{null_row, section_row, table_row, fill_type, flag, section_rows, image}
-use Rattle.cell_elfw.specs.Before.{with_before}
-use Rattle.cell_image.proofs.Rows.{read_row}
+use Rattle.cell_object.specs.Strings.{string_table, name_place}
+use Rattle.cell_object.specs.ImageParts.{offset_after, contents, content, filled, own_names, names_before_tables, table_name, section_strings}
+use Rattle.cell_object.specs.Image.{null_row, section_row, table_row, fill_type, flag, section_rows, image}
+use Rattle.cell_object.specs.Before.{with_before}
 use Rattle.cell_image.proofs.Places.{split_at}
 use Rattle.cell_image.proofs.Texts.{IsPlain, name_is_read}
 use Rattle.cell_image.proofs.Headers.{FitsImage, tables, last_rows, rows_count, own_header, last_header, header_of_image, read_header, names_of_image, content_of_image}
@@ -104,7 +103,7 @@ section_is_read object k d f lt p =
       size = h.sh_size;
       bytes = if is_nobits h then [] else section_bytes file h;
     } in
-    let h : SectionHeader = read_row (section_row place offset s) in
+    let h : SectionHeader = (section_row place offset s) in
     let name : unwrap_or (string_at place (section_names file)) [] ≡ s.name = ap (λ v. unwrap_or v []) (own_name object k d f lt p.name) in
     let same : section h ≡ s = λ i. record {
       number = sym p.is i;
@@ -126,12 +125,12 @@ get_map P f e h n [] j = n
 get_map P f e h n (x ∷ xs) zero = h x
 get_map P f e h n (x ∷ xs) (suc j) = get_map P f e h n xs j
 
-pub last_not_alloc : (object : Object) (j : ℕ) → is_alloc (read_row (get_or (last_rows object) j null_row)) ≡ false
+pub last_not_alloc : (object : Object) (j : ℕ) → is_alloc ((get_or (last_rows object) j null_row)) ≡ false
 last_not_alloc object zero = refl
 last_not_alloc object (suc zero) = refl
 last_not_alloc object (suc (suc zero)) = refl
 last_not_alloc object (suc (suc (suc j))) =
-    get_map (λ row. is_alloc (read_row row) ≡ false) (table_row object) null_row (λ x. refl) refl (with_before (tables object)) j
+    get_map (λ row. is_alloc (row) ≡ false) (table_row object) null_row (λ x. refl) refl (with_before (tables object)) j
 
 last_is_not_loaded : (object : Object) (j : ℕ) → FitsImage object → length object.sections + 1 + j < length (section_rows object) → loaded_section (image object) (length object.sections + 1 + j) ≡ []
 unfolding loaded_section
@@ -149,7 +148,7 @@ last_is_not_loaded object j f lt =
       bytes = if is_nobits h then [] else section_bytes file h;
     } in
     ap (λ r. if is_alloc r then section r ∷ [] else []) (last_header object j f lt)
-    ∙ ap (λ v. if v then section (read_row (get_or (last_rows object) j null_row)) ∷ [] else []) (last_not_alloc object j)
+    ∙ ap (λ v. if v then section ((get_or (last_rows object) j null_row)) ∷ [] else []) (last_not_alloc object j)
 
 pub sections_are_read : (object : Object) (d : Section) → FitsImage object → ((k : ℕ) → k < length object.sections → IsPlainSection (suc k) (get_or object.sections k d)) → loaded_sections (image object) ≡ object.sections
 unfolding read_header

@@ -5,10 +5,10 @@ use Rattle.std.proofs.Math.Seq.{drop-cons, drop-append_seam}
 use Rattle.std.proofs.lemmas.List.{take-append-drop, length-take-le, take-append-le, take_all}
 use Rattle.std.proofs.lemmas.Grind.{flat_map-append}
 use Rattle.cell_object.specs.Header.{section_header_at}
-use Rattle.cell_elfw.specs.declared.rows.SectionRow.{SectionRow}
-use Rattle.cell_elfw.specs.Rows.{stored, fields, section_row_bytes}
-use Rattle.cell_elfw.specs.Parts.{padding, padded, offset_after}
-use Rattle.cell_image.proofs.Rows.{FitsRow, read_row, row_is_read}
+use Rattle.cell_object.specs.declared.headers.SectionHeader.{SectionHeader}
+use Rattle.cell_object.specs.Rows.{stored, fields, section_row_bytes}
+use Rattle.cell_object.specs.ImageParts.{padding, padded, offset_after}
+use Rattle.cell_image.proofs.Rows.{FitsRow, row_is_read}
 
 pub split_at : {X : Type 0} (xs : List X) (k : ℕ) (d : X) → k < length xs → xs ≡ take k xs ++ (get_or xs k d ∷ drop (suc k) xs)
 split_at xs k d lt = sym (take-append-drop k xs) ∙ ap (λ v. take k xs ++ v) (drop-cons xs k d lt)
@@ -26,12 +26,12 @@ even_length f w even (x ∷ xs) =
     let e : w + w * length xs ≡ w * suc (length xs) = omega arith in
     length-append (f x) (flat_map f xs) ∙ ap (λ n. n + length (flat_map f xs)) (even x) ∙ ap (λ n. w + n) (even_length f w even xs) ∙ e
 
-pub row_length : (h : SectionRow) → length (section_row_bytes h) ≡ 64
+pub row_length : (h : SectionHeader) → length (section_row_bytes h) ≡ 64
 unfolding section_row_bytes fields stored
 row_length h = refl
 
-pub row_at : (front : List ℕ) (rows : List SectionRow) (k : ℕ) (d : SectionRow) → k < length rows → FitsRow (get_or rows k d)
-    → section_header_at (length front + 64 * k) (front ++ flat_map section_row_bytes rows) ≡ read_row (get_or rows k d)
+pub row_at : (front : List ℕ) (rows : List SectionHeader) (k : ℕ) (d : SectionHeader) → k < length rows → FitsRow (get_or rows k d)
+    → section_header_at (length front + 64 * k) (front ++ flat_map section_row_bytes rows) ≡ (get_or rows k d)
 row_at front rows k d lt f =
     let before : List ℕ = flat_map section_row_bytes (take k rows) in
     let after : List ℕ = flat_map section_row_bytes (drop (suc k) rows) in

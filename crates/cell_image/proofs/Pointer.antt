@@ -4,11 +4,11 @@ use Rattle.std.proofs.Math.Facts.{sfits_lit}
 use Rattle.std.specs.Prelude.{slice_get, Some}
 use Rattle.cell_object.specs.declared.object.Section.{Section}
 use Rattle.cell_object.specs.declared.object.Entry.{Entry}
-use Rattle.cell_elfw.specs.Before.{with_before}
-use Rattle.cell_elfw.specs.Strings.{string_table}
-use Rattle.cell_elfw.specs.Rows.{stored, fields, symbol_bytes, entry_bytes}
-use Rattle.cell_elfw.specs.Parts.{padded, entries_for, relocated, symbols_part, symbol_strings, section_strings}
-use Rattle.cell_image.specs.Writable.{IsWritableSection, IsWritableSymbol, IsStorable, IsWritableEntry, IsWritable}
+use Rattle.cell_object.specs.Before.{with_before}
+use Rattle.cell_object.specs.Strings.{string_table}
+use Rattle.cell_object.specs.Rows.{stored, fields, symbol_bytes, entry_bytes}
+use Rattle.cell_object.specs.ImageParts.{padded, entries_for, relocated, symbols_part, symbol_strings, section_strings}
+use Rattle.cell_object.specs.Writable.{IsWritableSection, IsWritableSymbol, IsStorable, IsWritableEntry, IsWritable}
 use Rattle.cell_image.specs.Example.{constants, defined, wanted, place, pointer}
 
 -- what holds of the one element of a list

@@ -14,9 +14,9 @@ use Rattle.cell_object.specs.Header.{section_header, section_place, is_section_n
 use Rattle.cell_object.specs.Sections.{is_nobits, has_flag}
 use Rattle.cell_object.specs.Symbols.{symtab, symbols_of, symbol_count}
 use Rattle.cell_object.specs.Relocations.{is_rela, is_number, is_relocated_below, is_for_loaded, is_ill_formed, rule_19, rela_row, entry_count, entry_place, entry_of, entries_below, rule_20, is_unusable, symbol_total, symbol_total_of, rule_21, rule_22, is_clash, rule_23, field_rules, entry_rules, relocation_rules, relocations_rules, is_unpaired, rule_24, pair_rules, section_pairs, pairs_rules}
-use Rattle.cell_elfw.specs.Rows.{kind_number}
-use Rattle.cell_elfw.specs.Parts.{symtab_number, symbols_part, has_entries, entries_for, table}
-use Rattle.cell_elfw.specs.Image.{fill_type, section_rows, image}
+use Rattle.cell_object.specs.Rows.{kind_number}
+use Rattle.cell_object.specs.ImageParts.{symtab_number, symbols_part, has_entries, entries_for, table}
+use Rattle.cell_object.specs.Image.{fill_type, section_rows, image}
 use Rattle.cell_image.proofs.Headers.{FitsImage, tables, rows_count, own_header, symtab_header, table_header, header_of_image, read_header}
 use Rattle.cell_image.proofs.Gather.{gather_all, gather_none, any_none}
 use Rattle.cell_image.proofs.OwnSections.{flags_exec}

@@ -21,11 +21,11 @@ use Rattle.cell_object.specs.declared.object.Fill.{Fill}
 use Rattle.cell_object.specs.declared.object.Fill.TheVariants.{Prog, Note, Zero}
 use Rattle.cell_object.specs.Parts.{is_local, is_global}
 use Rattle.cell_object.specs.Reads.{reads, broken, object_unless}
-use Rattle.cell_elfw.specs.Strings.{string_table, name_place}
-use Rattle.cell_elfw.specs.Rows.{kind_number}
-use Rattle.cell_elfw.specs.Parts.{filled, symbol_strings, entries_for}
-use Rattle.cell_elfw.specs.Image.{fill_type, image}
-use Rattle.cell_image.specs.Writable.{IsWhole, IsWritableSection, IsWritableHome, IsWritableSymbol, IsWritable}
+use Rattle.cell_object.specs.Strings.{string_table, name_place}
+use Rattle.cell_object.specs.Rows.{kind_number}
+use Rattle.cell_object.specs.ImageParts.{filled, symbol_strings, entries_for}
+use Rattle.cell_object.specs.Image.{fill_type, image}
+use Rattle.cell_object.specs.Writable.{IsWhole, IsWritableSection, IsWritableHome, IsWritableSymbol, IsWritable}
 use Rattle.cell_image.proofs.Places.{split_at}
 use Rattle.cell_image.proofs.OwnSections.{IsPlainSection, sections_are_read}
 use Rattle.cell_image.proofs.HeaderRules.{header_rules_hold}

@@ -11,12 +11,11 @@ use Rattle.cell_object.specs.Bytes.{number_at}
 use Rattle.cell_object.specs.Header.{file_header, section_header_at}
 use Rattle.cell_object.specs.Symbols.{symbol_row_at}
 use Rattle.cell_object.specs.Relocations.{rela_row_at}
-use Rattle.cell_elfw.specs.declared.rows.SectionRow.{SectionRow}
-use Rattle.cell_elfw.specs.Rows.{stored, fields, header_bytes, section_row_bytes, symbol_bytes, entry_bytes, bind_number, sort_number, home_number, kind_number}
+use Rattle.cell_object.specs.Rows.{stored, fields, header_bytes, section_row_bytes, symbol_bytes, entry_bytes, bind_number, sort_number, home_number, kind_number}
 use Rattle.cell_image.proofs.Stored.{stored_number, number_behind, number_at_seam}
 
 -- the numbers of a section header fit their bytes
-pub record FitsRow (h : SectionRow) : Type 0 where
+pub record FitsRow (h : SectionHeader) : Type 0 where
   pub name : h.sh_name < 256 ^ 4
   pub kind : h.sh_type < 256 ^ 4
   pub flags : h.sh_flags < 256 ^ 8
@@ -27,21 +26,7 @@ pub record FitsRow (h : SectionRow) : Type 0 where
   pub align : h.sh_addralign < 256 ^ 8
   pub entry : h.sh_entsize < 256 ^ 8
 
--- a row as it is read
-abbrev pub read_row : SectionRow → SectionHeader
-read_row h = record {
-  sh_name = h.sh_name;
-  sh_type = h.sh_type;
-  sh_flags = h.sh_flags;
-  sh_offset = h.sh_offset;
-  sh_size = h.sh_size;
-  sh_link = h.sh_link;
-  sh_info = h.sh_info;
-  sh_addralign = h.sh_addralign;
-  sh_entsize = h.sh_entsize;
-}
-
-row_here : (h : SectionRow) (ys : List ℕ) → FitsRow h → section_header_at 0 (section_row_bytes h ++ ys) ≡ read_row h
+row_here : (h : SectionHeader) (ys : List ℕ) → FitsRow h → section_header_at 0 (section_row_bytes h ++ ys) ≡ h
 unfolding section_header_at number_at section_row_bytes fields stored
 row_here h ys f = λ k. record {
   sh_name = stored_number 4 h.sh_name [] f.name k;
@@ -69,7 +54,7 @@ row_behind at xs ys e = λ k. record {
   sh_entsize = number_behind 8 at 56 xs ys e k;
 }
 
-pub row_is_read : (at : ℕ) (xs ys : List ℕ) (h : SectionRow) → at ≡ length xs → FitsRow h → section_header_at at (xs ++ (section_row_bytes h ++ ys)) ≡ read_row h
+pub row_is_read : (at : ℕ) (xs ys : List ℕ) (h : SectionHeader) → at ≡ length xs → FitsRow h → section_header_at at (xs ++ (section_row_bytes h ++ ys)) ≡ h
 row_is_read at xs ys h e f = row_behind at xs (section_row_bytes h ++ ys) e ∙ row_here h ys f
 
 -- the ELF header

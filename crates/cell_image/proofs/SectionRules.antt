@@ -10,10 +10,9 @@ use Rattle.cell_object.specs.declared.headers.SectionHeader.{SectionHeader}
 use Rattle.cell_object.specs.Bytes.{broken_where}
 use Rattle.cell_object.specs.Header.{section_place}
 use Rattle.cell_object.specs.Sections.{is_alignment, symtab_below, rule_8, rule_9, rule_10, rule_11, rule_12, section_rules}
-use Rattle.cell_elfw.specs.Strings.{name_place}
-use Rattle.cell_elfw.specs.Parts.{offset_after, contents, content, own_names}
-use Rattle.cell_elfw.specs.Image.{section_row, fill_type, flag, image}
-use Rattle.cell_image.proofs.Rows.{read_row}
+use Rattle.cell_object.specs.Strings.{name_place}
+use Rattle.cell_object.specs.ImageParts.{offset_after, contents, content, own_names}
+use Rattle.cell_object.specs.Image.{section_row, fill_type, flag, image}
 use Rattle.cell_image.proofs.Headers.{FitsImage, own_header, content_split, part_inside}
 use Rattle.cell_image.proofs.OwnSections.{IsPlainSection, own_name}
 use Rattle.cell_image.proofs.HeaderRules.{unbroken}
@@ -57,7 +56,7 @@ own_rules object k d f lt p q =
     let at : ℕ = section_place file (suc k) in
     let place : ℕ = name_place (own_names (take k object.sections)) s.name in
     let offset : ℕ = offset_after (contents (take k object.sections)) in
-    let h : SectionHeader = read_row (section_row place offset s) in
+    let h : SectionHeader = (section_row place offset s) in
     let inside : (fill_type s.fill == 8) ≡ false → nat_le (offset + s.size) (length file) ≡ true = λ e.
     le-leb (offset + s.size) (length file) (omega (arith, part_inside object (contents (take k object.sections)) _ (content s) (content_split object k d lt), p.size e, ap length p.bytes)) in
     let alloc : Bool = not (bit_and (2 + flag s.write 1 + flag s.exec 4) 2 == 0) in

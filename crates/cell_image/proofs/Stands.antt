@@ -8,9 +8,9 @@ use Rattle.cell_object.specs.declared.object.Symbol.{Symbol}
 use Rattle.cell_object.specs.declared.object.Entry.{Entry}
 use Rattle.cell_object.specs.Symbols.{symbol_row_at}
 use Rattle.cell_object.specs.Relocations.{rela_row_at}
-use Rattle.cell_elfw.specs.Rows.{stored, fields, section_row_bytes, symbol_bytes, entry_bytes}
-use Rattle.cell_elfw.specs.Parts.{padding, padded, offset_after, parts, shstrtab_number}
-use Rattle.cell_elfw.specs.Image.{section_rows, image_header, image}
+use Rattle.cell_object.specs.Rows.{stored, fields, section_row_bytes, symbol_bytes, entry_bytes}
+use Rattle.cell_object.specs.ImageParts.{padding, padded, offset_after, parts, shstrtab_number}
+use Rattle.cell_object.specs.Image.{section_rows, image_header, image}
 use Rattle.cell_image.proofs.Rows.{FitsSymbol, read_symbol, symbol_is_read, FitsEntry, read_entry, entry_is_read}
 use Rattle.cell_image.proofs.Places.{element_bytes, even_length}
 use Rattle.cell_image.proofs.Headers.{header_length}

@@ -6,7 +6,7 @@ use Rattle.byteorder.specs.Endian.{little_number, little_from}
 use Rattle.byteorder.specs.Numbers.{little_from-cons}
 use Rattle.cell_num.specs.Bits.{bytes_of}
 use Rattle.cell_object.specs.Bytes.{number_at}
-use Rattle.cell_elfw.specs.Rows.{stored}
+use Rattle.cell_object.specs.Rows.{stored}
 
 -- the first bytes are a number's
 bytes_number : (n v : ℕ) (ys : List ℕ) → v < 256 ^ n → little_from 0 n (bytes_of n v ++ ys) ≡ v

@@ -20,12 +20,12 @@ use Rattle.cell_object.specs.Bytes.{broken_where, between}
 use Rattle.cell_object.specs.Header.{section_header, section_place, is_section_number}
 use Rattle.cell_object.specs.Sections.{is_alloc}
 use Rattle.cell_object.specs.Symbols.{symbol_of, symbol_place, symbols_below, symbol_name, is_global_name, defines, is_past_end, rule_13, rule_14, rule_15, rule_16, rule_17, rule_18, symbol_rules, symbols_rules, symbols_rules_of, symtab_rules, symtab_rules_of}
-use Rattle.cell_elfw.specs.Strings.{name_place}
-use Rattle.cell_elfw.specs.Rows.{home_number}
-use Rattle.cell_elfw.specs.Parts.{symtab_number, strtab_number, symbols_part}
-use Rattle.cell_elfw.specs.Image.{symtab_row, section_rows, image, local_count}
-use Rattle.cell_image.specs.Writable.{is_file, is_section}
-use Rattle.cell_image.proofs.Rows.{read_row, read_symbol}
+use Rattle.cell_object.specs.Strings.{name_place}
+use Rattle.cell_object.specs.Rows.{home_number}
+use Rattle.cell_object.specs.ImageParts.{symtab_number, strtab_number, symbols_part}
+use Rattle.cell_object.specs.Image.{symtab_row, section_rows, image, local_count}
+use Rattle.cell_object.specs.Writable.{is_file, is_section}
+use Rattle.cell_image.proofs.Rows.{read_symbol}
 use Rattle.cell_image.proofs.Headers.{FitsImage, rows_count, own_header, symtab_header, strtab_header, header_of_image, read_header}
 use Rattle.cell_image.proofs.Gather.{gather_map, gather_none}
 use Rattle.cell_image.proofs.HeaderRules.{unbroken, is_numbered}
@@ -192,10 +192,10 @@ pub record AreSymbols (object : Object) (d : Symbol) (e : Section) : Type 0 wher
   pub sound : (k : ℕ) → k < length object.symbols → IsSoundSymbol object e k (get_or object.symbols k d)
 
 below_are : (object : Object) (k : ℕ) (d : Symbol) (e : Section) → FitsImage object → length (section_rows object) < 65280 → AreSymbols object d e → k < length object.symbols
-    → symbols_below (image object) (read_row (symtab_row object)) (suc k) ≡ take k object.symbols
+    → symbols_below (image object) ((symtab_row object)) (suc k) ≡ take k object.symbols
 below_are object k d e f few all lt =
     let file : List ℕ = image object in
-    let h : SectionHeader = read_row (symtab_row object) in
+    let h : SectionHeader = (symtab_row object) in
     let long : length (take k object.symbols) ≡ k = length-take-le k object.symbols (omega (arith, lt)) in
     let sum : 1 + length (take k object.symbols) ≡ suc k = omega (arith, long) in
     gather_map (symbol_of file h) (take k object.symbols) 1 (suc k) d sum
@@ -206,11 +206,11 @@ below_are object k d e f few all lt =
     ap (symbol_of file h) n ∙ symbol_is object i d e f few low (all.plain i low) (all.fits i low) ∙ sym (get_or-take k object.symbols i d here))
 
 symbol_rules_hold : (object : Object) (k : ℕ) (d : Symbol) (e : Section) → FitsImage object → length (section_rows object) < 65280 → AreSymbols object d e → k < length object.symbols
-    → symbol_rules (image object) (read_row (symtab_row object)) (suc k) ≡ []
+    → symbol_rules (image object) ((symtab_row object)) (suc k) ≡ []
 unfolding symbol_rules
 symbol_rules_hold object k d e f few all lt =
     let file : List ℕ = image object in
-    let h : SectionHeader = read_row (symtab_row object) in
+    let h : SectionHeader = (symtab_row object) in
     let at : ℕ = symbol_place h (suc k) in
     let s : Symbol = get_or object.symbols k d in
     let place : ℕ = name_place (names_before object k) s.name in
@@ -232,7 +232,7 @@ symbol_rules_hold object k d e f few all lt =
 pub symbols_rules_hold : (object : Object) (d : Symbol) (e : Section) → FitsImage object → length (section_rows object) < 65280 → AreSymbols object d e → symbols_rules (image object) ≡ []
 symbols_rules_hold object d e f few all =
     let file : List ℕ = image object in
-    let h : SectionHeader = read_row (symtab_row object) in
+    let h : SectionHeader = (symtab_row object) in
     let count : length (symbols_part object) / 24 ≡ 1 + length object.symbols = omega (arith, symbols_length object) in
     ap (symbols_rules_of file) (symtab_is object e f)
     ∙ ap (λ r. flat_map (symbol_rules file r) (between 1 (r.sh_size / 24))) (symtab_header object f)
@@ -254,7 +254,7 @@ unfolding read_header
 table_rules_hold object e f =
     let file : List ℕ = image object in
     let n : ℕ = symtab_number object in
-    let h : SectionHeader = read_row (symtab_row object) in
+    let h : SectionHeader = (symtab_row object) in
     let at : ℕ = section_place file n in
     let count = rows_count object in
     let size : ℕ = length (symbols_part object) in

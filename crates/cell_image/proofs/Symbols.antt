@@ -19,13 +19,13 @@ use Rattle.cell_object.specs.Header.{section_header}
 use Rattle.cell_object.specs.Sections.{is_alloc}
 use Rattle.cell_object.specs.Symbols as symbols
 use Rattle.cell_object.specs.Symbols.{symbol_row, symbol_row_at, home_of, symbol_of, symbols_of, symbols_of_table, symbol_from, symbol_name}
-use Rattle.cell_elfw.specs.Before.{with_before}
-use Rattle.cell_elfw.specs.Strings.{string_table, name_place}
-use Rattle.cell_elfw.specs.Rows.{bind_number, sort_number, home_number, symbol_bytes}
-use Rattle.cell_elfw.specs.Parts.{offset_after, contents, table, symtab_number, symbols_part, symbol_strings, symbol_part_bytes}
-use Rattle.cell_elfw.specs.Image.{symtab_row, section_rows, image}
-use Rattle.cell_image.specs.Writable.{is_file}
-use Rattle.cell_image.proofs.Rows.{read_row, FitsSymbol, read_symbol}
+use Rattle.cell_object.specs.Before.{with_before}
+use Rattle.cell_object.specs.Strings.{string_table, name_place}
+use Rattle.cell_object.specs.Rows.{bind_number, sort_number, home_number, symbol_bytes}
+use Rattle.cell_object.specs.ImageParts.{offset_after, contents, table, symtab_number, symbols_part, symbol_strings, symbol_part_bytes}
+use Rattle.cell_object.specs.Image.{symtab_row, section_rows, image}
+use Rattle.cell_object.specs.Writable.{is_file}
+use Rattle.cell_image.proofs.Rows.{FitsSymbol, read_symbol}
 use Rattle.cell_image.proofs.Places.{split_at, even_length}
 use Rattle.cell_image.proofs.Texts.{IsPlain, name_is_read}
 use Rattle.cell_image.proofs.Headers.{FitsImage, tables, last_parts, rows_count, own_header, symtab_header, strtab_bytes, symtab_split, get_before, length_before}
@@ -196,7 +196,7 @@ symbol_row_is object k d f lt p fits =
 
 -- its name
 pub symbol_text : (object : Object) (k : ℕ) (d : Symbol) → FitsImage object → k < length object.symbols → IsPlain (get_or object.symbols k d).name
-    → string_at (name_place (names_before object k) (get_or object.symbols k d).name) (symbols.symbol_strings (image object) (read_row (symtab_row object))) ≡ Some (get_or object.symbols k d).name
+    → string_at (name_place (names_before object k) (get_or object.symbols k d).name) (symbols.symbol_strings (image object) ((symtab_row object))) ≡ Some (get_or object.symbols k d).name
 unfolding symbol_strings
 symbol_text object k d f lt p =
     let s : Symbol = get_or object.symbols k d in
@@ -208,11 +208,11 @@ symbol_text object k d f lt p =
 
 -- the symbol k + 1
 pub symbol_is : (object : Object) (k : ℕ) (d : Symbol) (e : Section) → FitsImage object → length (section_rows object) < 65280 → k < length object.symbols → IsPlainSymbol object (get_or object.symbols k d) → name_place (names_before object k) (get_or object.symbols k d).name < 256 ^ 4
-    → symbol_of (image object) (read_row (symtab_row object)) (suc k) ≡ get_or object.symbols k d
+    → symbol_of (image object) ((symtab_row object)) (suc k) ≡ get_or object.symbols k d
 unfolding symbol_of
 symbol_is object k d e f few lt p fits =
     let file : List ℕ = image object in
-    let h : SectionHeader = read_row (symtab_row object) in
+    let h : SectionHeader = (symtab_row object) in
     let s : Symbol = get_or object.symbols k d in
     let place : ℕ = name_place (names_before object k) s.name in
     let name : unwrap_or (string_at place (symbols.symbol_strings file h)) [] ≡ s.name = ap (λ v. unwrap_or v []) (symbol_text object k d f lt p.name) in
@@ -244,6 +244,6 @@ symbols_are_read object d e f few plain fits =
     let count : length (symbols_part object) / 24 ≡ 1 + length object.symbols = omega (arith, symbols_length object) in
     ap (symbols_of_table file) (symtab_is object e f)
     ∙ ap (λ h. map (symbol_of file h) (between 1 (h.sh_size / 24))) (symtab_header object f)
-    ∙ ap (λ n. map (symbol_of file (read_row (symtab_row object))) (between 1 n)) count
-    ∙ gather_map (symbol_of file (read_row (symtab_row object))) object.symbols 1 (1 + length object.symbols) d refl
-    (λ k lt. let n : 1 + k ≡ suc k = omega arith in ap (symbol_of file (read_row (symtab_row object))) n ∙ symbol_is object k d e f few lt (plain k lt) (fits k lt))
+    ∙ ap (λ n. map (symbol_of file ((symtab_row object))) (between 1 n)) count
+    ∙ gather_map (symbol_of file ((symtab_row object))) object.symbols 1 (1 + length object.symbols) d refl
+    (λ k lt. let n : 1 + k ≡ suc k = omega arith in ap (symbol_of file ((symtab_row object))) n ∙ symbol_is object k d e f few lt (plain k lt) (fits k lt))

@@ -8,9 +8,9 @@ use Rattle.cell_object.specs.declared.object.Section.{Section}
 use Rattle.cell_object.specs.declared.object.Entry.{Entry}
 use Rattle.cell_object.specs.Bytes.{string_at}
 use Rattle.cell_object.specs.Sections.{section_names}
-use Rattle.cell_elfw.specs.Strings.{string_table, name_place}
-use Rattle.cell_elfw.specs.Parts.{own_names, names_before_tables, table_name, section_strings, has_entries, relocated}
-use Rattle.cell_elfw.specs.Image.{image}
+use Rattle.cell_object.specs.Strings.{string_table, name_place}
+use Rattle.cell_object.specs.ImageParts.{own_names, names_before_tables, table_name, section_strings, has_entries, relocated}
+use Rattle.cell_object.specs.Image.{image}
 use Rattle.cell_image.proofs.Places.{split_at}
 use Rattle.cell_image.proofs.Texts.{IsPlain, name_is_read}
 use Rattle.cell_image.proofs.Headers.{FitsImage, tables, names_of_image}

@@ -8,7 +8,7 @@ use Rattle.std.proofs.lemmas.Bool.{lt-ltb}
 use Rattle.std.proofs.lemmas.List.{take-append-le, take_all}
 use Rattle.std.proofs.lemmas.Grind.{flat_map-append}
 use Rattle.cell_object.specs.Bytes.{string_at, is_zero}
-use Rattle.cell_elfw.specs.Strings.{string, string_table, name_place}
+use Rattle.cell_object.specs.Strings.{string, string_table, name_place}
 
 -- the name has no zero byte
 abbrev pub IsPlain : List ℕ → Type 0

@@ -1,2 +1,1 @@
-pub mod Writable
 pub mod Example

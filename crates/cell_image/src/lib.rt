@@ -4,9 +4,9 @@
 
 ghost use Rattle.std.specs.Prelude.{◌≡◌, Ok};
 ghost use Rattle.cell_object.specs.Reads.{reads};
-ghost use Rattle.cell_elfw.specs.Image.{image};
+ghost use Rattle.cell_object.specs.Image.{image};
 ghost use Rattle.cell_image.specs.Example.{pointer};
-ghost use Rattle.cell_image.specs.Writable.{IsWritable};
+ghost use Rattle.cell_object.specs.Writable.{IsWritable};
 
 use cell_object::Object;
 

@@ -1,9 +1,10 @@
 //! What a run works on: the folder, the script and the object files.
 
-ghost use Rattle.std.specs.Prelude.{◌≡◌, ◌≢◌, ◌≤◌, ◌^◌, ◌<◌, ◌+◌, false, Err, ℕ, List, [], ◌∷◌, map, length, IfOk, IsErrOf, Contains, All, string_bytes, bytes_eq};
+ghost use Rattle.std.specs.Prelude.{◌≡◌, ◌≢◌, ◌≤◌, ◌^◌, ◌<◌, ◌+◌, false, true, Err, ℕ, List, [], ◌∷◌, map, length, IfOk, IsErrOf, Contains, All, string_bytes, bytes_eq};
 ghost use Rattle.std.specs.List.{list_any};
 ghost use Rattle.cell_io.specs.Causes.{HasCause};
 ghost use Rattle.cell_io.specs.Files.{names_in, bytes_in, folder};
+ghost use Rattle.cell_script.specs.Script.{are_said};
 ghost use Rattle.cell_input.specs.Gives.{IfTold, Gives};
 ghost use Rattle.cell_input.specs.Objects.{AreObjectFiles, AreObjects, objects_of};
 ghost use Rattle.cell_input.specs.Taking.{listing, within, bytes_after, file_after, files_after, commands_of, input_from};
@@ -13,7 +14,7 @@ use crate::reason::{
     MAX_ALL_BYTES, MAX_FILE_BYTES, MAX_FILES, MAX_NAMES, MAX_SCRIPT_BYTES, Reason, What,
 };
 use cell_io::{Host, HostFault};
-use cell_num::{Bytes, Listed, Name};
+use cell_num::{Listed, Name, Shared};
 use cell_script::{Script, ScriptFail, read_script};
 use cell_world::File;
 use std::alloc::{AllocError, Global};
@@ -54,6 +55,7 @@ pub fn take_from<H: Host>(
 ) -> Result<Input, TakeFail>
     ensures input { IfTold (H.files host.old) (λ all. Gives (λ input. input) result (input_from script.now (folder dir.now all))) }
     ensures files { IfOk result (λ input. AreObjectFiles input.files) }
+    ensures said { IfOk result (λ input. are_said input.script ≡ true) }
     ensures cause { HasCause (H.faults host.old) (H.faults host.new) (IsErrOf result TakeFail.ReadFault) }
 {
     let objects = list_objects(alloc, dir, script, host)?;
@@ -249,7 +251,7 @@ fn read_after<H: Host>(
     name: &str,
     total: u64,
     host: &mut H,
-) -> Result<Bytes, TakeFail>
+) -> Result<Shared, TakeFail>
     requires listed { IfTold (H.files host.old) (λ all. Contains (names_in dir.now all) name.now) }
     requires small { total ≤ MAX_ALL_BYTES }
     ensures bytes { IfTold (H.files host.old) (λ all. Gives (λ bytes. bytes) result (bytes_after total (bytes_in dir.now name.now all))) }
@@ -265,13 +267,15 @@ fn read_after<H: Host>(
             limit: MAX_ALL_BYTES,
         }));
     }
-    Ok(Bytes::from_vec(bytes))
+    let shared = Shared::from_vec(alloc, bytes)?;
+    Ok(shared)
 }
 
 /// Reads the lines of the script.
 fn commands(alloc: Global, text: &[u8]) -> Result<Script, TakeFail>
     requires { length text.now < 2 ^ 32 }
     ensures lines { Gives (λ lines. lines) result (commands_of text.now) }
+    ensures said { IfOk result (λ lines. are_said lines ≡ true) }
     ensures no_fault { result ≢ Err TakeFail.ReadFault }
 {
     match read_script(alloc, text) {

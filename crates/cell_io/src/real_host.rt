@@ -1,7 +1,10 @@
 //! The files of the machine that the program runs on.
 
-ghost use Rattle.std.specs.Prelude.{◌≡◌, ℕ, [], OnErr, IsErrOf};
+ghost use Rattle.std.specs.Prelude.{◌≡◌, ◌≤◌, ◌<◌, ◌+◌, false, [], length, IfSome, IfOk, OnOk, OnErr, IsErrOf};
+ghost use Rattle.std.specs.Io.KnownBytes.{IsAtEnd};
 ghost use Rattle.cell_io.specs.Causes.{HasCause};
+ghost use Rattle.cell_io.specs.Files.{UpTo};
+ghost use Rattle.cell_io.specs.Written.{Takes};
 
 use crate::{Host, HostFault};
 use std::fs;
@@ -9,7 +12,8 @@ use std::io::{Error, ErrorKind, Read};
 use std::rt::Files;
 
 /// Folders by their paths, of which nothing is told. A name that is no text, a folder that can't be
-/// listed and a file that can't be read, as a folder, are failures.
+/// listed, and a name that is no regular file or can't be read are failures. A name that is no regular
+/// file, as a pipe or a device, isn't opened.
 #[derive(Drop)]
 pub struct RealHost<R> {
     rt: R,
@@ -56,6 +60,7 @@ fn conclude<T: Drop>(
 ) -> Result<(), HostFault>
     ensures answer { result ≡ answer }
     ensures emptied { OnErr result (into.new.items ≡ []) }
+    ensures most { length into.new.items ≤ length into.old.items }
     ensures cause { HasCause faults.old faults.new (IsErrOf result HostFault.Failed) }
 {
     if let Err(fault) = answer {
@@ -82,41 +87,78 @@ fn add_names<R: Files + AllocGlobal + Clone + Drop>(
     dir: &str,
     limit: u32,
     into: &mut Vec<String>,
-) -> Result<(), HostFault> {
+) -> Result<(), HostFault>
+    requires { into.old.items ≡ [] }
+    ensures { length into.new.items ≤ limit + 1 }
+{
     let entries = fs::read_dir(rt, dir).map_err(|e| fault_of(&e))?;
     for entry in entries {
-        let entry = entry.map_err(|e| fault_of(&e))?;
-        let name = String::from_str(rt.alloc(), entry.file_name())?;
-        into.push(name).map_err(|_| HostFault::OutOfMemory)?;
         if into.len() > limit as usize {
             break;
         }
+        let entry = entry.map_err(|e| fault_of(&e))?;
+        let name = String::from_str(rt.alloc(), entry.file_name())?;
+        into.push(name).map_err(|_| HostFault::OutOfMemory)?;
     }
     Ok(())
 }
 
-/// Adds the bytes of a file, up to one more than `limit`, a buffer at a time.
+/// Adds the bytes of a regular file, up to one more than `limit`.
 fn add_bytes<R: Files + AllocGlobal>(
     rt: &R,
     dir: &str,
     name: &str,
     limit: u32,
     into: &mut Vec<u8>,
-) -> Result<(), HostFault> {
+) -> Result<(), HostFault>
+    requires { into.old.items ≡ [] }
+    ensures { length into.new.items ≤ limit + 1 }
+{
     let path = format!(in rt.alloc(); "{dir}/{name}")?;
+    let kind = fs::metadata(rt, path.as_str()).map_err(|e| fault_of(&e))?;
+    if !kind.is_file() {
+        return Err(HostFault::Failed);
+    }
     let mut file = fs::open(rt, path.as_str()).map_err(|e| fault_of(&e))?;
+    add_front(&mut file, limit, into)
+}
+
+/// Adds what a reader has left, up to one byte more than `limit`, a buffer at a time.
+fn add_front<F: Read>(file: &mut F, limit: u32, into: &mut Vec<u8>) -> Result<(), HostFault>
+    requires { into.old.items ≡ [] }
+    ensures bytes { OnOk result (IfSome (F.remaining file.old) (λ all. UpTo limit all into.new.items)) }
+    ensures most { length into.new.items ≤ limit + 1 }
+{
     let most = limit as usize + 1;
     let mut buffer = [0u8; 16384];
     for _ in 0..u64::MAX {
         let room = most.saturating_sub(into.len()).min(buffer.len());
         if room == 0 {
-            break;
+            return Ok(());
         }
-        let count = file.read(&mut buffer[..room]).map_err(|e| fault_of(&e))?;
-        if count == 0 {
-            break;
+        let more = add_some(file, &mut buffer[..room], into)?;
+        if !more {
+            return Ok(());
         }
-        into.extend_from_slice(&buffer[..count])?;
     }
-    Ok(())
+    Err(HostFault::Failed)
+}
+
+/// Adds what one read gives, and says whether there may be more. A read that was interrupted gives
+/// nothing, and there may be more.
+fn add_some<F: Read>(file: &mut F, buffer: &mut [u8], into: &mut Vec<u8>) -> Result<bool, HostFault>
+    requires { 0 < length buffer.old }
+    ensures taken { OnOk result (Takes (F.remaining file.old) (F.remaining file.new) into.old.items into.new.items) }
+    ensures end { IfOk result (λ more. more ≡ false → IsAtEnd (F.remaining file.new)) }
+    ensures most { length into.new.items ≤ length into.old.items + length buffer.old }
+{
+    match file.read(buffer) {
+        Ok(0) => Ok(false),
+        Ok(count) => {
+            into.extend_from_slice(&buffer[..count])?;
+            Ok(true)
+        }
+        Err(error) if error.kind() == ErrorKind::Interrupted => Ok(true),
+        Err(error) => Err(fault_of(&error)),
+    }
 }

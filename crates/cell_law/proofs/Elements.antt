@@ -4,7 +4,7 @@ use Rattle.std.specs.Prelude.{Some, find, filter}
 use Rattle.std.specs.List.{list_all}
 use Rattle.std.proofs.lemmas.Bool.{and_parts, and_from}
 use Rattle.cell_num.specs.Lists.{each_pair}
-use Rattle.cell_law.specs.Settled.{In}
+use Rattle.cell_coherent.specs.Grown.{In}
 
 module _ {X : Type 0} where
   pub all-In : (p : X → Bool) (xs : List X) → list_all p xs ≡ true → (x : X) → In x xs → p x ≡ true

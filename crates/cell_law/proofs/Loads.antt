@@ -11,13 +11,15 @@ use Rattle.cell_world.specs.Coherent.{AreSound}
 use Rattle.cell_world.specs.Gather.{Source, bring, fresh_cells}
 use Rattle.cell_world.specs.LoadCommand.{append_named, link_fresh, next_load}
 use Rattle.cell_world.specs.Outcome.{◌>>=◌}
-use Rattle.cell_world.specs.Place.{Starts, page_table, place_all}
+use Rattle.cell_world.specs.Place.{page_table, place_all}
+use Rattle.cell_world.specs.declared.layout.Starts.{Starts}
 use Rattle.cell_coherent.specs.Loading.{HasPlaced}
 use Rattle.cell_coherent.proofs.Gathered.{Ranks, Extends}
 use Rattle.cell_coherent.proofs.Known.{known_parts}
 use Rattle.cell_coherent.proofs.LoadGrown.{all_gathered}
 use Rattle.cell_coherent.proofs.Ready.{append_same}
-use Rattle.cell_law.specs.Settled.{In, IsSettled}
+use Rattle.cell_coherent.specs.Grown.{In}
+use Rattle.cell_world.specs.Coherent.{IsCoherent}
 use Rattle.cell_law.specs.Loading.{ManyTaken, gathered_by, grown, objects_of, placed_after, placed_cells, take_all}
 use Rattle.cell_law.proofs.Binds.{bind_assoc, bind_err, bind_ok}
 use Rattle.cell_law.proofs.Elements.{all-In, filter_all, filter_none}
@@ -36,25 +38,25 @@ numbers_placed n (s ∷ starts) [] = refl
 numbers_placed n (s ∷ starts) (c ∷ cells) = ap (λ b. nat_le n c.id.0 && b) (numbers_placed n starts cells)
 
 -- each present cell has an older number
-pub older : (w : World) → IsSettled w → (d : Cell) → In d w.cells → d.id.0 < w.next_cell
-older w settled d k = ltb-true d.id.0 w.next_cell (known_parts w d (all-In _ w.cells settled.coherent.ready.cells d k)).number
+pub older : (w : World) → IsCoherent w → (d : Cell) → In d w.cells → d.id.0 < w.next_cell
+older w coherent d k = ltb-true d.id.0 w.next_cell (known_parts w d (all-In _ w.cells coherent.ready.cells d k)).number
 
-fresh_after : (w : World) → IsSettled w → (cells : List Cell) → list_all (λ (c : Cell). nat_le w.next_cell c.id.0) cells ≡ true → filter (λ (c : Cell). nat_le w.next_cell c.id.0) (w.cells ++ cells) ≡ cells
-fresh_after w settled cells all =
+fresh_after : (w : World) → IsCoherent w → (cells : List Cell) → list_all (λ (c : Cell). nat_le w.next_cell c.id.0) cells ≡ true → filter (λ (c : Cell). nat_le w.next_cell c.id.0) (w.cells ++ cells) ≡ cells
+fresh_after w coherent cells all =
     filter-append (λ (c : Cell). nat_le w.next_cell c.id.0) w.cells cells
     ∙ ap₂ (λ (xs ys : List Cell). xs ++ ys)
-    (filter_none (λ (c : Cell). nat_le w.next_cell c.id.0) w.cells (λ d k. old d.id.0 w.next_cell (older w settled d k)))
+    (filter_none (λ (c : Cell). nat_le w.next_cell c.id.0) w.cells (λ d k. old d.id.0 w.next_cell (older w coherent d k)))
     (filter_all (λ (c : Cell). nat_le w.next_cell c.id.0) cells (λ c k. all-In (λ (c : Cell). nat_le w.next_cell c.id.0) cells all c k))
   where
     old : (k n : ℕ) → k < n → nat_le n k ≡ false
     old k n l = grind (arith, l, nat_tests)
 
-module _ (sources : List Source) (w : World) (ns stem : List ℕ) (settled : IsSettled w) (sound : AreSound sources) (cells : List Cell) (gathered : gathered_by sources w ns stem ≡ Ok (grown w cells)) where
+module _ (sources : List Source) (w : World) (ns stem : List ℕ) (coherent : IsCoherent w) (sound : AreSound sources) (cells : List Cell) (gathered : gathered_by sources w ns stem ≡ Ok (grown w cells)) where
   steps : (a : World) × (append_named sources w ns stem ≡ Ok a) × (bring sources w.next_cell a ≡ Ok (grown w cells))
   steps = bind_ok (append_named sources w ns stem) (λ a. bring sources w.next_cell a) (grown w cells) gathered
 
   reached : Ranks (grown w cells) × Extends w (grown w cells)
-  reached = (all_gathered sources w ns stem steps.0 (grown w cells) sound settled.coherent.ready steps.1 steps.2).0
+  reached = (all_gathered sources w ns stem steps.0 (grown w cells) sound coherent.ready steps.1 steps.2).0
 
   pub ranks : Ranks (grown w cells)
   ranks = reached.0
@@ -67,7 +69,7 @@ module _ (sources : List Source) (w : World) (ns stem : List ℕ) (settled : IsS
   all_new = subst (λ (cs : List Cell). list_all (λ (c : Cell). nat_le w.next_cell c.id.0) cs ≡ true) new_are reached.1.fresh
 
   fresh : fresh_cells w.next_cell (grown w cells) ≡ cells
-  fresh = fresh_after w settled cells all_new
+  fresh = fresh_after w coherent cells all_new
 
   places_are : place_all (grown w cells) (fresh_cells w.next_cell (grown w cells)) ≡ (take_all w.base (page_table w) (objects_of cells) >>= (λ t. Ok (placed_after t.starts w cells)))
   places_are = ap (place_all (grown w cells)) fresh ∙ all_is cells w.cells (grown w cells) refl ranks.order
@@ -96,4 +98,4 @@ module _ (sources : List Source) (w : World) (ns stem : List ℕ) (settled : IsS
     }
 
     pub fresh_placed : fresh_cells w.next_cell (placed_after t.starts w cells) ≡ placed_cells t.starts cells
-    fresh_placed = fresh_after w settled (placed_cells t.starts cells) (numbers_placed w.next_cell t.starts cells ∙ all_new)
+    fresh_placed = fresh_after w coherent (placed_cells t.starts cells) (numbers_placed w.next_cell t.starts cells ∙ all_new)

@@ -8,13 +8,16 @@ use Rattle.cell_object.specs.declared.object.Object.{Object}
 use Rattle.cell_object.specs.declared.object.Section.{Section as ObjectSection}
 use Rattle.cell_world.specs.World.{World, Cell}
 use Rattle.cell_world.specs.Outcome.{Outcome, ◌>>=◌}
-use Rattle.cell_world.specs.Relink.{Class, Text, ReadOnly, Writable, sections_in, image_of, laid_out, permission_of}
+use Rattle.cell_world.specs.Layout.{sections_in, image_of, laid_out, permission_of}
+use Rattle.cell_world.specs.declared.layout.Starts.{Starts}
+use Rattle.cell_world.specs.declared.layout.Class.TheVariants.{Text, ReadOnly, Writable}
+use Rattle.cell_world.specs.declared.layout.Class.{Class}
 use Rattle.cell_world.specs.Pages.{is_free, is_free_run, lowest_run, longest_run, filled}
-use Rattle.cell_world.specs.Place.{Placing, Starts, is_taken, page_table, with_run, with_places, place_sections, place_class, place_cell, place_all}
+use Rattle.cell_world.specs.Place.{Placing, is_taken, page_table, with_run, with_places, place_sections, place_class, place_cell, place_all}
 use Rattle.cell_world.specs.declared.refusal.Refusal.TheVariants.{Exhausted}
 use Rattle.cell_coherent.proofs.NewPlaced.{in_order, one_changes}
 use Rattle.cell_coherent.proofs.Renamed.{bare, pairs_bare}
-use Rattle.cell_law.specs.Settled.{In}
+use Rattle.cell_coherent.specs.Grown.{In}
 use Rattle.cell_law.specs.Loading.{Taken, take_for, take_class, AllTaken, ManyTaken, take_runs, take_all, with_run_of, with_classes, with_all, objects_of, placed_cell, placed_cells}
 use Rattle.cell_law.proofs.Binds.{bind_map, bind_assoc, bind_same, bind_ok, ok_same}
 use Rattle.cell_law.proofs.Elements.{all-In, found-In}

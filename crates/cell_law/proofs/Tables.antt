@@ -11,7 +11,7 @@ use Rattle.cell_world.specs.World.{World, Region}
 use Rattle.cell_world.specs.Memory.{covers, end_of}
 use Rattle.cell_world.specs.Pages.{filled}
 use Rattle.cell_world.specs.Place.{is_taken, page_table, with_region}
-use Rattle.cell_law.specs.Settled.{In}
+use Rattle.cell_coherent.specs.Grown.{In}
 use Rattle.cell_law.proofs.Elements.{map_same}
 
 from_split : (a m n : ℕ) → from_on a (m + n) ≡ from_on a m ++ from_on (a + m) n

@@ -1,6 +1,4 @@
 -- New cells after the others: the runs that their classes take, and the machine with them before it is linked.
---     laid_end sections             how many bytes the sections of a class have, one after another
---     run_size sections             how many bytes the run of a class has
 --     take_runs base table object   where the classes start, each in the lowest run that is free by then, and the page table with them
 --     regions_at starts object      the classes' regions there
 --     take_all base table objects   where the classes of each object start, one object after another
@@ -12,25 +10,15 @@ use Rattle.cell_object.specs.declared.object.Object.{Object}
 use Rattle.cell_object.specs.declared.object.Section.{Section as ObjectSection}
 use Rattle.cell_world.specs.declared.refusal.Refusal.TheVariants.{Exhausted}
 use Rattle.cell_world.specs.World.{World, Cell, Region}
-use Rattle.cell_world.specs.Relink.{Class, Text, ReadOnly, Writable, sections_in, image_of, permission_of, gap}
+use Rattle.cell_world.specs.Layout.{sections_in, image_of, permission_of, places_in, run_size}
+use Rattle.cell_world.specs.declared.layout.Starts.{Starts}
+use Rattle.cell_world.specs.declared.layout.Class.TheVariants.{Text, ReadOnly, Writable}
+use Rattle.cell_world.specs.declared.layout.Class.{Class}
 use Rattle.cell_world.specs.Pages.{lowest_run, longest_run, filled}
-use Rattle.cell_world.specs.Place.{Starts, places_in, with_region}
+use Rattle.cell_world.specs.Place.{with_region}
 use Rattle.cell_world.specs.Gather.{Source, bring}
 use Rattle.cell_world.specs.LoadCommand.{append_named}
 use Rattle.cell_world.specs.Outcome.{Outcome, ◌>>=◌}
-
--- n bytes stand before the sections
-abbrev pub laid_end_from : ℕ → List ObjectSection → ℕ
-laid_end_from n [] = n
-laid_end_from n (s ∷ sections) = laid_end_from (n + gap n s.align + s.size) sections
-
-abbrev pub laid_end : List ObjectSection → ℕ
-laid_end sections = laid_end_from 0 sections
-
--- a class without a section takes no run
-abbrev pub run_size : List ObjectSection → ℕ
-run_size [] = 0
-run_size (s ∷ rest) = length (image_of (s ∷ rest))
 
 -- where a run starts, and the page table with it
 pub record Taken : Type 0 where

@@ -1,7 +1,7 @@
 ghost use Rattle.std.specs.Prelude.{◌≡◌, ◌<◌, ◌^◌, All, IfOk, length};
 
 use super::*;
-use cell_num::{CellId, Listed, Name, RelKind};
+use cell_num::{Bytes, CellId, Listed, Name, RelKind};
 use cell_object::{Bind, Entry, Fill, Home, Object, Section, Sort, Symbol};
 use std::alloc::{AllocError, Global};
 use std::test::*;
@@ -15,16 +15,16 @@ fn cell(alloc: Global, bytes: &[u8], entries: &[Entry]) -> Result<NewCell, Alloc
 {
     let section = Section {
         number: 1,
-        name: Listed::from_vec(Vec::from_slice(alloc, b".text")?),
+        name: Bytes::from_vec(Vec::from_slice(alloc, b".text")?),
         write: false,
         exec: true,
         fill: Fill::Prog,
         align: 4,
         size: 8,
-        bytes: Listed::from_vec(Vec::from_slice(alloc, bytes)?),
+        bytes: Bytes::from_vec(Vec::from_slice(alloc, bytes)?),
     };
     let symbol = Symbol {
-        name: Listed::from_vec(Vec::new(alloc)),
+        name: Bytes::from_vec(Vec::new(alloc)),
         bind: Bind::Local,
         sort: Sort::NoType,
         home: Home::Inside(1),

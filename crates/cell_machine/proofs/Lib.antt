@@ -1,3 +1,5 @@
+pub mod Lists
+pub mod Joined
 pub mod Begins
 pub mod NewFields
 pub mod NewRuns
@@ -6,8 +8,12 @@ pub mod StagedAdded
 pub mod Rooms
 pub mod FieldsMapped
 pub mod Presence
-pub mod Unbound
+pub mod LinksRise
 pub mod Above
 pub mod Free
 pub mod Same
 pub mod Unchanged
+pub mod Low
+pub mod Looked
+pub mod Counts
+pub mod States

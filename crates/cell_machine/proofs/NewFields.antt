@@ -24,7 +24,8 @@ use Rattle.cell_coherent.proofs.Inside.{fields_lie}
 use Rattle.cell_link.specs.Linked.{field_values, value_at}
 use Rattle.cell_commit.specs.Commit.{patch_from, patches_from}
 use Rattle.cell_commit.specs.Seals.{IsInSpace, span_of, spans_of}
-use Rattle.cell_machine.specs.Machine.{cells_of, field_bytes}
+use Rattle.cell_machine.specs.Machine.{field_bytes}
+use Rattle.cell_machine.specs.Staged.{all_attached}
 use Rattle.cell_machine.specs.Staged.{all_fields}
 
 -- what stands in a region is in the space
@@ -37,7 +38,7 @@ inside_space w all addr n is =
     (grind (arith, nat_tests), grind (arith, nat_tests))
 
 module _ (w : World) where
-  counted : (n : ℕ) (cells : List NewCell) → fold (λ (n : ℕ) (c : Cell). n + length (fields_of c.object)) n (cells_of cells) ≡ n + length (all_fields w cells)
+  counted : (n : ℕ) (cells : List NewCell) → fold (λ (n : ℕ) (c : Cell). n + length (fields_of c.object)) n (all_attached cells) ≡ n + length (all_fields w cells)
   counted n [] = omega arith
   counted n (c ∷ cells) =
       let own : length (field_values c (targets_of w (attached c))) ≡ length (fields_of c.object) = length-map (fields_of c.object) (value_at c (targets_of w (attached c))) in
@@ -45,11 +46,11 @@ module _ (w : World) where
       let more = counted (n + length (fields_of c.object)) cells in
       omega (arith, own, both, more)
 
-  pub count_is : (cells : List NewCell) → field_count (cells_of cells) ≡ length (all_fields w cells)
+  pub count_is : (cells : List NewCell) → field_count (all_attached cells) ≡ length (all_fields w cells)
   count_is cells = let all = counted 0 cells in omega (arith, all)
 
   -- what is written for them is what linking writes
-  pub patches_are : (cells : List NewCell) → patches_from (all_fields w cells) ≡ flat_map (patches_of w) (cells_of cells)
+  pub patches_are : (cells : List NewCell) → patches_from (all_fields w cells) ≡ flat_map (patches_of w) (all_attached cells)
   patches_are [] = refl
   patches_are (c ∷ cells) =
       map-append patch_from (field_values c (targets_of w (attached c))) (all_fields w cells)

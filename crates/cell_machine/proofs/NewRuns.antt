@@ -9,8 +9,11 @@ use Rattle.cell_object.specs.declared.object.Section.{Section as ObjectSection}
 use Rattle.cell_world.specs.World.{World, Region}
 use Rattle.cell_world.specs.Coherent.{Shape, shape_of}
 use Rattle.cell_world.specs.Memory.{covers}
-use Rattle.cell_world.specs.Place.{Starts, is_taken, page_table, with_region}
-use Rattle.cell_world.specs.Relink.{Class, Text, ReadOnly, Writable, sections_in}
+use Rattle.cell_world.specs.Place.{is_taken, page_table, with_region}
+use Rattle.cell_world.specs.Layout.{sections_in}
+use Rattle.cell_world.specs.declared.layout.Starts.{Starts}
+use Rattle.cell_world.specs.declared.layout.Class.TheVariants.{Text, ReadOnly, Writable}
+use Rattle.cell_world.specs.declared.layout.Class.{Class}
 use Rattle.cell_law.specs.Loading.{all_regions, regions_at, run_region, with_all, with_class, with_classes, with_run_of}
 use Rattle.cell_law.proofs.Elements.{map_same}
 

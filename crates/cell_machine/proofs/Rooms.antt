@@ -12,8 +12,11 @@ use Rattle.cell_world.specs.Coherent.{ends_before, is_in_space}
 use Rattle.cell_world.specs.Memory.{end_of}
 use Rattle.cell_world.specs.Outcome.{Outcome, ◌>>=◌}
 use Rattle.cell_world.specs.Pages.{filled, longest_run, lowest_run}
-use Rattle.cell_world.specs.Place.{Starts, page_table, place_class}
-use Rattle.cell_world.specs.Relink.{Class, Text, ReadOnly, Writable, image_of, laid_out, sections_in}
+use Rattle.cell_world.specs.Place.{page_table, place_class}
+use Rattle.cell_world.specs.Layout.{image_of, laid_out, sections_in}
+use Rattle.cell_world.specs.declared.layout.Starts.{Starts}
+use Rattle.cell_world.specs.declared.layout.Class.TheVariants.{Text, ReadOnly, Writable}
+use Rattle.cell_world.specs.declared.layout.Class.{Class}
 use Rattle.cell_coherent.specs.Clear.{IsClear}
 use Rattle.cell_coherent.proofs.Elements.{All-In, In-all}
 use Rattle.cell_coherent.proofs.Tables.{class_spaced, run_clear, run_inside}

@@ -1,44 +1,33 @@
 -- A machine with other room is the same machine.
-use Rattle.std.proofs.Common.{◌≡◌, sym, ◌∙◌, ap, subst, ◌≤◌, ◌-◌, ◌*◌, ◌^◌, ℕ, List, length, map}
+use Rattle.std.proofs.Common.{◌≡◌, sym, ◌∙◌, ap, ap₂, subst, ◌≤◌, ◌-◌, ◌*◌, ◌^◌, ℕ, List, length, map}
 use Rattle.cell_world.specs.declared.state.LinkRow.{LinkRow}
 use Rattle.cell_world.specs.declared.state.Namespace.{Namespace}
 use Rattle.cell_world.specs.declared.state.NewCell.{NewCell}
-use Rattle.cell_world.specs.World.{World}
+use Rattle.cell_world.specs.World.{Cell}
+use Rattle.cell_world.specs.Coherent.{IsCoherent}
 use Rattle.cell_world.specs.Place.{page_table}
-use Rattle.cell_law.specs.Settled.{IsSettled}
 use Rattle.cell_mem.specs.State.{MemoryState}
 use Rattle.cell_place.specs.Space.{SpaceState}
-use Rattle.cell_space.specs.Machine.{called}
+use Rattle.cell_space.specs.Joined.{AreJoined, cells_of}
+use Rattle.cell_space.specs.declared.cell.SpaceCell.{SpaceCell}
 use Rattle.cell_task.specs.State.{TasksState}
 use Rattle.cell_commit.specs.Seals.{seal_table}
 use Rattle.cell_machine.specs.declared.machine.Machine.{Machine}
-use Rattle.cell_machine.specs.Machine.{IsSound, cells_of, field_bytes, keys_of, world_of}
+use Rattle.cell_machine.specs.Machine.{IsSound, field_bytes, keys_of, world_by, world_of}
 use Rattle.cell_machine.specs.Same.{IsSame}
 
 module _ (old new : Machine) (same : IsSame old new) where
-  abbrev world_by : MemoryState → List Namespace → List NewCell → List LinkRow → ℕ → TasksState → World
-  world_by memory namespaces cells rows next tasks =
-      record {
-        base = memory.base;
-        pages = memory.pages;
-        namespaces = namespaces;
-        cells = cells_of cells;
-        links = rows;
-        regions = memory.regions;
-        tasks = tasks.tasks;
-        next_cell = next;
-        next_task = tasks.next;
-        swaps = 0;
-      }
+  cells_same : cells_of new.cells.items new.spaces.cells ≡ cells_of old.cells.items old.spaces.cells
+  cells_same = ap₂ cells_of same.cells same.known
 
   pub world_same : world_of new ≡ world_of old
   world_same =
-      ap (λ (m : MemoryState). world_by m new.spaces.namespaces new.cells.items new.graph.rows new.next new.tasks) same.memory
-      ∙ (ap (λ (spaces : List Namespace). world_by old.memory spaces new.cells.items new.graph.rows new.next new.tasks) same.namespaces
-      ∙ (ap (λ (cells : List NewCell). world_by old.memory old.spaces.namespaces cells new.graph.rows new.next new.tasks) same.cells
-      ∙ (ap (λ (rows : List LinkRow). world_by old.memory old.spaces.namespaces old.cells.items rows new.next new.tasks) same.rows
-      ∙ (ap (λ (n : ℕ). world_by old.memory old.spaces.namespaces old.cells.items old.graph.rows n new.tasks) same.next
-      ∙ ap (λ (tasks : TasksState). world_by old.memory old.spaces.namespaces old.cells.items old.graph.rows old.next tasks) same.tasks))))
+      ap (λ (m : MemoryState). world_by m new.spaces.namespaces (cells_of new.cells.items new.spaces.cells) new.graph.rows new.tasks new.next new.swaps) same.memory
+      ∙ (ap (λ (spaces : List Namespace). world_by old.memory spaces (cells_of new.cells.items new.spaces.cells) new.graph.rows new.tasks new.next new.swaps) same.namespaces
+      ∙ (ap (λ (cells : List Cell). world_by old.memory old.spaces.namespaces cells new.graph.rows new.tasks new.next new.swaps) cells_same
+      ∙ (ap (λ (rows : List LinkRow). world_by old.memory old.spaces.namespaces (cells_of old.cells.items old.spaces.cells) rows new.tasks new.next new.swaps) same.rows
+      ∙ (ap (λ (tasks : TasksState). world_by old.memory old.spaces.namespaces (cells_of old.cells.items old.spaces.cells) old.graph.rows tasks new.next new.swaps) same.tasks
+      ∙ ap₂ (world_by old.memory old.spaces.namespaces (cells_of old.cells.items old.spaces.cells) old.graph.rows old.tasks) same.next same.swaps))))
 
   pub regions_same : length new.memory.regions ≡ length old.memory.regions
   regions_same = ap (λ (m : MemoryState). length m.regions) same.memory
@@ -51,8 +40,9 @@ module _ (old new : Machine) (same : IsSame old new) where
 
   pub sound_same : IsSound old → IsSound new
   sound_same s = record {
-    settled = subst IsSettled (sym world_same) s.settled;
-    known = same.known ∙ (s.known ∙ ap (λ (cells : List NewCell). map called (cells_of cells)) (sym same.cells));
+    coherent = subst IsCoherent (sym world_same) s.coherent;
+    joined = subst (λ (cells : List NewCell). AreJoined cells new.spaces.cells) (sym same.cells)
+        (subst (λ (known : List SpaceCell). AreJoined old.cells.items known) (sym same.known) s.joined);
     table = ap (λ (x : SpaceState). x.taken) same.space ∙ (s.table ∙ ap page_table (sym world_same));
     base = ap (λ (x : SpaceState). x.base) same.space ∙ (s.base ∙ ap (λ (m : MemoryState). m.base) (sym same.memory));
     sections = same.sections ∙ (s.sections ∙ ap keys_of (sym same.cells));

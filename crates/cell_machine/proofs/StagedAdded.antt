@@ -1,5 +1,5 @@
 -- The machine with the staged cells is sound, and it is what each load comes to by which they were staged.
-use Rattle.std.proofs.Common.{◌≡◌, refl, sym, ◌∙◌, ap, subst, arith, ℕ, ◌+◌, ◌-◌, ◌*◌, ◌^◌, List, ◌++◌, map, length, min}
+use Rattle.std.proofs.Common.{◌≡◌, refl, sym, ◌∙◌, ap, ap₂, subst, arith, ℕ, ◌+◌, ◌-◌, ◌*◌, ◌^◌, List, [], ◌∷◌, ◌++◌, map, length, min}
 use Rattle.std.specs.Prelude.{All, fold}
 use Rattle.std.proofs.lemmas.Grind.{flat_map-append}
 use Rattle.std.proofs.lemmas.List.{length-map, map-append}
@@ -10,20 +10,21 @@ use Rattle.cell_world.specs.declared.state.Namespace.{Namespace}
 use Rattle.cell_world.specs.declared.state.NewCell.{NewCell}
 use Rattle.cell_world.specs.World.{World, Cell, Region, attached}
 use Rattle.cell_world.specs.Answer.{done, ids, numbers_of}
-use Rattle.cell_world.specs.Coherent.{AreSound}
+use Rattle.cell_world.specs.Coherent.{AreSound, IsCoherent}
 use Rattle.cell_world.specs.Gather.{Source}
 use Rattle.cell_world.specs.LoadCommand.{field_count, next_load}
 use Rattle.cell_world.specs.Place.{page_table}
 use Rattle.cell_world.specs.Relink.{Patch, patched}
 use Rattle.cell_coherent.specs.Grown.{In, with_fields}
 use Rattle.cell_law.specs.Loading.{objects_of, placed_cells, with_all}
-use Rattle.cell_law.specs.Settled.{IsSettled}
 use Rattle.cell_law.proofs.Elements.{In-right, map-In}
 use Rattle.cell_law.proofs.Placing.{all_table}
 use Rattle.cell_link.specs.declared.value.FieldValue.{FieldValue}
 use Rattle.cell_mem.specs.State.{MemoryState}
 use Rattle.cell_place.specs.Space.{SpaceState}
 use Rattle.cell_space.specs.Machine.{called}
+use Rattle.cell_space.specs.Joined.{AreJoined, cells_of, placed_of}
+use Rattle.cell_space.proofs.Joined.{cells_are, cells_both, joined_both, joined_by}
 use Rattle.cell_space.specs.declared.cell.SpaceCell.{SpaceCell}
 use Rattle.cell_task.specs.State.{TasksState}
 use Rattle.cell_commit.specs.Commit.{all_mapped, fields_written, patches_from}
@@ -33,34 +34,23 @@ use Rattle.cell_commit.proofs.Sealing.{written_sealed}
 use Rattle.cell_commit.proofs.Writing.{written_base, written_maps, written_pages, written_patches, written_regions, written_undo}
 use Rattle.cell_machine.specs.declared.machine.Machine.{Machine}
 use Rattle.cell_machine.specs.declared.staged.Staged.{Staged}
-use Rattle.cell_machine.specs.Machine.{IsSound, cells_of, field_bytes, keys_of, own_field_bytes, section_keys, world_of}
-use Rattle.cell_machine.specs.Staged.{IsStaged}
+use Rattle.cell_machine.specs.Machine.{IsSound, field_bytes, keys_of, own_field_bytes, section_keys, world_by, world_of}
+use Rattle.cell_machine.specs.Staged.{IsStaged, all_attached}
 use Rattle.cell_machine.proofs.NewFields.{count_is, fields_in_space, patches_are, spans_are}
 use Rattle.cell_machine.proofs.NewRuns.{all_put, put, puts_longer, table_by_shapes}
-use Rattle.cell_machine.proofs.StagedWorld.{W, linkable, load_is, next_coherent, next_number, next_settled, next_world, ready, taken}
+use Rattle.cell_machine.proofs.StagedWorld.{W, linkable, load_is, next_coherent, next_number, next_world, ready, taken}
 
--- a world by its parts
-abbrev world_by : ℕ → ℕ → List Namespace → List Cell → List LinkRow → List Region → ℕ → TasksState → World
-world_by base pages namespaces cells links regions next tasks =
-    record {
-      base = base;
-      pages = pages;
-      namespaces = namespaces;
-      cells = cells;
-      links = links;
-      regions = regions;
-      tasks = tasks.tasks;
-      next_cell = next;
-      next_task = tasks.next;
-      swaps = 0;
-    }
+map-back : (cells : List NewCell) → map placed_of (all_attached cells) ≡ cells
+map-back [] = refl
+map-back (c ∷ cells) = ap (λ (cs : List NewCell). c ∷ cs) (map-back cells)
 
 -- n is m with all that is staged
 module _ (m n : Machine) (s : Staged) (sound : IsSound m) (spare : ℕ)
     (cells : n.cells.items ≡ m.cells.items ++ s.cells.items)
     (next : n.next ≡ m.next + length s.cells.items)
+    (swaps : n.swaps ≡ m.swaps)
     (namespaces : n.spaces.namespaces ≡ m.spaces.namespaces)
-    (known : n.spaces.cells ≡ m.spaces.cells ++ map called (cells_of s.cells.items))
+    (known : n.spaces.cells ≡ m.spaces.cells ++ map called (all_attached s.cells.items))
     (space : n.space ≡ s.space)
     (memory : n.memory ≡ fields_written (all_mapped (record m.memory { spare = spare }) s.regions.items) s.fields.items)
     (sections : n.graph.sections ≡ m.graph.sections ++ keys_of s.cells.items)
@@ -78,14 +68,24 @@ module _ (m n : Machine) (s : Staged) (sound : IsSound m) (spare : ℕ)
   pages_are : n.memory.pages ≡ m.memory.pages
   pages_are = ap (λ (x : MemoryState). x.pages) memory ∙ (written_pages mapped s.fields.items ∙ mapped_pages roomy s.regions.items)
 
-  cells_are : cells_of n.cells.items ≡ cells_of m.cells.items ++ cells_of s.cells.items
-  cells_are = ap cells_of cells ∙ map-append attached m.cells.items s.cells.items
+  new_joined : AreJoined s.cells.items (map called (all_attached s.cells.items))
+  new_joined = joined_by (all_attached s.cells.items) s.cells.items (map called (all_attached s.cells.items)) (sym (map-back s.cells.items)) refl
 
-  known_is : n.spaces.cells ≡ map called (cells_of n.cells.items)
-  known_is =
-      known
-      ∙ (ap (λ (cs : List SpaceCell). cs ++ map called (cells_of s.cells.items)) sound.known
-      ∙ (sym (map-append called (cells_of m.cells.items) (cells_of s.cells.items)) ∙ ap (map called) (sym cells_are)))
+  new_are : cells_of s.cells.items (map called (all_attached s.cells.items)) ≡ all_attached s.cells.items
+  new_are = cells_are (all_attached s.cells.items) s.cells.items (map called (all_attached s.cells.items)) (sym (map-back s.cells.items)) refl
+
+  -- the cells that were there, and then the new ones
+  cells_now : cells_of n.cells.items n.spaces.cells ≡ (world_of m).cells ++ all_attached s.cells.items
+  cells_now =
+      ap₂ cells_of cells known
+      ∙ (cells_both m.cells.items s.cells.items m.spaces.cells (map called (all_attached s.cells.items)) sound.joined new_joined
+      ∙ ap (λ (cs : List Cell). (world_of m).cells ++ cs) new_are)
+
+  all_joined : AreJoined n.cells.items n.spaces.cells
+  all_joined =
+      subst (λ (items : List NewCell). AreJoined items n.spaces.cells) (sym cells)
+      (subst (λ (names : List SpaceCell). AreJoined (m.cells.items ++ s.cells.items) names) (sym known)
+      (joined_both m.cells.items s.cells.items m.spaces.cells (map called (all_attached s.cells.items)) sound.joined new_joined))
 
   keys_are : n.graph.sections ≡ keys_of n.cells.items
   keys_are =
@@ -118,13 +118,13 @@ module _ (m n : Machine) (s : Staged) (sound : IsSound m) (spare : ℕ)
 
     -- the machine with the cells in their places, and linked
     abbrev placed : World
-    placed = W sources w ns stem s sound.settled files st
+    placed = W sources w ns stem s sound.coherent files st
 
     abbrev after : World
-    after = next_world sources w ns stem s sound.settled files st
+    after = next_world sources w ns stem s sound.coherent files st
 
-    new_cells : cells_of n.cells.items ≡ after.cells
-    new_cells = cells_are ∙ ap (λ (cs : List Cell). cells_of m.cells.items ++ cs) st.cells
+    new_cells : cells_of n.cells.items n.spaces.cells ≡ after.cells
+    new_cells = cells_now ∙ ap (λ (cs : List Cell). (world_of m).cells ++ cs) st.cells
 
     new_rows : n.graph.rows ≡ after.links
     new_rows = rows ∙ ap (λ (new : List LinkRow). m.graph.rows ++ new) st.rows
@@ -132,48 +132,56 @@ module _ (m n : Machine) (s : Staged) (sound : IsSound m) (spare : ℕ)
     mapped_now : mapped.regions ≡ placed.regions
     mapped_now =
         mapped_regions roomy s.regions.items
-        ∙ (ap (put m.memory.regions) st.regions ∙ all_put st.starts (objects_of (cells_of st.new)) m.memory.regions)
+        ∙ (ap (put m.memory.regions) st.regions ∙ all_put st.starts (objects_of (all_attached st.new)) m.memory.regions)
 
     regions_are : n.memory.regions ≡ after.regions
     regions_are =
         ap (λ (x : MemoryState). x.regions) memory
         ∙ (written_regions mapped s.fields.items
         ∙ (ap (λ (ps : List Patch). map (λ r. fold patched r ps) mapped.regions) (ap patches_from st.fields ∙ patches_are placed s.cells.items)
-        ∙ ap (map (with_fields placed (cells_of s.cells.items))) mapped_now))
+        ∙ ap (map (with_fields placed (all_attached s.cells.items))) mapped_now))
 
     next_is : n.next ≡ after.next_cell
-    next_is = next ∙ sym (next_number sources w ns stem s sound.settled files st)
+    next_is = next ∙ sym (next_number sources w ns stem s sound.coherent files st)
+
+    memory_is : world_by n.memory n.spaces.namespaces (cells_of n.cells.items n.spaces.cells) n.graph.rows n.tasks n.next n.swaps
+        ≡ record (world_by m.memory n.spaces.namespaces (cells_of n.cells.items n.spaces.cells) n.graph.rows n.tasks n.next n.swaps) { regions = after.regions }
+    memory_is =
+        ap (λ b. record (world_of n) { base = b }) base_is
+        ∙ (ap (λ k. record (world_of n) { base = m.memory.base; pages = k }) pages_are
+        ∙ ap (λ (rs : List Region). record (world_of n) { base = m.memory.base; pages = m.memory.pages; regions = rs }) regions_are)
+
+    abbrev by : List Namespace → List Cell → List LinkRow → TasksState → ℕ → ℕ → World
+    by spaces cs links tasks number swaps = record (world_by m.memory spaces cs links tasks number swaps) { regions = after.regions }
 
     -- the machine is what the load comes to
     pub world_is : world_of n ≡ after
     world_is =
-        ap (λ b. world_by b n.memory.pages n.spaces.namespaces (cells_of n.cells.items) n.graph.rows n.memory.regions n.next n.tasks) base_is
-        ∙ (ap (λ k. world_by m.memory.base k n.spaces.namespaces (cells_of n.cells.items) n.graph.rows n.memory.regions n.next n.tasks) pages_are
-        ∙ (ap (λ (spaces : List Namespace). world_by m.memory.base m.memory.pages spaces (cells_of n.cells.items) n.graph.rows n.memory.regions n.next n.tasks) namespaces
-        ∙ (ap (λ (cs : List Cell). world_by m.memory.base m.memory.pages m.spaces.namespaces cs n.graph.rows n.memory.regions n.next n.tasks) new_cells
-        ∙ (ap (λ (links : List LinkRow). world_by m.memory.base m.memory.pages m.spaces.namespaces after.cells links n.memory.regions n.next n.tasks) new_rows
-        ∙ (ap (λ (rs : List Region). world_by m.memory.base m.memory.pages m.spaces.namespaces after.cells after.links rs n.next n.tasks) regions_are
-        ∙ (ap (λ k. world_by m.memory.base m.memory.pages m.spaces.namespaces after.cells after.links after.regions k n.tasks) next_is
-        ∙ ap (λ (ts : TasksState). world_by m.memory.base m.memory.pages m.spaces.namespaces after.cells after.links after.regions after.next_cell ts) tasks))))))
+        memory_is
+        ∙ (ap (λ (spaces : List Namespace). by spaces (cells_of n.cells.items n.spaces.cells) n.graph.rows n.tasks n.next n.swaps) namespaces
+        ∙ (ap (λ (cs : List Cell). by m.spaces.namespaces cs n.graph.rows n.tasks n.next n.swaps) new_cells
+        ∙ (ap (λ (links : List LinkRow). by m.spaces.namespaces after.cells links n.tasks n.next n.swaps) new_rows
+        ∙ (ap (λ (ts : TasksState). by m.spaces.namespaces after.cells after.links ts n.next n.swaps) tasks
+        ∙ ap₂ (by m.spaces.namespaces after.cells after.links m.tasks) next_is swaps))))
 
-    count_fields : field_count (cells_of s.cells.items) ≡ length s.fields.items
+    count_fields : field_count (all_attached s.cells.items) ≡ length s.fields.items
     count_fields = count_is placed s.cells.items ∙ ap length (sym st.fields)
 
-    pub loaded : next_load sources w ns stem ≡ done (LoadDone (ids (numbers_of (cells_of s.cells.items))) (length s.fields.items)) (world_of n)
+    pub loaded : next_load sources w ns stem ≡ done (LoadDone (ids (numbers_of (all_attached s.cells.items))) (length s.fields.items)) (world_of n)
     loaded =
-        load_is sources w ns stem s sound.settled files st
-        ∙ (ap (λ k. done (LoadDone (ids (numbers_of (cells_of s.cells.items))) k) after) count_fields
-        ∙ ap (λ (u : World). done (LoadDone (ids (numbers_of (cells_of s.cells.items))) (length s.fields.items)) u) (sym world_is))
+        load_is sources w ns stem s sound.coherent files st
+        ∙ (ap (λ k. done (LoadDone (ids (numbers_of (all_attached s.cells.items))) k) after) count_fields
+        ∙ ap (λ (u : World). done (LoadDone (ids (numbers_of (all_attached s.cells.items))) (length s.fields.items)) u) (sym world_is))
 
     table_is : s.space.taken ≡ page_table after
     table_is =
-        sym (all_table (objects_of (cells_of st.new)) w (taken sources w ns stem s sound.settled files st) st.runs)
-        ∙ table_by_shapes (record w { regions = with_all st.starts (objects_of (cells_of st.new)) w.regions }) after refl refl
-        ((ready sources w ns stem s sound.settled files st).regions ∙ sym (next_coherent sources w ns stem s sound.settled files st).ready.regions)
+        sym (all_table (objects_of (all_attached st.new)) w (taken sources w ns stem s sound.coherent files st) st.runs)
+        ∙ table_by_shapes (record w { regions = with_all st.starts (objects_of (all_attached st.new)) w.regions }) after refl refl
+        ((ready sources w ns stem s sound.coherent files st).regions ∙ sym (next_coherent sources w ns stem s sound.coherent files st).ready.regions)
 
     there : (c : NewCell) → In c s.cells.items → In (attached c) placed.cells
     there c k =
-        In-right w.cells (placed_cells st.starts (cells_of st.new)) (attached c)
+        In-right w.cells (placed_cells st.starts (all_attached st.new)) (attached c)
         (subst (λ (cs : List Cell). In (attached c) cs) st.cells (map-In attached s.cells.items c k))
 
     fields_inside : All (IsInSpace mapped.base mapped.pages) s.fields.items
@@ -181,7 +189,7 @@ module _ (m n : Machine) (s : Staged) (sound : IsSound m) (spare : ℕ)
         subst (λ (b : ℕ). All (IsInSpace b mapped.pages) s.fields.items) (sym (mapped_base roomy s.regions.items))
         (subst (λ (k : ℕ). All (IsInSpace m.memory.base k) s.fields.items) (sym (mapped_pages roomy s.regions.items))
         (subst (λ (fs : List FieldValue). All (IsInSpace m.memory.base m.memory.pages) fs) (sym st.fields)
-        (fields_in_space placed (ready sources w ns stem s sound.settled files st).in_space (linkable sources w ns stem s sound.settled files st) s.cells.items there)))
+        (fields_in_space placed (ready sources w ns stem s sound.coherent files st).in_space (linkable sources w ns stem s sound.coherent files st) s.cells.items there)))
 
     abbrev sealed_before : List (ℕ × ℕ)
     sealed_before = field_bytes m.cells.items
@@ -209,8 +217,8 @@ module _ (m n : Machine) (s : Staged) (sound : IsSound m) (spare : ℕ)
 
     pub sound_added : IsSound n
     sound_added = record {
-      settled = subst IsSettled (sym world_is) (next_settled sources w ns stem s sound.settled files st);
-      known = known_is;
+      coherent = subst IsCoherent (sym world_is) (next_coherent sources w ns stem s sound.coherent files st);
+      joined = all_joined;
       table = ap (λ (x : SpaceState). x.taken) space ∙ (table_is ∙ ap page_table (sym world_is));
       base = ap (λ (x : SpaceState). x.base) space ∙ (st.base ∙ sym base_is);
       sections = keys_are;

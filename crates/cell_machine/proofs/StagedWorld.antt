@@ -11,7 +11,7 @@ use Rattle.cell_world.specs.Coherent.{AreSound, IsCoherent, IsReady}
 use Rattle.cell_world.specs.Fit.{first_misfit}
 use Rattle.cell_world.specs.Gather.{Source, fresh_cells}
 use Rattle.cell_world.specs.LoadCommand.{field_count, next_load}
-use Rattle.cell_world.specs.Place.{Starts}
+use Rattle.cell_world.specs.declared.layout.Starts.{Starts}
 use Rattle.cell_world.specs.Relink.{relink}
 use Rattle.cell_coherent.specs.Grown.{In, IsGrown, links_from, with_fields}
 use Rattle.cell_coherent.specs.Linkable.{IsLinkable}
@@ -20,22 +20,20 @@ use Rattle.cell_coherent.proofs.After.{relinked_after}
 use Rattle.cell_coherent.proofs.LoadLinks.{has_grown, is_linkable, is_ready, links}
 use Rattle.cell_coherent.proofs.Relinks.{coherent_relinked}
 use Rattle.cell_law.specs.Loading.{ManyTaken, placed_cells}
-use Rattle.cell_law.specs.Settled.{IsPlainCell, IsSettled}
 use Rattle.cell_law.proofs.Elements.{In-append, In-map, filter-Passes, pairs-filter}
 use Rattle.cell_law.proofs.Loads.{fresh_placed, has_placed as placed_of}
 use Rattle.cell_machine.specs.declared.staged.Staged.{Staged}
-use Rattle.cell_machine.specs.Machine.{cells_of}
-use Rattle.cell_machine.specs.Staged.{IsStaged, staged_in}
+use Rattle.cell_machine.specs.Staged.{IsStaged, all_attached, staged_in}
 
 length-placed : (starts : List Starts) (cells : List Cell) → length (placed_cells starts cells) ≡ length cells
 length-placed [] cells = refl
 length-placed (s ∷ starts) [] = refl
 length-placed (s ∷ starts) (c ∷ cells) = ap suc (length-placed starts cells)
 
-module _ (sources : List Source) (w : World) (ns stem : List ℕ) (s : Staged) (settled : IsSettled w) (sound : AreSound sources) (st : IsStaged sources w ns stem s) where
+module _ (sources : List Source) (w : World) (ns stem : List ℕ) (s : Staged) (coherent : IsCoherent w) (sound : AreSound sources) (st : IsStaged sources w ns stem s) where
   -- the new cells in their places
   abbrev pub F : List Cell
-  F = cells_of s.cells.items
+  F = all_attached s.cells.items
 
   -- the machine with them, not linked yet
   abbrev pub W : World
@@ -45,22 +43,22 @@ module _ (sources : List Source) (w : World) (ns stem : List ℕ) (s : Staged) (
   taken = record { starts = st.starts; table = s.space.taken }
 
   pub has_placed : HasPlaced sources w ns stem W
-  has_placed = placed_of sources w ns stem settled sound (cells_of st.new) st.gathered taken st.runs
+  has_placed = placed_of sources w ns stem coherent sound (all_attached st.new) st.gathered taken st.runs
 
   pub fresh : fresh_cells w.next_cell W ≡ F
-  fresh = fresh_placed sources w ns stem settled sound (cells_of st.new) st.gathered taken st.runs ∙ sym st.cells
+  fresh = fresh_placed sources w ns stem coherent sound (all_attached st.new) st.gathered taken st.runs ∙ sym st.cells
 
   none_unfit : first_misfit W (fresh_cells w.next_cell W) ≡ None
   none_unfit = ap (first_misfit W) fresh ∙ st.fit
 
   pub grown : IsGrown w W F
-  grown = subst (IsGrown w W) fresh (has_grown sources w ns stem W sound settled.coherent has_placed)
+  grown = subst (IsGrown w W) fresh (has_grown sources w ns stem W sound coherent has_placed)
 
   pub linkable : IsLinkable W
-  linkable = is_linkable sources w ns stem W sound settled.coherent has_placed
+  linkable = is_linkable sources w ns stem W sound coherent has_placed
 
   pub ready : IsReady W
-  ready = is_ready sources w ns stem W sound settled.coherent has_placed none_unfit
+  ready = is_ready sources w ns stem W sound coherent has_placed none_unfit
 
   -- the machine with the cells, their fields written and their links added
   abbrev pub next_world : World
@@ -68,26 +66,14 @@ module _ (sources : List Source) (w : World) (ns stem : List ℕ) (s : Staged) (
 
   pub load_is : next_load sources w ns stem ≡ done (LoadDone (ids (numbers_of F)) (field_count F)) next_world
   load_is =
-      links sources w ns stem W sound settled.coherent has_placed none_unfit
+      links sources w ns stem W sound coherent has_placed none_unfit
       ∙ ap (λ (cs : List Cell). done (LoadDone (ids (numbers_of cs)) (field_count cs)) (record W { regions = map (with_fields W cs) W.regions; links = w.links ++ links_from W cs })) fresh
 
   pub relinked : relink W ≡ next_world
-  relinked = relinked_after w W F settled.coherent ready grown
+  relinked = relinked_after w W F coherent ready grown
 
   pub next_coherent : IsCoherent next_world
   next_coherent = subst IsCoherent relinked (coherent_relinked W ready)
-
-  new_plain : (c : Cell) → In c F → IsPlainCell c
-  new_plain c k =
-      let at = In-map attached s.cells.items c k in
-      record { attached = ap (λ (c : Cell). c.standing) at.2; unaliased = ap (λ (c : Cell). c.aliases) at.2 }
-
-  pub next_settled : IsSettled next_world
-  next_settled = record { cells = λ c k. go c (In-append w.cells (placed_cells st.starts (cells_of st.new)) c k); coherent = next_coherent }
-    where
-      go : (c : Cell) → In c w.cells ⊎ In c (placed_cells st.starts (cells_of st.new)) → IsPlainCell c
-      go c (inl k) = settled.cells c k
-      go c (inr k) = new_plain c (subst (λ (cs : List Cell). In c cs) (sym st.cells) k)
 
   -- the new numbers are not below those that were given
   pub numbers_new : (c : Cell) → In c F → w.next_cell ≤ c.id.0
@@ -99,8 +85,8 @@ module _ (sources : List Source) (w : World) (ns stem : List ℕ) (s : Staged) (
       subst (λ (cs : List Cell). each_pair (λ (a b : Cell). nat_lt a.id.0 b.id.0) cs ≡ true) fresh
       (pairs-filter (λ (a b : Cell). nat_lt a.id.0 b.id.0) (λ (c : Cell). nat_le w.next_cell c.id.0) W.cells linkable.cell_order)
 
-  pub new_count : length (cells_of st.new) ≡ length s.cells.items
-  new_count = sym (length-placed st.starts (cells_of st.new)) ∙ (ap length (sym st.cells) ∙ length-map s.cells.items attached)
+  pub new_count : length (all_attached st.new) ≡ length s.cells.items
+  new_count = sym (length-placed st.starts (all_attached st.new)) ∙ (ap length (sym st.cells) ∙ length-map s.cells.items attached)
 
   pub next_number : next_world.next_cell ≡ w.next_cell + length s.cells.items
   next_number = ap (λ (n : ℕ). w.next_cell + n) new_count

@@ -7,6 +7,7 @@ pub same_itself : (m : Machine) → IsSame m m
 same_itself m = record {
   cells = refl;
   next = refl;
+  swaps = refl;
   namespaces = refl;
   known = refl;
   space = refl;

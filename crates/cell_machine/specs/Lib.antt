@@ -2,3 +2,5 @@ pub mod Does
 pub mod Machine
 pub mod Same
 pub mod Staged
+pub mod Unknown
+pub mod LinkOrder

@@ -2,37 +2,43 @@
 --     world_of m              the machine that m is
 --     keys_of cells           the sections of the cells, by their keys
 --     field_bytes cells       where the fields of the cells begin, and how many bytes each of them has
---     IsSound m               the machine is coherent; what the cells are called, the page table and the index of sections are those
---                             of the machine; and the sealed bytes are those of the fields
+--     IsSound m               the machine is coherent; its parts have its cells, its page table and its sections; and the sealed bytes
+--                             are those of the fields
 use Rattle.std.specs.Prelude.{ℕ, ◌≡◌, ◌≤◌, ◌-◌, ◌*◌, ◌^◌, List, None, flat_map, map}
 use Rattle.cell_num.specs.Kinds.{width_of}
 use Rattle.cell_num.specs.declared.ids.SecKey.{SecKey}
+use Rattle.cell_world.specs.declared.state.LinkRow.{LinkRow}
+use Rattle.cell_world.specs.declared.state.Namespace.{Namespace}
 use Rattle.cell_world.specs.declared.state.NewCell.{NewCell}
-use Rattle.cell_world.specs.World.{World, Cell, attached, key_of}
+use Rattle.cell_world.specs.World.{World, Cell, key_of}
+use Rattle.cell_world.specs.Coherent.{IsCoherent}
 use Rattle.cell_world.specs.Field.{fields_of, place_of}
 use Rattle.cell_world.specs.Place.{page_table}
-use Rattle.cell_law.specs.Settled.{IsSettled}
-use Rattle.cell_space.specs.Machine.{called}
+use Rattle.cell_mem.specs.State.{MemoryState}
+use Rattle.cell_space.specs.Joined.{AreJoined, cells_of}
+use Rattle.cell_task.specs.State.{TasksState}
 use Rattle.cell_commit.specs.Seals.{seal_table}
 use Rattle.cell_machine.specs.declared.machine.Machine.{Machine}
 
-abbrev pub cells_of : List NewCell → List Cell
-cells_of cells = map attached cells
+-- a machine by what its parts are seen as
+abbrev pub world_by : MemoryState → List Namespace → List Cell → List LinkRow → TasksState → ℕ → ℕ → World
+world_by memory namespaces cells links tasks next swaps =
+    record {
+      base = memory.base;
+      pages = memory.pages;
+      namespaces = namespaces;
+      cells = cells;
+      links = links;
+      regions = memory.regions;
+      tasks = tasks.tasks;
+      next_cell = next;
+      next_task = tasks.next;
+      swaps = swaps;
+    }
 
 abbrev pub world_of : Machine → World
 world_of m =
-    record {
-      base = m.memory.base;
-      pages = m.memory.pages;
-      namespaces = m.spaces.namespaces;
-      cells = cells_of m.cells.items;
-      links = m.graph.rows;
-      regions = m.memory.regions;
-      tasks = m.tasks.tasks;
-      next_cell = m.next;
-      next_task = m.tasks.next;
-      swaps = 0;
-    }
+    world_by m.memory m.spaces.namespaces (cells_of m.cells.items m.spaces.cells) m.graph.rows m.tasks m.next m.swaps
 
 abbrev pub section_keys : NewCell → List SecKey
 section_keys c = map (λ s. key_of c.id.0 s.number) c.object.sections
@@ -47,8 +53,8 @@ abbrev pub field_bytes : List NewCell → List (ℕ × ℕ)
 field_bytes cells = flat_map own_field_bytes cells
 
 pub record IsSound (m : Machine) : Type 0 where
-  pub settled : IsSettled (world_of m)
-  pub known : m.spaces.cells ≡ map called (cells_of m.cells.items)
+  pub coherent : IsCoherent (world_of m)
+  pub joined : AreJoined m.cells.items m.spaces.cells
   pub table : m.space.taken ≡ page_table (world_of m)
   pub base : m.space.base ≡ m.memory.base
   pub sections : m.graph.sections ≡ keys_of m.cells.items

@@ -8,6 +8,7 @@ use Rattle.cell_machine.specs.declared.machine.Machine.{Machine}
 pub record IsSame (old new : Machine) : Type 0 where
   pub cells : new.cells.items ≡ old.cells.items
   pub next : new.next ≡ old.next
+  pub swaps : new.swaps ≡ old.swaps
   pub namespaces : new.spaces.namespaces ≡ old.spaces.namespaces
   pub known : new.spaces.cells ≡ old.spaces.cells
   pub space : new.space ≡ old.space

@@ -20,7 +20,9 @@ pub struct Machine {
     pub cells: Vec<NewCell>,
     /// The number of the next cell.
     pub next: u32,
-    /// What the cells are called.
+    /// How many swaps were accepted.
+    pub swaps: u32,
+    /// What the cells are called, and which of them are attached.
     pub spaces: Spaces,
     /// Which pages are free.
     pub space: Space,
@@ -42,6 +44,7 @@ impl Machine {
         Ok(Machine {
             cells: Vec::new(alloc),
             next: 1,
+            swaps: 0,
             spaces: Spaces::new(alloc)?,
             space: Space::new(alloc, base, pages)?,
             memory: Memory::new(alloc, base, pages)?,

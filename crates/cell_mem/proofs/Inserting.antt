@@ -1,23 +1,12 @@
 -- A new region among those that stand apart.
-use Rattle.std.proofs.Common.{◌≡◌, ℕ, suc, ◌+◌, ◌<◌, ◌≤◌, Bool, true, false, not, cond, ◌||◌, List, [], ◌∷◌, leb, ltb, refl, ap, ◌∙◌, ◌⊎◌, ⊎_elim, arith}
-use Rattle.std.specs.List.{list_all, prefix_len, position_or_len, insert}
+use Rattle.std.proofs.Common.{◌≡◌, ℕ, suc, ◌+◌, ◌<◌, ◌≤◌, Bool, true, false, not, cond, ◌&&◌, ◌||◌, List, [], ◌∷◌, Some, leb, ltb, refl, sym, ap, ◌∙◌, ◌⊎◌, ⊎_elim, arith}
+use Rattle.std.specs.List.{find, list_all}
 use Rattle.std.proofs.lemmas.Bool.{and_parts, or_cases, leb-true, ltb-true, ltb-false}
 use Rattle.cell_world.specs.World.{Region}
-use Rattle.cell_world.specs.Memory.{end_of}
+use Rattle.cell_world.specs.Memory.{covers, end_of}
 use Rattle.cell_world.specs.Place.{with_region}
 use Rattle.cell_mem.specs.Index.{IsWhole, IsLaid}
-
--- the region stands where the first that begins later stood
-pub with_region_is : (r : Region) (rs : List Region) → insert rs (position_or_len (λ s. ltb r.start s.start) rs) r ≡ with_region r rs
-with_region_is r [] = refl
-with_region_is r (s ∷ rs) = go (ltb r.start s.start) (with_region_is r rs)
-  where
-    go : (b : Bool) → insert rs (position_or_len (λ s. ltb r.start s.start) rs) r ≡ with_region r rs
-        → insert (s ∷ rs) (cond (not b) (1 + prefix_len (λ s. not (ltb r.start s.start)) rs) 0) r ≡ cond b (r ∷ s ∷ rs) (s ∷ with_region r rs)
-    go true e = refl
-    go false e =
-        let one : 1 + position_or_len (λ s. ltb r.start s.start) rs ≡ suc (position_or_len (λ s. ltb r.start s.start) rs) = omega arith in
-        ap (λ n. insert (s ∷ rs) n r) one ∙ ap (λ ss. s ∷ ss) e
+use Rattle.cell_mem.proofs.Laid.{covers_low, covers_high, not_below, not_above, find_here, find_skip}
 
 -- the region ends before the other begins, or begins after its end
 abbrev pub is_apart : Region → Region → Bool
@@ -47,3 +36,38 @@ laid_with low (s ∷ rs) high r h w l e a =
               (λ (x : leb (end_of s) r.start ≡ true). leb-true (end_of s) r.start x)
               (λ (x : leb (end_of r) s.start ≡ true). absurd (omega (arith, leb-true (end_of r) s.start x, after, w.filled))) apart),
         )
+
+-- looking for the new region among the others
+pub find_with : (test : Region → Bool) (r : Region) (rs : List Region) → test r ≡ false → find test (with_region r rs) ≡ find test rs
+find_with test r [] e = find_skip test r [] e
+find_with test r (s ∷ rs) e = go (ltb r.start s.start) (find_with test r rs e)
+  where
+    go : (b : Bool) → find test (with_region r rs) ≡ find test rs → find test (cond b (r ∷ s ∷ rs) (s ∷ with_region r rs)) ≡ find test (s ∷ rs)
+    go true f = find_skip test r (s ∷ rs) e
+    go false f = ap (cond (test s) (Some s)) f
+
+fails : (b : Bool) → not b ≡ true → b ≡ false
+fails true e = sym e
+fails false e = refl
+
+pub find_new : (test : Region → Bool) (r : Region) (rs : List Region) → test r ≡ true → list_all (λ s. not (test s)) rs ≡ true → find test (with_region r rs) ≡ Some r
+find_new test r [] e f = find_here test r [] e
+find_new test r (s ∷ rs) e f =
+    let parts = and_parts (not (test s)) (list_all (λ t. not (test t)) rs) f in
+    go (ltb r.start s.start) (fails (test s) parts.0) (find_new test r rs e parts.1)
+  where
+    go : (b : Bool) → test s ≡ false → find test (with_region r rs) ≡ Some r → find test (cond b (r ∷ s ∷ rs) (s ∷ with_region r rs)) ≡ Some r
+    go true t f = find_here test r (s ∷ rs) e
+    go false t f = find_skip test s (with_region r rs) t ∙ f
+
+-- what is apart from a region covers none of its addresses
+pub apart_covers : (r : Region) (addr : ℕ) (rs : List Region) → covers r addr ≡ true → list_all (is_apart r) rs ≡ true → list_all (λ s. not (covers s addr)) rs ≡ true
+apart_covers r addr [] c a = refl
+apart_covers r addr (s ∷ rs) c a =
+    let parts = and_parts (is_apart r s) (list_all (is_apart r) rs) a in
+    let apart = or_cases (leb (end_of s) r.start) (leb (end_of r) s.start) parts.0 in
+    let free : covers s addr ≡ false =
+    ⊎_elim
+    (λ (x : leb (end_of s) r.start ≡ true). not_above s addr (omega (arith, leb-true (end_of s) r.start x, covers_low r addr c)))
+    (λ (x : leb (end_of r) s.start ≡ true). not_below s addr (omega (arith, leb-true (end_of r) s.start x, covers_high r addr c))) apart in
+    ap (λ b. not b && list_all (λ t. not (covers t addr)) rs) free ∙ apart_covers r addr rs c parts.1

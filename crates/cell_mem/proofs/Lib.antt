@@ -1,5 +1,6 @@
 pub mod Filling
 pub mod Laid
+pub mod Held
 pub mod Little
 pub mod Marking
 pub mod Pasting

@@ -10,15 +10,10 @@ use Rattle.cell_world.specs.World.{Region}
 use Rattle.cell_world.specs.Memory.{covers, end_of}
 use Rattle.cell_mem.specs.declared.fault.MemFault.TheVariants.{Misaligned, Unmapped}
 use Rattle.cell_mem.specs.Access.{need, ◌>>◌, found as found_or, region_for}
-use Rattle.cell_mem.specs.Index.{IsWhole, IsLaid, place_of}
+use Rattle.cell_mem.specs.Index.{IsWhole, IsLaid}
 use Rattle.cell_mem.specs.State.{MemoryState, region_of, region_with, is_width}
 use Rattle.cell_mem.specs.Writing.{HasBytes}
-use Rattle.cell_mem.proofs.Laid.{no_region, place_at, place_none, find_lies, found_passes, covers_low, covers_high}
-
--- a region has the bytes
-pub record Has (r : Region) (addr n : ℕ) : Type 0 where
-  pub low : r.start ≤ addr
-  pub high : addr + n ≤ end_of r
+use Rattle.cell_mem.proofs.Laid.{find_lies, found_passes, covers_low, covers_high}
 
 enough : (r : Region) (addr n : ℕ) → is_some (where_true (leb (addr + n) (end_of r)) r) ≡ true → addr + n ≤ end_of r
 enough r addr n e = go (leb (addr + n) (end_of r)) refl e
@@ -31,7 +26,7 @@ enough r addr n e = go (leb (addr + n) (end_of r)) refl e
 pub record Mapped (m : MemoryState) (addr n : ℕ) : Type 0 where
   pub region : Region
   pub found : region_of m addr ≡ Some region
-  pub has : Has region addr n
+  pub has : HasBytes region addr n
 
 pub mapped_is : (m : MemoryState) (addr n : ℕ) (high : ℕ) → IsLaid m.base m.regions high → is_some (region_with m addr n) ≡ true → Mapped m addr n
 mapped_is m addr n high laid e = go (region_of m addr) refl e
@@ -48,27 +43,6 @@ mapped_inside m addr n high laid e =
     let f = mapped_is m addr n high laid e in
     let l = find_lies m.base m.regions high (λ s. covers s addr) f.region laid f.found in
     (omega (arith, l.0.above, f.has.low), omega (arith, l.0.below, f.has.high))
-
-has_at : (rs : List Region) (place addr n : ℕ) → place < length rs → Has (get_or rs place no_region) addr n → HasBytes rs place addr n
-has_at [] place addr n lt h = absurd (omega arith)
-has_at (r ∷ rs) zero addr n lt h = (h.low, h.high)
-has_at (r ∷ rs) (suc place) addr n lt h = has_at rs place addr n (omega arith) h
-
--- and the region's place is known
-pub mapped_place : (m : MemoryState) (addr n high : ℕ) → IsLaid m.base m.regions high → is_some (region_with m addr n) ≡ true
-    → (place : ℕ) → place_of (λ r. covers r addr) m.regions ≡ Some place → HasBytes m.regions place addr n
-mapped_place m addr n high laid e place p =
-    let f = mapped_is m addr n high laid e in
-    let a = place_at (λ r. covers r addr) m.regions place p in
-    let same : f.region ≡ get_or m.regions place no_region = cc (f.found, a.found) in
-    has_at m.regions place addr n a.inside (subst (λ r. Has r addr n) same f.has)
-
-pub mapped_somewhere : (m : MemoryState) (addr n high : ℕ) → IsLaid m.base m.regions high → is_some (region_with m addr n) ≡ true
-    → place_of (λ r. covers r addr) m.regions ≡ None → ⊥
-mapped_somewhere m addr n high laid e p =
-    let f = mapped_is m addr n high laid e in
-    let none = place_none (λ r. covers r addr) m.regions p in
-    cc (f.found, none)
 
 -- aligned bytes that begin in a region of whole pages are all in it
 by_width : (r : Region) (addr n : ℕ) → (n ≡ 1) ⊎ ((n ≡ 2) ⊎ ((n ≡ 4) ⊎ (n ≡ 8))) → addr % n ≡ 0 → IsWhole r → addr < end_of r → addr + n ≤ end_of r
@@ -94,11 +68,11 @@ width_cases n e =
     (or_cases (eqb 2 n) (eqb 4 n || (eqb 8 n || false)) e2))
     (or_cases (eqb 1 n) (eqb 2 n || (eqb 4 n || (eqb 8 n || false))) e)
 
-pub aligned_has : (r : Region) (addr width : ℕ) → IsWhole r → covers r addr ≡ true → is_width width ≡ true → addr % width ≡ 0 → Has r addr width
+pub aligned_has : (r : Region) (addr width : ℕ) → IsWhole r → covers r addr ≡ true → is_width width ≡ true → addr % width ≡ 0 → HasBytes r addr width
 aligned_has r addr width w c width_is aligned =
     record { low = covers_low r addr c; high = by_width r addr width (width_cases width width_is) aligned w (covers_high r addr c) }
 
-with_of : (m : MemoryState) (addr n : ℕ) (r : Region) → region_of m addr ≡ Some r → Has r addr n → region_with m addr n ≡ Some r
+with_of : (m : MemoryState) (addr n : ℕ) (r : Region) → region_of m addr ≡ Some r → HasBytes r addr n → region_with m addr n ≡ Some r
 with_of m addr n r e h =
     ap (option_and_then (λ s. where_true (leb (addr + n) (end_of s)) s)) e
     ∙ ap (λ b. where_true b r) (le-leb (addr + n) (end_of r) h.high)
@@ -107,7 +81,7 @@ with_none : (m : MemoryState) (addr n : ℕ) → region_of m addr ≡ None → r
 with_none m addr n e = ap (option_and_then (λ s. where_true (leb (addr + n) (end_of s)) s)) e
 
 module _ (m : MemoryState) (addr width : ℕ) (width_is : is_width width ≡ true) (aligned : addr % width ≡ 0) where
-  region_has : (r : Bor Region) → Some r.now ≡ region_of m addr → IsWhole r.now → Has r.now addr width
+  region_has : (r : Bor Region) → Some r.now ≡ region_of m addr → IsWhole r.now → HasBytes r.now addr width
   region_has r e w = aligned_has r.now addr width w (found_passes (λ s. covers s addr) m.regions r.now (sym e)) width_is aligned
 
   steps : (o : Option Region) → region_with m addr width ≡ o → region_for m addr width ≡ found_or o Unmapped
@@ -121,9 +95,9 @@ module _ (m : MemoryState) (addr width : ℕ) (width_is : is_width width ≡ tru
   access_answer (Some r) e w = sym (steps (Some r.now) (with_of m addr width r.now (sym e) (region_has r e w)))
 
   pub access_inside : (o : Option (Bor Region)) → option_map (λ r. r.now) o ≡ region_of m addr → IfSome o (λ r. IsWhole r.now)
-      → IfOk (ok_or o Unmapped) (λ r. (r.now.start ≤ addr) × (addr + width ≤ end_of r.now))
+      → IfOk (ok_or o Unmapped) (λ r. HasBytes r.now addr width)
   access_inside None e w = tt
-  access_inside (Some r) e w = let h = region_has r e w in (h.low, h.high)
+  access_inside (Some r) e w = region_has r e w
 
   pub access_mapped : (o : Option (Bor Region)) → option_map (λ r. r.now) o ≡ region_of m addr → IfSome o (λ r. IsWhole r.now)
       → OnOk (ok_or o Unmapped) (is_some (region_with m addr width) ≡ true)

@@ -21,3 +21,5 @@ still_none old new addr width value (Err fault) n ok err = ap (λ m. m.writes_le
 
 pub none_left : (o : Option ℕ) → o ≡ None → o ≡ Some 0 → ⊥
 none_left o n e = cc
+
+pub ruleset no_undo = (none_left, still_none)

@@ -1,8 +1,9 @@
--- Where the regions lie, and the index from pages to regions.
+-- Where the regions lie, and how they are kept: each at the page that it begins at, with the number of that page at each of its pages.
 --     IsLaid low regions high       whole pages between the two addresses, ascending and apart
---     place_of test regions         the place of the first region that passes
---     IsIndex base regions slots    each page has the place of the region that it lies in
-use Rattle.std.specs.Prelude.{◌≡◌, ◌<◌, ◌≤◌, ℕ, suc, ◌+◌, ◌*◌, ◌%◌, Bool, cond, List, [], ◌∷◌, Option, Some, None, length, slice_index_or, option_map}
+--     held pages                    the regions that stand at the pages
+--     AreInPlace addr pages         each begins at its page, and the first page at the address
+--     IsIndex base regions firsts   each page has the first page of the region that it lies in
+use Rattle.std.specs.Prelude.{◌≡◌, ◌<◌, ◌≤◌, ℕ, ◌+◌, ◌-◌, ◌*◌, ◌/◌, ◌%◌, Bool, List, [], ◌∷◌, Option, Some, None, length, find, slice_index_or, option_map}
 use Rattle.cell_world.specs.World.{Region}
 use Rattle.cell_world.specs.Memory.{covers, end_of}
 
@@ -16,13 +17,23 @@ abbrev pub IsLaid : ℕ → List Region → ℕ → Type 0
 IsLaid low [] high = low ≤ high
 IsLaid low (r ∷ regions) high = (low ≤ r.start) × IsWhole r × IsLaid (end_of r) regions high
 
-abbrev pub place_of : (Region → Bool) → List Region → Option ℕ
-place_of test [] = None
-place_of test (r ∷ regions) = cond (test r) (Some 0) (option_map suc (place_of test regions))
+abbrev pub held : List (Option Region) → List Region
+held [] = []
+held (None ∷ pages) = held pages
+held (Some r ∷ pages) = r ∷ held pages
+
+abbrev pub AreInPlace : ℕ → List (Option Region) → Type 0
+AreInPlace addr [] = Unit {0}
+AreInPlace addr (None ∷ pages) = AreInPlace (addr + 4096) pages
+AreInPlace addr (Some r ∷ pages) = (r.start ≡ addr) × AreInPlace (addr + 4096) pages
+
+-- the page that a region begins at
+abbrev pub first_page : ℕ → Region → ℕ
+first_page base r = (r.start - base) / 4096
 
 abbrev pub covers_page : ℕ → ℕ → Region → Bool
 covers_page base page r = covers r (base + 4096 * page)
 
 abbrev pub IsIndex : ℕ → List Region → List (Option ℕ) → Type 0
-IsIndex base regions slots =
-    (page : ℕ) → page < length slots → slice_index_or slots page None ≡ place_of (covers_page base page) regions
+IsIndex base regions firsts =
+    (page : ℕ) → page < length firsts → slice_index_or firsts page None ≡ option_map (first_page base) (find (covers_page base page) regions)

@@ -1,6 +1,6 @@
 //! Lists of one value.
 
-ghost use Rattle.std.specs.Prelude.{◌≡◌, ◌+◌, ◌≤◌, length, replicate, IfOk};
+ghost use Rattle.std.specs.Prelude.{◌≡◌, ◌+◌, ◌≤◌, length, replicate, IfOk, None};
 ghost use Rattle.cell_world.specs.Pages.{filled};
 
 use std::alloc::{AllocError, Global};
@@ -21,5 +21,16 @@ pub fn repeated<T: Copy>(alloc: Global, value: T, count: usize) -> Result<Vec<T>
 {
     let mut items = Vec::new(alloc);
     items.resize(count, value)?;
+    Ok(items)
+}
+
+/// So many places with nothing in them.
+pub fn nothing<T: Drop>(alloc: Global, count: usize) -> Result<Vec<Option<T>>, AllocError>
+    ensures { IfOk result (λ items. items.items ≡ replicate count None) }
+{
+    let mut items = Vec::new(alloc);
+    for _ in 0..count {
+        items.push(None)?;
+    }
     Ok(items)
 }

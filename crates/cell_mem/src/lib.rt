@@ -1,13 +1,13 @@
 //! The modelled memory: regions with permissions, seals, and the calls that read and write them.
-//! Room for regions is reserved first; no other call than `new` and `reserve` takes memory.
+//! Its memory is taken by `new`.
 #![tactic(auto)]
 
 mod fault;
 mod fill;
-mod index;
 mod memory;
 mod number;
 mod perm;
+mod region;
 
 pub use fault::MemFault;
 pub use memory::Memory;

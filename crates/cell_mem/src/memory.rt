@@ -1,36 +1,32 @@
 //! The memory and its calls.
 
-ghost use Rattle.std.specs.Prelude.{◌≡◌, ◌≢◌, ◌+◌, ◌*◌, ◌-◌, ◌≤◌, nat_lt, Some, None, Ok, Err, [], true, false, length, is_some, option_map, IfSome, IfOk, IfErr, OnOk, OnErr};
-ghost use Rattle.std.specs.List.{position_or_len};
+ghost use Rattle.std.specs.Prelude.{◌≡◌, ◌≢◌, ◌<◌, ◌+◌, ◌*◌, ◌/◌, ◌-◌, ◌≤◌, Some, None, Ok, Err, true, false, length, find, replicate, slice_set, slice_index_or, is_some, option_map, IfSome, IsSomeAnd, IfOk, IfErr, OnOk, OnErr};
 ghost use Rattle.std.specs.Result.{result_map_both};
 ghost use Rattle.cell_num.specs.Bits.{bytes_of};
-ghost use Rattle.cell_world.specs.Memory.{covers, end_of};
+ghost use Rattle.cell_world.specs.Memory.{covers};
 ghost use Rattle.cell_world.specs.Pages.{IsSpace};
 ghost use Rattle.cell_mem.specs.Access.{fetched, loaded, region_for, storable, stored};
-ghost use Rattle.cell_mem.specs.Index.{IsLaid, IsWhole, place_of};
+ghost use Rattle.cell_mem.specs.Index.{IsLaid, IsWhole, first_page};
 ghost use Rattle.cell_mem.specs.Perm.{permission_of};
-ghost use Rattle.cell_mem.specs.State.{IsRoom, MemoryState, bytes_at, empty_memory, is_sealed, is_width, mapped, part_of, one_less, patched_at, region_from, region_of, region_with, reserved, sealed_at, size_of, unmapped, written_at};
-ghost use Rattle.cell_mem.specs.Writing.{HasBytes, at_place, put};
+ghost use Rattle.cell_mem.specs.State.{IsRoom, MemoryState, bytes_at, empty_memory, is_sealed, is_width, mapped, one_less, patched_at, region_from, region_of, region_with, reserved, sealed_at, size_of, unmapped, written_at};
+ghost use Rattle.cell_mem.specs.Writing.{HasBytes, put};
 
 use crate::fault::MemFault;
-use crate::fill::{fill, repeated};
-use crate::index::index_pages;
-use crate::number::{read_number, read_word, write_number};
+use crate::fill::{fill, nothing, repeated};
 use crate::perm::Perm;
-use cell_num::Bytes;
-use cell_world::Region;
+use crate::region::Region;
 use std::alloc::{AllocError, Global};
 use std::marker::Model;
 
-/// The regions of the space, ascending by their starts. A region is found by the page of an
-/// address, which has the region's place in `slots`. `sealed` has a mark for each byte of the
-/// space. `writes_left` is None while no undo is begun.
+/// The regions of the space, each at the page that it begins at; `firsts` has the number of that
+/// page at each page of the region. `sealed` has a mark for each byte of the space. `spare` is how
+/// many regions more a caller may map. `writes_left` is None while no undo is begun.
 #[derive(Drop)]
 pub struct Memory {
     base: u64,
     pages: u32,
-    regions: Vec<Region>,
-    slots: Vec<Option<usize>>,
+    regions: Vec<Option<Region>>,
+    firsts: Vec<Option<usize>>,
     sealed: Vec<bool>,
     spare: usize,
     writes_left: Option<u32>,
@@ -50,39 +46,16 @@ impl Model for Memory {
     ghost invariant = { IsSound };
 }
 
-/// So many bytes of a region from an address on, where they are in it.
-fn part(region: &Region, addr: u64, count: u64) -> Option<&[u8]>
-    requires { covers region.now addr ≡ true }
-    ensures { option_map (λ bytes. bytes.now) result ≡ part_of region.now addr count }
+/// Writes a number into the region that begins at a page.
+fn write_in(regions: &mut [Option<Region>], first: usize, addr: u64, width: u8, value: u64)
+    requires there { first < length regions.old }
+    requires inside { IsSomeAnd (slice_index_or regions.old first None) (λ r. HasBytes r addr width) }
+    ensures { regions.new ≡ slice_set regions.old first (option_map (put addr (bytes_of width value)) (slice_index_or regions.old first None)) }
 {
-    let bytes = region.bytes.as_slice();
-    let from = (addr - region.start) as usize;
-    if count > (bytes.len() - from) as u64 {
-        return None;
+    match &mut regions[first] {
+        Some(region) => region.write(addr, width, value),
+        None => unreachable!(),
     }
-    Some(&bytes[from..from + count as usize])
-}
-
-/// Writes a number into a region.
-fn write_in(regions: &mut [Region], place: usize, addr: u64, width: u8, value: u64)
-    requires { HasBytes regions.old place addr width }
-    ensures { regions.new ≡ at_place (put addr (bytes_of width value)) place regions.old }
-{
-    let region = &mut regions[place];
-    let at = (addr - region.start) as usize;
-    write_number(&mut region.bytes, at, width, value);
-}
-
-/// Where a region that starts there stands among the others.
-fn place_for(regions: &[Region], start: u64) -> usize
-    ensures { result ≡ position_or_len (λ r. nat_lt start r.start) regions.now }
-{
-    for place in 0..regions.len() {
-        if regions[place].start > start {
-            return place;
-        }
-    }
-    regions.len()
 }
 
 impl Memory {
@@ -94,8 +67,8 @@ impl Memory {
         Ok(Memory {
             base,
             pages,
-            regions: Vec::new(alloc),
-            slots: repeated(alloc, None, pages as usize)?,
+            regions: nothing(alloc, pages as usize)?,
+            firsts: repeated(alloc, None, pages as usize)?,
             sealed: repeated(alloc, false, 4096 * pages as usize)?,
             spare: 0,
             writes_left: None,
@@ -139,22 +112,18 @@ impl Memory {
         let _ = &self.base;
     }
 
-    /// Takes memory for so many regions, which can then be mapped without any.
+    /// Lets so many regions be mapped. Room for a region at each page is there from `new` on.
     pub fn reserve(&mut self, regions: u32) -> Result<(), AllocError>
         ensures ok { OnOk result (self.new ≡ reserved self.old regions) }
         ensures err { OnErr result (self.new ≡ self.old) }
     {
-        let wanted = regions as usize;
-        if self.spare < wanted {
-            self.regions.reserve(wanted)?;
-            self.spare = wanted;
-        }
+        self.spare = self.spare.max(regions as usize);
         Ok(())
     }
 
-    /// The place of the region that covers an address.
-    fn place(&self, addr: u64) -> Option<usize>
-        ensures { result ≡ place_of (λ r. covers r addr) self.now.regions }
+    /// The first page of the region that covers an address.
+    fn first(&self, addr: u64) -> Option<usize>
+        ensures { result ≡ option_map (first_page self.now.base) (region_of self.now addr) }
     {
         if addr < self.base {
             return None;
@@ -163,7 +132,7 @@ impl Memory {
         if page >= u64::from(self.pages) {
             return None;
         }
-        self.slots[page as usize]
+        self.firsts[page as usize]
     }
 
     /// The region that covers an address.
@@ -171,15 +140,15 @@ impl Memory {
         ensures answer { option_map (λ r. r.now) result ≡ region_of self.now addr }
         ensures whole { IfSome result (λ r. IsWhole r.now) }
     {
-        let place = self.place(addr)?;
-        Some(&self.regions[place])
+        let first = self.first(addr)?;
+        self.regions[first].as_ref()
     }
 
     /// The region that has the bytes of an aligned address.
     fn region_for(&self, addr: u64, width: u8) -> Result<&Region, MemFault>
         requires { is_width width ≡ true }
         ensures answer { result_map_both (λ r. r.now) (λ fault. fault) result ≡ region_for self.now addr width }
-        ensures inside { IfOk result (λ r. (r.now.start ≤ addr) × (addr + width ≤ end_of r.now)) }
+        ensures inside { IfOk result (λ r. HasBytes r.now addr width) }
         ensures mapped { OnOk result (is_some (region_with self.now addr width) ≡ true) }
     {
         if addr % u64::from(width) != 0 {
@@ -194,7 +163,7 @@ impl Memory {
         ensures { option_map (λ bytes. bytes.now) result ≡ bytes_at self.now addr count }
     {
         let region = self.region(addr)?;
-        part(region, addr, count)
+        region.part(addr, count)
     }
 
     /// The number in so many bytes, the lowest byte first, where the region may be read.
@@ -203,11 +172,10 @@ impl Memory {
         ensures { result ≡ loaded self.now addr width }
     {
         let region = self.region_for(addr, width)?;
-        if !region.permission.read {
+        if !region.may_read() {
             return Err(MemFault::Denied);
         }
-        let at = (addr - region.start) as usize;
-        Ok(read_number(region.bytes.as_slice(), at, width))
+        Ok(region.number(addr, width))
     }
 
     /// The instruction word at an address, where the region may be executed.
@@ -215,11 +183,10 @@ impl Memory {
         ensures { result ≡ fetched self.now addr }
     {
         let region = self.region_for(addr, 4)?;
-        if !region.permission.exec {
+        if !region.may_execute() {
             return Err(MemFault::Denied);
         }
-        let at = (addr - region.start) as usize;
-        Ok(read_word(region.bytes.as_slice(), at))
+        Ok(region.word(addr))
     }
 
     /// The place of the first of so many bytes in the space.
@@ -248,7 +215,7 @@ impl Memory {
         ensures { result ≡ storable self.now addr width }
     {
         let region = self.region_for(addr, width)?;
-        if !region.permission.write {
+        if !region.may_write() {
             return Err(MemFault::Denied);
         }
         if self.is_sealed(addr, width) {
@@ -270,10 +237,10 @@ impl Memory {
         requires mapped { is_some (region_with self.old addr width) ≡ true }
         ensures { self.new ≡ written_at self.old addr width value }
     {
-        let Some(place) = self.place(addr) else {
+        let Some(first) = self.first(addr) else {
             unreachable!();
         };
-        write_in(&mut self.regions, place, addr, width, value);
+        write_in(&mut self.regions, first, addr, width, value);
         self.count_write();
     }
 
@@ -313,24 +280,25 @@ impl Memory {
         fill(&mut self.sealed, at, usize::from(width), true);
     }
 
+    /// The page that an address of the space lies in.
+    fn page_at(&self, addr: u64) -> usize
+        requires low { self.now.base ≤ addr }
+        ensures { result ≡ (addr - self.now.base) / 4096 }
+    {
+        ((addr - self.base) / 4096) as usize
+    }
+
     /// Maps a new region of these bytes.
     pub fn map(&mut self, start: u64, perm: Perm, bytes: Vec<u8>)
         requires { IsRoom self.old start (length bytes.items) }
         ensures { self.new ≡ mapped self.old start (permission_of perm) bytes.items }
     {
-        let place = place_for(&self.regions, start);
-        let region = Region {
-            start,
-            permission: perm.permission(),
-            bytes: Bytes::from_vec(bytes),
-        };
-        match self.regions.insert(place, region) {
-            Ok(()) => {}
-            Err(_) => unreachable!(),
-        }
+        let first = self.page_at(start);
+        let count = bytes.len() / 4096;
+        self.regions[first] = Some(Region::new(start, perm, bytes));
+        fill(&mut self.firsts, first, count, Some(first));
         self.spare -= 1;
         self.maps = self.maps.saturating_add(1);
-        index_pages(&mut self.slots, self.base, &self.regions);
     }
 
     /// How many bytes the region has that starts there.
@@ -338,11 +306,10 @@ impl Memory {
         requires { is_some (region_from self.now start) ≡ true }
         ensures { result ≡ size_of (region_from self.now start) }
     {
-        let regions = &self.regions;
-        let Some(place) = self.place(start) else {
-            unreachable!();
-        };
-        regions[place].bytes.as_slice().len() as u64
+        match &self.regions[self.page_at(start)] {
+            Some(region) => region.bytes().len() as u64,
+            None => unreachable!(),
+        }
     }
 
     /// Takes away the region that starts there, and its seals.
@@ -350,13 +317,14 @@ impl Memory {
         requires { is_some (region_from self.old start) ≡ true }
         ensures { self.new ≡ unmapped self.old start }
     {
-        let Some(place) = self.place(start) else {
+        let first = self.page_at(start);
+        let Some(region) = self.regions[first].take() else {
             unreachable!();
         };
-        let region = self.regions.remove(place);
+        let size = region.bytes().len();
         let at = (start - self.base) as usize;
-        fill(&mut self.sealed, at, region.bytes.as_slice().len(), false);
+        fill(&mut self.firsts, first, size / 4096, None);
+        fill(&mut self.sealed, at, size, false);
         self.spare += 1;
-        index_pages(&mut self.slots, self.base, &self.regions);
     }
 }

@@ -5,7 +5,7 @@ ghost use Rattle.cell_num.specs.Bits.{bytes_of, little};
 ghost use Rattle.cell_world.specs.Memory.{pasted};
 
 use byteorder::{ByteOrder, LittleEndian};
-use cell_num::Bytes;
+use cell_num::Listed;
 
 /// The number in so many bytes.
 pub fn read_number(bytes: &[u8], at: usize, width: u8) -> u64
@@ -26,7 +26,7 @@ pub fn read_word(bytes: &[u8], at: usize) -> u32
 }
 
 /// Writes so many of the number's low bytes.
-pub fn write_number(bytes: &mut Bytes, at: usize, width: u8, value: u64)
+pub fn write_number(bytes: &mut Listed<u8>, at: usize, width: u8, value: u64)
     requires { at + width ≤ length bytes.old }
     ensures { bytes.new ≡ pasted bytes.old at (bytes_of width value) }
 {

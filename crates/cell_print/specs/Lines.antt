@@ -11,19 +11,21 @@ use Rattle.cell_num.specs.declared.ids.CellId.{CellId}
 use Rattle.cell_num.specs.declared.ids.Holder.{Holder}
 use Rattle.cell_num.specs.declared.ids.Holder.TheVariants.{Task as TaskHolder, Cell as CellHolder}
 use Rattle.cell_num.specs.declared.ids.SecKey.{SecKey}
+use Rattle.cell_num.specs.declared.ids.Why.{Why}
+use Rattle.cell_num.specs.declared.ids.Why.TheVariants.{Returned, Trap, Budget}
 use Rattle.cell_text.specs.Number.{hex, hex_byte}
 use Rattle.cell_world.specs.declared.reply.Found.{Found}
 use Rattle.cell_world.specs.declared.reply.LinkLine.{LinkLine}
 use Rattle.cell_world.specs.declared.reply.MapCell.{MapCell}
 use Rattle.cell_world.specs.declared.reply.MapSection.{MapSection}
 use Rattle.cell_world.specs.declared.reply.Reply.{Reply}
-use Rattle.cell_world.specs.declared.reply.Reply.TheVariants.{Ns, Load, Spawn, Step, Run, Kill, Unload, Purge, Tasks, Find, Deps, Users, Map, Dump}
+use Rattle.cell_world.specs.declared.reply.Reply.TheVariants.{Ns, Load, Spawn, Step, Run, Kill, Swap, Unload, Purge, Tasks, Find, Deps, Users, Map, Dump}
 use Rattle.cell_world.specs.declared.reply.TaskLine.{TaskLine}
 use Rattle.cell_world.specs.declared.reply.TaskRun.{TaskRun}
 use Rattle.cell_world.specs.declared.reply.TaskState.{TaskState}
 use Rattle.cell_world.specs.declared.reply.TaskState.TheVariants.{Ready, Done, Fault}
 use Rattle.cell_world.specs.declared.refusal.Refusal.{Refusal}
-use Rattle.cell_world.specs.declared.refusal.Refusal.TheVariants.{Unknown, NameTaken, NotRunnable, TooMany, NoObject, Ambiguous, BadObject, Duplicate, Missing, NoEntry, Exhausted, Overflow, Held}
+use Rattle.cell_world.specs.declared.refusal.Refusal.TheVariants.{Unknown, NameTaken, NotRunnable, TooMany, NoObject, Ambiguous, BadObject, Duplicate, Missing, NoEntry, Exhausted, Overflow, Torn, Transfer, Held}
 use Rattle.cell_print.specs.Words.{many_word, kind_word, cause_word}
 
 -- the parts of a line, and a line feed
@@ -138,6 +140,19 @@ abbrev pub holder_word : Holder → List ℕ
 holder_word (TaskHolder task) = codes "t" ++ decimal task
 holder_word (CellHolder cell) = codes "#" ++ decimal cell.0
 
+-- what a swap did: its number, the new cells, how many fields were patched, the cells that went, and those that are put aside
+abbrev pub swap_line : ℕ → ℕ → List CellId → ℕ → List CellId → List CellId → List ℕ
+swap_line n number fresh patched removed kept =
+    line
+    (decimal n ∷ codes " ok swap " ∷ decimal number ∷ codes " new" ∷ cells_word fresh ∷ codes " patched " ∷ decimal patched ∷ codes " removed"
+    ∷ cells_word removed ∷ codes " kept" ∷ cells_word kept ∷ [])
+
+-- how a transfer routine ended that failed
+unfoldable pub why_word : Why → List ℕ
+why_word (Returned code) = codes "returned " ++ decimal code
+why_word (Trap cause pc) = concat (codes "trap " ∷ cause_word cause ∷ codes " at " ∷ hex pc ∷ [])
+why_word Budget = codes "budget"
+
 abbrev pub reply_lines : ℕ → Reply → List ℕ
 reply_lines n (Ns name) = line (decimal n ∷ codes " ok ns " ∷ name ∷ [])
 reply_lines n (Load fresh patched) = line (decimal n ∷ codes " ok load" ∷ cells_word fresh ∷ codes " patched " ∷ decimal patched ∷ [])
@@ -145,6 +160,7 @@ reply_lines n (Spawn task pc) = line (decimal n ∷ codes " ok spawn t" ∷ deci
 reply_lines n (Step run) = run_lines (decimal n ++ codes " ok step t") run
 reply_lines n (Run runs) = line (decimal n ∷ codes " ok run" ∷ []) ++ flat_map (run_lines (codes "  t")) runs
 reply_lines n (Kill task) = line (decimal n ∷ codes " ok kill t" ∷ decimal task ∷ [])
+reply_lines n (Swap number fresh patched removed kept) = swap_line n number fresh patched removed kept
 reply_lines n (Unload removed) = removed_line n (codes " ok unload removed") removed
 reply_lines n (Purge removed) = removed_line n (codes " ok purge removed") removed
 reply_lines n (Tasks tasks) = line (decimal n ∷ codes " ok tasks" ∷ []) ++ flat_map task_line tasks
@@ -171,6 +187,9 @@ refusal_line n (Exhausted wanted largest) =
     line (decimal n ∷ codes " E11 exhausted " ∷ decimal wanted ∷ codes " " ∷ decimal largest ∷ [])
 refusal_line n (Overflow cell section offset kind) =
     line (decimal n ∷ codes " E12 overflow #" ∷ decimal cell.0 ∷ codes "." ∷ decimal section ∷ codes "+" ∷ hex offset ∷ codes " " ∷ kind_word kind ∷ [])
+refusal_line n (Torn task cell section offset) =
+    line (decimal n ∷ codes " E13 torn t" ∷ decimal task ∷ codes " #" ∷ decimal cell.0 ∷ codes "." ∷ decimal section ∷ codes "+" ∷ hex offset ∷ [])
+refusal_line n (Transfer name why) = line (decimal n ∷ codes " E14 transfer " ∷ name ∷ codes " " ∷ why_word why ∷ [])
 refusal_line n (Held cell holder) = line (decimal n ∷ codes " E15 held #" ∷ decimal cell.0 ∷ codes " " ∷ holder_word holder ∷ [])
 
 abbrev pub lines_of : ℕ → Result Reply Refusal → List ℕ

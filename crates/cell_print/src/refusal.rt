@@ -2,13 +2,13 @@
 
 ghost use Rattle.std.specs.Prelude.{◌≡◌, ◌++◌, Err, IfOk, OnOk};
 ghost use Rattle.std.specs.Fmt.{decimal};
-ghost use Rattle.cell_world.specs.declared.refusal.Refusal.TheVariants.{NotRunnable, BadObject, Overflow, Held};
-ghost use Rattle.cell_print.specs.Lines.{holder_word, refusal_line, lines_of, Extends};
+ghost use Rattle.cell_world.specs.declared.refusal.Refusal.TheVariants.{NotRunnable, BadObject, Overflow, Torn, Transfer, Held};
+ghost use Rattle.cell_print.specs.Lines.{holder_word, why_word, refusal_line, lines_of, Extends};
 ghost use Rattle.cell_print.specs.Words.{many_word};
 
 use crate::put_line;
 use crate::word::{cause_word, hex_word, kind_word};
-use cell_num::{Cause, CellId, Holder, Name, RelKind};
+use cell_num::{Cause, CellId, Holder, Name, RelKind, Why};
 use cell_text::{put_dec, put_hex};
 use cell_world::{Many, Refusal};
 use itoa::Buffer;
@@ -70,6 +70,13 @@ pub fn put_refusal(line: u32, refusal: &Refusal, into: &mut Vec<u8>) -> Result<(
             offset,
             kind,
         } => put_overflow(line, *cell, *section, *offset, *kind, into),
+        Refusal::Torn {
+            task,
+            cell,
+            section,
+            offset,
+        } => put_torn(line, *task, *cell, *section, *offset, into),
+        Refusal::Transfer { name, why } => put_transfer(line, name, *why, into),
         Refusal::Held { cell, holder } => put_held(line, *cell, *holder, into),
     }
 }
@@ -170,6 +177,85 @@ fn put_overflow(
         ],
         into,
     )
+}
+
+/// Appends the line of a refusal for a task that stands inside what a swap would change.
+fn put_torn(
+    line: u32,
+    task: u32,
+    cell: CellId,
+    section: u16,
+    offset: u32,
+    into: &mut Vec<u8>,
+) -> Result<(), AllocError>
+    ensures ok { OnOk result (into.new.items ≡ into.old.items ++ refusal_line line (Torn task cell section offset)) }
+    ensures extends { Extends into.old.items into.new.items }
+{
+    let mut number = Buffer::new();
+    let number = number.format(line).as_bytes();
+    let mut of_task = Buffer::new();
+    let of_task = of_task.format(task).as_bytes();
+    let mut of_cell = Buffer::new();
+    let of_cell = of_cell.format(cell.0).as_bytes();
+    let mut of_section = Buffer::new();
+    let of_section = of_section.format(section).as_bytes();
+    let place = hex_word(*into.allocator(), u64::from(offset))?;
+    put_line(
+        &[
+            number,
+            b" E13 torn t",
+            of_task,
+            b" #",
+            of_cell,
+            b".",
+            of_section,
+            b"+",
+            place.as_slice(),
+        ],
+        into,
+    )
+}
+
+/// Appends the line of a refusal for a transfer routine that failed.
+fn put_transfer(line: u32, name: &Name, why: Why, into: &mut Vec<u8>) -> Result<(), AllocError>
+    ensures ok { OnOk result (into.new.items ≡ into.old.items ++ refusal_line line (Transfer name.now why)) }
+    ensures extends { Extends into.old.items into.new.items }
+{
+    let mut number = Buffer::new();
+    let number = number.format(line).as_bytes();
+    let end = why_word(*into.allocator(), why)?;
+    put_line(
+        &[
+            number,
+            b" E14 transfer ",
+            name.bytes(),
+            b" ",
+            end.as_slice(),
+        ],
+        into,
+    )
+}
+
+/// How a transfer routine ended that failed.
+#[tactic(auto, unfolding(crate::specs::Lines::why_word))]
+fn why_word(alloc: Global, why: Why) -> Result<Vec<u8>, AllocError>
+    ensures { IfOk result (λ word. word.items ≡ why_word why) }
+{
+    match why {
+        Why::Returned(code) => {
+            let mut word = Vec::from_slice(alloc, b"returned ")?;
+            put_dec(code, &mut word)?;
+            Ok(word)
+        }
+        Why::Trap(cause, pc) => {
+            let mut word = Vec::from_slice(alloc, b"trap ")?;
+            word.extend_from_slice(cause_word(cause))?;
+            word.extend_from_slice(b" at ")?;
+            put_hex(pc, &mut word)?;
+            Ok(word)
+        }
+        Why::Budget => Vec::from_slice(alloc, b"budget"),
+    }
 }
 
 /// Appends the line of a refusal for a cell that has to stay.

@@ -2,7 +2,7 @@
 
 ghost use Rattle.std.specs.Prelude.{◌≡◌, ◌++◌, ◌≤◌, Ok, length, IfOk, OnOk};
 ghost use Rattle.cell_world.specs.declared.reply.Reply.TheVariants.{Spawn, Step, Kill};
-ghost use Rattle.cell_print.specs.Lines.{reply_lines, removed_line, cells_word, found_word, row, rows, lines_of, Extends};
+ghost use Rattle.cell_print.specs.Lines.{reply_lines, removed_line, swap_line, cells_word, found_word, row, rows, lines_of, Extends};
 
 use crate::links::{put_deps, put_users};
 use crate::map::put_cells;
@@ -40,6 +40,21 @@ pub fn put_reply(line: u32, reply: &Reply, into: &mut Vec<u8>) -> Result<(), All
             put_runs(runs.as_slice(), into)
         }
         Reply::Kill { task } => put_kill(line, *task, into),
+        Reply::Swap {
+            number: swap,
+            fresh,
+            patched,
+            removed,
+            kept,
+        } => put_swap(
+            line,
+            *swap,
+            fresh.as_slice(),
+            *patched,
+            removed.as_slice(),
+            kept.as_slice(),
+            into,
+        ),
         Reply::Unload { removed } => {
             put_removed(line, b" ok unload removed", removed.as_slice(), into)
         }
@@ -105,6 +120,47 @@ fn put_kill(line: u32, task: u32, into: &mut Vec<u8>) -> Result<(), AllocError>
     let mut of_task = Buffer::new();
     let of_task = of_task.format(task).as_bytes();
     put_line(&[number, b" ok kill t", of_task], into)
+}
+
+/// Appends the line of a swap.
+fn put_swap(
+    line: u32,
+    swap: u32,
+    fresh: &[CellId],
+    patched: u32,
+    removed: &[CellId],
+    kept: &[CellId],
+    into: &mut Vec<u8>,
+) -> Result<(), AllocError>
+    ensures ok { OnOk result (into.new.items ≡ into.old.items ++ swap_line line swap fresh.now patched removed.now kept.now) }
+    ensures extends { Extends into.old.items into.new.items }
+{
+    let alloc = *into.allocator();
+    let mut number = Buffer::new();
+    let number = number.format(line).as_bytes();
+    let mut of_swap = Buffer::new();
+    let of_swap = of_swap.format(swap).as_bytes();
+    let fresh = cells_word(alloc, fresh)?;
+    let mut fields = Buffer::new();
+    let fields = fields.format(patched).as_bytes();
+    let removed = cells_word(alloc, removed)?;
+    let kept = cells_word(alloc, kept)?;
+    put_line(
+        &[
+            number,
+            b" ok swap ",
+            of_swap,
+            b" new",
+            fresh.as_slice(),
+            b" patched ",
+            fields,
+            b" removed",
+            removed.as_slice(),
+            b" kept",
+            kept.as_slice(),
+        ],
+        into,
+    )
 }
 
 /// Appends the cells that a command removed, on a line with its words.

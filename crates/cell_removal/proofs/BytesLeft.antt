@@ -8,7 +8,10 @@ use Rattle.cell_object.specs.declared.object.Entry.{Entry}
 use Rattle.cell_world.specs.World.{World, Cell, Region}
 use Rattle.cell_world.specs.Memory.{covers}
 use Rattle.cell_world.specs.Field.{Bound, fields_of, place_of}
-use Rattle.cell_world.specs.Relink.{Class, Text, ReadOnly, class_start, is_region_of, images_for, image_of, sections_in, Patch, patch_of, patched, patches_of, bound_entries, remade}
+use Rattle.cell_world.specs.Relink.{class_start, is_region_of, images_for, Patch, patch_of, patched, patches_of, bound_entries, remade}
+use Rattle.cell_world.specs.Layout.{image_of, sections_in}
+use Rattle.cell_world.specs.declared.layout.Class.TheVariants.{Text, ReadOnly}
+use Rattle.cell_world.specs.declared.layout.Class.{Class}
 use Rattle.cell_world.specs.UnloadCommand.{without_cells}
 use Rattle.cell_world.specs.Coherent.{IsCoherent, ends_before}
 use Rattle.cell_coherent.proofs.Elements.{In, In-map, In-left, In-right, In-filtered, filter-Passes, filter_all, flat_same, pairs-In}

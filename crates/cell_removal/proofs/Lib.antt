@@ -14,4 +14,3 @@ pub mod Removals
 pub mod WordsLeft
 pub mod PathsLeft
 pub mod AllKept
-pub mod NextCoherent

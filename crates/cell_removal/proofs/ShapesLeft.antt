@@ -4,7 +4,9 @@ use Rattle.std.specs.Prelude.{Option, Some, None, filter, flat_map, not}
 use Rattle.std.proofs.lemmas.List.Elements.{filter-append}
 use Rattle.cell_num.specs.Lists.{holds}
 use Rattle.cell_world.specs.World.{World, Cell, Task}
-use Rattle.cell_world.specs.Relink.{Class, class_start, permission_of, image_of, sections_in}
+use Rattle.cell_world.specs.Relink.{class_start}
+use Rattle.cell_world.specs.Layout.{permission_of, image_of, sections_in}
+use Rattle.cell_world.specs.declared.layout.Class.{Class}
 use Rattle.cell_world.specs.UnloadCommand.{without_cells, starts_of}
 use Rattle.cell_world.specs.Coherent.{IsCoherent, Shape, shape_of, class_shape, stack_shape, wanted_shapes}
 use Rattle.cell_coherent.proofs.Elements.{In, In-map, In-flat_map, flat_map-In, filter-In, In-filtered, filter-Passes, filter_all, filter_none}

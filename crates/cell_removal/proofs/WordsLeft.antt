@@ -8,7 +8,7 @@ use Rattle.cell_world.specs.declared.state.Placed.{Placed}
 use Rattle.cell_world.specs.World.{World, Cell, Region, Task, stack_size}
 use Rattle.cell_world.specs.Kept.{Claim, holding_of, claim_of, placed_at, placed_in, is_inside, is_word_in, aligned_words, words_inside, writable_words}
 use Rattle.cell_world.specs.Memory.{covers, end_of, region_in, part_of, read_in}
-use Rattle.cell_world.specs.Relink.{gap}
+use Rattle.cell_world.specs.Layout.{gap}
 use Rattle.cell_world.specs.Target.{start_of}
 use Rattle.cell_world.specs.UnloadCommand.{without_cells}
 use Rattle.cell_world.specs.Words.{words_in, stack_from}

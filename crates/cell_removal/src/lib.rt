@@ -4,12 +4,9 @@
 ghost use Rattle.std.specs.Prelude.{ℕ, suc, ◌≡◌, ◌↔◌, IsTrue, List, All, None, Ok, false, is_some, filter, nat_lt};
 ghost use Rattle.cell_num.specs.Lists.{each_pair, holds};
 ghost use Rattle.cell_world.specs.declared.command.CellName.{CellName};
-ghost use Rattle.cell_world.specs.declared.command.Command.{Command};
 ghost use Rattle.cell_world.specs.Answer.{Done, numbers_of};
-ghost use Rattle.cell_world.specs.Coherent.{AreSound, IsCoherent};
-ghost use Rattle.cell_world.specs.Gather.{Source};
+ghost use Rattle.cell_world.specs.Coherent.{IsCoherent};
 ghost use Rattle.cell_world.specs.Kept.{Holding, IsKept, holder_in, holding_of, kept_in};
-ghost use Rattle.cell_world.specs.Next.{next};
 ghost use Rattle.cell_world.specs.UnloadCommand.{first_held, garbage_of, named_cells, next_purge, next_unload, put_aside, without_cells};
 ghost use Rattle.cell_world.specs.World.{Cell, World};
 ghost use Rattle.cell_coherent.specs.Grown.{In};
@@ -84,9 +81,4 @@ pub fn purge_keeps_coherent()
 /// An accepted `unload` keeps the machine coherent.
 pub fn unload_keeps_coherent()
     ensures { (w : World) (names : List CellName) (d : Done) → IsCoherent w → next_unload w names ≡ Ok d → IsCoherent d.world }
-{}
-
-/// Each command keeps the machine coherent, be it accepted or refused.
-pub fn next_keeps_coherent()
-    ensures { (sources : List Source) (w : World) (command : Command) → AreSound sources → IsCoherent w → IsCoherent (next sources w command).world }
 {}

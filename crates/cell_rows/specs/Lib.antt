@@ -4,3 +4,14 @@ pub mod Loads
 pub mod Refusals
 pub mod Reach
 pub mod Spaces
+pub mod Swaps
+pub mod Sequences
+pub mod Partners
+pub mod Asides
+pub mod Reexports
+pub mod Transfers
+pub mod Rooms
+pub mod Stricts
+pub mod Askers
+pub mod Entries
+pub mod Several

@@ -1,10 +1,11 @@
 -- Small objects, piece by piece.
-use Rattle.std.specs.Prelude.{ℕ, ℤ, true, false, List, Ok, codes, length}
+use Rattle.std.specs.Prelude.{ℕ, ℤ, true, false, List, Ok, codes, flat_map, length}
+use Rattle.cell_num.specs.Bits.{bytes_of}
 use Rattle.cell_num.specs.declared.kinds.RelKind.{RelKind}
 use Rattle.cell_object.specs.declared.object.Section.{Section}
 use Rattle.cell_object.specs.declared.object.Symbol.{Symbol}
 use Rattle.cell_object.specs.declared.object.Entry.{Entry}
-use Rattle.cell_object.specs.declared.object.Bind.TheVariants.{Global}
+use Rattle.cell_object.specs.declared.object.Bind.TheVariants.{Local, Global}
 use Rattle.cell_object.specs.declared.object.Sort.TheVariants.{NoType}
 use Rattle.cell_object.specs.declared.object.Home.TheVariants.{Undef, Inside}
 use Rattle.cell_object.specs.declared.object.Fill.TheVariants.{Prog}
@@ -23,6 +24,10 @@ writable number bytes = record { number = number; name = codes ".data"; write = 
 abbrev pub defined : List ℕ → ℕ → ℕ → Symbol
 defined name section value = record { name = name; bind = Global; sort = NoType; home = Inside section; value = value; size = 0 }
 
+-- a LOCAL there
+abbrev pub label : List ℕ → ℕ → ℕ → Symbol
+label name section value = record { name = name; bind = Local; sort = NoType; home = Inside section; value = value; size = 0 }
+
 abbrev pub undefined : List ℕ → Symbol
 undefined name = record { name = name; bind = Global; sort = NoType; home = Undef; value = 0; size = 0 }
 
@@ -31,3 +36,7 @@ entry section offset kind symbol addend = record { section = section; offset = o
 
 abbrev pub source : List ℕ → List Section → List Symbol → List Entry → Source
 source name sections symbols entries = record { name = name; reading = Ok (record { sections = sections; symbols = symbols; entries = entries }) }
+
+-- instructions by their words
+abbrev pub code : List ℕ → List ℕ
+code words = flat_map (bytes_of 4) words

@@ -1,3 +1,4 @@
 pub mod Transcript
 pub mod Words
 pub mod Whole
+pub mod DistinctFiles

@@ -1,18 +1,22 @@
 -- What is written so far, and what is still to write.
-use Rattle.std.proofs.Common.{◌≡◌, ℕ, ◌+◌, ◌<◌, List, [], ◌∷◌, ◌++◌, ◌||◌, Bool, true, false, Some, None, Err, length, get_or, drop, refl, sym, ap, ◌∙◌, ◌≤◌, subst, append_assoc, append-nil}
+use Rattle.std.proofs.Common.{◌≡◌, arith, ℕ, zero, suc, ◌+◌, ◌<◌, List, [], ◌∷◌, ◌++◌, ◌||◌, Bool, true, false, Some, None, Ok, Err, length, get_or, drop, refl, sym, ap, ◌∙◌, ◌≤◌, subst, append_assoc, append-nil}
 use Rattle.std.specs.declared.option.Option.{Option}
 use Rattle.std.specs.Io.KnownBytes.{Appends}
 use Rattle.std.proofs.lemmas.List.{drop_more, drop_all}
 use Rattle.cell_io.specs.Written.{AppendsPartOf}
+use Rattle.std.proofs.lemmas.Bool.{and_parts}
 use Rattle.cell_script.specs.declared.line.Line.{Line}
+use Rattle.cell_script.specs.Script.{are_said, is_said}
 use Rattle.cell_system.specs.State.{State}
 use Rattle.cell_world.specs.World.{World}
-use Rattle.cell_system.specs.Step.{next_of}
+use Rattle.cell_system.specs.Step.{IsStep}
+use Rattle.cell_machine.specs.Does.{State as MachineState}
+use Rattle.cell_world.specs.declared.fail.Fail.TheVariants.{Refused}
 use Rattle.cell_world.specs.declared.reply.Reply.{Reply}
 use Rattle.cell_world.specs.declared.refusal.Refusal.{Refusal}
 use Rattle.std.specs.declared.result.Result.{Result}
 use Rattle.cell_print.specs.Lines.{lines_of}
-use Rattle.cell_world.specs.Next.{Answered}
+use Rattle.cell_world.specs.Next.{Answered, answered_by}
 use Rattle.cell_run.specs.Run.{Answers, DoesLine, Plain, plain_of, answered, after, is_refusal, text_from, any_refused}
 
 pub nothing : (o : Option (List ℕ)) → Appends o o []
@@ -102,18 +106,29 @@ same_plain : (new old : Plain) (w : World) → new.files ≡ old.files → new.w
 same_plain new old w f e = let both : Plain = record { files = new.files; world = w } in ap (λ (v : World). record new { world = v }) e ∙ ap (λ fs. record both { files = fs }) f
 
 -- the machine's answer is the plain machine's
-pub answers : (s new : State) (line : Line) (answer : Result Reply Refusal) (said : List ℕ) (refused : Bool) → next_of s line.command ≡ record { answer = answer; world = new.world } → new.files ≡ s.files
+answers_as : (s new : State) (line : Line) (answer : Result Reply Refusal) (said : List ℕ) (refused : Bool) → answered (plain_of s) line.command ≡ record { answer = answer; world = new.machine.world } → new.files ≡ s.files
     → said ≡ lines_of line.number answer → refused ≡ is_refusal answer → Answers (plain_of s) line said refused (plain_of new)
-unfolding answered
-answers s new line answer said refused e f t r =
+answers_as s new line answer said refused e f t r =
     record {
       text = t ∙ ap (λ a. lines_of line.number a.answer) (sym e);
       verdict = r ∙ ap (λ a. is_refusal a.answer) (sym e);
       state = same_plain (plain_of new) (plain_of s) (answered (plain_of s) line.command).world f (ap (λ a. a.world) (sym e));
     }
 
+pub replies : (s new : State) (line : Line) (reply : Reply) (said : List ℕ) → IsStep s line.command (Ok reply) new → said ≡ lines_of line.number (Ok reply) → Answers (plain_of s) line said false (plain_of new)
+unfolding answered
+replies s new line reply said step t = answers_as s new line (Ok reply) said false (ap (answered_by s.machine.world) step.answer.step) step.files t refl
+
 -- a refusal leaves the machine
-pub refuses : (s new : State) (line : Line) (refusal : Refusal) (said : List ℕ) → (next_of s line.command ≡ record { answer = Err refusal; world = s.world }) × (new ≡ s)
-    → said ≡ lines_of line.number (Err refusal) → Answers (plain_of s) line said true (plain_of new)
+pub refuses : (s new : State) (line : Line) (refusal : Refusal) (said : List ℕ) → IsStep s line.command (Err (Refused refusal)) new → said ≡ lines_of line.number (Err refusal) → Answers (plain_of s) line said true (plain_of new)
+unfolding answered
 refuses s new line refusal said step t =
-    answers s new line (Err refusal) said true (step.0 ∙ ap (λ (u : State). let a : Answered = record { answer = Err refusal; world = u.world } in a) (sym step.1)) (ap (λ (u : State). u.files) step.1) t refl
+    answers_as s new line (Err refusal) said true
+    (ap (answered_by s.machine.world) step.answer.0 ∙ ap (λ (m : MachineState). let a : Answered = record { answer = Err refusal; world = m.world } in a) (sym step.answer.1))
+    step.files t refl
+
+-- a line that stands among lines that can be said
+pub said_at : (lines : List Line) (i : ℕ) (line : Line) → i < length lines → line ≡ get_or lines i line → are_said lines ≡ true → is_said line.command ≡ true
+said_at [] i line lt item all = absurd (omega (arith, lt))
+said_at (l ∷ lines) zero line lt item all = ap (λ (x : Line). is_said x.command) item ∙ (and_parts (is_said l.command) (are_said lines) all).0
+said_at (l ∷ lines) (suc i) line lt item all = said_at lines i line (omega (arith, lt)) item (and_parts (is_said l.command) (are_said lines) all).1

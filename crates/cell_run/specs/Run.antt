@@ -34,7 +34,7 @@ pub record Plain : Type 0 where
   pub world : World
 
 abbrev pub plain_of : State → Plain
-plain_of s = record { files = s.files; world = s.world }
+plain_of s = record { files = s.files; world = s.machine.world }
 
 -- the plain machine's answer to a command, and the machine after it
 unfoldable pub answered : Plain → Command → Answered

@@ -1,12 +1,13 @@
 //! The whole call.
 
-ghost use Rattle.std.specs.Prelude.{◌≡◌, ◌≢◌, ◌≤◌, ℕ, false, Err, None, Some, List, [], map, length, All, OnOk, IfOk, IfErr, IfSome, IsErrOf, string_bytes};
+ghost use Rattle.std.specs.Prelude.{◌≡◌, ◌≢◌, ◌≤◌, ℕ, false, true, Err, None, Some, List, [], map, length, All, OnOk, IfOk, IfErr, IfSome, IsErrOf, string_bytes};
 ghost use Rattle.std.specs.Io.KnownBytes.{Appends};
 ghost use Rattle.cell_io.specs.Causes.{Rose, HasCause};
 ghost use Rattle.cell_io.specs.Written.{AppendsPartOf, IsFull};
 ghost use Rattle.cell_print.specs.Lines.{lines_of};
 ghost use Rattle.cell_arguments.specs.Arguments.{IsInRange, arguments_of, said};
 ghost use Rattle.cell_input.specs.Objects.{AreObjectFiles};
+ghost use Rattle.cell_script.specs.Script.{are_said, is_said};
 ghost use Rattle.cell_run.specs.Run.{IsCut, WritesRun, Answers, DoesLine, answered, run_of, run_in, run_from, plain_of, first_plain, refused_run};
 
 use crate::Status;
@@ -94,9 +95,11 @@ fn refuse<K: Sink>(alloc: Global, script: &str, reason: Reason, out: &mut K) -> 
 }
 
 /// Does the commands of a script on a machine without a cell.
+#[tactic(auto, using(crate::proofs::DistinctFiles::apart))]
 fn run_script<K: Sink>(alloc: Global, base: u64, pages: u32, input: Input, out: &mut K) -> Status
     requires range { IsInRange base pages }
     requires files { AreObjectFiles input.files }
+    requires said { are_said input.script ≡ true }
     ensures transcript { WritesRun (run_from (first_plain base pages input) input.script) result (K.written out.old) (K.written out.new) }
     ensures cause { HasCause (K.faults out.old) (K.faults out.new) (result ≡ Status.WriteFault) }
     ensures full { result ≡ Status.WriteFault → IsFull (K.room out.old) (K.written out.new) }
@@ -111,6 +114,7 @@ fn run_script<K: Sink>(alloc: Global, base: u64, pages: u32, input: Input, out: 
 
 /// Does the commands of these lines, and writes each answer. One buffer serves all answers.
 fn do_lines<K: Sink>(alloc: Global, system: &mut System, lines: &[Line], out: &mut K) -> Status
+    requires { are_said lines.now ≡ true }
     ensures transcript { WritesRun (run_from (plain_of system.old) lines.now) result (K.written out.old) (K.written out.new) }
     ensures cause { HasCause (K.faults out.old) (K.faults out.new) (result ≡ Status.WriteFault) }
     ensures full { result ≡ Status.WriteFault → IsFull (K.room out.old) (K.written out.new) }
@@ -138,6 +142,7 @@ fn do_line<K: Sink>(
     text: &mut Vec<u8>,
     out: &mut K,
 ) -> Result<bool, Status>
+    requires { is_said line.now.command ≡ true }
     ensures done { IfOk result (λ refused. DoesLine (plain_of system.old) line.now refused (plain_of system.new) (K.written out.old) (K.written out.new)) }
     ensures cut { IfErr result (λ status.
         IsCut status × AppendsPartOf (K.written out.old) (K.written out.new) (lines_of line.now.number (answered (plain_of system.old) line.now.command).answer)) }
@@ -158,7 +163,8 @@ fn do_line<K: Sink>(
 
 /// Does the command of a line, appends the lines of its answer, and says whether it is a refusal.
 fn do_command(system: &mut System, line: &Line, text: &mut Vec<u8>) -> Result<bool, AllocError>
-    requires { text.old.items ≡ [] }
+    requires said { is_said line.now.command ≡ true }
+    requires empty { text.old.items ≡ [] }
     ensures { IfOk result (λ refused. Answers (plain_of system.old) line.now text.new.items refused (plain_of system.new)) }
 {
     match system.do_command(&line.command) {

@@ -11,7 +11,8 @@ use Rattle.cell_world.specs.Memory.{end_of}
 use Rattle.cell_world.specs.Outcome.{Outcome, ◌>>=◌}
 use Rattle.cell_world.specs.Pages.{filled, is_free_run, is_taken_run, longest_run, lowest_run}
 use Rattle.cell_world.specs.Place.{page_table, start_of_run, with_region}
-use Rattle.cell_world.specs.Relink.{Writable, permission_of}
+use Rattle.cell_world.specs.Layout.{permission_of}
+use Rattle.cell_world.specs.declared.layout.Class.TheVariants.{Writable}
 use Rattle.cell_world.specs.SpawnCommand.{new_task}
 use Rattle.cell_world.specs.World.{World, Region, cell_of}
 use Rattle.cell_coherent.specs.Clear.{IsClear}
@@ -28,9 +29,9 @@ use Rattle.cell_task.specs.State.{TasksState, with_new}
 use Rattle.cell_turns.proofs.Spawned.{spawn_coherent}
 use Rattle.cell_machine.specs.declared.machine.Machine.{Machine}
 use Rattle.cell_machine.specs.Machine.{IsSound, world_of}
-use Rattle.cell_machine.specs.Same.{raised}
+use Rattle.cell_machine.proofs.Counts.{one_stack}
 use Rattle.cell_machine.proofs.NewRuns.{puts_longer}
-use Rattle.cell_machine.specs.Does.{IsDone}
+use Rattle.cell_machine.specs.Does.{HasDone}
 use Rattle.cell_schedule.specs.Starts.{started, with_started}
 use Rattle.cell_schedule.proofs.Stacks.{given_again, run_found, run_missed, taken_there}
 
@@ -38,9 +39,6 @@ use Rattle.cell_schedule.proofs.Stacks.{given_again, run_found, run_missed, take
 clear_is : (start n : ℕ) (r : Region) → IsClear start n r → (nat_le (end_of r) start || nat_le (start + n) r.start) ≡ true
 clear_is start n r (inl h) = or_right (nat_le (end_of r) start) (nat_le (start + n) r.start) (le-leb (start + n) r.start h)
 clear_is start n r (inr h) = or_left (nat_le (end_of r) start) (nat_le (start + n) r.start) (le-leb (end_of r) start h)
-
-one_raised : (count more : ℕ) → more ≡ 1 → one_more count ≡ raised count more
-one_raised count more e = ap (λ (k : ℕ). min (count + k) (2 ^ 64 - 1)) (sym e)
 
 one_low : (count : ℕ) → one_more count ≤ 2 ^ 64 - 1
 one_low count = omega arith
@@ -89,12 +87,12 @@ module _ (m : Machine) (sound : IsSound m) where
 
     apart : list_all (λ r. nat_le (end_of r) stack || nat_le (stack + 16384) r.start) w.regions ≡ true
     apart =
-        let clear : All (IsClear stack 16384) w.regions = run_clear w 4 run.page (omega arith) found.0 sound.settled.coherent.ready.in_space in
+        let clear : All (IsClear stack 16384) w.regions = run_clear w 4 run.page (omega arith) found.0 sound.coherent.ready.in_space in
         In-all (λ (r : Region). nat_le (end_of r) stack || nat_le (stack + 16384) r.start) w.regions (λ r k. clear_is stack 16384 r (All-In (IsClear stack 16384) w.regions clear r k))
 
     room : IsRoom (reserved m.memory 1) stack 16384
     room = record {
-      aligned = page_whole w.base run.page (eqb-true (w.base % 4096) 0 (limit_parts w sound.settled.coherent.ready.limits).aligned);
+      aligned = page_whole w.base run.page (eqb-true (w.base % 4096) 0 (limit_parts w sound.coherent.ready.limits).aligned);
       whole = refl;
       filled = omega arith;
       above = omega arith;
@@ -125,9 +123,6 @@ module _ (m : Machine) (sound : IsSound m) where
         tasks = with_new m.tasks (new_task m.tasks.next entry.0 entry.1 arg stack);
       }
 
-      one_region : length (with_region region m.memory.regions) - length m.memory.regions ≡ 1
-      one_region = let more : length (with_region region m.memory.regions) ≡ length m.memory.regions + 1 = puts_longer (region ∷ []) m.memory.regions in omega (arith, more)
-
       table_begun : (with_run m.space run true).taken ≡ page_table (world_of new)
       table_begun =
           ap (λ (t : List Bool). filled t run.page run.count true) sound.table
@@ -136,8 +131,8 @@ module _ (m : Machine) (sound : IsSound m) where
 
       begun_sound : IsSound new
       begun_sound = record {
-        settled = record { cells = sound.settled.cells; coherent = spawn_coherent w sound.settled.coherent stack starts entry.0 entry.1 arg present few low };
-        known = sound.known;
+        coherent = spawn_coherent w sound.coherent stack starts entry.0 entry.1 arg present few low;
+        joined = sound.joined;
         table = table_begun;
         base = sound.base;
         sections = sound.sections;
@@ -147,13 +142,11 @@ module _ (m : Machine) (sound : IsSound m) where
         maps = one_low m.memory.maps;
       }
 
-      begun : IsDone (started w entry arg) m (SpawnDone m.tasks.next entry.1) new
-      begun = record {
-        sound = begun_sound;
-        step = ap (λ (o : Outcome ℕ). o >>= (λ stack. done (SpawnDone w.next_task entry.1) (with_started w entry arg stack))) starts;
-        patches = refl;
-        maps = one_raised m.memory.maps (length (with_region region m.memory.regions) - length m.memory.regions) one_region;
-      }
+      begun : HasDone (started w entry arg) 1 m (SpawnDone m.tasks.next entry.1) new
+      begun =
+          one_stack (started w entry arg) m new (SpawnDone m.tasks.next entry.1) sound begun_sound
+          (ap (λ (o : Outcome ℕ). o >>= (λ stack. done (SpawnDone w.next_task entry.1) (with_started w entry arg stack))) starts)
+          refl refl refl refl
 
       abbrev by_parts : SpaceState → MemoryState → TasksState → Machine
       by_parts space memory tasks = record m { space = space; memory = memory; tasks = tasks }
@@ -161,7 +154,7 @@ module _ (m : Machine) (sound : IsSound m) where
       -- the machine by its parts
       pub begun_by : (space : SpaceState) → space ≡ with_run m.space run true → (reserve : MemoryState) → reserve ≡ reserved m.memory 1 → (addr : ℕ) → addr ≡ stack → (bytes : List ℕ) → bytes ≡ replicate 16384 0
           → (memory : MemoryState) → memory ≡ mapped reserve addr (permission_of Writable) bytes → (tasks : TasksState) → tasks ≡ with_new m.tasks (new_task m.tasks.next entry.0 entry.1 arg addr) → (number : ℕ) → number ≡ m.tasks.next
-          → IsDone (started w entry arg) m (SpawnDone number entry.1) (record m { space = space; memory = memory; tasks = tasks })
+          → HasDone (started w entry arg) 1 m (SpawnDone number entry.1) (record m { space = space; memory = memory; tasks = tasks })
       begun_by space s reserve r addr a bytes b memory e tasks t number n =
           let is_memory : memory ≡ mapped (reserved m.memory 1) stack (permission_of Writable) (replicate 16384 0) =
           e
@@ -173,5 +166,5 @@ module _ (m : Machine) (sound : IsSound m) where
           ap (λ (x : SpaceState). by_parts x memory tasks) s
           ∙ (ap (λ (x : MemoryState). by_parts (with_run m.space run true) x tasks) is_memory
           ∙ ap (λ (x : TasksState). by_parts (with_run m.space run true) (mapped (reserved m.memory 1) stack (permission_of Writable) (replicate 16384 0)) x) is_tasks) in
-          subst (λ (k : ℕ). IsDone (started w entry arg) m (SpawnDone k entry.1) (by_parts space memory tasks)) (sym n)
-          (subst (λ (x : Machine). IsDone (started w entry arg) m (SpawnDone m.tasks.next entry.1) x) (sym same) begun)
+          subst (λ (k : ℕ). HasDone (started w entry arg) 1 m (SpawnDone k entry.1) (by_parts space memory tasks)) (sym n)
+          (subst (λ (x : Machine). HasDone (started w entry arg) 1 m (SpawnDone m.tasks.next entry.1) x) (sym same) begun)

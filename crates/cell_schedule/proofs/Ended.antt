@@ -1,27 +1,28 @@
 -- A machine without one of its tasks, whose stack has been given back, is sound again.
-use Rattle.std.proofs.Common.{◌≡◌, refl, sym, ◌∙◌, ap, subst, ℕ, ◌-◌, ◌*◌, ◌^◌, ◌<◌, ◌≤◌, arith, true, false, not, Bool, List, length, map, Some}
+use Rattle.std.proofs.Common.{◌≡◌, refl, sym, ◌∙◌, ap, ap₂, subst, ℕ, ◌-◌, ◌*◌, ◌^◌, ◌<◌, ◌≤◌, arith, true, false, not, Bool, List, length, map, Some}
 use Rattle.std.specs.Prelude.{◌==◌, filter, is_some}
 use Rattle.std.proofs.lemmas.Bool.{eq-eqb, eqb-true, leb-true}
 use Rattle.std.proofs.lemmas.List.Filters.{length-filter_both}
 use Rattle.cell_world.specs.declared.state.LinkRow.{LinkRow}
 use Rattle.cell_world.specs.declared.state.Namespace.{Namespace}
 use Rattle.cell_world.specs.declared.state.NewCell.{NewCell}
-use Rattle.cell_world.specs.World.{World, Region, Task, task_of}
+use Rattle.cell_world.specs.World.{World, Cell, Region, Task, task_of}
+use Rattle.cell_world.specs.Coherent.{IsCoherent}
 use Rattle.cell_world.specs.Pages.{filled, is_taken_run}
 use Rattle.cell_world.specs.Place.{page_table}
 use Rattle.cell_world.specs.Turn.{without_task}
 use Rattle.cell_coherent.proofs.Elements.{In, found-In, find_there}
 use Rattle.cell_coherent.proofs.Ready.{limit_parts}
-use Rattle.cell_law.specs.Settled.{IsSettled}
 use Rattle.cell_mem.specs.State.{MemoryState, region_from, size_of, unmapped}
 use Rattle.cell_place.specs.Space.{SpaceState}
-use Rattle.cell_space.specs.Machine.{called}
-use Rattle.cell_task.specs.State.{TasksState}
+use Rattle.cell_space.specs.declared.cell.SpaceCell.{SpaceCell}
+use Rattle.cell_space.specs.Joined.{AreJoined, cells_of}
+use Rattle.cell_task.specs.State.{TasksState, without}
 use Rattle.cell_commit.specs.Seals.{seal_table}
 use Rattle.cell_turns.proofs.Bare.{region_once}
 use Rattle.cell_turns.proofs.Killed.{kill_coherent}
 use Rattle.cell_machine.specs.declared.machine.Machine.{Machine}
-use Rattle.cell_machine.specs.Machine.{IsSound, cells_of, field_bytes, keys_of, world_of}
+use Rattle.cell_machine.specs.Machine.{IsSound, field_bytes, keys_of, world_by, world_of}
 use Rattle.cell_schedule.specs.Ends.{IsEnded}
 use Rattle.cell_schedule.proofs.Freed.{Stack, page_of, stack_of, stack_taken, table_freed}
 use Rattle.cell_schedule.proofs.Unsealed.{seals_left}
@@ -31,7 +32,7 @@ module _ (old : Machine) (sound : IsSound old) (t : Task) (live : task_of (world
   there = (found-In (λ u. u.number == t.number) old.tasks.tasks t live).0
 
   own : Stack (world_of old) t.stack
-  own = stack_of (world_of old) sound.settled.coherent t there
+  own = stack_of (world_of old) sound.coherent t there
 
   found : (r : Region) × (region_from old.memory t.stack ≡ Some r)
   found = find_there (λ r. r.start == t.stack) old.memory.regions own.region own.there (eq-eqb own.region.start t.stack own.start_is)
@@ -44,7 +45,7 @@ module _ (old : Machine) (sound : IsSound old) (t : Task) (live : task_of (world
   pub stack_long : size_of (region_from old.memory t.stack) ≡ 16384
   stack_long =
       let f = found-In (λ r. r.start == t.stack) old.memory.regions found.0 found.1 in
-      let same : found.0 ≡ own.region = region_once (world_of old) sound.settled.coherent found.0 own.region f.0 own.there (eqb-true found.0.start t.stack f.1 ∙ sym own.start_is) in
+      let same : found.0 ≡ own.region = region_once (world_of old) sound.coherent found.0 own.region f.0 own.there (eqb-true found.0.start t.stack f.1 ∙ sym own.start_is) in
       ap size_of found.1 ∙ (ap (λ (r : Region). length r.bytes) same ∙ own.size)
 
   -- which are taken
@@ -52,7 +53,7 @@ module _ (old : Machine) (sound : IsSound old) (t : Task) (live : task_of (world
   stack_given =
       ap (λ (base : ℕ). is_taken_run old.space.taken (page_of base t.stack) 4) sound.base
       ∙ (ap (λ (table : List Bool). is_taken_run table (page_of old.memory.base t.stack) 4) sound.table
-      ∙ stack_taken (world_of old) sound.settled.coherent t there)
+      ∙ stack_taken (world_of old) sound.coherent t there)
 
   -- in the space
   pub stack_above : old.space.base ≤ t.stack
@@ -60,34 +61,22 @@ module _ (old : Machine) (sound : IsSound old) (t : Task) (live : task_of (world
 
   pub stack_low : page_of old.space.base t.stack < 4096
   stack_low =
-      let most : old.memory.pages ≤ 4096 = leb-true old.memory.pages 4096 (limit_parts (world_of old) sound.settled.coherent.ready.limits).most in
+      let most : old.memory.pages ≤ 4096 = leb-true old.memory.pages 4096 (limit_parts (world_of old) sound.coherent.ready.limits).most in
       let page : page_of old.space.base t.stack ≡ page_of old.memory.base t.stack = ap (λ (base : ℕ). page_of base t.stack) sound.base in
       omega (arith, own.fits, most, page)
 
   module _ (new : Machine) (is : IsEnded old t new) where
-    abbrev world_by : MemoryState → List Namespace → List NewCell → List LinkRow → ℕ → TasksState → World
-    world_by memory namespaces cells rows next tasks =
-        record {
-          base = memory.base;
-          pages = memory.pages;
-          namespaces = namespaces;
-          cells = cells_of cells;
-          links = rows;
-          regions = memory.regions;
-          tasks = tasks.tasks;
-          next_cell = next;
-          next_task = tasks.next;
-          swaps = 0;
-        }
+    cells_same : cells_of new.cells.items new.spaces.cells ≡ cells_of old.cells.items old.spaces.cells
+    cells_same = ap₂ cells_of is.cells is.known
 
     pub world_ended : world_of new ≡ without_task (world_of old) t
     world_ended =
-        ap (λ (m : MemoryState). world_by m new.spaces.namespaces new.cells.items new.graph.rows new.next new.tasks) is.memory
-        ∙ (ap (λ (spaces : List Namespace). world_by (unmapped old.memory t.stack) spaces new.cells.items new.graph.rows new.next new.tasks) is.namespaces
-        ∙ (ap (λ (cells : List NewCell). world_by (unmapped old.memory t.stack) old.spaces.namespaces cells new.graph.rows new.next new.tasks) is.cells
-        ∙ (ap (λ (rows : List LinkRow). world_by (unmapped old.memory t.stack) old.spaces.namespaces old.cells.items rows new.next new.tasks) is.rows
-        ∙ (ap (λ (n : ℕ). world_by (unmapped old.memory t.stack) old.spaces.namespaces old.cells.items old.graph.rows n new.tasks) is.next
-        ∙ ap (λ (tasks : TasksState). world_by (unmapped old.memory t.stack) old.spaces.namespaces old.cells.items old.graph.rows old.next tasks) is.tasks))))
+        ap (λ (m : MemoryState). world_by m new.spaces.namespaces (cells_of new.cells.items new.spaces.cells) new.graph.rows new.tasks new.next new.swaps) is.memory
+        ∙ (ap (λ (spaces : List Namespace). world_by (unmapped old.memory t.stack) spaces (cells_of new.cells.items new.spaces.cells) new.graph.rows new.tasks new.next new.swaps) is.namespaces
+        ∙ (ap (λ (cells : List Cell). world_by (unmapped old.memory t.stack) old.spaces.namespaces cells new.graph.rows new.tasks new.next new.swaps) cells_same
+        ∙ (ap (λ (rows : List LinkRow). world_by (unmapped old.memory t.stack) old.spaces.namespaces (cells_of old.cells.items old.spaces.cells) rows new.tasks new.next new.swaps) is.rows
+        ∙ (ap (λ (tasks : TasksState). world_by (unmapped old.memory t.stack) old.spaces.namespaces (cells_of old.cells.items old.spaces.cells) old.graph.rows tasks new.next new.swaps) is.tasks
+        ∙ ap₂ (world_by (unmapped old.memory t.stack) old.spaces.namespaces (cells_of old.cells.items old.spaces.cells) old.graph.rows (without old.tasks t.number)) is.next is.swaps))))
 
     pub patches_ended : new.memory.patches ≡ old.memory.patches
     patches_ended = ap (λ (m : MemoryState). m.patches) is.memory
@@ -95,18 +84,12 @@ module _ (old : Machine) (sound : IsSound old) (t : Task) (live : task_of (world
     pub maps_ended : new.memory.maps ≡ old.memory.maps
     maps_ended = ap (λ (m : MemoryState). m.maps) is.memory
 
-    fewer : length (filter (λ (r : Region). not (r.start == t.stack)) old.memory.regions) ≤ length old.memory.regions
-    fewer = omega (arith, length-filter_both (λ (r : Region). not (r.start == t.stack)) (λ (r : Region). not (not (r.start == t.stack))) (λ r. refl) old.memory.regions)
-
-    pub fewer_regions : length new.memory.regions ≤ length old.memory.regions
-    fewer_regions = subst (λ (m : MemoryState). length m.regions ≤ length old.memory.regions) (sym is.memory) fewer
-
     table_ended : new.space.taken ≡ page_table (world_of new)
     table_ended =
         ap (λ (s : SpaceState). s.taken) is.space
         ∙ (ap (λ (base : ℕ). filled old.space.taken (page_of base t.stack) 4 false) sound.base
         ∙ (ap (λ (table : List Bool). filled table (page_of old.memory.base t.stack) 4 false) sound.table
-        ∙ (sym (table_freed (world_of old) sound.settled.coherent t there)
+        ∙ (sym (table_freed (world_of old) sound.coherent t there)
         ∙ ap page_table (sym world_ended))))
 
     seals_ended : new.memory.sealed ≡ seal_table new.memory.base (4096 * new.memory.pages) (field_bytes new.cells.items)
@@ -114,14 +97,14 @@ module _ (old : Machine) (sound : IsSound old) (t : Task) (live : task_of (world
         ap (λ (m : MemoryState). m.sealed) is.memory
         ∙ (ap (λ (n : ℕ). filled old.memory.sealed (t.stack - old.memory.base) n false) stack_long
         ∙ (ap (λ (table : List Bool). filled table (t.stack - old.memory.base) 16384 false) sound.seals
-        ∙ (seals_left (world_of old) sound.settled.coherent t there old.cells.items refl
+        ∙ (seals_left (world_of old) sound.coherent t there old.cells.items sound.joined.placed
         ∙ (ap (λ (m : MemoryState). seal_table m.base (4096 * m.pages) (field_bytes old.cells.items)) (sym is.memory)
         ∙ ap (λ (cells : List NewCell). seal_table new.memory.base (4096 * new.memory.pages) (field_bytes cells)) (sym is.cells)))))
 
     pub ended_sound : IsSound new
     ended_sound = record {
-      settled = subst IsSettled (sym world_ended) (record { cells = sound.settled.cells; coherent = kill_coherent (world_of old) sound.settled.coherent t there });
-      known = is.known ∙ (sound.known ∙ ap (λ (cells : List NewCell). map called (cells_of cells)) (sym is.cells));
+      coherent = subst IsCoherent (sym world_ended) (kill_coherent (world_of old) sound.coherent t there);
+      joined = subst (λ (cells : List NewCell). AreJoined cells new.spaces.cells) (sym is.cells) (subst (λ (known : List SpaceCell). AreJoined old.cells.items known) (sym is.known) sound.joined);
       table = table_ended;
       base = ap (λ (s : SpaceState). s.base) is.space ∙ (sound.base ∙ ap (λ (m : MemoryState). m.base) (sym is.memory));
       sections = is.sections ∙ (sound.sections ∙ ap keys_of (sym is.cells));

@@ -1,71 +1,42 @@
 -- The entry that the provider of a name has.
-use Rattle.std.proofs.Common.{◌≡◌, refl, sym, ◌∙◌, ap, subst, arith, ℕ, ◌+◌, ◌-◌, ◌≤◌, inl, Bool, true, false, ◌&&◌, List, [], ◌∷◌, ◌++◌, map, append-nil, Option, Some, None}
+use Rattle.std.proofs.Common.{◌≡◌, refl, sym, ◌∙◌, ap, subst, ℕ, ◌+◌, Bool, true, false, ◌&&◌, List, Option, Some, None}
 use Rattle.std.specs.Prelude.{◌%◌, ◌==◌, is_some, nat_le, option_map, option_and_then, unwrap_or}
-use Rattle.std.specs.List.{list_all}
-use Rattle.std.proofs.lemmas.Bool.{and_parts, eq-eqb, eqb-true}
-use Rattle.cell_num.specs.Lists.{equals, where_true}
+use Rattle.std.proofs.lemmas.Bool.{eq-eqb, eqb-true}
+use Rattle.cell_num.specs.Lists.{where_true}
 use Rattle.cell_object.specs.declared.object.Home.{Home}
 use Rattle.cell_object.specs.declared.object.Home.TheVariants.{Undef, Abs, Inside, Elsewhere}
 use Rattle.cell_object.specs.declared.object.Section.{Section as ObjectSection}
 use Rattle.cell_object.specs.declared.object.Symbol.{Symbol}
 use Rattle.cell_object.specs.Parts.{section_of, symbol_at}
-use Rattle.cell_world.specs.declared.state.Namespace.{Namespace}
+use Rattle.cell_num.specs.declared.ids.SecKey.{SecKey}
+use Rattle.cell_space.specs.Joined.{placed_of}
 use Rattle.cell_world.specs.declared.state.NewCell.{NewCell}
 use Rattle.cell_world.specs.declared.state.Target.{Target}
 use Rattle.cell_world.specs.declared.state.Target.TheVariants.{Section, Number}
-use Rattle.cell_world.specs.Coherent.{IsCoherent, is_in_space, is_placed, stands_by_rule}
+use Rattle.cell_world.specs.Coherent.{IsCoherent}
 use Rattle.cell_world.specs.Names.{Provider, attached_provider}
-use Rattle.cell_world.specs.Place.{offset_in}
-use Rattle.cell_world.specs.Relink.{Class, Text, ReadOnly, Writable, class_start, is_in_class, sections_in}
+use Rattle.cell_world.specs.Layout.{offset_in, sections_in}
+use Rattle.cell_world.specs.declared.layout.Class.TheVariants.{Text}
 use Rattle.cell_world.specs.SpawnCommand.{entry_address, entry_named, inside_of, is_entry_in}
 use Rattle.cell_world.specs.Target.{own_target, provided_target, start_of}
 use Rattle.cell_world.specs.World.{World, Cell, cell_of}
-use Rattle.cell_coherent.proofs.Elements.{In, all-In, filter-In, find_there, found-In}
-use Rattle.cell_coherent.proofs.FieldsInside.{region_There}
-use Rattle.cell_coherent.proofs.Places.{whole_region}
-use Rattle.cell_coherent.proofs.Ready.{limit_parts}
+use Rattle.cell_coherent.proofs.Elements.{In, find_there, found-In}
+use Rattle.cell_coherent.proofs.TextPlaces.{text_rest}
 use Rattle.cell_machine.specs.declared.machine.Machine.{Machine}
 use Rattle.cell_machine.specs.Machine.{IsSound, world_of}
-use Rattle.cell_target.specs.Scene.{seen}
-use Rattle.cell_schedule.specs.Starts.{entry_at, is_entry_at}
-
-page_begins : (base start at : ℕ) → base ≤ start → (start - base) % 4096 ≡ 0 → base % 4096 ≡ 0 → start ≡ at → at % 4 ≡ 0
-page_begins base start at low aligned whole same = omega (arith, low, aligned, whole, same)
-
-same_rest : (start first offset value : ℕ) → start ≡ first + offset → first % 4 ≡ 0 → (offset + value) % 4 ≡ (start + value) % 4
-same_rest start first offset value at whole = omega (arith, at, whole)
+use Rattle.cell_schedule.specs.Starts.{entry_at, entry_in, is_entry_at}
 
 where_executable : (e x y z : Bool) → (e ≡ true → x ≡ y) → (e && x && z) ≡ (e && y && z)
 where_executable true x y z f = ap (λ b. b && z) (f refl)
 where_executable false x y z f = refl
 
 module _ (w : World) (h : IsCoherent w) where
-  -- a class begins at a page
-  class_whole : (c : Cell) → In c w.cells → (class : Class) → unwrap_or (class_start c class) 0 % 4 ≡ 0
-  class_whole c k class = go (class_start c class) refl
-    where
-      go : (o : Option ℕ) → class_start c class ≡ o → unwrap_or o 0 % 4 ≡ 0
-      go None e = refl
-      go (Some start) e =
-          let q = region_There w h.ready.regions h.ready.apart h.ready.placed h.ready.objects c k class start e in
-          let whole = whole_region w q.0 (all-In (is_in_space w) w.regions h.ready.in_space q.0 q.1) in
-          let base : w.base % 4096 ≡ 0 = eqb-true (w.base % 4096) 0 (limit_parts w h.ready.limits).aligned in
-          page_begins w.base q.0.start start whole.0 whole.1 base q.2
-
-  stands : (c : Cell) → In c w.cells → (s : ObjectSection) → In s (sections_in Text c.object) → start_of c.placed s.number ≡ unwrap_or (class_start c Text) 0 + offset_in (sections_in Text c.object) s.number
-  stands c k s i =
-      let p = and_parts (equals (map (λ p. p.section) c.places) (map (λ s. s.number) c.object.sections)) (list_all (stands_by_rule c) (Text ∷ ReadOnly ∷ Writable ∷ [])) (all-In is_placed w.cells h.ready.placed c k) in
-      let rule : stands_by_rule c Text ≡ true = all-In (stands_by_rule c) (Text ∷ ReadOnly ∷ Writable ∷ []) p.1 Text (inl refl) in
-      eqb-true (start_of c.placed s.number) (unwrap_or (class_start c Text) 0 + offset_in (sections_in Text c.object) s.number)
-      (all-In (λ (s : ObjectSection). start_of c.placed s.number == unwrap_or (class_start c Text) 0 + offset_in (sections_in Text c.object) s.number) (sections_in Text c.object) rule s i)
-
   -- the offset and the address have the same rest
   same_test : (c : Cell) → In c w.cells → (n : ℕ) (s : ObjectSection) → section_of c.object n ≡ Some s → (value : ℕ) → is_entry_in c.object value s ≡ is_entry_at s value (start_of c.placed n + value)
   same_test c k n s e value =
       let f = found-In (λ (s : ObjectSection). s.number == n) c.object.sections s e in
       where_executable s.exec ((offset_in (sections_in Text c.object) s.number + value) % 4 == 0) ((start_of c.placed n + value) % 4 == 0) (nat_le (value + 4) s.size) (λ x.
-      let at : start_of c.placed n ≡ unwrap_or (class_start c Text) 0 + offset_in (sections_in Text c.object) s.number = ap (start_of c.placed) (sym (eqb-true s.number n f.1)) ∙ stands c k s (filter-In (is_in_class Text) c.object.sections s f.0 x) in
-      ap (λ (r : ℕ). r == 0) (same_rest (start_of c.placed n) (unwrap_or (class_start c Text) 0) (offset_in (sections_in Text c.object) s.number) value at (class_whole c k Text)))
+      ap (λ (r : ℕ). r == 0) (sym (text_rest w h.ready c k s f.0 x value) ∙ ap (λ (m : ℕ). (start_of c.placed m + value) % 4) (eqb-true s.number n f.1)))
 
   module _ (c : Cell) (k : In c w.cells) (own : cell_of w c.id.0 ≡ Some c) where
     abbrev addressed : Option (ℕ × ℕ) → Option (ℕ × ℕ)
@@ -134,22 +105,25 @@ module _ (w : World) (h : IsCoherent w) where
       go None r = absurd cc
       go (Some p) r = mid p (cell_of w p.cell) refl r
 
-module _ (m : Machine) (sound : IsSound m) where
-  abbrev here : World
-  here = seen m.spaces.namespaces m.cells.items
+-- the target is an entry, by the place of its cell
+pub entry_by : (w : World) (key : SecKey) (offset addr : ℕ) (p : NewCell) → Some p ≡ option_map placed_of (cell_of w key.cell.0) → entry_in p key.section offset addr ≡ entry_at w (Section key offset addr)
+entry_by w key offset addr p e = go (cell_of w key.cell.0) e
+  where
+    some_same : (a b : NewCell) → Some a ≡ Some b → a ≡ b
+    some_same a b h = cc
 
-  seen_here : (target : Target) → entry_at here target ≡ entry_at (world_of m) target
-  seen_here (Section key offset addr) = refl
-  seen_here (Number value) = refl
+    go : (o : Option Cell) → Some p ≡ option_map placed_of o → entry_in p key.section offset addr ≡ option_and_then (λ c. entry_in c.placed key.section offset addr) o
+    go None h = absurd (cc h)
+    go (Some d) h = ap (λ (c : NewCell). entry_in c key.section offset addr) (some_same p d.placed h)
 
-  -- as the scene of the present cells has it
-  pub scene_entry : (namespaces : List Namespace) (present fresh : List NewCell) → namespaces ≡ m.spaces.namespaces → present ≡ m.cells.items → fresh ≡ [] → (ns : ℕ) (symbol : List ℕ) (target : Target)
-      → Some target ≡ option_and_then (provided_target (seen namespaces (present ++ fresh))) (attached_provider (seen namespaces (present ++ fresh)) ns symbol)
-      → entry_at (seen namespaces (present ++ fresh)) target ≡ entry_named (world_of m) ns symbol
-  scene_entry namespaces present fresh spaces cells none ns symbol target e =
-      let all : present ++ fresh ≡ m.cells.items = ap (λ (xs : List NewCell). present ++ xs) none ∙ (append-nil present ∙ cells) in
-      let same : seen namespaces (present ++ fresh) ≡ here = ap (λ (xs : List NewCell). seen namespaces xs) all ∙ ap (λ (s : List Namespace). seen s m.cells.items) spaces in
-      let is : Some target ≡ option_and_then (provided_target here) (attached_provider here ns symbol) = subst (λ (v : World). Some target ≡ option_and_then (provided_target v) (attached_provider v ns symbol)) same e in
-      ap (λ (v : World). entry_at v target) same
-      ∙ (seen_here target
-      ∙ (ap (option_and_then (entry_at (world_of m))) is ∙ sym (named_is (world_of m) sound.settled.coherent ns symbol)))
+pub no_cell_there : (w : World) (key : SecKey) (offset addr : ℕ) → None ≡ option_map placed_of (cell_of w key.cell.0) → None ≡ entry_at w (Section key offset addr)
+no_cell_there w key offset addr e = go (cell_of w key.cell.0) e
+  where
+    go : (o : Option Cell) → None ≡ option_map placed_of o → None ≡ option_and_then (λ c. entry_in c.placed key.section offset addr) o
+    go None h = refl
+    go (Some d) h = absurd (cc h)
+
+-- the entry that a name has, by what its provider's symbol is
+pub named_by : (m : Machine) (sound : IsSound m) (ns : ℕ) (symbol : List ℕ) (target : Option Target)
+    → target ≡ option_and_then (provided_target (world_of m)) (attached_provider (world_of m) ns symbol) → option_and_then (entry_at (world_of m)) target ≡ entry_named (world_of m) ns symbol
+named_by m sound ns symbol target e = ap (option_and_then (entry_at (world_of m))) e ∙ sym (named_is (world_of m) sound.coherent ns symbol)

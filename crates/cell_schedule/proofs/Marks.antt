@@ -9,11 +9,12 @@ use Rattle.cell_num.specs.declared.kinds.RelKind.{RelKind}
 use Rattle.cell_num.specs.declared.kinds.RelKind.TheVariants.{Abs32, Abs64, Branch, Jal, Call, CallPlt, GotHi20, PcrelHi20, PcrelLo12I, PcrelLo12S, Hi20, Lo12I, Lo12S, Add8, Add16, Add32, Add64, Sub8, Sub16, Sub32, Sub64, Sub6, Set6, Set8, Set16, Set32, Pcrel32}
 use Rattle.cell_object.specs.declared.object.Entry.{Entry}
 use Rattle.cell_world.specs.declared.state.NewCell.{NewCell}
-use Rattle.cell_world.specs.World.{attached}
+use Rattle.cell_world.specs.World.{Cell}
 use Rattle.cell_world.specs.Execute.{is_field_at}
 use Rattle.cell_world.specs.Field.{fields_of, place_of}
 use Rattle.cell_commit.specs.Seals.{is_in_span, seal_table}
-use Rattle.cell_machine.specs.Machine.{cells_of, field_bytes, own_field_bytes}
+use Rattle.cell_space.specs.Joined.{placed_of}
+use Rattle.cell_machine.specs.Machine.{field_bytes, own_field_bytes}
 
 module _ {X Y : Type 0} where
   pub any_map : (p : Y → Bool) (f : X → Y) (xs : List X) → list_any p (map f xs) ≡ list_any (λ x. p (f x)) xs
@@ -121,14 +122,15 @@ some_width Set32 = omega arith
 some_width Pcrel32 = omega arith
 
 -- a mark is met exactly where a field is
-pub marks_are_fields : (base size : ℕ) (cells : List NewCell) (addr n : ℕ) → 1 ≤ n → base ≤ addr → addr + n ≤ base + size
-    → list_any (λ b. b) (slice_range (seal_table base size (field_bytes cells)) (addr - base) (addr - base + n)) ≡ list_any (is_field_at addr n) (cells_of cells)
-marks_are_fields base size cells addr n some low high =
+pub marks_are_fields : (base size : ℕ) (all : List Cell) (cells : List NewCell) → map placed_of all ≡ cells → (addr n : ℕ) → 1 ≤ n → base ≤ addr → addr + n ≤ base + size
+    → list_any (λ b. b) (slice_range (seal_table base size (field_bytes cells)) (addr - base) (addr - base + n)) ≡ list_any (is_field_at addr n) all
+marks_are_fields base size all cells same addr n some low high =
     any_in_table test k n size (omega (arith, low, high))
     ∙ (any_swap (λ i s. is_in_span (base + i) s) (from_on k n) (field_bytes cells)
     ∙ (any_flat met own_field_bytes cells
-    ∙ (any_same (λ c. list_any met (own_field_bytes c)) (λ c. is_field_at addr n (attached c)) in_cell cells
-    ∙ sym (any_map (is_field_at addr n) attached cells))))
+    ∙ (ap (list_any (λ c. list_any met (own_field_bytes c))) (sym same)
+    ∙ (any_map (λ c. list_any met (own_field_bytes c)) placed_of all
+    ∙ any_same (λ (d : Cell). list_any met (own_field_bytes d.placed)) (is_field_at addr n) (λ d. in_cell d) all))))
   where
     k : ℕ
     k = addr - base
@@ -144,5 +146,7 @@ marks_are_fields base size cells addr n some low high =
         meets base k n (place_of c f) (width_of f.kind) (some_width f.kind) some
         ∙ ap (λ (a : ℕ). nat_lt a (place_of c f + width_of f.kind) && nat_lt (place_of c f) (a + n)) (omega (arith, low))
 
-    in_cell : (c : NewCell) → list_any met (own_field_bytes c) ≡ is_field_at addr n (attached c)
-    in_cell c = any_map met (λ f. (place_of c f, width_of f.kind)) (fields_of c.object) ∙ any_same (λ f. met (place_of c f, width_of f.kind)) (λ f. nat_lt addr (place_of c f + width_of f.kind) && nat_lt (place_of c f) (addr + n)) (at_field c) (fields_of c.object)
+    in_cell : (d : Cell) → list_any met (own_field_bytes d.placed) ≡ is_field_at addr n d
+    in_cell d =
+        any_map met (λ f. (place_of d.placed f, width_of f.kind)) (fields_of d.object)
+        ∙ any_same (λ f. met (place_of d.placed f, width_of f.kind)) (λ f. nat_lt addr (place_of d.placed f + width_of f.kind) && nat_lt (place_of d.placed f) (addr + n)) (at_field d.placed) (fields_of d.object)

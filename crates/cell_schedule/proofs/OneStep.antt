@@ -10,25 +10,20 @@ use Rattle.cell_world.specs.TaskCommands.{can_run, next_step}
 use Rattle.cell_world.specs.Turn.{turns_of}
 use Rattle.cell_world.specs.World.{Fault, Task, task_of}
 use Rattle.cell_coherent.proofs.Outcomes.{found_ok}
-use Rattle.cell_gather.specs.Following.{FailsAs}
-use Rattle.cell_gather.specs.declared.fail.LoadFail.{LoadFail}
-use Rattle.cell_gather.specs.declared.fail.LoadFail.TheVariants.{Refused, OutOfMemory}
+use Rattle.cell_world.specs.Following.{FailsAs}
+use Rattle.cell_world.specs.declared.fail.Fail.{Fail}
+use Rattle.cell_world.specs.declared.fail.Fail.TheVariants.{Refused, OutOfMemory}
 use Rattle.cell_task.specs.State.{IsReady}
 use Rattle.cell_machine.specs.declared.machine.Machine.{Machine}
 use Rattle.cell_machine.specs.Machine.{IsSound, world_of}
-use Rattle.cell_machine.specs.Same.{raised}
 use Rattle.cell_machine.proofs.Unchanged.{same_itself}
-use Rattle.cell_machine.specs.Does.{Does, IsDone}
+use Rattle.cell_machine.specs.Does.{Does, HasDone}
 use Rattle.cell_schedule.specs.Turns.{HasRun, IsCounted}
-use Rattle.cell_schedule.proofs.Killing.{none_raised}
+use Rattle.cell_machine.proofs.Counts.{counts_stand}
 
 -- no region is mapped, and the count of maps stands
-pub maps_stand : (old new : Machine) → IsSound old → IsCounted old new → new.memory.maps ≡ raised old.memory.maps (length new.memory.regions - length old.memory.regions)
-maps_stand old new sound c = c.maps ∙ none_raised old.memory.maps (length new.memory.regions - length old.memory.regions) sound.maps (omega (arith, c.regions))
-
--- where memory is lacking nothing has been done
-pub lacking : (said : Outcome Done) (m : Machine) (fail : LoadFail) → fail ≡ OutOfMemory → Does said m (Err fail) m
-lacking said m fail e = subst (λ (f : LoadFail). Does said m (Err f) m) (sym e) (same_itself m)
+pub lacking : (said : Outcome Done) (m : Machine) (fail : Fail) → fail ≡ OutOfMemory → Does said 0 m (Err fail) m
+lacking said m fail e = subst (λ (f : Fail). Does said 0 m (Err f) m) (sym e) (same_itself m)
 
 -- a task that may run has no fault
 no_fault : (t : Task) → can_run t ≡ Ok tt → t.fault ≡ None
@@ -39,7 +34,7 @@ no_fault t e = go t.fault e
     go (Some fault) e = cc
 
 module _ (m : Machine) (sound : IsSound m) (number n : ℕ) where
-  pub not_live : (fail : LoadFail) → FailsAs fail (live_task (world_of m) number) → Does (next_step (world_of m) number n) m (Err fail) m
+  pub not_live : (fail : Fail) → FailsAs fail (live_task (world_of m) number) → Does (next_step (world_of m) number n) 0 m (Err fail) m
   not_live (Refused refusal) e = (ap (λ o. o >>= (λ t. can_run t >> (let after = turns_of n (world_of m) number in done (StepDone after.run) after.world))) e, same_itself m)
   not_live OutOfMemory e = same_itself m
 
@@ -47,21 +42,18 @@ module _ (m : Machine) (sound : IsSound m) (number n : ℕ) where
     abbrev step_of : next_step (world_of m) number n ≡ (can_run t >> (let after = turns_of n (world_of m) number in done (StepDone after.run) after.world))
     step_of = ap (λ o. o >>= (λ t. can_run t >> (let after = turns_of n (world_of m) number in done (StepDone after.run) after.world))) is
 
-    pub not_ready : (fail : LoadFail) → FailsAs fail (can_run t) → Does (next_step (world_of m) number n) m (Err fail) m
+    pub not_ready : (fail : Fail) → FailsAs fail (can_run t) → Does (next_step (world_of m) number n) 0 m (Err fail) m
     not_ready (Refused refusal) e = (step_of ∙ ap (λ o. o >> (let after = turns_of n (world_of m) number in done (StepDone after.run) after.world)) e, same_itself m)
     not_ready OutOfMemory e = same_itself m
 
     pub is_ready : can_run t ≡ Ok tt → IsReady m.tasks number
     is_ready e = record { task = t; live = found_ok (task_of (world_of m) number) (Unknown (decimal number)) t is; ready = no_fault t e }
 
-    pub stepped : can_run t ≡ Ok tt → (run : TaskRun) (new : Machine) → HasRun m (turns_of n (world_of m) number) run new → IsDone (next_step (world_of m) number n) m (StepDone run) new
-    stepped e run new h = record {
-      sound = h.sound;
-      step =
-          step_of
-          ∙ (ap (λ o. o >> (let after = turns_of n (world_of m) number in done (StepDone after.run) after.world)) e
-          ∙ (ap (λ r. done (StepDone r) (turns_of n (world_of m) number).world) (sym h.is)
-          ∙ ap (done (StepDone run)) (sym h.world)));
-      patches = h.counted.patches;
-      maps = maps_stand m new sound h.counted;
-    }
+    pub stepped : can_run t ≡ Ok tt → (run : TaskRun) (new : Machine) → HasRun m (turns_of n (world_of m) number) run new → HasDone (next_step (world_of m) number n) 0 m (StepDone run) new
+    stepped e run new h =
+        counts_stand (next_step (world_of m) number n) m new (StepDone run) sound h.sound
+        (step_of
+        ∙ (ap (λ o. o >> (let after = turns_of n (world_of m) number in done (StepDone after.run) after.world)) e
+        ∙ (ap (λ r. done (StepDone r) (turns_of n (world_of m) number).world) (sym h.is)
+        ∙ ap (done (StepDone run)) (sym h.world))))
+        refl refl h.counted.patches h.counted.maps

@@ -1,14 +1,13 @@
 -- A turn of a task changes no other task, and leaves the task in its place unless it ends.
 use Rattle.std.proofs.Common.{◌≡◌, refl, sym, ◌∙◌, ap, subst, ℕ, Bool, true, false, cond, not, List, [], ◌∷◌, Option, Some}
-use Rattle.std.specs.Prelude.{◌==◌, ◌+◌, ◌%◌, filter, find, slice_index, decimal}
+use Rattle.std.specs.Prelude.{◌==◌, filter, find}
 use Rattle.std.proofs.lemmas.Bool.{eqb-true, eq-eqb}
-use Rattle.cell_num.specs.Bits.{wrap}
 use Rattle.cell_world.specs.declared.reply.TaskState.{TaskState}
 use Rattle.cell_world.specs.declared.reply.TaskState.TheVariants.{Ready, Done, Fault as Faulted}
 use Rattle.cell_world.specs.World.{World, Task, task_of}
-use Rattle.cell_world.specs.Execute.{Effect, Goes, Calls, Traps, execute, seen_in}
-use Rattle.cell_world.specs.Turn.{turn, turned_by, gone_on, called, with_task}
-use Rattle.cell_schedule.proofs.Parts.{called_way, gone_way}
+use Rattle.cell_world.specs.Execute.{seen_in}
+use Rattle.cell_world.specs.Move.{Move, move}
+use Rattle.cell_world.specs.Turn.{hart_of, standing, task_column, turn, turned, with_task}
 
 -- the task `task` stands where t stood
 pub record IsReplaced (t : Task) (tasks after : List Task) : Type 0 where
@@ -25,31 +24,16 @@ Becomes t tasks Ready after = (r : IsReplaced t tasks after) × (r.task.fault �
 Becomes t tasks (Done code) after = after ≡ without_number t.number tasks
 Becomes t tasks (Faulted cause pc) after = IsReplaced t tasks after
 
-gone_becomes : (w : World) (t u : Task) → u.number ≡ t.number → u.stack ≡ t.stack → u.fault ≡ t.fault → (yields : Bool) (out : List ℕ)
-    → Becomes t w.tasks (gone_on w u yields out).state (gone_on w u yields out).world.tasks
-gone_becomes w t u number stack fault yields out = go (u.pc == 0)
+becomes : (w : World) (t : Task) (after : Move) → Becomes t w.tasks (turned w t after).state (turned w t after).world.tasks
+becomes w t after = go after.state
   where
-    go : (b : Bool) → Becomes t w.tasks (gone_way w u yields out b).state (gone_way w u yields out b).world.tasks
-    go true = ap (λ n. without_number n w.tasks) number
-    go false = (record { task = u; number = number; stack = stack; is = refl }, fault)
+    u : Task
+    u = record t { pc = after.hart.pc; registers = after.hart.registers }
 
-called_becomes : (w : World) (t : Task) (number x10 : ℕ) → Becomes t w.tasks (called w t number x10).state (called w t number x10).world.tasks
-called_becomes w t number x10 = go (number == 0) (number == 1) (number == 2) (number == 3)
-  where
-    on : (yields : Bool) (out : List ℕ) → Becomes t w.tasks (gone_on w (record t { pc = wrap (t.pc + 4) }) yields out).state (gone_on w (record t { pc = wrap (t.pc + 4) }) yields out).world.tasks
-    on yields out = gone_becomes w t (record t { pc = wrap (t.pc + 4) }) refl refl refl yields out
-
-    go : (a b c d : Bool) → Becomes t w.tasks (called_way w t x10 a b c d).state (called_way w t x10 a b c d).world.tasks
-    go true b c d = refl
-    go false true c d = on false (x10 % 256 ∷ [])
-    go false false true d = on false (decimal x10)
-    go false false false true = on true []
-    go false false false false = record { task = _; number = refl; stack = refl; is = refl }
-
-becomes : (w : World) (t : Task) (e : Effect) → Becomes t w.tasks (turned_by w t e).state (turned_by w t e).world.tasks
-becomes w t (Goes registers pc regions) = gone_becomes (record w { regions = regions }) t (record t { registers = registers; pc = pc }) refl refl refl false []
-becomes w t Calls = called_becomes w t (slice_index t.registers 17) (slice_index t.registers 10)
-becomes w t (Traps cause) = record { task = _; number = refl; stack = refl; is = refl }
+    go : (state : TaskState) → Becomes t w.tasks state (standing (record w { regions = after.regions }) u state).tasks
+    go Ready = (record { task = u; number = refl; stack = refl; is = refl }, refl)
+    go (Done code) = refl
+    go (Faulted cause pc) = record { task = _; number = refl; stack = refl; is = refl }
 
 abbrev numbered : ℕ → List Task → Option Task
 numbered n tasks = find (λ u. u.number == n) tasks
@@ -88,7 +72,7 @@ found_own u t (x ∷ xs) e = go (x.number == u.number) refl e (found_own u t xs)
 module _ (w : World) (t : Task) where
   -- any other task is as it was
   pub other_task : (n : ℕ) → (t.number == n) ≡ false → task_of (turn w t).world n ≡ task_of w n
-  other_task n other = go (turn w t).state (becomes w t (execute (seen_in w) t.registers t.pc))
+  other_task n other = go (turn w t).state (becomes w t (move task_column (seen_in w) (hart_of t)))
     where
       replaced : IsReplaced t w.tasks (turn w t).world.tasks → task_of (turn w t).world n ≡ task_of w n
       replaced r = ap (numbered n) r.is ∙ found_other r.task n (ap (λ k. k == n) r.number ∙ other) w.tasks
@@ -107,7 +91,7 @@ module _ (w : World) (t : Task) where
 
   pub goes_on : task_of w t.number ≡ Some t → (turn w t).state ≡ Ready → GoesOn
   goes_on live state =
-      let b = subst (λ s. Becomes t w.tasks s (turn w t).world.tasks) state (becomes w t (execute (seen_in w) t.registers t.pc)) in
+      let b = subst (λ s. Becomes t w.tasks s (turn w t).world.tasks) state (becomes w t (move task_column (seen_in w) (hart_of t))) in
       record {
         task = b.0.task;
         live = ap (numbered t.number) b.0.is ∙ (ap (λ n. numbered n (with_task b.0.task w.tasks)) (sym b.0.number) ∙ found_own b.0.task t w.tasks (ap (λ n. numbered n w.tasks) b.0.number ∙ live));

@@ -8,7 +8,7 @@ use Rattle.cell_num.specs.Lists.{upto}
 use Rattle.cell_world.specs.World.{World, Region}
 use Rattle.cell_world.specs.Memory.{covers, end_of, region_in, written}
 use Rattle.cell_world.specs.Coherent.{IsCoherent, Shape, is_in_space, shape_of}
-use Rattle.cell_world.specs.Execute.{allows}
+use Rattle.cell_world.specs.Execute.{allows, seen_in}
 use Rattle.cell_world.specs.Place.{is_taken, page_table}
 use Rattle.cell_mem.specs.State.{size_of}
 use Rattle.cell_coherent.proofs.Elements.{In, all-In, found-In, map_same}
@@ -41,20 +41,20 @@ sized f start (r ∷ rs) k =
     go false rest = rest
 
 module _ (w : World) (h : IsCoherent w) where
-  pub table_stored : (regions : List Region) → Stored w regions → page_table (record w { regions = regions }) ≡ page_table w
+  pub table_stored : (regions : List Region) → Stored (seen_in w) regions → page_table (record w { regions = regions }) ≡ page_table w
   table_stored regions (inl e) = ap (λ (rs : List Region). page_table (record w { regions = rs })) e
   table_stored regions (inr s) =
       ap (λ (rs : List Region). page_table (record w { regions = rs })) s.is
       ∙ map_same (is_taken (record w { regions = map (λ r. written r s.addr s.new) w.regions })) (is_taken w) (upto w.pages) (λ page i.
       covered_same (λ r. written r s.addr s.new) (w.base + 4096 * page) w.regions (stored_shape w h s.addr s.new s.free s.may))
 
-  pub size_stored : (regions : List Region) → Stored w regions → (start : ℕ) → size_of (find (λ r. r.start == start) regions) ≡ size_of (find (λ r. r.start == start) w.regions)
+  pub size_stored : (regions : List Region) → Stored (seen_in w) regions → (start : ℕ) → size_of (find (λ r. r.start == start) regions) ≡ size_of (find (λ r. r.start == start) w.regions)
   size_stored regions (inl e) start = ap (λ (rs : List Region). size_of (find (λ r. r.start == start) rs)) e
   size_stored regions (inr s) start =
       ap (λ (rs : List Region). size_of (find (λ r. r.start == start) rs)) s.is
       ∙ sized (λ r. written r s.addr s.new) start w.regions (stored_shape w h s.addr s.new s.free s.may)
 
-  pub length_stored : (regions : List Region) → Stored w regions → length regions ≡ length w.regions
+  pub length_stored : (regions : List Region) → Stored (seen_in w) regions → length regions ≡ length w.regions
   length_stored regions (inl e) = ap (λ (rs : List Region). length rs) e
   length_stored regions (inr s) = ap (λ (rs : List Region). length rs) s.is ∙ length-map w.regions (λ r. written r s.addr s.new)
 

@@ -19,13 +19,13 @@ use Rattle.cell_task.specs.State.{IsReady, TasksState, live_in}
 use Rattle.cell_machine.specs.declared.machine.Machine.{Machine}
 use Rattle.cell_machine.specs.Machine.{IsSound, world_of}
 use Rattle.cell_schedule.specs.declared.round.Due.{Due}
-use Rattle.cell_machine.specs.Does.{IsDone}
+use Rattle.cell_machine.specs.Does.{HasDone}
 use Rattle.cell_schedule.specs.Rounds.{AreDue, HasGone, HasRoom, HaveRoom, can_turn, gone_round, numbers_due}
 use Rattle.cell_schedule.specs.Turns.{HasRun, IsCounted}
 use Rattle.cell_schedule.proofs.Lines.{found_own}
 use Rattle.cell_schedule.proofs.Others.{other_task}
 use Rattle.cell_schedule.proofs.Slices.{after_turn, counted_then}
-use Rattle.cell_schedule.proofs.OneStep.{maps_stand}
+use Rattle.cell_machine.proofs.Counts.{counts_stand}
 
 -- a slice leaves every other task
 pub slice_others : (n : ℕ) (stops : Bool) (task had : ℕ) (out : List ℕ) (w : World) (k : ℕ) → (task == k) ≡ false → task_of (turns_from n stops task had out w).world k ≡ task_of w k
@@ -97,7 +97,7 @@ pub record IsOnWay (old : Machine) (turns : ℕ) (numbers : List ℕ) (now : Mac
 pub round_begun : (m : Machine) (turns : ℕ) (due : List Due) → IsSound m → AreDue m.tasks turns due → IsOnWay m turns (numbers_due due) m [] due
 round_begun m turns due sound are = record {
   sound = sound;
-  counted = record { patches = refl; maps = refl; regions = omega arith };
+  counted = record { patches = refl; maps = refl };
   due = are;
   left = refl;
 }
@@ -128,7 +128,7 @@ module _ (m : Machine) (sound : IsSound m) where
   tasks = m.tasks.tasks
 
   own_turn : (t : Task) → In t tasks → can_turn m.tasks t.number ≡ is_ready t
-  own_turn t i = ap (λ o. unwrap_or (option_map is_ready o) false) (found_own tasks sound.settled.coherent.ready.task_order t i)
+  own_turn t i = ap (λ o. unwrap_or (option_map is_ready o) false) (found_own tasks sound.coherent.ready.task_order t i)
 
   pub ready_numbers : filter (can_turn m.tasks) (map (λ t. t.number) tasks) ≡ map (λ t. t.number) (filter is_ready tasks)
   ready_numbers =
@@ -153,19 +153,15 @@ module _ (m : Machine) (sound : IsSound m) where
     pub ready_due : HaveRoom turns due → AreDue m.tasks turns due
     ready_due room = record {
       ready = λ k i. turn_ready k (filter-Passes (can_turn m.tasks) (map (λ (t : Task). t.number) tasks) k (subst (In k) are i));
-      rising = subst (λ (ns : List ℕ). each_pair nat_lt ns ≡ true) (sym are) (pairs-filter nat_lt (can_turn m.tasks) (map (λ (t : Task). t.number) tasks) (pairs-map nat_lt (λ (t : Task). t.number) tasks ∙ sound.settled.coherent.ready.task_order));
+      rising = subst (λ (ns : List ℕ). each_pair nat_lt ns ≡ true) (sym are) (pairs-filter nat_lt (can_turn m.tasks) (map (λ (t : Task). t.number) tasks) (pairs-map nat_lt (λ (t : Task). t.number) tasks ∙ sound.coherent.ready.task_order));
       room = room;
     }
 
-    pub all_gone : (runs : List TaskRun) (new : Machine) → HasGone m turns (numbers_due due) runs new → IsDone (next_run (world_of m) turns) m (RunDone runs) new
+    pub all_gone : (runs : List TaskRun) (new : Machine) → HasGone m turns (numbers_due due) runs new → HasDone (next_run (world_of m) turns) 0 m (RunDone runs) new
     all_gone runs new h =
         let same : gone_round (world_of m) turns (numbers_due due) ≡ gone_round (world_of m) turns (map (λ (t : Task). t.number) (filter is_ready tasks)) = ap (gone_round (world_of m) turns) (are ∙ ready_numbers) in
-        record {
-          sound = h.sound;
-          step =
-              ap (λ (r : Round). done (RunDone r.runs) r.world) (sym same)
-              ∙ (ap (λ rs. done (RunDone rs) (gone_round (world_of m) turns (numbers_due due)).world) (sym h.are)
-              ∙ ap (done (RunDone runs)) (sym h.world));
-          patches = h.counted.patches;
-          maps = maps_stand m new sound h.counted;
-        }
+        counts_stand (next_run (world_of m) turns) m new (RunDone runs) sound h.sound
+        (ap (λ (r : Round). done (RunDone r.runs) r.world) (sym same)
+        ∙ (ap (λ rs. done (RunDone rs) (gone_round (world_of m) turns (numbers_due due)).world) (sym h.are)
+        ∙ ap (done (RunDone runs)) (sym h.world)))
+        refl refl h.counted.patches h.counted.maps

@@ -64,7 +64,7 @@ pub record IsUnderWay (old : Machine) (turns : ℕ) (stops : Bool) (task stack h
   pub stands : (t : Task) → live_in now.tasks task ≡ Some t → t.stack ≡ stack
 
 pub counted_then : (a b c : Machine) → IsCounted a b → IsCounted b c → IsCounted a c
-counted_then a b c f g = record { patches = g.patches ∙ f.patches; maps = g.maps ∙ f.maps; regions = omega (arith, f.regions, g.regions) }
+counted_then a b c f g = record { patches = g.patches ∙ f.patches; maps = g.maps ∙ f.maps }
 
 module _ (old : Machine) (turns : ℕ) (stops : Bool) (task stack had : ℕ) (now : Machine) (out : List ℕ) (so : IsUnderWay old turns stops task stack had now out) where
   abbrev t : Task
@@ -130,7 +130,7 @@ begun old turns stops task stack sound ready same =
     let all : turns ≡ turns - 0 = omega arith in
     record {
       sound = sound;
-      counted = record { patches = refl; maps = refl; regions = omega arith };
+      counted = record { patches = refl; maps = refl };
       left = ap (λ n. turns_from n stops task 0 [] (world_of old)) all;
       ready = ready;
       stands = same;

@@ -13,10 +13,11 @@ use Rattle.cell_world.specs.declared.reply.TaskState.TheVariants.{Ready, Done, F
 use Rattle.cell_world.specs.World.{World, Region, Task, task_of}
 use Rattle.cell_world.specs.Coherent.{IsCoherent}
 use Rattle.cell_world.specs.Execute.{Effect, allows, execute, seen_in}
-use Rattle.cell_world.specs.Turn.{Turned, turn, turned_by, without_task}
+use Rattle.cell_world.specs.Move.{Move, move, moved_by}
+use Rattle.cell_world.specs.Turn.{Turned, hart_of, task_column, turn, turned, without_task}
 use Rattle.cell_coherent.proofs.Elements.{In, found-In}
-use Rattle.cell_turns.proofs.Executed.{Stored, good_execute}
-use Rattle.cell_turns.proofs.Turned.{live_whole, stored_coherent, turn_coherent}
+use Rattle.cell_turns.proofs.Executed.{Stored, good_move}
+use Rattle.cell_turns.proofs.Turned.{stored_coherent, turn_coherent}
 use Rattle.cell_task.specs.declared.turned.Turned.{Turned as Answer}
 use Rattle.cell_task.specs.State.{IsReady, TasksState, live_in}
 use Rattle.cell_task.specs.Turns.{IsTurn, answer_of, memory_after, turned_in}
@@ -27,8 +28,8 @@ use Rattle.cell_schedule.specs.Turns.{HasTurned, IsCounted, space_after}
 use Rattle.cell_schedule.proofs.Marks.{marks_are_fields}
 use Rattle.cell_schedule.proofs.Parts.{bare, parts, within}
 use Rattle.cell_schedule.proofs.Regions.{allowed_inside, length_stored, size_stored, table_stored}
-use Rattle.cell_schedule.proofs.Ended.{ended_sound, fewer_regions, maps_ended, patches_ended, stack_above, stack_given, stack_low, world_ended}
-use Rattle.cell_schedule.proofs.Ways.{Leaves, leaves, regions_by, stored_by}
+use Rattle.cell_schedule.proofs.Ended.{ended_sound, maps_ended, patches_ended, stack_above, stack_given, stack_low, world_ended}
+use Rattle.cell_schedule.proofs.Ways.{Leaves, leaves}
 
 -- what a turn that leaves the machine in that state makes of the parts
 record Afterwards (old m : Machine) (v : World) : Type 0 where
@@ -41,30 +42,31 @@ module _ (old : Machine) (sound : IsSound old) where
   w = world_of old
 
   coherent : IsCoherent w
-  coherent = sound.settled.coherent
+  coherent = sound.coherent
 
   -- the memory's marks are the fields
   agree : (addr n : ℕ) → 1 ≤ n → allows old.memory.regions (λ p. p.write) addr n ≡ true → is_sealed old.memory addr n ≡ (seen_in w).is_sealed addr n
   agree addr n some may =
       let inside = allowed_inside w coherent addr n may in
       ap (λ (sealed : List Bool). is_sealed (record old.memory { sealed = sealed }) addr n) sound.seals
-      ∙ marks_are_fields old.memory.base (4096 * old.memory.pages) old.cells.items addr n some inside.0 inside.1
+      ∙ marks_are_fields old.memory.base (4096 * old.memory.pages) (world_of old).cells old.cells.items sound.joined.placed addr n some inside.0 inside.1
 
   alike : (t : Task) → execute (seen_of old.memory) t.registers t.pc ≡ execute (seen_in w) t.registers t.pc
   alike t = execute_alike old.memory.regions (λ addr n. is_sealed old.memory addr n) (seen_in w).is_sealed agree t.registers t.pc
 
   -- the turn among tasks and regions is the turn in the machine
   pub turn_within : (t : Task) → turn w t ≡ within w (turned_in old.tasks old.memory t)
-  turn_within t = parts w t (execute (seen_in w) t.registers t.pc) ∙ ap (λ (e : Effect). within w (turned_by (bare w) t e)) (sym (alike t))
+  turn_within t =
+      parts w t (move task_column (seen_in w) (hart_of t)) ∙ ap (λ (e : Effect). within w (turned (bare w) t (moved_by task_column (seen_in w) (hart_of t) e))) (sym (alike t))
 
   -- other tasks, and regions that differ in bytes alone
   abbrev with_tasks : List Region → List Task → Machine
   with_tasks regions tasks = record old { tasks = record old.tasks { tasks = tasks }; memory = record old.memory { regions = regions } }
 
-  sound_with : (regions : List Region) (tasks : List Task) → Stored w regions → IsCoherent (record w { regions = regions; tasks = tasks }) → IsSound (with_tasks regions tasks)
+  sound_with : (regions : List Region) (tasks : List Task) → Stored (seen_in w) regions → IsCoherent (record w { regions = regions; tasks = tasks }) → IsSound (with_tasks regions tasks)
   sound_with regions tasks s c = record {
-    settled = record { cells = sound.settled.cells; coherent = c };
-    known = sound.known;
+    coherent = c;
+    joined = sound.joined;
     table = sound.table ∙ sym (table_stored w coherent regions s);
     base = sound.base;
     sections = sound.sections;
@@ -92,28 +94,28 @@ module _ (old : Machine) (sound : IsSound old) where
     -- what the turn of a sound machine is
     record IsSoundTurn (y : Turned) : Type 0 where
       pub regions : List Region
-      pub stored : Stored w regions
+      pub stored : Stored (seen_in w) regions
       pub leaves : Leaves w t regions y.state y.world
       pub kept : record y.world { regions = w.regions; tasks = w.tasks } ≡ w
       pub coherent : IsCoherent y.world
 
     is_sound_turn : IsSoundTurn (turn w t)
     is_sound_turn =
-        let e : Effect = execute (seen_in w) t.registers t.pc in
+        let after : Move = move task_column (seen_in w) (hart_of t) in
         record {
-          regions = regions_by w e;
-          stored = stored_by w e (good_execute w t.registers t.pc (live_whole w coherent t there));
-          leaves = leaves w t e;
+          regions = after.regions;
+          stored = (good_move (seen_in w) (hart_of t) task_column).stored;
+          leaves = leaves w t after;
           kept = turn_cells w t coherent by_number;
           coherent = turn_coherent w coherent t there;
         }
 
-    going : (y : Turned) → Stored w y.world.regions → record y.world { regions = w.regions; tasks = w.tasks } ≡ w → IsCoherent y.world → Afterwards old (with_tasks y.world.regions y.world.tasks) y.world
+    going : (y : Turned) → Stored (seen_in w) y.world.regions → record y.world { regions = w.regions; tasks = w.tasks } ≡ w → IsCoherent y.world → Afterwards old (with_tasks y.world.regions y.world.tasks) y.world
     going y stored kept c =
         let is : y.world ≡ record w { regions = y.world.regions; tasks = y.world.tasks } = ap (λ (v : World). record v { regions = y.world.regions; tasks = y.world.tasks }) kept in
         record {
           sound = sound_with y.world.regions y.world.tasks stored (subst IsCoherent is c);
-          counted = record { patches = refl; maps = refl; regions = omega (arith, length_stored w coherent y.world.regions stored) };
+          counted = record { patches = refl; maps = refl };
           world = sym is;
         }
 
@@ -121,12 +123,13 @@ module _ (old : Machine) (sound : IsSound old) where
     abbrev before_end : List Region → Machine
     before_end regions = with_tasks regions old.tasks.tasks
 
-    done : (y : Turned) (code : ℕ) → y.state ≡ Done code → (regions : List Region) → Stored w regions → y.world ≡ without_task (record w { regions = regions }) t → Afterwards old (after y) y.world
+    done : (y : Turned) (code : ℕ) → y.state ≡ Done code → (regions : List Region) → Stored (seen_in w) regions → y.world ≡ without_task (record w { regions = regions }) t → Afterwards old (after y) y.world
     done y code state regions stored is =
         let mid : IsSound (before_end regions) = sound_with regions old.tasks.tasks stored (stored_coherent w coherent regions stored) in
         let ends : IsEnded (before_end regions) t (after y) = record {
           cells = refl;
           next = refl;
+          swaps = refl;
           namespaces = refl;
           known = refl;
           sections = refl;
@@ -140,7 +143,6 @@ module _ (old : Machine) (sound : IsSound old) where
           counted = record {
             patches = patches_ended (before_end regions) mid t by_number (after y) ends;
             maps = maps_ended (before_end regions) mid t by_number (after y) ends;
-            regions = omega (arith, length_stored w coherent regions stored, fewer_regions (before_end regions) mid t by_number (after y) ends);
           };
           world = world_ended (before_end regions) mid t by_number (after y) ends ∙ sym is;
         }
@@ -154,9 +156,9 @@ module _ (old : Machine) (sound : IsSound old) where
     afterwards : (v : World) (state : TaskState) (yields : Bool) (out : List ℕ) → IsSoundTurn (record { world = v; state = state; yields = yields; out = out })
         → Afterwards old (after (record { world = v; state = state; yields = yields; out = out })) v
     afterwards v (Done code) yields out s = done (record { world = v; state = Done code; yields = yields; out = out }) code refl s.regions s.stored s.leaves
-    afterwards v Ready true out s = going (record { world = v; state = Ready; yields = true; out = out }) (subst (Stored w) (sym s.leaves) s.stored) s.kept s.coherent
-    afterwards v Ready false out s = going (record { world = v; state = Ready; yields = false; out = out }) (subst (Stored w) (sym s.leaves) s.stored) s.kept s.coherent
-    afterwards v (Faulted cause pc) yields out s = going (record { world = v; state = Faulted cause pc; yields = yields; out = out }) (subst (Stored w) (sym s.leaves) s.stored) s.kept s.coherent
+    afterwards v Ready true out s = going (record { world = v; state = Ready; yields = true; out = out }) (subst (Stored (seen_in w)) (sym s.leaves) s.stored) s.kept s.coherent
+    afterwards v Ready false out s = going (record { world = v; state = Ready; yields = false; out = out }) (subst (Stored (seen_in w)) (sym s.leaves) s.stored) s.kept s.coherent
+    afterwards v (Faulted cause pc) yields out s = going (record { world = v; state = Faulted cause pc; yields = yields; out = out }) (subst (Stored (seen_in w)) (sym s.leaves) s.stored) s.kept s.coherent
 
     pub has_turned : (out out' : List ℕ) (answer : Answer) (tasks : TasksState) (memory : MemoryState) (space : SpaceState)
         → IsTurn old.tasks old.memory t out answer tasks memory out' → space ≡ space_after answer old.space t.stack

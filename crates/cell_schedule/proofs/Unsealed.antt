@@ -8,7 +8,7 @@ use Rattle.cell_num.specs.Kinds.{width_of}
 use Rattle.cell_num.specs.Lists.{from_on, upto}
 use Rattle.cell_object.specs.declared.object.Entry.{Entry}
 use Rattle.cell_world.specs.declared.state.NewCell.{NewCell}
-use Rattle.cell_world.specs.World.{World, Cell, Task, attached}
+use Rattle.cell_world.specs.World.{World, Cell, Task}
 use Rattle.cell_world.specs.Field.{fields_of, place_of}
 use Rattle.cell_world.specs.Memory.{covers}
 use Rattle.cell_world.specs.Pages.{filled}
@@ -23,7 +23,8 @@ use Rattle.cell_commit.specs.Seals.{is_in_span, seal_table}
 use Rattle.cell_mem.proofs.Filling.{filled_above, filled_below, filled_inside, length-filled}
 use Rattle.cell_turns.proofs.Killed.{kill_coherent}
 use Rattle.cell_turns.proofs.Writes.{begins_below, covered}
-use Rattle.cell_machine.specs.Machine.{cells_of, field_bytes, own_field_bytes}
+use Rattle.cell_space.specs.Joined.{placed_of}
+use Rattle.cell_machine.specs.Machine.{field_bytes, own_field_bytes}
 use Rattle.cell_schedule.proofs.Freed.{left_clear, stack_of}
 
 at_from : (test : ℕ → Bool) (n a k : ℕ) → k < n → get_or (map test (from_on a n)) k false ≡ test (a + k)
@@ -58,14 +59,16 @@ module _ (base size : ℕ) (spans : List (ℕ × ℕ)) (at n : ℕ) (fits : at +
       ext_get_or false (filled table at n false) table (length-filled table at n false within)
       (λ k l. same_at k (subst (λ (m : ℕ). k < m) (length-filled table at n false within ∙ long) l) (cases_lt k at) (cases_lt k (at + n)))
 
-module _ (w : World) (h : IsCoherent w) (t : Task) (live : In t w.tasks) (cells : List NewCell) (same : w.cells ≡ cells_of cells) where
+module _ (w : World) (h : IsCoherent w) (t : Task) (live : In t w.tasks) (cells : List NewCell) (same : map placed_of w.cells ≡ cells) where
   abbrev after : World
   after = without_task w t
 
   lies : (c : NewCell) → In c cells → (f : Entry) → In f (fields_of c.object) → IsInside after (place_of c f) (width_of f.kind)
   lies c i f m =
+      let d = In-map placed_of w.cells c (subst (λ (cs : List NewCell). In c cs) (sym same) i) in
       All-In (λ (e : Entry). IsInside after (place_of c e) (width_of e.kind)) c.object.entries
-      (All-In (λ (c : Cell). All (λ (e : Entry). IsInside after (place_of c.placed e) (width_of e.kind)) c.object.entries) w.cells (fields_lie after (ready_linkable after (kill_coherent w h t live).ready)) (attached c) (subst (λ (cs : List Cell). In (attached c) cs) (sym same) (map-In attached cells c i)))
+      (subst (λ (x : NewCell). All (λ (e : Entry). IsInside after (place_of x e) (width_of e.kind)) x.object.entries) (sym d.2)
+      (All-In (λ (c : Cell). All (λ (e : Entry). IsInside after (place_of c.placed e) (width_of e.kind)) c.object.entries) w.cells (fields_lie after (ready_linkable after (kill_coherent w h t live).ready)) d.0 d.1))
       f (among-In c.object.entries [] f m)
 
   clear_at : (addr : ℕ) → covers (stack_of w h t live).region addr ≡ true → (s : ℕ × ℕ) → In s (field_bytes cells) → is_in_span addr s ≡ true → ⊥

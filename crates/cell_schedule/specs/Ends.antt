@@ -17,6 +17,7 @@ stack_run base stack = record { page = (stack - base) / 4096; count = 4 }
 pub record IsEnded (old : Machine) (t : Task) (new : Machine) : Type 0 where
   pub cells : new.cells.items ≡ old.cells.items
   pub next : new.next ≡ old.next
+  pub swaps : new.swaps ≡ old.swaps
   pub namespaces : new.spaces.namespaces ≡ old.spaces.namespaces
   pub known : new.spaces.cells ≡ old.spaces.cells
   pub sections : new.graph.sections ≡ old.graph.sections

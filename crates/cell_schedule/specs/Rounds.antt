@@ -8,7 +8,7 @@ use Rattle.cell_num.specs.Lists.{each_pair}
 use Rattle.cell_world.specs.declared.reply.TaskRun.{TaskRun}
 use Rattle.cell_world.specs.World.{World, is_ready}
 use Rattle.cell_world.specs.TaskCommands.{Round, run_task}
-use Rattle.cell_law.specs.Settled.{In}
+use Rattle.cell_coherent.specs.Grown.{In}
 use Rattle.cell_task.specs.State.{IsReady, TasksState, live_in}
 use Rattle.cell_machine.specs.declared.machine.Machine.{Machine}
 use Rattle.cell_machine.specs.Machine.{IsSound, world_of}

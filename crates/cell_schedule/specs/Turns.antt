@@ -33,7 +33,6 @@ stopped_by stops (Fault cause pc) = Some (IsFault cause pc)
 pub record IsCounted (old new : Machine) : Type 0 where
   pub patches : new.memory.patches ≡ old.memory.patches
   pub maps : new.memory.maps ≡ old.memory.maps
-  pub regions : length new.memory.regions ≤ length old.memory.regions
 
 -- machine `old` and output `out` have become `new` and out'
 pub record HasTurned (old : Machine) (t : Task) (out : List ℕ) (answer : Answer) (new : Machine) (out' : List ℕ) : Type 0 where

@@ -6,15 +6,14 @@ ghost use Rattle.cell_machine.specs.Does.{Does};
 
 use crate::live::live;
 use crate::stack::give_back;
-use cell_gather::LoadFail;
 use cell_machine::Machine;
-use cell_world::Reply;
+use cell_world::{Fail, Reply};
 use std::alloc::Global;
 
 /// Ends a live task. Its stack is given back at once.
-pub fn kill(alloc: Global, machine: &mut Machine, task: u32) -> Result<Reply, LoadFail>
+pub fn kill(alloc: Global, machine: &mut Machine, task: u32) -> Result<Reply, Fail>
     requires { IsSound machine.old }
-    ensures { Does (next_kill (world_of machine.old) task) machine.old result machine.new }
+    ensures { Does (next_kill (world_of machine.old) task) 0 machine.old result machine.new }
 {
     live(alloc, machine, task)?;
     let stack = machine.tasks.kill(task);

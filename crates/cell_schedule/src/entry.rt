@@ -1,21 +1,18 @@
 //! Where a task may begin.
 
-ghost use Rattle.std.specs.Prelude.{◌≡◌, ◌<◌, ◌++◌, IfOk, length, option_map};
-ghost use Rattle.cell_gather.specs.Following.{Follows};
+ghost use Rattle.std.specs.Prelude.{◌≡◌, ◌<◌, IfOk, length, option_map};
+ghost use Rattle.cell_world.specs.Following.{Follows};
 ghost use Rattle.cell_machine.specs.Machine.{IsSound, world_of};
-ghost use Rattle.cell_target.specs.Scene.{seen};
 ghost use Rattle.cell_world.specs.declared.refusal.Refusal.TheVariants.{NoEntry as NoSuchEntry};
 ghost use Rattle.cell_world.specs.Outcome.{found};
 ghost use Rattle.cell_world.specs.SpawnCommand.{entry_named};
 ghost use Rattle.cell_schedule.specs.Starts.{entry_as, entry_at as entry_of, entry_in as entry_inside, is_entry_at};
 
-use cell_gather::LoadFail;
 use cell_machine::Machine;
 use cell_num::{CellId, Name};
 use cell_object::Section;
-use cell_target::Scene;
-use cell_view::{scene, section_of};
-use cell_world::{NewCell, Refusal, Target};
+use cell_placed::section_of;
+use cell_world::{Fail, NewCell, Refusal, Target};
 use std::alloc::{AllocError, Global};
 
 /// The cell that provides a name, and the address where a task may begin.
@@ -46,34 +43,26 @@ fn entry_in(cell: &NewCell, section: u16, offset: u64, addr: u64) -> Option<Entr
 }
 
 /// The entry that a target is.
-fn entry_at(scene: &Scene, target: Target) -> Option<Entry>
-    ensures { option_map entry_as result ≡ entry_of (seen scene.now.layers.namespaces (scene.now.present.now ++ scene.now.fresh.now)) target }
+fn entry_at(machine: &Machine, target: Target) -> Option<Entry>
+    requires { IsSound machine.now }
+    ensures { option_map entry_as result ≡ entry_of (world_of machine.now) target }
 {
     match target {
         Target::Section { key, offset, addr } => {
-            let cell = scene.cell(key.cell.0)?;
+            let cell = machine.cell(key.cell.0)?;
             entry_in(cell, key.section, offset, addr)
         }
         Target::Number { .. } => None,
     }
 }
 
-fn find_entry(
-    alloc: Global,
-    machine: &Machine,
-    ns: u16,
-    symbol: &[u8],
-) -> Result<Option<Entry>, AllocError>
+fn find_entry(machine: &Machine, ns: u16, symbol: &[u8]) -> Option<Entry>
     requires sound { IsSound machine.now }
     requires ns { ns < length machine.now.spaces.namespaces }
-    ensures { IfOk result (λ entry. option_map entry_as entry ≡ entry_named (world_of machine.now) ns symbol.now) }
+    ensures { option_map entry_as result ≡ entry_named (world_of machine.now) ns symbol.now }
 {
-    let none = machine.spaces.without_cells(alloc)?;
-    let scene = scene(machine, &none);
-    match scene.provided(ns, symbol) {
-        Some(target) => Ok(entry_at(&scene, target)),
-        None => Ok(None),
-    }
+    let target = machine.provided(ns, symbol)?;
+    entry_at(machine, target)
 }
 
 fn no_entry(alloc: Global, symbol: &[u8]) -> Result<Refusal, AllocError>
@@ -85,18 +74,13 @@ fn no_entry(alloc: Global, symbol: &[u8]) -> Result<Refusal, AllocError>
 }
 
 /// The entry that the provider of a name for a namespace has.
-pub fn entry_for(
-    alloc: Global,
-    machine: &Machine,
-    ns: u16,
-    symbol: &[u8],
-) -> Result<Entry, LoadFail>
+pub fn entry_for(alloc: Global, machine: &Machine, ns: u16, symbol: &[u8]) -> Result<Entry, Fail>
     requires sound { IsSound machine.now }
     requires ns { ns < length machine.now.spaces.namespaces }
     ensures { Follows entry_as result (found (entry_named (world_of machine.now) ns symbol.now) (NoSuchEntry symbol.now)) }
 {
-    match find_entry(alloc, machine, ns, symbol)? {
+    match find_entry(machine, ns, symbol) {
         Some(entry) => Ok(entry),
-        None => Err(LoadFail::Refused(no_entry(alloc, symbol)?)),
+        None => Err(Fail::Refused(no_entry(alloc, symbol)?)),
     }
 }

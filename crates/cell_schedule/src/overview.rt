@@ -4,14 +4,14 @@ ghost use Rattle.std.specs.Prelude.{◌≡◌, IfOk, IsTrue, map, nat_lt, option
 ghost use Rattle.cell_machine.specs.Machine.{IsSound, world_of};
 ghost use Rattle.cell_num.specs.Lists.{each_pair};
 ghost use Rattle.cell_task.specs.State.{seen_as};
-ghost use Rattle.cell_view.specs.Shows.{Shows};
+ghost use Rattle.cell_world.specs.Following.{Follows};
+ghost use Rattle.cell_machine.specs.Does.{answer_in};
 ghost use Rattle.cell_world.specs.TaskCommands.{next_tasks, task_line as line_of};
 
-use cell_gather::LoadFail;
 use cell_machine::Machine;
 use cell_num::{Cause, Listed};
 use cell_task::{Task, TaskFault, Tasks};
-use cell_world::{Reply, TaskLine};
+use cell_world::{Fail, Reply, TaskLine};
 use std::alloc::{AllocError, Global};
 
 fn cause(fault: Option<TaskFault>) -> Option<Cause>
@@ -50,9 +50,9 @@ fn task_lines(alloc: Global, tasks: &Tasks) -> Result<Vec<TaskLine>, AllocError>
 }
 
 /// Shows all live tasks, in the order of their numbers.
-pub fn tasks(alloc: Global, machine: &Machine) -> Result<Reply, LoadFail>
+pub fn tasks(alloc: Global, machine: &Machine) -> Result<Reply, Fail>
     requires { IsSound machine.now }
-    ensures { Shows (next_tasks (world_of machine.now)) (world_of machine.now) result }
+    ensures { Follows (answer_in (world_of machine.now)) result (next_tasks (world_of machine.now)) }
 {
     let lines = task_lines(alloc, &machine.tasks)?;
     Ok(Reply::Tasks {

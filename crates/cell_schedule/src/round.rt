@@ -9,11 +9,10 @@ ghost use Rattle.cell_schedule.specs.Rounds.{AreDue, HasGone, HaveRoom, can_turn
 
 use crate::slice::slice;
 use crate::stepping::room;
-use cell_gather::LoadFail;
 use cell_machine::Machine;
 use cell_num::Listed;
 use cell_task::Tasks;
-use cell_world::{Reply, TaskRun};
+use cell_world::{Fail, Reply, TaskRun};
 use std::alloc::{AllocError, Global};
 
 /// A task that is to have turns, and room for what it puts out.
@@ -73,9 +72,9 @@ fn run_each(
 
 /// Goes once over the tasks that are ready, and gives each at most so many turns, fewer where it
 /// yields, ends or faults.
-pub fn run(alloc: Global, machine: &mut Machine, turns: u32) -> Result<Reply, LoadFail>
+pub fn run(alloc: Global, machine: &mut Machine, turns: u32) -> Result<Reply, Fail>
     requires { IsSound machine.old }
-    ensures { Does (next_run (world_of machine.old) turns) machine.old result machine.new }
+    ensures { Does (next_run (world_of machine.old) turns) 0 machine.old result machine.new }
 {
     let due = due_tasks(alloc, &machine.tasks, turns)?;
     let runs = Vec::with_capacity(alloc, due.len())?;

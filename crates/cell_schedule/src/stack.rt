@@ -6,9 +6,7 @@ ghost use Rattle.cell_place.specs.Space.{with_run};
 ghost use Rattle.cell_schedule.specs.Ends.{stack_run};
 
 use cell_place::{Run, Space};
-
-/// The pages of a stack.
-pub const STACK_PAGES: u32 = 4;
+use cell_world::STACK_PAGES;
 
 /// Gives the pages of the stack that begins there back.
 pub fn give_back(space: &mut Space, stack: u64)

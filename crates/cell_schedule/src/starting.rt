@@ -1,7 +1,7 @@
 //! `spawn`
 
 ghost use Rattle.std.specs.Prelude.{◌≡◌, ◌<◌, ◌≤◌, IfOk, is_some, length, replicate, true};
-ghost use Rattle.cell_gather.specs.Following.{Follows};
+ghost use Rattle.cell_world.specs.Following.{Follows};
 ghost use Rattle.cell_machine.specs.Machine.{IsSound, world_of};
 ghost use Rattle.cell_world.specs.declared.refusal.Refusal.TheVariants.{Exhausted as TooFull};
 ghost use Rattle.cell_world.specs.SpawnCommand.{next_spawn};
@@ -10,21 +10,12 @@ ghost use Rattle.cell_machine.specs.Does.{Does};
 ghost use Rattle.cell_schedule.specs.Starts.{entry_as, may_start, started};
 
 use crate::entry::{Entry, entry_for};
-use crate::stack::STACK_PAGES;
-use cell_gather::LoadFail;
-use cell_machine::Machine;
+use cell_machine::{Machine, namespace};
 use cell_mem::Perm;
 use cell_place::NoRun;
-use cell_stage::namespace;
 use cell_task::{STACK_SIZE, Tasks};
-use cell_world::{Many, Permission, Refusal, Reply};
+use cell_world::{Fail, MAX_TASK_NUMBER, MAX_TASKS, Many, Permission, Refusal, Reply, STACK_PAGES};
 use std::alloc::{AllocError, Global};
-
-/// The most tasks that there may be at a time.
-const MAX_TASKS: usize = 64;
-
-/// The last number of a task.
-const LAST_NUMBER: u32 = 65535;
 
 /// A stack may be read and written.
 const READ_WRITE: Permission = Permission {
@@ -34,19 +25,19 @@ const READ_WRITE: Permission = Permission {
 };
 
 /// Sees that one more task may come.
-fn check(tasks: &Tasks) -> Result<(), LoadFail>
+fn check(tasks: &Tasks) -> Result<(), Fail>
     ensures { Follows (λ _. tt) result (may_start tasks.now) }
 {
-    if tasks.count() >= MAX_TASKS {
-        return Err(LoadFail::Refused(Refusal::TooMany {
+    if tasks.count() >= MAX_TASKS as usize {
+        return Err(Fail::Refused(Refusal::TooMany {
             kind: Many::Tasks,
-            limit: MAX_TASKS as u32,
+            limit: MAX_TASKS,
         }));
     }
-    if tasks.next() > LAST_NUMBER {
-        return Err(LoadFail::Refused(Refusal::TooMany {
+    if tasks.next() > MAX_TASK_NUMBER {
+        return Err(Fail::Refused(Refusal::TooMany {
             kind: Many::TaskNumbers,
-            limit: LAST_NUMBER,
+            limit: MAX_TASK_NUMBER,
         }));
     }
     Ok(())
@@ -69,25 +60,25 @@ fn zeros(alloc: Global, count: usize) -> Result<Vec<u8>, AllocError>
 
 /// Starts a task on a stack of its own. All that can fail comes before the stack is mapped, or is
 /// taken back.
-fn start(alloc: Global, machine: &mut Machine, entry: Entry, arg: u64) -> Result<Reply, LoadFail>
+fn start(alloc: Global, machine: &mut Machine, entry: Entry, arg: u64) -> Result<Reply, Fail>
     requires sound { IsSound machine.old }
     requires few { length machine.old.tasks.tasks < 64 }
     requires numbers { machine.old.tasks.next ≤ 65535 }
     requires present { is_some (cell_of (world_of machine.old) entry.cell.0) ≡ true }
-    ensures { Does (started (world_of machine.old) (entry_as entry) arg) machine.old result machine.new }
+    ensures { Does (started (world_of machine.old) (entry_as entry) arg) 1 machine.old result machine.new }
 {
     let bytes = zeros(alloc, STACK_SIZE as usize)?;
     machine.memory.reserve(1)?;
     let run = match machine.space.take(STACK_PAGES) {
         Ok(run) => run,
-        Err(none) => return Err(LoadFail::Refused(exhausted(none))),
+        Err(none) => return Err(Fail::Refused(exhausted(none))),
     };
     let stack = machine.space.address_of(run);
     let task = match machine.tasks.spawn(entry.addr, arg, stack, entry.cell) {
         Ok(task) => task,
         Err(_) => {
             machine.space.give(run);
-            return Err(LoadFail::OutOfMemory);
+            return Err(Fail::OutOfMemory);
         }
     };
     machine.memory.map(stack, Perm::of(READ_WRITE), bytes);
@@ -108,9 +99,9 @@ pub fn spawn(
     ns: &[u8],
     symbol: &[u8],
     arg: u64,
-) -> Result<Reply, LoadFail>
+) -> Result<Reply, Fail>
     requires { IsSound machine.old }
-    ensures { Does (next_spawn (world_of machine.old) ns.now symbol.now arg) machine.old result machine.new }
+    ensures { Does (next_spawn (world_of machine.old) ns.now symbol.now arg) 1 machine.old result machine.new }
 {
     let ns = namespace(alloc, &machine.spaces, ns)?;
     check(&machine.tasks)?;

@@ -1,7 +1,7 @@
 //! `step`
 
 ghost use Rattle.std.specs.Prelude.{◌≡◌, ◌*◌, ◌≤◌, [], IfOk, vec_capacity};
-ghost use Rattle.cell_gather.specs.Following.{Follows};
+ghost use Rattle.cell_world.specs.Following.{Follows};
 ghost use Rattle.cell_machine.specs.Machine.{IsSound, world_of};
 ghost use Rattle.cell_task.specs.State.{seen_as};
 ghost use Rattle.cell_world.specs.TaskCommands.{can_run as can_run_as, next_step};
@@ -9,10 +9,9 @@ ghost use Rattle.cell_machine.specs.Does.{Does};
 
 use crate::live::live;
 use crate::slice::slice;
-use cell_gather::LoadFail;
 use cell_machine::Machine;
 use cell_task::Task;
-use cell_world::{Refusal, Reply};
+use cell_world::{Fail, Refusal, Reply};
 use std::alloc::{AllocError, Global};
 
 /// The most bytes that a turn puts out: a number of 64 bits in decimal.
@@ -27,12 +26,12 @@ pub fn room(alloc: Global, turns: u32) -> Result<Vec<u8>, AllocError>
 }
 
 /// The task isn't faulted.
-fn can_run(number: u32, task: &Task) -> Result<(), LoadFail>
+fn can_run(number: u32, task: &Task) -> Result<(), Fail>
     ensures { Follows (λ u. u) result (can_run_as (seen_as number task.now)) }
 {
     match task.fault {
         None => Ok(()),
-        Some(fault) => Err(LoadFail::Refused(Refusal::NotRunnable {
+        Some(fault) => Err(Fail::Refused(Refusal::NotRunnable {
             task: number,
             cause: fault.cause,
             pc: fault.pc,
@@ -43,9 +42,9 @@ fn can_run(number: u32, task: &Task) -> Result<(), LoadFail>
 /// Gives a task at most so many turns, fewer where it ends or faults.
 ///
 /// Refusals: a number that no live task has, and a task that faulted.
-pub fn step(alloc: Global, machine: &mut Machine, task: u32, turns: u32) -> Result<Reply, LoadFail>
+pub fn step(alloc: Global, machine: &mut Machine, task: u32, turns: u32) -> Result<Reply, Fail>
     requires { IsSound machine.old }
-    ensures { Does (next_step (world_of machine.old) task turns) machine.old result machine.new }
+    ensures { Does (next_step (world_of machine.old) task turns) 0 machine.old result machine.new }
 {
     can_run(task, live(alloc, machine, task)?)?;
     let out = room(alloc, turns)?;

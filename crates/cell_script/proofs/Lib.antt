@@ -1,3 +1,4 @@
 pub mod Lines
 pub mod Count
 pub mod SeenWords
+pub mod Said

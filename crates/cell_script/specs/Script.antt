@@ -1,10 +1,13 @@
 -- The reading of a script.
 --     reading_of line      what a line says
 --     script_of text       the commands of a script, or the number of the first line without a reading
-use Rattle.std.specs.Prelude.{◌≡◌, ℕ, ◌+◌, Bool, false, ◌==◌, List, [], ◌∷◌, Option, Some, None, if◌then◌else◌, Ok, Err}
+--     is_said command      a line of a script can say the command: any but a swap, which no script has yet
+use Rattle.std.specs.Prelude.{◌≡◌, ℕ, ◌+◌, Bool, true, false, ◌==◌, List, [], ◌∷◌, Option, Some, None, if◌then◌else◌, Ok, Err}
 use Rattle.std.specs.declared.result.Result.{Result}
+use Rattle.std.specs.List.{list_all}
 use Rattle.cell_text.specs.Text.{lines_in, words_of}
 use Rattle.cell_world.specs.declared.command.Command.{Command}
+use Rattle.cell_world.specs.declared.command.Command.TheVariants.{Swap}
 use Rattle.cell_script.specs.Grammar.{forms, command_in}
 use Rattle.cell_script.specs.declared.line.Line.{Line}
 use Rattle.cell_script.specs.declared.command.Reading.{Reading}
@@ -48,3 +51,10 @@ abbrev pub Reads : Result (List Line) ScriptFail → Result (List Line) ℕ → 
 Reads (Ok lines) script = script ≡ Ok lines
 Reads (Err (BadLine n)) script = script ≡ Err n
 Reads (Err OutOfMemory) script = Unit {0}
+
+abbrev pub is_said : Command → Bool
+is_said (Swap items reexport strict routines budget) = false
+is_said _ = true
+
+abbrev pub are_said : List Line → Bool
+are_said lines = list_all (λ line. is_said line.command) lines

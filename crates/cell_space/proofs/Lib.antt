@@ -9,3 +9,4 @@ pub mod Holding
 pub mod Finding
 pub mod Keeping
 pub mod Machines
+pub mod Joined

@@ -6,3 +6,4 @@ pub mod Index
 pub mod Spaces
 pub mod Rooted
 pub mod Machine
+pub mod Joined

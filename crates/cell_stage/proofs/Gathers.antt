@@ -11,23 +11,26 @@ use Rattle.cell_world.specs.Gather.{Source, append_cell, bring, depot_files, fil
 use Rattle.cell_world.specs.Outcome.{Outcome, ◌>>=◌, found}
 use Rattle.cell_coherent.specs.Grown.{In}
 use Rattle.cell_coherent.proofs.Elements.{In-All}
-use Rattle.cell_depot.specs.Files.{are_in_order, files_for}
+use Rattle.cell_depot.specs.Files.{are_apart}
+use Rattle.cell_depot.specs.Found.{IsOnly}
 use Rattle.cell_law.specs.Loading.{gathered_by}
 use Rattle.cell_law.proofs.Elements.{In-map}
 use Rattle.cell_law.proofs.Loads.{older}
 use Rattle.cell_space.specs.Machine.{called}
+use Rattle.cell_space.specs.Joined.{placed_of}
 use Rattle.cell_space.specs.declared.cell.SpaceCell.{SpaceCell}
-use Rattle.cell_gather.specs.declared.fail.LoadFail.{LoadFail}
-use Rattle.cell_gather.specs.declared.fail.LoadFail.TheVariants.{Refused, OutOfMemory}
+use Rattle.cell_world.specs.declared.fail.Fail.{Fail}
+use Rattle.cell_world.specs.declared.fail.Fail.TheVariants.{Refused, OutOfMemory}
 use Rattle.cell_gather.specs.declared.gathering.Gathered.{Gathered}
-use Rattle.cell_gather.specs.Following.{FailsAs}
+use Rattle.cell_world.specs.Following.{FailsAs}
 use Rattle.cell_gather.specs.Gathering.{Gathers, IsOf, append_wanted, gather}
 use Rattle.cell_machine.specs.declared.machine.Machine.{Machine}
-use Rattle.cell_machine.specs.Machine.{IsSound, cells_of, world_of}
+use Rattle.cell_machine.specs.Machine.{IsSound, world_of}
+use Rattle.cell_machine.specs.Staged.{all_attached}
 use Rattle.cell_stage.specs.Loads.{Loads}
 use Rattle.cell_stage.proofs.Files.{one_found, only_named}
-use Rattle.cell_stage.proofs.Lists.{map-map}
-use Rattle.cell_stage.proofs.Low.{limits_of}
+use Rattle.cell_machine.proofs.Lists.{map-map}
+use Rattle.cell_machine.proofs.Low.{limits_of}
 
 passed : {X : Type 0} (o : Outcome X) → (o >>= (λ x. Ok x)) ≡ o
 passed (Ok x) = refl
@@ -61,45 +64,53 @@ module _ (sources : List Source) (w : World) (ns stem : List ℕ) where
 
 module _ (m : Machine) (sound : IsSound m) where
   pub is_of : IsOf m.spaces m.next (world_of m)
-  is_of = record { namespaces = refl; cells = sym sound.known; number = refl }
+  is_of = record { namespaces = refl; cells = sound.joined.called; number = refl }
 
   pub as_many : length m.cells.items ≡ length m.spaces.cells
-  as_many = sym (ap length sound.known ∙ (length-map (cells_of m.cells.items) called ∙ length-map m.cells.items attached))
+  as_many =
+      sym (ap length sound.joined.placed) ∙ (length-map (world_of m).cells placed_of ∙ (sym (length-map (world_of m).cells called) ∙ ap length sound.joined.called))
 
   pub few_cells : length m.cells.items ≤ 1024
-  few_cells = let few = (limits_of (world_of m) sound.settled.coherent.ready.limits).cells in let same = length-map m.cells.items attached in omega (arith, few, same)
+  few_cells =
+      let few = (limits_of (world_of m) sound.coherent.ready.limits).cells in
+      let same = length-map (world_of m).cells placed_of in
+      let are = ap length sound.joined.placed in
+      omega (arith, few, same, are)
 
   pub numbers_given : All (λ (c : SpaceCell). c.cell.0 < m.next) m.spaces.cells
   numbers_given =
-      subst (λ (cs : List SpaceCell). All (λ (c : SpaceCell). c.cell.0 < m.next) cs) (sym sound.known)
-      (In-All (λ (c : SpaceCell). c.cell.0 < m.next) (map called (cells_of m.cells.items)) (λ c k. given c (In-map called (cells_of m.cells.items) c k)))
+      subst (λ (cs : List SpaceCell). All (λ (c : SpaceCell). c.cell.0 < m.next) cs) sound.joined.called
+      (In-All (λ (c : SpaceCell). c.cell.0 < m.next) (map called (world_of m).cells) (λ c k. given c (In-map called (world_of m).cells c k)))
     where
-      given : (c : SpaceCell) → (d : Cell) × In d (cells_of m.cells.items) × (c ≡ called d) → c.cell.0 < m.next
-      given c d = subst (λ (x : SpaceCell). x.cell.0 < m.next) (sym d.2) (older (world_of m) sound.settled d.0 d.1)
+      given : (c : SpaceCell) → (d : Cell) × In d (world_of m).cells × (c ≡ called d) → c.cell.0 < m.next
+      given c d = subst (λ (x : SpaceCell). x.cell.0 < m.next) (sym d.2) (older (world_of m) sound.coherent d.0 d.1)
 
-  module _ (files : List File) (ordered : are_in_order files ≡ true) (ns stem : List ℕ) where
+  module _ (files : List File) (apart : are_apart files ≡ true) (ns stem : List ℕ) where
+    abbrev chosen : List Source
+    chosen = depot_files (map source_of files) ns stem
+
     -- what fails before the gathering begins
-    pub space_failed : (fail : LoadFail) → FailsAs fail (space_of (world_of m) ns) → Loads files m ns stem (Err fail)
+    pub space_failed : (fail : Fail) → FailsAs fail (space_of (world_of m) ns) → Loads files m ns stem (Err fail)
     space_failed (Refused r) e = space_refused (map source_of files) (world_of m) ns stem r e
     space_failed OutOfMemory e = tt
 
     module _ (number : ℕ) (there : space_of (world_of m) ns ≡ Ok number) where
-      pub file_failed : (fail : LoadFail) → FailsAs fail (one_file (depot_files (map source_of files) ns stem) (NoObject stem)) → Loads files m ns stem (Err fail)
+      pub file_failed : (fail : Fail) → FailsAs fail (one_file chosen (NoObject stem)) → Loads files m ns stem (Err fail)
       file_failed (Refused r) e = file_refused (map source_of files) (world_of m) ns stem number r there e
       file_failed OutOfMemory e = tt
 
-      module _ (f : File) (is : files_for ns stem files ≡ f ∷ []) where
+      module _ (f : File) (is : IsOnly files chosen f) where
         wanted : gather (map source_of files) (world_of m) (record { ns = number; file = f.name } ∷ []) ≡ gathered_by (map source_of files) (world_of m) ns stem
         wanted =
             one_wanted (map source_of files) (world_of m) ns stem number (source_of f) there
-            (one_found files ns stem ordered (NoObject stem) f is) (only_named files ordered ns stem f is)
+            (one_found files chosen (NoObject stem) f is) (only_named files apart chosen f is)
 
-        pub gathers : (r : Result Gathered LoadFail) → Gathers files m.spaces m.next (record { ns = number; file = f.name } ∷ []) r → Loads files m ns stem r
+        pub gathers : (r : Result Gathered Fail) → Gathers files m.spaces m.next (record { ns = number; file = f.name } ∷ []) r → Loads files m ns stem r
         gathers (Ok g) h = record {
           gathered =
               sym wanted
               ∙ (h.gathered (world_of m) is_of
-              ∙ ap (λ (n : ℕ). let u : World = record (world_of m) { cells = (world_of m).cells ++ cells_of g.cells.items; next_cell = m.next + n } in let o : Outcome World = Ok u in o) (sym (length-map g.cells.items attached)));
+              ∙ ap (λ (n : ℕ). let u : World = record (world_of m) { cells = (world_of m).cells ++ all_attached g.cells.items; next_cell = m.next + n } in let o : Outcome World = Ok u in o) (sym (length-map g.cells.items attached)));
           namespaces = h.namespaces;
           cells = h.cells ∙ sym (map-map called attached g.cells.items);
           names = h.names;

@@ -1,7 +1,6 @@
 pub mod Files
 pub mod Gathers
 pub mod Sources
-pub mod Lists
 pub mod Low
 pub mod Misfits
 pub mod RowLemmas

@@ -18,16 +18,15 @@ use Rattle.cell_world.specs.Target.{target_of, targets_of}
 use Rattle.cell_coherent.specs.Grown.{links_from}
 use Rattle.cell_link.specs.declared.value.FieldValue.{FieldValue}
 use Rattle.cell_link.specs.Linked.{field_values}
-use Rattle.cell_machine.specs.Machine.{cells_of}
-use Rattle.cell_machine.specs.Staged.{all_fields}
+use Rattle.cell_machine.specs.Staged.{all_attached, all_fields}
 use Rattle.cell_stage.specs.declared.link.Linked.{Linked}
-use Rattle.cell_gather.specs.declared.fail.LoadFail.{LoadFail}
-use Rattle.cell_gather.specs.declared.fail.LoadFail.TheVariants.{Refused, OutOfMemory}
+use Rattle.cell_world.specs.declared.fail.Fail.{Fail}
+use Rattle.cell_world.specs.declared.fail.Fail.TheVariants.{Refused, OutOfMemory}
 use Rattle.cell_stage.specs.Linking.{IsLinked, Links, LinksAll, all_rows, rows_by, rows_from, targets_in}
 
 -- so many of the cells are linked
 pub record IsLinkedTo (w : World) (cells : List NewCell) (place : ℕ) (l : Linked) : Type 0 where
-  pub fit : first_misfit w (cells_of (drop place cells)) ≡ first_misfit w (cells_of cells)
+  pub fit : first_misfit w (all_attached (drop place cells)) ≡ first_misfit w (all_attached cells)
   pub fields : l.fields.items ++ all_fields w (drop place cells) ≡ all_fields w cells
   pub rows : l.rows.items ++ all_rows w (drop place cells) ≡ all_rows w cells
 
@@ -44,8 +43,8 @@ past (x ∷ xs) (suc k) le = past xs k (omega (arith, le))
 module _ (w : World) (cells : List NewCell) (place : ℕ) (l : Linked) (to : IsLinkedTo w cells place l) where
   -- all are linked
   module _ (end : length cells ≤ place) where
-    pub all_fit : first_misfit w (cells_of cells) ≡ None
-    all_fit = sym to.fit ∙ ap (λ (cs : List NewCell). first_misfit w (cells_of cs)) (past cells place end)
+    pub all_fit : first_misfit w (all_attached cells) ≡ None
+    all_fit = sym to.fit ∙ ap (λ (cs : List NewCell). first_misfit w (all_attached cs)) (past cells place end)
 
     pub fields_all : l.fields.items ≡ all_fields w cells
     fields_all = sym (append-nil l.fields.items) ∙ (ap (λ (cs : List NewCell). l.fields.items ++ all_fields w cs) (sym (past cells place end)) ∙ to.fields)
@@ -58,13 +57,13 @@ module _ (w : World) (cells : List NewCell) (place : ℕ) (l : Linked) (to : IsL
     next : drop place cells ≡ c ∷ drop (place + 1) cells
     next = drop_more cells place c here ∙ ap (λ (x : NewCell). x ∷ drop (place + 1) cells) (sym at)
 
-    first_unfit : (refusal : Refusal) → misfit_in w (attached c) ≡ Some refusal → first_misfit w (cells_of cells) ≡ Some refusal
+    first_unfit : (refusal : Refusal) → misfit_in w (attached c) ≡ Some refusal → first_misfit w (all_attached cells) ≡ Some refusal
     first_unfit refusal e =
         sym to.fit
-        ∙ (ap (λ (cs : List NewCell). first_misfit w (cells_of cs)) next
-        ∙ ap (λ o. or_else o (first_misfit w (cells_of (drop (place + 1) cells)))) e)
+        ∙ (ap (λ (cs : List NewCell). first_misfit w (all_attached cs)) next
+        ∙ ap (λ o. or_else o (first_misfit w (all_attached (drop (place + 1) cells)))) e)
 
-    pub refused : (fail : LoadFail) → Links w c (Err fail) → LinksAll w cells (Err fail)
+    pub refused : (fail : Fail) → Links w c (Err fail) → LinksAll w cells (Err fail)
     refused (Refused refusal) e = first_unfit refusal e
     refused OutOfMemory e = tt
 
@@ -73,8 +72,8 @@ module _ (w : World) (cells : List NewCell) (place : ℕ) (l : Linked) (to : IsL
       linked_more = record {
         fit =
             sym
-            (ap (λ (cs : List NewCell). first_misfit w (cells_of cs)) next
-            ∙ ap (λ o. or_else o (first_misfit w (cells_of (drop (place + 1) cells)))) linked.fit)
+            (ap (λ (cs : List NewCell). first_misfit w (all_attached cs)) next
+            ∙ ap (λ o. or_else o (first_misfit w (all_attached (drop (place + 1) cells)))) linked.fit)
             ∙ to.fit;
         fields =
             ap (λ xs. xs ++ all_fields w (drop (place + 1) cells)) (fields ∙ ap (λ xs. l.fields.items ++ xs) linked.fields)
@@ -102,7 +101,7 @@ module _ (v w : World) (same : (c : Cell) → targets_of w c ≡ targets_of v c)
   misfit_same : (c : NewCell) → misfit_in w (attached c) ≡ misfit_in v (attached c)
   misfit_same c = ap (λ (ts : List Target). option_map (overflow_at (attached c)) (misfit_of c (bound_by c.object.entries ts))) (same (attached c))
 
-  pub misfits_same : (cells : List NewCell) → first_misfit w (cells_of cells) ≡ first_misfit v (cells_of cells)
+  pub misfits_same : (cells : List NewCell) → first_misfit w (all_attached cells) ≡ first_misfit v (all_attached cells)
   misfits_same [] = refl
   misfits_same (c ∷ cells) = ap₂ or_else (misfit_same c) (misfits_same cells)
 
@@ -110,7 +109,7 @@ module _ (v w : World) (same : (c : Cell) → targets_of w c ≡ targets_of v c)
   fields_same [] = refl
   fields_same (c ∷ cells) = ap₂ (λ (xs ys : List FieldValue). xs ++ ys) (ap (field_values c) (same (attached c))) (fields_same cells)
 
-  pub rows_are : (cells : List NewCell) → links_from w (cells_of cells) ≡ all_rows v cells
+  pub rows_are : (cells : List NewCell) → links_from w (all_attached cells) ≡ all_rows v cells
   rows_are [] = refl
   rows_are (c ∷ cells) =
       ap₂ (λ (xs ys : List LinkRow). xs ++ ys)

@@ -1,122 +1,24 @@
--- Addresses in a machine that can be linked are far below the numbers of 64 bits.
-use Rattle.std.proofs.Common.{◌≡◌, refl, sym, ◌∙◌, ap, arith, ℕ, ◌+◌, ◌*◌, ◌%◌, ◌≤◌, ◌<◌, ◌^◌, Bool, true, false, ◌&&◌, List, [], ◌∷◌, map, length, true≢false}
-use Rattle.std.specs.Prelude.{Option, Some, None, All, find, option_map, unwrap_or, nat_le, nat_lt, ◌==◌}
-use Rattle.std.specs.List.{list_all}
-use Rattle.std.proofs.lemmas.Bool.{and_parts, leb-true, ltb-true}
-use Rattle.std.proofs.lemmas.Bool.Decides.{nat_tests}
-use Rattle.cell_num.specs.Lists.{each_pair, equals}
-use Rattle.cell_object.specs.declared.object.Home.{Home}
-use Rattle.cell_object.specs.declared.object.Home.TheVariants.{Undef, Abs, Inside, Elsewhere}
-use Rattle.cell_object.specs.declared.object.Object.{Object}
-use Rattle.cell_object.specs.declared.object.Section.{Section as ObjectSection}
-use Rattle.cell_object.specs.declared.object.Symbol.{Symbol}
-use Rattle.cell_object.specs.Parts.{is_defined, section_of}
-use Rattle.cell_object.specs.Sound.{IsSoundObject, is_known_bind, is_sound_home, is_sound_section, is_sound_symbol}
-use Rattle.cell_world.specs.declared.state.NewCell.{NewCell}
+-- New cells can be linked.
+use Rattle.std.proofs.Common.{ℕ, ◌+◌, ◌*◌, ◌<◌, ◌^◌, length}
+use Rattle.std.specs.Prelude.{nat_lt}
+use Rattle.std.proofs.lemmas.Bool.{ltb-true}
 use Rattle.cell_world.specs.declared.state.SecPlace.{SecPlace}
-use Rattle.cell_world.specs.World.{World, Cell, attached}
-use Rattle.cell_world.specs.Coherent.{IsLoadable, are_limits_kept, is_known_cell, is_placed, stands_by_rule}
-use Rattle.cell_world.specs.Relink.{Text, ReadOnly, Writable}
-use Rattle.cell_world.specs.Target.{start_of}
+use Rattle.cell_world.specs.World.{World, Cell}
+use Rattle.cell_world.specs.Coherent.{IsLoadable, is_known_cell}
 use Rattle.cell_coherent.specs.Grown.{In}
 use Rattle.cell_coherent.specs.Linkable.{IsLinkable}
-use Rattle.cell_coherent.proofs.Elements.{All-In, In-All, all-In, found-In}
-use Rattle.cell_coherent.proofs.Inside.{places_lie}
+use Rattle.cell_coherent.proofs.Elements.{All-In, In-All, all-In}
 use Rattle.cell_coherent.proofs.Known.{known_parts}
-use Rattle.cell_target.specs.Scene.{IsLow}
+use Rattle.cell_machine.proofs.Low.{place_low}
 use Rattle.cell_stage.specs.Linking.{CanLink}
-use Rattle.cell_stage.proofs.Lists.{pairs-map, same_names}
 
--- how large a machine is at most
-pub record AreLimits (w : World) : Type 0 where
-  pub cells : length w.cells ≤ 1024
-  pub pages : w.pages ≤ 4096
-  pub base : w.base ≤ 0x7ff_ffff_f000
-
-pub limits_of : (w : World) → are_limits_kept w ≡ true → AreLimits w
-limits_of w h =
-    let a = and_parts _ (nat_le w.base 0x7ff_ffff_f000) h in
-    let b = and_parts _ (nat_le 0x1000 w.base) a.0 in
-    let c = and_parts _ (w.base % 4096 == 0) b.0 in
-    let d = and_parts _ (nat_le w.pages 4096) c.0 in
-    let e = and_parts _ (nat_le 16 w.pages) d.0 in
-    let f = and_parts _ (nat_lt w.swaps w.next_cell) e.0 in
-    let g = and_parts _ (nat_le w.next_task 65536) f.0 in
-    let i = and_parts _ (nat_le w.next_cell 65536) g.0 in
-    let j = and_parts _ (nat_le (length w.tasks) 64) i.0 in
-    let k = and_parts (nat_le (length w.namespaces) 256) (nat_le (length w.cells) 1024) j.0 in
-    record {
-      cells = leb-true (length w.cells) 1024 k.1;
-      pages = leb-true w.pages 4096 d.1;
-      base = leb-true w.base 0x7ff_ffff_f000 a.1;
-    }
-
-section_small : (o : Object) → IsSoundObject o → (n : ℕ) (s : ObjectSection) → section_of o n ≡ Some s → s.size ≤ 16777216
-section_small o sound n s found =
-    let at = found-In _ o.sections s found in
-    let parts = all-In is_sound_section o.sections sound.sections s at.0 in
-    grind (arith, nat_tests)
-
-second : (a b c : Bool) → (a && b && c) ≡ true → b ≡ true
-second true true c h = refl
-second true false c h = h
-second false b c h = absurd (true≢false (sym h))
-
--- a symbol in a section has a small value
-value_low : (o : Object) → IsSoundObject o → (s : Symbol) → In s o.symbols → is_defined s.home ≡ true → s.value < 2 ^ 63
-value_low o sound s i = go s.home refl
-  where
-    sound_home : is_sound_home o s s.home ≡ true
-    sound_home = second (is_known_bind s.bind) (is_sound_home o s s.home) _ (all-In (is_sound_symbol o) o.symbols sound.symbols s i)
-
-    inside : (n : ℕ) (found : Option ObjectSection) → section_of o n ≡ found → unwrap_or (option_map (λ section. nat_le s.value section.size) found) false ≡ true → s.value < 2 ^ 63
-    inside n None e h = absurd (true≢false (sym h))
-    inside n (Some section) e h = let small = section_small o sound n section e in grind (arith, nat_tests)
-
-    go : (home : Home) → s.home ≡ home → is_defined home ≡ true → s.value < 2 ^ 63
-    go Undef e h = absurd (true≢false (sym h))
-    go Abs e h = absurd (true≢false (sym h))
-    go (Inside n) e h = inside n (section_of o n) refl (ap (is_sound_home o s) (sym e) ∙ sound_home)
-    go Elsewhere e h = absurd (true≢false (sym h))
-
--- places in the order of the sections
-places_ordered : (o : Object) (places : List SecPlace) → each_pair (λ (a b : ObjectSection). nat_lt a.number b.number) o.sections ≡ true
-    → equals (map (λ (p : SecPlace). p.section) places) (map (λ (s : ObjectSection). s.number) o.sections) ≡ true
-    → each_pair (λ (a b : SecPlace). nat_lt a.section b.section) places ≡ true
-places_ordered o places rise same =
-    sym (pairs-map nat_lt (λ (p : SecPlace). p.section) places)
-    ∙ (ap (each_pair nat_lt) (same_names (map (λ (p : SecPlace). p.section) places) (map (λ (s : ObjectSection). s.number) o.sections) same)
-    ∙ (pairs-map nat_lt (λ (s : ObjectSection). s.number) o.sections ∙ rise))
-
-module _ (W : World) (linkable : IsLinkable W) (ends : W.base + 4096 * W.pages < 2 ^ 63) (c : NewCell) (here : In (attached c) W.cells) where
-  place_low : (q : SecPlace) → In q c.places → q.start < 2 ^ 63
-  place_low q i =
-      let all = All-In (λ (c : Cell). All (λ (p : SecPlace). (W.base ≤ p.start) × (p.start ≤ W.base + 4096 * W.pages)) c.places) W.cells (places_lie W linkable) (attached c) here in
-      let b = All-In (λ (p : SecPlace). (W.base ≤ p.start) × (p.start ≤ W.base + 4096 * W.pages)) c.places all q i in
-      omega (arith, b.1, ends)
-
-  start_low : (section : ℕ) → start_of c section < 2 ^ 63
-  start_low section = go (find (λ (q : SecPlace). q.section == section) c.places) refl
-    where
-      go : (found : Option SecPlace) → find (λ (q : SecPlace). q.section == section) c.places ≡ found → unwrap_or (option_map (λ (q : SecPlace). q.start) found) 0 < 2 ^ 63
-      go None e = omega arith
-      go (Some q) e = place_low q (found-In _ c.places q e).0
-
-  sound : IsSoundObject c.object
-  sound = (All-In (λ (d : Cell). IsLoadable d.object) W.cells linkable.objects (attached c) here).sound
-
-  placed : equals (map (λ (p : SecPlace). p.section) c.places) (map (λ (s : ObjectSection). s.number) c.object.sections) ≡ true
-  placed = (and_parts _ (list_all (stands_by_rule (attached c)) (Text ∷ ReadOnly ∷ Writable ∷ [])) (all-In is_placed W.cells linkable.placed (attached c) here)).0
-
-  pub is_low : IsLow c
-  is_low = record { ordered = places_ordered c.object c.places sound.numbers placed; starts = start_low; values = value_low c.object sound }
-
-  pub can_link : CanLink W.namespaces c
+module _ (W : World) (linkable : IsLinkable W) (ends : W.base + 4096 * W.pages < 2 ^ 63) (d : Cell) (here : In d W.cells) where
+  pub can_link : CanLink W.namespaces d.placed
   can_link = record {
-    ns = ltb-true c.ns (length W.namespaces) (known_parts W (attached c) (all-In (is_known_cell W) W.cells linkable.cells (attached c) here)).ns;
+    ns = ltb-true d.ns (length W.namespaces) (known_parts W d (all-In (is_known_cell W) W.cells linkable.cells d here)).ns;
     few = few;
-    low = In-All (λ (p : SecPlace). p.start < 2 ^ 63) c.places place_low;
+    low = In-All (λ (p : SecPlace). p.start < 2 ^ 63) d.places (place_low W linkable ends d here);
   }
     where
-      few : length c.object.entries < 2 ^ 32
-      few = (All-In (λ (d : Cell). IsLoadable d.object) W.cells linkable.objects (attached c) here).entries
+      few : length d.object.entries < 2 ^ 32
+      few = (All-In (λ (x : Cell). IsLoadable x.object) W.cells linkable.objects d here).entries

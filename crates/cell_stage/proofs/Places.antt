@@ -5,15 +5,15 @@ use Rattle.std.proofs.lemmas.List.Elements.{All-weaker}
 use Rattle.cell_object.specs.Sound.{IsSoundObject}
 use Rattle.cell_world.specs.declared.state.NewCell.{NewCell}
 use Rattle.cell_world.specs.Coherent.{IsLoadable}
-use Rattle.cell_world.specs.Place.{Starts}
+use Rattle.cell_world.specs.declared.layout.Starts.{Starts}
 use Rattle.cell_world.specs.World.{attached}
 use Rattle.cell_law.specs.Loading.{placed_cells}
 use Rattle.cell_place.specs.Space.{SpaceState}
-use Rattle.cell_load.specs.declared.placement.PlaceFail.{PlaceFail}
-use Rattle.cell_load.specs.declared.placement.PlaceFail.TheVariants.{NoRoom, OutOfMemory as NoMemory}
-use Rattle.cell_load.specs.Many.{PlacesAll, all_in_places, in_places}
-use Rattle.cell_gather.specs.declared.fail.LoadFail.{LoadFail}
-use Rattle.cell_machine.specs.Machine.{cells_of}
+use Rattle.cell_layout.specs.declared.placement.PlaceFail.{PlaceFail}
+use Rattle.cell_layout.specs.declared.placement.PlaceFail.TheVariants.{NoRoom, OutOfMemory as NoMemory}
+use Rattle.cell_layout.specs.Many.{PlacesAll, all_in_places, in_places}
+use Rattle.cell_world.specs.declared.fail.Fail.{Fail}
+use Rattle.cell_machine.specs.Staged.{all_attached}
 use Rattle.cell_stage.specs.Places.{PlaceFails, Stands}
 
 -- what places don't matter to
@@ -24,7 +24,7 @@ kept f same [] (c ∷ cells) long = absurd (omega (arith, long))
 kept f same (s ∷ starts) [] long = absurd (omega (arith, long))
 kept {X} f same (s ∷ starts) (c ∷ cells) long = ap₂ (λ (x : X) (xs : List X). x ∷ xs) (same s c) (kept f same starts cells (omega (arith, long)))
 
-pub attached_placed : (starts : List Starts) (cells : List NewCell) → length starts ≡ length cells → cells_of (all_in_places starts cells) ≡ placed_cells starts (cells_of cells)
+pub attached_placed : (starts : List Starts) (cells : List NewCell) → length starts ≡ length cells → all_attached (all_in_places starts cells) ≡ placed_cells starts (all_attached cells)
 attached_placed [] [] long = refl
 attached_placed [] (c ∷ cells) long = absurd (omega (arith, long))
 attached_placed (s ∷ starts) [] long = absurd (omega (arith, long))
@@ -34,9 +34,9 @@ pub sound_objects : (cells : List NewCell) → All (λ c. IsLoadable c.object) c
 sound_objects cells all = All-weaker (λ (c : NewCell). IsLoadable c.object) (λ (c : NewCell). IsSoundObject c.object) (λ c k. k.sound) cells all
 
 -- the space is too full
-pub place_refused : (old copy : SpaceState) (same : copy ≡ old) (cells : List NewCell) (fail : PlaceFail) (result : LoadFail) (new : SpaceState)
+pub place_refused : (old copy : SpaceState) (same : copy ≡ old) (cells : List NewCell) (fail : PlaceFail) (result : Fail) (new : SpaceState)
     → PlacesAll copy cells (Err fail) new → PlaceFails fail result → Stands old cells (Err result)
 place_refused old copy same cells (NoRoom none) result new h e =
-    subst (λ (f : LoadFail). Stands old cells (Err f)) (sym e)
+    subst (λ (f : Fail). Stands old cells (Err f)) (sym e)
     (subst (λ (s : SpaceState). PlacesAll s cells (Err (NoRoom none)) new) same h)
-place_refused old copy same cells NoMemory result new h e = subst (λ (f : LoadFail). Stands old cells (Err f)) (sym e) tt
+place_refused old copy same cells NoMemory result new h e = subst (λ (f : Fail). Stands old cells (Err f)) (sym e) tt

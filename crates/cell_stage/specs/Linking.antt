@@ -20,10 +20,9 @@ use Rattle.cell_world.specs.Relink.{link_to}
 use Rattle.cell_world.specs.Target.{targets_of}
 use Rattle.cell_link.specs.declared.value.FieldValue.{FieldValue}
 use Rattle.cell_link.specs.Linked.{bound_in, field_values}
-use Rattle.cell_gather.specs.declared.fail.LoadFail.{LoadFail}
-use Rattle.cell_gather.specs.declared.fail.LoadFail.TheVariants.{Refused, OutOfMemory}
-use Rattle.cell_machine.specs.Machine.{cells_of}
-use Rattle.cell_machine.specs.Staged.{all_fields}
+use Rattle.cell_world.specs.declared.fail.Fail.{Fail}
+use Rattle.cell_world.specs.declared.fail.Fail.TheVariants.{Refused, OutOfMemory}
+use Rattle.cell_machine.specs.Staged.{all_attached, all_fields}
 use Rattle.cell_stage.specs.declared.link.Linked.{Linked}
 
 abbrev pub targets_in : World → NewCell → List Target
@@ -33,7 +32,7 @@ abbrev pub entry_overflow : NewCell → Entry → Refusal
 entry_overflow c e = Overflow c.id e.section e.offset e.kind
 
 -- all fields, or the refusal of the first entry that doesn't fit
-abbrev pub LinksBy : NewCell → List Target → Result (List FieldValue) LoadFail → Type 0
+abbrev pub LinksBy : NewCell → List Target → Result (List FieldValue) Fail → Type 0
 LinksBy c targets (Ok fields) = (misfit_of c (bound_in c targets) ≡ None) × (fields ≡ field_values c targets)
 LinksBy c targets (Err (Refused refusal)) = option_map (overflow_at (attached c)) (misfit_of c (bound_in c targets)) ≡ Some refusal
 LinksBy c targets (Err OutOfMemory) = Unit {0}
@@ -55,19 +54,19 @@ pub record IsLinked (w : World) (c : NewCell) (l : Linked) : Type 0 where
   pub fields : l.fields.items ≡ field_values c (targets_in w c)
   pub rows : l.rows.items ≡ rows_by c (targets_in w c)
 
-abbrev pub Links : World → NewCell → Result Linked LoadFail → Type 0
+abbrev pub Links : World → NewCell → Result Linked Fail → Type 0
 Links w c (Ok l) = IsLinked w c l
 Links w c (Err (Refused refusal)) = misfit_in w (attached c) ≡ Some refusal
 Links w c (Err OutOfMemory) = Unit {0}
 
 pub record AreLinked (w : World) (cells : List NewCell) (l : Linked) : Type 0 where
-  pub fit : first_misfit w (cells_of cells) ≡ None
+  pub fit : first_misfit w (all_attached cells) ≡ None
   pub fields : l.fields.items ≡ all_fields w cells
   pub rows : l.rows.items ≡ all_rows w cells
 
-abbrev pub LinksAll : World → List NewCell → Result Linked LoadFail → Type 0
+abbrev pub LinksAll : World → List NewCell → Result Linked Fail → Type 0
 LinksAll w cells (Ok l) = AreLinked w cells l
-LinksAll w cells (Err (Refused refusal)) = first_misfit w (cells_of cells) ≡ Some refusal
+LinksAll w cells (Err (Refused refusal)) = first_misfit w (all_attached cells) ≡ Some refusal
 LinksAll w cells (Err OutOfMemory) = Unit {0}
 
 pub record CanLink (spaces : List Namespace) (c : NewCell) : Type 0 where

@@ -4,10 +4,8 @@
 mod link;
 mod load;
 mod misfit;
-mod names;
 mod place;
 mod rows;
 mod staging;
 
-pub use names::{namespace, unknown, unknown_number};
 pub use staging::stage;

@@ -7,10 +7,9 @@ ghost use Rattle.cell_stage.specs.Linking.{CanLink, Links, LinksAll};
 
 use crate::misfit::fields;
 use crate::rows::rows;
-use cell_gather::LoadFail;
 use cell_link::FieldValue;
 use cell_target::Scene;
-use cell_world::{LinkRow, NewCell};
+use cell_world::{Fail, LinkRow, NewCell};
 use std::alloc::{AllocError, Global};
 
 /// What fields hold, and links.
@@ -33,10 +32,10 @@ impl Linked {
 }
 
 /// Links a cell.
-fn link_one(alloc: Global, scene: &Scene, cell: &NewCell) -> Result<Linked, LoadFail>
+fn link_one(alloc: Global, scene: &Scene, cell: &NewCell) -> Result<Linked, Fail>
     requires there { In cell.now (scene.now.present.now ++ scene.now.fresh.now) }
     requires can { CanLink scene.now.layers.namespaces cell.now }
-    ensures { Links (seen scene.now.layers.namespaces (scene.now.present.now ++ scene.now.fresh.now)) cell.now result }
+    ensures { Links (seen scene.now.layers.namespaces (scene.now.present.now ++ scene.now.fresh.now) scene.now.layers.cells) cell.now result }
 {
     let targets = scene.targets(alloc, cell)?;
     let fields = fields(alloc, cell, &targets)?;
@@ -48,9 +47,9 @@ fn link_one(alloc: Global, scene: &Scene, cell: &NewCell) -> Result<Linked, Load
 }
 
 /// Links the new cells of the scene, one after another. The first entry that doesn't fit is refused.
-pub fn link_new(alloc: Global, scene: &Scene) -> Result<Linked, LoadFail>
+pub fn link_new(alloc: Global, scene: &Scene) -> Result<Linked, Fail>
     requires { All (CanLink scene.now.layers.namespaces) scene.now.fresh.now }
-    ensures { LinksAll (seen scene.now.layers.namespaces (scene.now.present.now ++ scene.now.fresh.now)) scene.now.fresh.now result }
+    ensures { LinksAll (seen scene.now.layers.namespaces (scene.now.present.now ++ scene.now.fresh.now) scene.now.layers.cells) scene.now.fresh.now result }
 {
     let mut linked = Linked {
         fields: Vec::new(alloc),

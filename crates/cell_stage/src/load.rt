@@ -1,19 +1,19 @@
 //! Which cells a load brings.
 
-ghost use Rattle.std.specs.Prelude.{◌≡◌, ◌≤◌, ◌∷◌, [], All, IfOk, length, map, true};
-ghost use Rattle.cell_depot.specs.Files.{are_in_order, files_for};
-ghost use Rattle.cell_gather.specs.Following.{Follows};
+ghost use Rattle.std.specs.Prelude.{◌≡◌, ◌≤◌, All, IfOk, length, map, true};
+ghost use Rattle.cell_depot.specs.Files.{are_apart};
+ghost use Rattle.cell_depot.specs.Found.{IsOnly};
+ghost use Rattle.cell_world.specs.Following.{Follows};
 ghost use Rattle.cell_machine.specs.Machine.{IsSound};
 ghost use Rattle.cell_stage.specs.Loads.{Loads};
 ghost use Rattle.cell_world.specs.declared.refusal.Refusal.TheVariants.{Ambiguous, NoObject as NoFile};
 ghost use Rattle.cell_world.specs.Gather.{depot_files, one_file as only, source_of};
 
-use crate::names::namespace;
 use cell_depot::{Depot, DepotFault};
-use cell_gather::{Gathered, LoadFail, Want, gather};
-use cell_machine::Machine;
+use cell_gather::{Gathered, Want, gather};
+use cell_machine::{Machine, namespace};
 use cell_num::Name;
-use cell_world::{File, Refusal};
+use cell_world::{Fail, File, Refusal};
 use std::alloc::{AllocError, Global};
 
 fn no_object(alloc: Global, stem: &[u8]) -> Result<Refusal, AllocError>
@@ -32,22 +32,16 @@ fn ambiguous(alloc: Global, one: &File, two: &File) -> Result<Refusal, AllocErro
 }
 
 /// The one file of a stem in the depot of a namespace.
-fn one_file<'a>(
-    alloc: Global,
-    depot: &'a Depot,
-    ns: &[u8],
-    stem: &[u8],
-) -> Result<&'a File, LoadFail>
-    requires { are_in_order depot.now ≡ true }
+fn one_file<'a>(alloc: Global, depot: &'a Depot, ns: &[u8], stem: &[u8]) -> Result<&'a File, Fail>
     ensures file { Follows (λ file. source_of file.now) result (only (depot_files (map source_of depot.now) ns.now stem.now) (NoFile stem.now)) }
-    ensures listed { IfOk result (λ file. files_for ns.now stem.now depot.now ≡ file.now ∷ []) }
+    ensures only { IfOk result (λ file. IsOnly depot.now (depot_files (map source_of depot.now) ns.now stem.now) file.now) }
 {
     match depot.find(ns, stem) {
         Ok(file) => Ok(file),
-        Err(DepotFault::NoObject) => Err(LoadFail::Refused(no_object(alloc, stem)?)),
+        Err(DepotFault::NoObject) => Err(Fail::Refused(no_object(alloc, stem)?)),
         Err(DepotFault::Ambiguous { one, two }) => {
             let refusal = ambiguous(alloc, depot.at(one), depot.at(two))?;
-            Err(LoadFail::Refused(refusal))
+            Err(Fail::Refused(refusal))
         }
     }
 }
@@ -67,10 +61,10 @@ pub fn load_cells(
     machine: &Machine,
     ns: &[u8],
     stem: &[u8],
-) -> Result<Gathered, LoadFail>
+) -> Result<Gathered, Fail>
     requires sound { IsSound machine.now }
     requires small { All (λ f. length f.bytes ≤ 1048576) depot.now }
-    requires ordered { are_in_order depot.now ≡ true }
+    requires apart { are_apart depot.now ≡ true }
     ensures { Loads depot.now machine.now ns.now stem.now result }
 {
     let number = namespace(alloc, &machine.spaces, ns)?;

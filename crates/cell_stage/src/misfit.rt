@@ -4,10 +4,9 @@ ghost use Rattle.std.specs.Prelude.{◌≡◌, ◌<◌, ◌^◌, All, Err, Some,
 ghost use Rattle.cell_link.specs.Linked.{IsLinked as IsLinkedBy};
 ghost use Rattle.cell_stage.specs.Linking.{LinksBy, entry_overflow};
 
-use cell_gather::LoadFail;
 use cell_link::{FieldValue, LinkFail, link_cell};
 use cell_num::Listed;
-use cell_world::{NewCell, Refusal, Target};
+use cell_world::{Fail, NewCell, Refusal, Target};
 use std::alloc::Global;
 
 /// The number of the entry at that place is outside its kind's range.
@@ -25,23 +24,19 @@ fn overflow(cell: &NewCell, entry: u32) -> Refusal
 }
 
 /// Why the cell is not linked.
-fn link_failed(cell: &NewCell, targets: &[Target], fail: LinkFail) -> LoadFail
+fn link_failed(cell: &NewCell, targets: &[Target], fail: LinkFail) -> Fail
     requires { IsLinkedBy cell.now targets.now (Err fail) }
     ensures { LinksBy cell.now targets.now (Err result) }
 {
     match fail {
-        LinkFail::Overflow { entry } => LoadFail::Refused(overflow(cell, entry)),
-        LinkFail::OutOfMemory => LoadFail::OutOfMemory,
+        LinkFail::Overflow { entry } => Fail::Refused(overflow(cell, entry)),
+        LinkFail::OutOfMemory => Fail::OutOfMemory,
     }
 }
 
 /// The values of the fields of a new cell, in the order of their first entries, where each entry
 /// has the target of its place in `targets`.
-pub fn fields(
-    alloc: Global,
-    cell: &NewCell,
-    targets: &[Target],
-) -> Result<Listed<FieldValue>, LoadFail>
+pub fn fields(alloc: Global, cell: &NewCell, targets: &[Target]) -> Result<Listed<FieldValue>, Fail>
     requires each { length targets.now ≡ length cell.now.object.entries }
     requires few { length cell.now.object.entries < 2 ^ 32 }
     requires low { All (λ p. p.start < 2 ^ 63) cell.now.places }

@@ -4,22 +4,21 @@ ghost use Rattle.std.specs.Prelude.{All};
 ghost use Rattle.cell_object.specs.Sound.{IsSoundObject};
 ghost use Rattle.cell_stage.specs.Places.{PlaceFails, Stands};
 
-use cell_gather::LoadFail;
-use cell_load::{PlaceFail, PlacedCells, place_cells};
+use cell_layout::{PlaceFail, PlacedCells, place_cells};
 use cell_place::Space;
-use cell_world::{NewCell, Refusal};
+use cell_world::{Fail, NewCell, Refusal};
 use std::alloc::Global;
 
 /// Why the cells have no places.
-fn place_failed(fail: PlaceFail) -> LoadFail
+fn place_failed(fail: PlaceFail) -> Fail
     ensures { PlaceFails fail result }
 {
     match fail {
-        PlaceFail::NoRoom(none) => LoadFail::Refused(Refusal::Exhausted {
+        PlaceFail::NoRoom(none) => Fail::Refused(Refusal::Exhausted {
             wanted: none.wanted,
             largest: none.largest,
         }),
-        PlaceFail::OutOfMemory => LoadFail::OutOfMemory,
+        PlaceFail::OutOfMemory => Fail::OutOfMemory,
     }
 }
 
@@ -28,7 +27,7 @@ pub fn place_in_copy(
     alloc: Global,
     space: &Space,
     cells: Vec<NewCell>,
-) -> Result<(Space, PlacedCells), LoadFail>
+) -> Result<(Space, PlacedCells), Fail>
     requires { All (λ c. IsSoundObject c.object) cells.items }
     ensures { Stands space.now cells.items result }
 {

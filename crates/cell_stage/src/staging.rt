@@ -1,7 +1,7 @@
 //! All that a load adds, before anything is changed.
 
 ghost use Rattle.std.specs.Prelude.{◌≡◌, ◌≤◌, ◌++◌, All, length, true};
-ghost use Rattle.cell_depot.specs.Files.{are_in_order};
+ghost use Rattle.cell_depot.specs.Files.{are_apart};
 ghost use Rattle.cell_gather.specs.Layers.{AreAlike};
 ghost use Rattle.cell_machine.specs.Machine.{IsSound};
 ghost use Rattle.cell_target.specs.Scene.{AreCells, seen};
@@ -12,11 +12,11 @@ use crate::link::{Linked, link_new};
 use crate::load::load_cells;
 use crate::place::place_in_copy;
 use cell_depot::Depot;
-use cell_gather::{Gathered, Layers, LoadFail};
+use cell_gather::{Gathered, Layers};
 use cell_machine::{Machine, Staged};
 use cell_space::Spaces;
 use cell_target::Scene;
-use cell_world::NewCell;
+use cell_world::{Fail, NewCell};
 use std::alloc::Global;
 
 /// Links new cells in their places, which have those spaces, among the present ones.
@@ -25,11 +25,11 @@ fn link_among(
     machine: &Machine,
     spaces: &Spaces,
     cells: &[NewCell],
-) -> Result<Linked, LoadFail>
+) -> Result<Linked, Fail>
     requires alike { AreAlike machine.now.spaces spaces.now }
     requires cells { AreCells (machine.now.spaces.cells ++ spaces.now.cells) (machine.now.cells.items ++ cells.now) }
     requires can { All (CanLink machine.now.spaces.namespaces) cells.now }
-    ensures { LinksAll (seen machine.now.spaces.namespaces (machine.now.cells.items ++ cells.now)) cells.now result }
+    ensures { LinksAll (seen machine.now.spaces.namespaces (machine.now.cells.items ++ cells.now) (machine.now.spaces.cells ++ spaces.now.cells)) cells.now result }
 {
     let scene = Scene {
         layers: Layers::of(&machine.spaces, spaces),
@@ -50,10 +50,10 @@ pub fn stage(
     machine: &Machine,
     ns: &[u8],
     stem: &[u8],
-) -> Result<Staged, LoadFail>
+) -> Result<Staged, Fail>
     requires sound { IsSound machine.now }
     requires small { All (λ f. length f.bytes ≤ 1048576) depot.now }
-    requires ordered { are_in_order depot.now ≡ true }
+    requires apart { are_apart depot.now ≡ true }
     ensures { Stages depot.now machine.now ns.now stem.now result }
 {
     let gathered = load_cells(alloc, depot, machine, ns, stem)?;

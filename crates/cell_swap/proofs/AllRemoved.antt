@@ -1,13 +1,13 @@
 -- What the parts of the machine are once the cells have gone from each of them.
-use Rattle.std.proofs.Common.{◌≡◌, refl, sym, ◌∙◌, ap, subst, arith, ℕ, ◌+◌, ◌*◌, ◌<◌, ◌^◌, Bool, true, false, not, true≢false, ◌&&◌, ◌||◌, List, length, map}
-use Rattle.std.specs.Prelude.{◌==◌, ◌%◌, All, IsTrue, filter, is_some, nat_lt, slice_index_or}
+use Rattle.std.proofs.Common.{◌≡◌, refl, sym, ◌∙◌, ap, ap₂, subst, arith, ℕ, ◌+◌, ◌*◌, ◌<◌, ◌^◌, Bool, true, false, not, true≢false, cond, ◌&&◌, ◌||◌, List, [], ◌∷◌, ◌++◌, length, map}
+use Rattle.std.specs.Prelude.{◌==◌, ◌%◌, All, IsTrue, filter, flat_map, is_some, nat_lt, slice_index_or}
 use Rattle.std.proofs.lemmas.Bool.{eqb-true, eq-eqb, leb-true}
 use Rattle.cell_coherent.proofs.Elements.{In, In-All, In-map, any-Has, find_there, map-In, none-In}
-use Rattle.cell_coherent.proofs.Inside.{ready_linkable}
 use Rattle.cell_coherent.proofs.Ready.{LimitParts, limit_parts}
 use Rattle.cell_commit.specs.Seals.{seal_table}
 use Rattle.cell_graph.specs.Removal.{is_listed, is_outside_use, is_used_outside, links_without, sections_without}
-use Rattle.cell_machine.specs.Machine.{IsSound, cells_of, field_bytes, keys_of, section_keys, world_of}
+use Rattle.cell_machine.specs.Machine.{IsSound, field_bytes, keys_of, section_keys, world_of}
+use Rattle.cell_machine.specs.Staged.{all_attached}
 use Rattle.cell_machine.specs.declared.machine.Machine.{Machine}
 use Rattle.cell_mem.specs.Index.{IsLaid}
 use Rattle.cell_mem.specs.State.{MemoryState}
@@ -19,10 +19,12 @@ use Rattle.cell_space.specs.Machine.{called}
 use Rattle.cell_space.specs.Named.{is_numbered}
 use Rattle.cell_space.specs.Spaces.{HasCell}
 use Rattle.cell_space.specs.declared.cell.SpaceCell.{SpaceCell}
-use Rattle.cell_stage.proofs.Low.{is_low, limits_of}
+use Rattle.cell_machine.proofs.Looked.{cell_low}
+use Rattle.cell_space.specs.Joined.{cells_of, placed_of}
+use Rattle.cell_space.proofs.Joined.{cells_are, joined_by}
 use Rattle.cell_task.specs.State.{TasksState}
 use Rattle.cell_world.specs.Answer.{numbers_of}
-use Rattle.cell_world.specs.UnloadCommand.{without_cells}
+use Rattle.cell_world.specs.UnloadCommand.{starts_of, without_cells}
 use Rattle.cell_world.specs.World.{Cell, Region, World, attached, key_of}
 use Rattle.cell_world.specs.declared.state.LinkRow.{LinkRow}
 use Rattle.cell_world.specs.declared.state.Namespace.{Namespace}
@@ -65,24 +67,38 @@ keys_left cells present = filter_flat (λ (k : SecKey). not (is_listed cells k))
 
 -- the names
 
-pub known_left : (cells : List CellId) (present : List NewCell)
-    → filter (λ c. not (holds (numbers cells) c.cell.0)) (map called (cells_of present)) ≡ map called (cells_of (filter (stay cells) present))
-known_left cells present =
-    filter_mapped (λ (c : SpaceCell). not (holds (numbers cells) c.cell.0)) called (cells_of present)
-    ∙ ap (map called) (filter_mapped (λ (c : Cell). not (holds (numbers cells) c.id.0)) attached present)
+pub known_left : (cells : List CellId) (present : List Cell)
+    → filter (λ c. not (holds (numbers cells) c.cell.0)) (map called present) ≡ map called (filter (λ c. not (holds (numbers cells) c.id.0)) present)
+known_left cells present = filter_mapped (λ (c : SpaceCell). not (holds (numbers cells) c.cell.0)) called present
+
+-- where regions are lost hangs on the places alone
+lost_same : (cells : List Cell) (numbers : List ℕ) → lost_starts (all_attached (map placed_of cells)) numbers ≡ lost_starts cells numbers
+lost_same [] numbers = refl
+lost_same (c ∷ cells) numbers = go (holds numbers c.id.0) (lost_same cells numbers)
+  where
+    go : (b : Bool) → lost_starts (all_attached (map placed_of cells)) numbers ≡ lost_starts cells numbers
+        → flat_map starts_of (cond b (attached c.placed ∷ filter (λ d. holds numbers d.id.0) (all_attached (map placed_of cells))) (filter (λ d. holds numbers d.id.0) (all_attached (map placed_of cells))))
+        ≡ flat_map starts_of (cond b (c ∷ filter (λ d. holds numbers d.id.0) cells) (filter (λ d. holds numbers d.id.0) cells))
+    go true rest = ap (λ (ns : List ℕ). starts_of c ++ ns) rest
+    go false rest = rest
 
 module _ (old : Machine) (sound : IsSound old) (cells : List CellId) where
   abbrev w : World
   w = world_of old
 
   abbrev starts : List ℕ
-  starts = lost_starts (cells_of old.cells.items) (numbers cells)
+  starts = lost_starts (all_attached old.cells.items) (numbers cells)
+
+  starts_are : lost_starts w.cells (numbers cells) ≡ starts
+  starts_are = sym (lost_same w.cells (numbers cells)) ∙ ap (λ (cs : List NewCell). lost_starts (all_attached cs) (numbers cells)) sound.joined.placed
 
   limits : LimitParts w
-  limits = limit_parts w sound.settled.coherent.ready.limits
+  limits = limit_parts w sound.coherent.ready.limits
 
   pub can_leave : CanLeave old.memory starts
-  can_leave = record { there = lost_there w sound.settled.coherent (numbers cells); apart = lost_apart w sound.settled.coherent (numbers cells) }
+  can_leave =
+      subst (λ (starts : List ℕ). CanLeave old.memory starts) starts_are
+      (let can : CanLeave old.memory (lost_starts w.cells (numbers cells)) = record { there = lost_there w sound.coherent (numbers cells); apart = lost_apart w sound.coherent (numbers cells) } in can)
 
   pub tabled : IsTabled old.memory old.space
   tabled = record { base = sound.base; table = sound.table; aligned = eqb-true (old.memory.base % 4096) 0 limits.aligned; most = leb-true old.memory.pages 4096 limits.most }
@@ -90,10 +106,7 @@ module _ (old : Machine) (sound : IsSound old) (cells : List CellId) where
   -- the places of each cell rise
   pub places_rise : All (λ c. IsTrue (each_pair (λ a b. nat_lt a.section b.section) c.places)) old.cells.items
   places_rise = In-All (λ (c : NewCell). IsTrue (each_pair (λ (a b : SecPlace). nat_lt a.section b.section) c.places)) old.cells.items
-      (λ c i. (is_low w (ready_linkable w sound.settled.coherent.ready) ends c (map-In attached old.cells.items c i)).ordered)
-    where
-      ends : w.base + 4096 * w.pages < 2 ^ 63
-      ends = let l = limits_of w sound.settled.coherent.ready.limits in let p = l.pages in let b = l.base in omega (arith, p, b)
+      (λ c i. (cell_low old sound c i).ordered)
 
   -- the spaces have each of the cells
   pub all_named : All (λ c. IsTrue (holds (numbers_of w.cells) c.0)) cells → All (λ c. HasCell old.spaces c.0) cells
@@ -103,7 +116,7 @@ module _ (old : Machine) (sound : IsSound old) (cells : List CellId) where
       named n t =
           let y = any-Has (λ y. y == n) (numbers_of w.cells) t in
           let c = In-map (λ (x : Cell). x.id.0) w.cells y.0 y.1 in
-          let i : In (called c.0) old.spaces.cells = subst (λ (xs : List SpaceCell). In (called c.0) xs) (sym sound.known) (map-In called w.cells c.0 c.1) in
+          let i : In (called c.0) old.spaces.cells = subst (λ (xs : List SpaceCell). In (called c.0) xs) sound.joined.called (map-In called w.cells c.0 c.1) in
           ap is_some (find_there (is_numbered n) old.spaces.cells (called c.0) i (eq-eqb c.0.id.0 n (sym c.2 ∙ eqb-true y.0 n y.2))).1
 
   pub record IsTaken (new : Machine) : Type 0 where
@@ -116,24 +129,10 @@ module _ (old : Machine) (sound : IsSound old) (cells : List CellId) where
     pub sections : new.graph.sections ≡ sections_without cells old.graph.sections
     pub left : new.cells.items ≡ filter (stay cells) old.cells.items
     pub next : new.next ≡ old.next
+    pub swaps : new.swaps ≡ old.swaps
     pub tasks : new.tasks ≡ old.tasks
 
   module _ (unused : is_used_outside cells old.graph.rows ≡ false) (new : Machine) (is : IsTaken new) where
-    abbrev world_by : ℕ → ℕ → List Region → List Namespace → List Cell → List LinkRow → ℕ → TasksState → World
-    world_by base pages regions namespaces cells rows next tasks =
-        record {
-          base = base;
-          pages = pages;
-          namespaces = namespaces;
-          cells = cells;
-          links = rows;
-          regions = regions;
-          tasks = tasks.tasks;
-          next_cell = next;
-          next_task = tasks.next;
-          swaps = 0;
-        }
-
     base_is : new.memory.base ≡ old.memory.base
     base_is = ap (λ (m : MemoryState). m.base) is.memory ∙ same_base starts old.memory
 
@@ -141,16 +140,27 @@ module _ (old : Machine) (sound : IsSound old) (cells : List CellId) where
     pages_is = ap (λ (m : MemoryState). m.pages) is.memory ∙ same_pages starts old.memory
 
     abbrev regions_after : List Region
-    regions_after = filter (λ r. not (holds starts r.start)) old.memory.regions
+    regions_after = filter (λ r. not (holds (lost_starts w.cells (numbers cells)) r.start)) old.memory.regions
 
     regions_is : new.memory.regions ≡ regions_after
-    regions_is = ap (λ (m : MemoryState). m.regions) is.memory ∙ regions_left starts old.memory
+    regions_is =
+        ap (λ (m : MemoryState). m.regions) is.memory
+        ∙ (regions_left starts old.memory
+        ∙ ap (λ (starts : List ℕ). filter (λ r. not (holds starts r.start)) old.memory.regions) (sym starts_are))
 
     abbrev cells_after : List Cell
     cells_after = filter (λ c. not (holds (numbers cells) c.id.0)) w.cells
 
-    cells_is : cells_of new.cells.items ≡ cells_after
-    cells_is = ap cells_of is.left ∙ sym (filter_mapped (λ (c : Cell). not (holds (numbers cells) c.id.0)) attached old.cells.items)
+    items_are : new.cells.items ≡ map placed_of cells_after
+    items_are =
+        is.left
+        ∙ (ap (filter (stay cells)) (sym sound.joined.placed) ∙ filter_mapped (stay cells) placed_of w.cells)
+
+    known_are : new.spaces.cells ≡ map called cells_after
+    known_are = is.names ∙ (ap (filter (λ (c : SpaceCell). not (holds (numbers cells) c.cell.0))) (sym sound.joined.called) ∙ known_left cells w.cells)
+
+    cells_is : cells_of new.cells.items new.spaces.cells ≡ cells_after
+    cells_is = cells_are cells_after new.cells.items new.spaces.cells items_are known_are
 
     abbrev rows_after : List LinkRow
     rows_after = filter (λ link. not (holds (numbers cells) link.user.cell.0 || holds (numbers cells) link.target.cell.0)) old.graph.rows
@@ -158,16 +168,31 @@ module _ (old : Machine) (sound : IsSound old) (cells : List CellId) where
     rows_is : new.graph.rows ≡ rows_after
     rows_is = is.rows ∙ links_gone cells old.graph.rows unused
 
+    abbrev by : ℕ → ℕ → List Region → List Namespace → List Cell → List LinkRow → TasksState → ℕ → ℕ → World
+    by base pages regions namespaces cs rows tasks next swaps =
+        record {
+          base = base;
+          pages = pages;
+          namespaces = namespaces;
+          cells = cs;
+          links = rows;
+          regions = regions;
+          tasks = tasks.tasks;
+          next_cell = next;
+          next_task = tasks.next;
+          swaps = swaps;
+        }
+
     world_is : world_of new ≡ without_cells w (numbers cells)
     world_is =
-        ap (λ n. world_by n new.memory.pages new.memory.regions new.spaces.namespaces (cells_of new.cells.items) new.graph.rows new.next new.tasks) base_is
-        ∙ (ap (λ n. world_by old.memory.base n new.memory.regions new.spaces.namespaces (cells_of new.cells.items) new.graph.rows new.next new.tasks) pages_is
-        ∙ (ap (λ (rs : List Region). world_by old.memory.base old.memory.pages rs new.spaces.namespaces (cells_of new.cells.items) new.graph.rows new.next new.tasks) regions_is
-        ∙ (ap (λ (ns : List Namespace). world_by old.memory.base old.memory.pages regions_after ns (cells_of new.cells.items) new.graph.rows new.next new.tasks) is.namespaces
-        ∙ (ap (λ (cs : List Cell). world_by old.memory.base old.memory.pages regions_after old.spaces.namespaces cs new.graph.rows new.next new.tasks) cells_is
-        ∙ (ap (λ (rows : List LinkRow). world_by old.memory.base old.memory.pages regions_after old.spaces.namespaces cells_after rows new.next new.tasks) rows_is
-        ∙ (ap (λ n. world_by old.memory.base old.memory.pages regions_after old.spaces.namespaces cells_after rows_after n new.tasks) is.next
-        ∙ ap (λ (tasks : TasksState). world_by old.memory.base old.memory.pages regions_after old.spaces.namespaces cells_after rows_after old.next tasks) is.tasks))))))
+        ap (λ n. by n new.memory.pages new.memory.regions new.spaces.namespaces (cells_of new.cells.items new.spaces.cells) new.graph.rows new.tasks new.next new.swaps) base_is
+        ∙ (ap (λ n. by old.memory.base n new.memory.regions new.spaces.namespaces (cells_of new.cells.items new.spaces.cells) new.graph.rows new.tasks new.next new.swaps) pages_is
+        ∙ (ap (λ (rs : List Region). by old.memory.base old.memory.pages rs new.spaces.namespaces (cells_of new.cells.items new.spaces.cells) new.graph.rows new.tasks new.next new.swaps) regions_is
+        ∙ (ap (λ (ns : List Namespace). by old.memory.base old.memory.pages regions_after ns (cells_of new.cells.items new.spaces.cells) new.graph.rows new.tasks new.next new.swaps) is.namespaces
+        ∙ (ap (λ (cs : List Cell). by old.memory.base old.memory.pages regions_after old.spaces.namespaces cs new.graph.rows new.tasks new.next new.swaps) cells_is
+        ∙ (ap (λ (rows : List LinkRow). by old.memory.base old.memory.pages regions_after old.spaces.namespaces cells_after rows new.tasks new.next new.swaps) rows_is
+        ∙ (ap (λ (tasks : TasksState). by old.memory.base old.memory.pages regions_after old.spaces.namespaces cells_after rows_after tasks new.next new.swaps) is.tasks
+        ∙ ap₂ (by old.memory.base old.memory.pages regions_after old.spaces.namespaces cells_after rows_after old.tasks) is.next is.swaps))))))
 
     well : IsWell old.memory
     well = record { laid = is.laid; long = ap length sound.seals ∙ table_long old.memory.base (4096 * old.memory.pages) (field_bytes old.cells.items) }
@@ -175,17 +200,16 @@ module _ (old : Machine) (sound : IsSound old) (cells : List CellId) where
     seals_is : new.memory.sealed ≡ seal_table new.memory.base (4096 * new.memory.pages) (field_bytes new.cells.items)
     seals_is =
         ap (λ (m : MemoryState). m.sealed) is.memory
-        ∙ (seals_after w sound.settled.coherent (numbers cells) old.cells.items refl old.memory well refl sound.seals can_leave
+        ∙ (ap (λ (starts : List ℕ). (without_regions old.memory starts).sealed) (sym starts_are)
+        ∙ (seals_after w sound.coherent (numbers cells) old.cells.items sound.joined.placed old.memory well refl sound.seals (subst (λ (starts : List ℕ). CanLeave old.memory starts) (sym starts_are) can_leave)
         ∙ (ap (λ n. seal_table n (4096 * old.memory.pages) (field_bytes (filter (stay cells) old.cells.items))) (sym base_is)
         ∙ (ap (λ n. seal_table new.memory.base (4096 * n) (field_bytes (filter (stay cells) old.cells.items))) (sym pages_is)
-        ∙ ap (λ (cs : List NewCell). seal_table new.memory.base (4096 * new.memory.pages) (field_bytes cs)) (sym is.left))))
+        ∙ ap (λ (cs : List NewCell). seal_table new.memory.base (4096 * new.memory.pages) (field_bytes cs)) (sym is.left)))))
 
     pub removed_is : IsRemoved old cells new
     removed_is = record {
       world = world_is;
-      known = is.names
-          ∙ (ap (filter (λ (c : SpaceCell). not (holds (numbers cells) c.cell.0))) sound.known
-          ∙ (known_left cells old.cells.items ∙ ap (λ (cs : List NewCell). map called (cells_of cs)) (sym is.left)));
+      joined = joined_by cells_after new.cells.items new.spaces.cells items_are known_are;
       table = is.tabled.table;
       base = is.tabled.base;
       sections = is.sections ∙ (ap (sections_without cells) sound.sections ∙ (keys_left cells old.cells.items ∙ ap keys_of (sym is.left)));

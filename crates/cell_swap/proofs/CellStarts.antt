@@ -3,7 +3,8 @@ use Rattle.std.proofs.Common.{◌≡◌, refl, ◌∙◌, ap, subst, ℕ, List, 
 use Rattle.std.specs.Prelude.{None, Option, Some}
 use Rattle.std.specs.List.{cons_option}
 use Rattle.cell_mem.specs.State.{MemoryState}
-use Rattle.cell_world.specs.Relink.{ReadOnly, Text, Writable, class_start}
+use Rattle.cell_world.specs.Relink.{class_start}
+use Rattle.cell_world.specs.declared.layout.Class.TheVariants.{ReadOnly, Text, Writable}
 use Rattle.cell_world.specs.UnloadCommand.{starts_of}
 use Rattle.cell_world.specs.World.{Cell}
 use Rattle.cell_swap.specs.Unmapped.{CanLeave, class_starts, without_regions}

@@ -11,7 +11,7 @@ use Rattle.cell_world.specs.Answer.{numbers_of}
 use Rattle.cell_world.specs.Kept.{Holding}
 use Rattle.cell_world.specs.UnloadCommand.{first_held}
 use Rattle.cell_world.specs.World.{Cell, attached}
-use Rattle.cell_machine.specs.Machine.{cells_of}
+use Rattle.cell_machine.specs.Staged.{all_attached}
 use Rattle.cell_swap.specs.Sweep.{refusal_of, unless_kept}
 
 module _ (h : Holding) where
@@ -31,7 +31,7 @@ module _ (h : Holding) where
 module _ (kept : List ℕ) where
   -- the numbers of the cells that aren't kept
   abbrev pub unkept_of : List NewCell → List ℕ
-  unkept_of cells = filter (λ n. not (holds kept n)) (numbers_of (cells_of cells))
+  unkept_of cells = filter (λ n. not (holds kept n)) (numbers_of (all_attached cells))
 
   one_unkept : (c : NewCell) → unkept_of (c ∷ []) ≡ unless_kept kept c.id.0
   one_unkept c = go (holds kept c.id.0)
@@ -44,6 +44,6 @@ module _ (kept : List ℕ) where
   unkept_more cells i d lt =
       ap unkept_of (take_more cells i d lt)
       ∙ (ap (λ (cs : List Cell). filter (λ n. not (holds kept n)) (numbers_of cs)) (map-append attached (take i cells) (get_or cells i d ∷ []))
-      ∙ (ap (filter (λ n. not (holds kept n))) (map-append (λ (c : Cell). c.id.0) (cells_of (take i cells)) (cells_of (get_or cells i d ∷ [])))
-      ∙ (filter-append (λ n. not (holds kept n)) (numbers_of (cells_of (take i cells))) (numbers_of (cells_of (get_or cells i d ∷ [])))
+      ∙ (ap (filter (λ n. not (holds kept n))) (map-append (λ (c : Cell). c.id.0) (all_attached (take i cells)) (all_attached (get_or cells i d ∷ [])))
+      ∙ (filter-append (λ n. not (holds kept n)) (numbers_of (all_attached (take i cells))) (numbers_of (all_attached (get_or cells i d ∷ [])))
       ∙ ap (λ (ns : List ℕ). unkept_of (take i cells) ++ ns) (one_unkept (get_or cells i d)))))

@@ -10,7 +10,10 @@ use Rattle.cell_coherent.proofs.FieldsInside.{classes, region_There}
 use Rattle.cell_coherent.proofs.Present.{In-filter_map}
 use Rattle.cell_num.specs.Lists.{each_pair, holds}
 use Rattle.cell_world.specs.Coherent.{IsCoherent, Shape, stack_shape}
-use Rattle.cell_world.specs.Relink.{Class, ReadOnly, Text, Writable, class_start, image_of, permission_of, sections_in}
+use Rattle.cell_world.specs.Relink.{class_start}
+use Rattle.cell_world.specs.Layout.{image_of, permission_of, sections_in}
+use Rattle.cell_world.specs.declared.layout.Class.TheVariants.{ReadOnly, Text, Writable}
+use Rattle.cell_world.specs.declared.layout.Class.{Class}
 use Rattle.cell_world.specs.UnloadCommand.{starts_of}
 use Rattle.cell_world.specs.World.{Cell, World}
 use Rattle.cell_swap.specs.Unmapped.{differs, lost_starts}

@@ -1,5 +1,3 @@
-pub mod Standing
-pub mod Sorted
 pub mod Naming
 pub mod Ordered
 pub mod LiveTasks
@@ -13,7 +11,6 @@ pub mod OneByOne
 pub mod Leaving
 pub mod SealsLeft
 pub mod AllRemoved
-pub mod Reordered
 pub mod Aside
 pub mod Firsts
 pub mod Surveyed

@@ -11,14 +11,14 @@ use Rattle.cell_world.specs.Names.{cell_at, namespace_named}
 use Rattle.cell_world.specs.Outcome.{Outcome, ◌>>=◌, each, found}
 use Rattle.cell_world.specs.UnloadCommand.{attached_cell, cell_word, named_cells}
 use Rattle.cell_world.specs.World.{Cell, World}
-use Rattle.cell_gather.specs.declared.fail.LoadFail.{LoadFail}
-use Rattle.cell_gather.specs.declared.fail.LoadFail.TheVariants.{Refused, OutOfMemory}
-use Rattle.cell_gather.specs.Following.{FailsAs}
+use Rattle.cell_world.specs.declared.fail.Fail.{Fail}
+use Rattle.cell_world.specs.declared.fail.Fail.TheVariants.{Refused, OutOfMemory}
+use Rattle.cell_world.specs.Following.{FailsAs}
 use Rattle.cell_space.specs.Machine.{called}
 use Rattle.cell_space.specs.Named.{cell_at as called_at}
 use Rattle.cell_space.specs.declared.cell.SpaceCell.{SpaceCell}
 use Rattle.cell_space.proofs.Machines.{cell_at-called}
-use Rattle.cell_stage.specs.Loads.{IsUnknown}
+use Rattle.cell_machine.specs.Unknown.{IsUnknown}
 
 abbrev numbered : World → CellName → Outcome ℕ
 numbered w name = attached_cell w name >>= (λ c. Ok c.id.0)
@@ -95,11 +95,11 @@ module _ (w : World) where
         ∙ ap (λ (numbers : List ℕ). numbers_from w numbers (drop (i + 1) names)) (sym (ap (map (λ (c : CellId). c.0)) added ∙ map-append (λ (c : CellId). c.0) cells (cell ∷ [])))))
 
     -- a name that names no cell, or for which memory was lacking
-    pub fails_so : (numbers : List ℕ) (fail : LoadFail) → FailsAs fail (numbered w name) → said ≡ numbers_from w numbers (drop i names) → FailsAs fail said
+    pub fails_so : (numbers : List ℕ) (fail : Fail) → FailsAs fail (numbered w name) → said ≡ numbers_from w numbers (drop i names) → FailsAs fail said
     fails_so numbers (Refused refusal) e so = so ∙ (ap (numbers_from w numbers) next ∙ number_lacking numbers name (drop (i + 1) names) refusal e)
     fails_so numbers OutOfMemory e so = tt
 
 -- the refusal for a word that names nothing
-pub unknown_is : {A : Type 0} (word : List ℕ) (fail : LoadFail) → IsUnknown word fail → (said : Outcome A) → said ≡ Err (Unknown word) → FailsAs fail said
+pub unknown_is : {A : Type 0} (word : List ℕ) (fail : Fail) → IsUnknown word fail → (said : Outcome A) → said ≡ Err (Unknown word) → FailsAs fail said
 unknown_is word (Refused refusal) e said h = h ∙ ap (λ (r : Refusal). Err r) (sym e)
 unknown_is word OutOfMemory e said h = tt

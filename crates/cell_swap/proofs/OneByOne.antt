@@ -5,7 +5,7 @@ use Rattle.std.specs.List.{list_all}
 use Rattle.std.proofs.lemmas.Bool.{and_parts, eqb-true, ltb-true}
 use Rattle.std.proofs.lemmas.List.{drop_all, drop_more}
 use Rattle.cell_coherent.proofs.Elements.{In, All-In, In-All, all-In, filter-In, filter_all, find_there, found-In, map-In, some_has}
-use Rattle.cell_machine.specs.Machine.{cells_of}
+use Rattle.cell_machine.specs.Staged.{all_attached}
 use Rattle.cell_mem.specs.State.{MemoryState}
 use Rattle.cell_num.specs.Lists.{each_pair, holds}
 use Rattle.cell_num.specs.declared.ids.CellId.{CellId}
@@ -20,24 +20,24 @@ use Rattle.cell_swap.proofs.Unmapping.{leave_parts, without_both}
 
 module _ (numbers : List ℕ) (c : NewCell) (rest : List NewCell) where
   abbrev others : List ℕ
-  others = lost_starts (cells_of rest) numbers
+  others = lost_starts (all_attached rest) numbers
 
-  lost_by : (b : Bool) → holds numbers c.id.0 ≡ b → lost_starts (cells_of (c ∷ rest)) numbers ≡ flat_map starts_of (cond b (attached c ∷ filter (λ d. holds numbers d.id.0) (cells_of rest)) (filter (λ d. holds numbers d.id.0) (cells_of rest)))
-  lost_by b h = ap (λ (b : Bool). flat_map starts_of (cond b (attached c ∷ filter (λ d. holds numbers d.id.0) (cells_of rest)) (filter (λ d. holds numbers d.id.0) (cells_of rest)))) h
+  lost_by : (b : Bool) → holds numbers c.id.0 ≡ b → lost_starts (all_attached (c ∷ rest)) numbers ≡ flat_map starts_of (cond b (attached c ∷ filter (λ d. holds numbers d.id.0) (all_attached rest)) (filter (λ d. holds numbers d.id.0) (all_attached rest)))
+  lost_by b h = ap (λ (b : Bool). flat_map starts_of (cond b (attached c ∷ filter (λ d. holds numbers d.id.0) (all_attached rest)) (filter (λ d. holds numbers d.id.0) (all_attached rest)))) h
 
-  pub lost_first : holds numbers c.id.0 ≡ true → lost_starts (cells_of (c ∷ rest)) numbers ≡ starts_of (attached c) ++ others
+  pub lost_first : holds numbers c.id.0 ≡ true → lost_starts (all_attached (c ∷ rest)) numbers ≡ starts_of (attached c) ++ others
   lost_first h = lost_by true h
 
-  pub lost_others : holds numbers c.id.0 ≡ false → lost_starts (cells_of (c ∷ rest)) numbers ≡ others
+  pub lost_others : holds numbers c.id.0 ≡ false → lost_starts (all_attached (c ∷ rest)) numbers ≡ others
   lost_others h = lost_by false h
 
   -- a cell that goes, and then the others
   pub record First (m : MemoryState) : Type 0 where
     pub own : CanLeave m (starts_of (attached c))
-    pub others : CanLeave (without_regions m (starts_of (attached c))) (lost_starts (cells_of rest) numbers)
-    pub both : without_regions m (lost_starts (cells_of (c ∷ rest)) numbers) ≡ without_regions (without_regions m (starts_of (attached c))) (lost_starts (cells_of rest) numbers)
+    pub others : CanLeave (without_regions m (starts_of (attached c))) (lost_starts (all_attached rest) numbers)
+    pub both : without_regions m (lost_starts (all_attached (c ∷ rest)) numbers) ≡ without_regions (without_regions m (starts_of (attached c))) (lost_starts (all_attached rest) numbers)
 
-  pub first_goes : (m : MemoryState) → holds numbers c.id.0 ≡ true → CanLeave m (lost_starts (cells_of (c ∷ rest)) numbers) → First m
+  pub first_goes : (m : MemoryState) → holds numbers c.id.0 ≡ true → CanLeave m (lost_starts (all_attached (c ∷ rest)) numbers) → First m
   first_goes m h can =
       let p = leave_parts (starts_of (attached c)) others m (subst (λ (l : List ℕ). CanLeave m l) (lost_first h) can) in
       record { own = p.0; others = p.1; both = ap (without_regions m) (lost_first h) ∙ without_both (starts_of (attached c)) others m }
@@ -55,18 +55,18 @@ read_either (x ∷ xs) (suc place) a b lt = read_either xs place a b (omega (ari
 -- the regions
 
 pub record OneMore (numbers : List ℕ) (present : List NewCell) (place : ℕ) (m new : MemoryState) : Type 0 where
-  pub left : without_regions new (lost_starts (cells_of (drop (place + 1) present)) numbers) ≡ without_regions m (lost_starts (cells_of (drop place present)) numbers)
-  pub there : CanLeave new (lost_starts (cells_of (drop (place + 1) present)) numbers)
+  pub left : without_regions new (lost_starts (all_attached (drop (place + 1) present)) numbers) ≡ without_regions m (lost_starts (all_attached (drop place present)) numbers)
+  pub there : CanLeave new (lost_starts (all_attached (drop (place + 1) present)) numbers)
 
-module _ (numbers : List ℕ) (present : List NewCell) (place : ℕ) (c : NewCell) (lt : place < length present) (is : c ≡ get_or present place c) (m : MemoryState) (can : CanLeave m (lost_starts (cells_of (drop place present)) numbers)) where
+module _ (numbers : List ℕ) (present : List NewCell) (place : ℕ) (c : NewCell) (lt : place < length present) (is : c ≡ get_or present place c) (m : MemoryState) (can : CanLeave m (lost_starts (all_attached (drop place present)) numbers)) where
   abbrev rest : List NewCell
   rest = drop (place + 1) present
 
   from_here : drop place present ≡ c ∷ rest
   from_here = at_place present place c lt is
 
-  can_first : CanLeave m (lost_starts (cells_of (c ∷ rest)) numbers)
-  can_first = subst (λ (cs : List NewCell). CanLeave m (lost_starts (cells_of cs) numbers)) from_here can
+  can_first : CanLeave m (lost_starts (all_attached (c ∷ rest)) numbers)
+  can_first = subst (λ (cs : List NewCell). CanLeave m (lost_starts (all_attached cs) numbers)) from_here can
 
   pub can_go : holds numbers c.id.0 ≡ true → CanLeave m (starts_of (attached c))
   can_go h = (first_goes numbers c rest m h can_first).own
@@ -75,16 +75,16 @@ module _ (numbers : List ℕ) (present : List NewCell) (place : ℕ) (c : NewCel
   goes_now h new e =
       let f : First numbers c rest m = first_goes numbers c rest m h can_first in
       record {
-        left = ap (λ (v : MemoryState). without_regions v (lost_starts (cells_of rest) numbers)) e ∙ (sym f.both ∙ ap (λ (cs : List NewCell). without_regions m (lost_starts (cells_of cs) numbers)) (sym from_here));
-        there = subst (λ (v : MemoryState). CanLeave v (lost_starts (cells_of rest) numbers)) (sym e) f.others;
+        left = ap (λ (v : MemoryState). without_regions v (lost_starts (all_attached rest) numbers)) e ∙ (sym f.both ∙ ap (λ (cs : List NewCell). without_regions m (lost_starts (all_attached cs) numbers)) (sym from_here));
+        there = subst (λ (v : MemoryState). CanLeave v (lost_starts (all_attached rest) numbers)) (sym e) f.others;
       }
 
   pub stays_now : holds numbers c.id.0 ≡ false → (new : MemoryState) → new ≡ m → OneMore numbers present place m new
   stays_now h new e =
-      let same : lost_starts (cells_of (drop place present)) numbers ≡ lost_starts (cells_of rest) numbers = ap (λ (cs : List NewCell). lost_starts (cells_of cs) numbers) from_here ∙ lost_others numbers c rest h in
+      let same : lost_starts (all_attached (drop place present)) numbers ≡ lost_starts (all_attached rest) numbers = ap (λ (cs : List NewCell). lost_starts (all_attached cs) numbers) from_here ∙ lost_others numbers c rest h in
       record {
-        left = ap (λ (v : MemoryState). without_regions v (lost_starts (cells_of rest) numbers)) e ∙ ap (without_regions m) (sym same);
-        there = subst (λ (v : MemoryState). CanLeave v (lost_starts (cells_of rest) numbers)) (sym e) (subst (λ (l : List ℕ). CanLeave m l) same can);
+        left = ap (λ (v : MemoryState). without_regions v (lost_starts (all_attached rest) numbers)) e ∙ ap (without_regions m) (sym same);
+        there = subst (λ (v : MemoryState). CanLeave v (lost_starts (all_attached rest) numbers)) (sym e) (subst (λ (l : List ℕ). CanLeave m l) same can);
       }
 
 -- the names

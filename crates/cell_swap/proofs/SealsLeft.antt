@@ -9,7 +9,8 @@ use Rattle.cell_coherent.proofs.Elements.{In, In-filtered, In-flat_map, In-map, 
 use Rattle.cell_coherent.proofs.FieldsInside.{among-In, field_region}
 use Rattle.cell_coherent.proofs.Places.{length-from}
 use Rattle.cell_commit.specs.Seals.{is_in_span, seal_table}
-use Rattle.cell_machine.specs.Machine.{cells_of, field_bytes, own_field_bytes}
+use Rattle.cell_machine.specs.Machine.{field_bytes, own_field_bytes}
+use Rattle.cell_space.specs.Joined.{placed_of}
 use Rattle.cell_mem.specs.State.{MemoryState}
 use Rattle.cell_mem.proofs.Laid.{covers_from, covers_high, covers_low}
 use Rattle.cell_num.specs.Kinds.{width_of}
@@ -21,7 +22,8 @@ use Rattle.cell_removal.proofs.ShapesLeft.{start_lost}
 use Rattle.cell_world.specs.Coherent.{IsCoherent, ends_before}
 use Rattle.cell_world.specs.Field.{fields_of, place_of}
 use Rattle.cell_world.specs.Memory.{covers}
-use Rattle.cell_world.specs.Relink.{Class, class_start}
+use Rattle.cell_world.specs.Relink.{class_start}
+use Rattle.cell_world.specs.declared.layout.Class.{Class}
 use Rattle.cell_world.specs.World.{Cell, Region, World, attached}
 use Rattle.cell_world.specs.declared.state.NewCell.{NewCell}
 use Rattle.cell_swap.specs.Unmapped.{CanLeave, lost_starts, without_regions}
@@ -39,15 +41,15 @@ table_long base size spans = length-map (upto size) (λ i. list_any (is_in_span 
 table_at : (base size : ℕ) (spans : List (ℕ × ℕ)) (k : ℕ) → k < size → get_or (seal_table base size spans) k false ≡ list_any (is_in_span (base + k)) spans
 table_at base size spans k l = at_from (λ i. list_any (is_in_span (base + i)) spans) size 0 k l ∙ ap (λ i. list_any (is_in_span (base + i)) spans) (omega arith)
 
-module _ (w : World) (h : IsCoherent w) (numbers : List ℕ) (cells : List NewCell) (same : w.cells ≡ cells_of cells) where
+module _ (w : World) (h : IsCoherent w) (numbers : List ℕ) (cells : List NewCell) (same : map placed_of w.cells ≡ cells) where
   abbrev stays : NewCell → Bool
   stays c = not (holds numbers c.id.0)
 
   abbrev pub staying : List NewCell
   staying = filter stays cells
 
-  present : (c : NewCell) → In c cells → In (attached c) w.cells
-  present c i = subst (λ (cs : List Cell). In (attached c) cs) (sym same) (map-In attached cells c i)
+  present : (c : NewCell) → In c cells → (d : Cell) × In d w.cells × (c ≡ d.placed)
+  present c i = In-map placed_of w.cells c (subst (λ (cs : List NewCell). In c cs) (sym same) i)
 
   -- the region that has a field, and whose it is
   record Home (c : NewCell) (addr : ℕ) : Type 0 where
@@ -57,14 +59,19 @@ module _ (w : World) (h : IsCoherent w) (numbers : List ℕ) (cells : List NewCe
     class : Class
     starts : class_start (attached c) class ≡ Some region.start
 
+  home_at : (d : Cell) → In d w.cells → (s : ℕ × ℕ) → In s (own_field_bytes d.placed) → (addr : ℕ) → is_in_span addr s ≡ true → Home d.placed addr
+  home_at d i s j addr is =
+      let f : (f : Entry) × In f (fields_of d.object) × (s ≡ (place_of d.placed f, width_of f.kind)) = In-map (λ f. (place_of d.placed f, width_of f.kind)) (fields_of d.object) s j in
+      let q = field_region w h.ready.regions h.ready.apart h.ready.placed h.ready.objects d i f.0 (among-In d.object.entries [] f.0 f.1) in
+      let ends = and_parts (nat_le s.0 addr) (nat_lt addr (s.0 + s.1)) is in
+      let low : place_of d.placed f.0 ≤ addr = subst (λ (p : ℕ × ℕ). p.0 ≤ addr) f.2 (leb-true s.0 addr ends.0) in
+      let high : addr < place_of d.placed f.0 + width_of f.0.kind = subst (λ (p : ℕ × ℕ). addr < p.0 + p.1) f.2 (ltb-true addr (s.0 + s.1) ends.1) in
+      record { region = q.0; there = q.1; covered = covers_from q.0 addr (omega (arith, q.2, low)) (omega (arith, q.3, high)); class = q.4.0; starts = q.4.1 }
+
   home_of : (c : NewCell) → In c cells → (s : ℕ × ℕ) → In s (own_field_bytes c) → (addr : ℕ) → is_in_span addr s ≡ true → Home c addr
   home_of c i s j addr is =
-      let f : (f : Entry) × In f (fields_of c.object) × (s ≡ (place_of c f, width_of f.kind)) = In-map (λ f. (place_of c f, width_of f.kind)) (fields_of c.object) s j in
-      let q = field_region w h.ready.regions h.ready.apart h.ready.placed h.ready.objects (attached c) (present c i) f.0 (among-In c.object.entries [] f.0 f.1) in
-      let ends = and_parts (nat_le s.0 addr) (nat_lt addr (s.0 + s.1)) is in
-      let low : place_of c f.0 ≤ addr = subst (λ (p : ℕ × ℕ). p.0 ≤ addr) f.2 (leb-true s.0 addr ends.0) in
-      let high : addr < place_of c f.0 + width_of f.0.kind = subst (λ (p : ℕ × ℕ). addr < p.0 + p.1) f.2 (ltb-true addr (s.0 + s.1) ends.1) in
-      record { region = q.0; there = q.1; covered = covers_from q.0 addr (omega (arith, q.2, low)) (omega (arith, q.3, high)); class = q.4.0; starts = q.4.1 }
+      let d = present c i in
+      subst (λ (x : NewCell). Home x addr) (sym d.2) (home_at d.0 d.1 s (subst (λ (x : NewCell). In s (own_field_bytes x)) d.2 j) addr is)
 
   one_region : (addr : ℕ) (r q : Region) → In r w.regions → In q w.regions → covers r addr ≡ true → covers q addr ≡ true → r ≡ q
   one_region addr r q i j c d = go (pairs-In ends_before w.regions h.ready.apart r q i j)
@@ -82,8 +89,12 @@ module _ (w : World) (h : IsCoherent w) (numbers : List ℕ) (cells : List NewCe
       let m : Home d.0 addr = home_of d.0 there s d.2 addr is in
       let one : m.region ≡ r = one_region addr m.region r m.there i m.covered c in
       let o : Loser w h numbers r.start = loser_of w h numbers r.start l in
-      let e = one_class w h.ready.regions h.ready.in_space h.ready.apart (attached d.0) o.cell (present d.0 there) o.present m.class o.class r.start (m.starts ∙ ap (λ (x : Region). Some x.start) one) o.at in
-      true≢false (sym o.listed ∙ (ap (λ (x : Cell). holds numbers x.id.0) (sym e.0) ∙ unnot (holds numbers d.0.id.0) (filter-Passes stays cells d.0 d.1)))
+      let p : (p : Cell) × In p w.cells × (d.0 ≡ p.placed) = present d.0 there in
+      let at : class_start p.0 m.class ≡ Some r.start = ap (λ (x : NewCell). class_start (attached x) m.class) (sym p.2) ∙ (m.starts ∙ ap (λ (x : Region). Some x.start) one) in
+      let e = one_class w h.ready.regions h.ready.in_space h.ready.apart p.0 o.cell p.1 o.present m.class o.class r.start at o.at in
+      true≢false
+      (sym o.listed
+      ∙ (ap (λ (x : Cell). holds numbers x.id.0) (sym e.0) ∙ (ap (λ (x : NewCell). holds numbers x.id.0) (sym p.2) ∙ unnot (holds numbers d.0.id.0) (filter-Passes stays cells d.0 d.1))))
 
   gone_at : (addr : ℕ) (r : Region) → In r w.regions → In r.start (lost_starts w.cells numbers) → covers r addr ≡ true → list_any (is_in_span addr) (field_bytes staying) ≡ false
   gone_at addr r i l c = In-none (is_in_span addr) (field_bytes staying) (λ s j. go s j (is_in_span addr s) refl)
@@ -103,7 +114,10 @@ module _ (w : World) (h : IsCoherent w) (numbers : List ℕ) (cells : List NewCe
           pick false e = refl
           pick true e =
               let m : Home c addr = home_of c i s j addr is in
-              absurd (out m.region m.there (holds-In (lost_starts w.cells numbers) m.region.start (start_lost w h numbers (attached c) (present c i) e m.class m.region.start m.starts)) m.covered)
+              let p = present c i in
+              absurd (out m.region m.there
+              (holds-In (lost_starts w.cells numbers) m.region.start
+              (start_lost w h numbers p.0 p.1 (ap (λ (x : NewCell). holds numbers x.id.0) (sym p.2) ∙ e) m.class m.region.start (ap (λ (x : NewCell). class_start (attached x) m.class) (sym p.2) ∙ m.starts))) m.covered)
 
       go : (b : Bool) → list_any (is_in_span addr) (field_bytes cells) ≡ b → b ≡ list_any (is_in_span addr) (field_bytes staying)
       go true e =

@@ -14,15 +14,15 @@ use Rattle.cell_world.specs.World.{World, Cell, attached}
 use Rattle.cell_coherent.proofs.Appended.{ok_same}
 use Rattle.cell_coherent.proofs.Elements.{In, In-map}
 use Rattle.cell_coherent.proofs.Relinked.{map_twice}
-use Rattle.cell_law.specs.Settled.{IsPlainCell}
+use Rattle.cell_machine.proofs.Counts.{counts_stand}
 use Rattle.cell_turns.proofs.Lists.{In-fixed, length-filter_le}
-use Rattle.cell_gather.specs.Following.{FailsAs}
-use Rattle.cell_gather.specs.declared.fail.LoadFail.{LoadFail}
-use Rattle.cell_gather.specs.declared.fail.LoadFail.TheVariants.{Refused, OutOfMemory}
+use Rattle.cell_world.specs.Following.{FailsAs}
+use Rattle.cell_world.specs.declared.fail.Fail.{Fail}
+use Rattle.cell_world.specs.declared.fail.Fail.TheVariants.{Refused, OutOfMemory}
 use Rattle.cell_removal.proofs.PutAside.{aside_left, closed_aside, roots_aside}
 use Rattle.cell_removal.proofs.RemoveCoherent.{remove_coherent}
 use Rattle.cell_machine.specs.declared.machine.Machine.{Machine}
-use Rattle.cell_machine.specs.Does.{Does, IsDone}
+use Rattle.cell_machine.specs.Does.{Does, HasDone, fresh_by, patched_by}
 use Rattle.cell_machine.specs.Machine.{IsSound, world_of}
 use Rattle.cell_machine.specs.Same.{raised}
 use Rattle.cell_machine.proofs.Unchanged.{same_itself}
@@ -32,15 +32,12 @@ use Rattle.cell_swap.specs.Sweep.{IsSwept, IsUnswept, aside_in, cells_numbered, 
 ids_back : (cells : List CellId) → ids (map (λ c. c.0) cells) ≡ cells
 ids_back cells = map_twice (λ (n : ℕ). record { 0 = n }) (λ (c : CellId). c.0) cells ∙ In-fixed (λ (c : CellId). record { 0 = c.0 }) cells (λ c i. refl)
 
-none_raised : (count before now : ℕ) → count ≤ 2 ^ 64 - 1 → now ≤ before → count ≡ raised count (now - before)
-none_raised count before now low fewer = omega (arith, low, fewer)
-
 module _ (old : Machine) (sound : IsSound old) (cells removed : List CellId) (new : Machine) (swept : IsSwept old cells removed new) where
   abbrev w : World
   w = world_of old
 
   abbrev coherent : IsCoherent w
-  coherent = sound.settled.coherent
+  coherent = sound.coherent
 
   abbrev numbers : List ℕ
   numbers = map (λ (c : CellId). c.0) cells
@@ -55,13 +52,10 @@ module _ (old : Machine) (sound : IsSound old) (cells removed : List CellId) (ne
   coherent_left : IsCoherent (world_of new)
   coherent_left = subst IsCoherent left (remove_coherent w coherent (garbage_of aside) (closed_aside w coherent (suc w.swaps) numbers) (roots_aside w coherent (suc w.swaps) numbers))
 
-  plain : (c : Cell) → In c (world_of new).cells → IsPlainCell c
-  plain c i = let r = In-map attached new.cells.items c i in record { attached = ap (λ (x : Cell). x.standing) r.2; unaliased = ap (λ (x : Cell). x.aliases) r.2 }
-
   sound_left : IsSound new
   sound_left = record {
-    settled = record { cells = plain; coherent = coherent_left };
-    known = swept.left.known;
+    coherent = coherent_left;
+    joined = swept.left.joined;
     table = swept.left.table;
     base = swept.left.base;
     sections = swept.left.sections;
@@ -71,22 +65,14 @@ module _ (old : Machine) (sound : IsSound old) (cells removed : List CellId) (ne
     maps = subst (λ (n : ℕ). n ≤ 2 ^ 64 - 1) (sym swept.left.maps) sound.maps;
   }
 
-  fewer_regions : length new.memory.regions ≤ length old.memory.regions
-  fewer_regions = subst (λ (v : World). length v.regions ≤ length w.regions) (sym swept.left.world) (length-filter_le _ w.regions)
-
-  maps_left : new.memory.maps ≡ raised old.memory.maps (length new.memory.regions - length old.memory.regions)
-  maps_left = swept.left.maps ∙ none_raised old.memory.maps (length old.memory.regions) (length new.memory.regions) sound.maps fewer_regions
-
   replied : ids (garbage_of aside) ≡ removed
   replied = ap ids (sym swept.are) ∙ ids_back removed
 
-  swept_does : (said : Outcome Done) (reply : List CellId → Reply) → said ≡ done (reply (ids (garbage_of aside))) (without_cells w (garbage_of aside)) → IsDone said old (reply removed) new
-  swept_does said reply e = record {
-    sound = sound_left;
-    step = e ∙ (ap (λ (cs : List CellId). done (reply cs) (without_cells w (garbage_of aside))) replied ∙ ap (done (reply removed)) left);
-    patches = swept.left.patches;
-    maps = maps_left;
-  }
+  swept_does : (said : Outcome Done) (reply : List CellId → Reply) → said ≡ done (reply (ids (garbage_of aside))) (without_cells w (garbage_of aside)) → fresh_by (reply removed) ≡ [] → patched_by (reply removed) ≡ 0 → HasDone said 0 old (reply removed) new
+  swept_does said reply e none unpatched =
+      counts_stand said old new (reply removed) sound sound_left
+      (e ∙ (ap (λ (cs : List CellId). done (reply cs) (without_cells w (garbage_of aside))) replied ∙ ap (done (reply removed)) left))
+      none unpatched swept.left.patches swept.left.maps
 
 -- `unload`, once the names are read
 
@@ -113,13 +99,13 @@ module _ (w : World) (names : List CellName) where
 
 module _ (old : Machine) (sound : IsSound old) (names : List CellName) where
   -- a name that is no cell's
-  pub unload_unnamed : (fail : LoadFail) → FailsAs fail (cells_numbered (world_of old) names) → Does (next_unload (world_of old) names) old (Err fail) old
+  pub unload_unnamed : (fail : Fail) → FailsAs fail (cells_numbered (world_of old) names) → Does (next_unload (world_of old) names) 0 old (Err fail) old
   unload_unnamed (Refused refusal) e = (unload_refused (world_of old) names refusal e, same_itself old)
   unload_unnamed OutOfMemory e = same_itself old
 
   module _ (cells : List CellId) (named : cells_numbered (world_of old) names ≡ Ok (map (λ c. c.0) cells)) where
     -- a cell that is kept
-    pub unload_failed : (fail : LoadFail) (new : Machine) → IsUnswept old cells fail new → Does (next_unload (world_of old) names) old (Err fail) new
+    pub unload_failed : (fail : Fail) (new : Machine) → IsUnswept old cells fail new → Does (next_unload (world_of old) names) 0 old (Err fail) new
     unload_failed (Refused refusal) new s = (
       unload_goes_on (world_of old) names (map (λ c. c.0) cells) named
           ∙ ap (λ (o : Option Refusal). refused_by o >> done (UnloadDone (ids (garbage_of (aside_in old cells)))) (purged (aside_in old cells))) s.0,
@@ -127,26 +113,28 @@ module _ (old : Machine) (sound : IsSound old) (names : List CellName) where
     )
     unload_failed OutOfMemory new s = s
 
-    pub unload_done : (removed : List CellId) (new : Machine) → IsSwept old cells removed new → IsDone (next_unload (world_of old) names) old (UnloadDone removed) new
+    pub unload_done : (removed : List CellId) (new : Machine) → IsSwept old cells removed new → HasDone (next_unload (world_of old) names) 0 old (UnloadDone removed) new
     unload_done removed new swept =
         swept_does old sound cells removed new swept (next_unload (world_of old) names) UnloadDone
         (unload_goes_on (world_of old) names (map (λ c. c.0) cells) named
         ∙ (ap (λ (o : Option Refusal). refused_by o >> done (UnloadDone (ids (garbage_of (aside_in old cells)))) (purged (aside_in old cells))) swept.free
-        ∙ ap (done (UnloadDone (ids (garbage_of (aside_in old cells))))) (aside_left (world_of old) sound.settled.coherent (suc (world_of old).swaps) (map (λ c. c.0) cells) swept.free)))
+        ∙ ap (done (UnloadDone (ids (garbage_of (aside_in old cells))))) (aside_left (world_of old) sound.coherent (suc (world_of old).swaps) (map (λ c. c.0) cells) swept.free)))
+        refl refl
 
 -- `purge` puts nothing aside
 module _ (old : Machine) (sound : IsSound old) where
   none_aside : aside_in old [] ≡ world_of old
   none_aside = ap (λ (cells : List Cell). record (world_of old) { cells = cells }) (In-fixed (put_aside (suc (world_of old).swaps) []) (world_of old).cells (λ c i. refl))
 
-  pub purge_failed : (fail : LoadFail) (new : Machine) → IsUnswept old [] fail new → Does (next_purge (world_of old)) old (Err fail) new
+  pub purge_failed : (fail : Fail) (new : Machine) → IsUnswept old [] fail new → Does (next_purge (world_of old)) 0 old (Err fail) new
   purge_failed (Refused refusal) new s = absurd (no_refusal (first_held (holding_in old []) []) refl s.0)
     where
       no_refusal : (o : Option Refusal) → o ≡ None → o ≡ Some refusal → ⊥
       no_refusal o n e = cc
   purge_failed OutOfMemory new s = s
 
-  pub purge_done : (removed : List CellId) (new : Machine) → IsSwept old [] removed new → IsDone (next_purge (world_of old)) old (PurgeDone removed) new
+  pub purge_done : (removed : List CellId) (new : Machine) → IsSwept old [] removed new → HasDone (next_purge (world_of old)) 0 old (PurgeDone removed) new
   purge_done removed new swept =
       swept_does old sound [] removed new swept (next_purge (world_of old)) PurgeDone
       (ap (λ (v : World). done (PurgeDone (ids (garbage_of v))) (without_cells (world_of old) (garbage_of v))) (sym none_aside))
+      refl refl

@@ -1,19 +1,19 @@
 -- The roots of a machine, as they are listed.
 --     root_of aside c          the root that the attached cell is, unless it is put aside
 --     root_of_task t           the root that the live task is
-use Rattle.std.specs.Prelude.{◌==◌, Bool, List, [], ◌∷◌, if◌then◌else◌}
+use Rattle.std.specs.Prelude.{◌==◌, ◌||◌, Bool, List, [], ◌∷◌, if◌then◌else◌, is_some}
 use Rattle.std.specs.List.{list_any}
 use Rattle.cell_num.specs.declared.ids.CellId.{CellId}
 use Rattle.cell_hold.specs.declared.roots.Root.{Root}
 use Rattle.cell_hold.specs.declared.roots.Root.TheVariants.{Attached, Task}
-use Rattle.cell_world.specs.declared.state.NewCell.{NewCell}
-use Rattle.cell_world.specs.World.{Task as LiveTask}
+use Rattle.cell_world.specs.MapCommand.{group_of}
+use Rattle.cell_world.specs.World.{Cell, Task as LiveTask}
 
 abbrev pub is_aside : List CellId → CellId → Bool
 is_aside aside cell = list_any (λ c. c.0 == cell.0) aside
 
-abbrev pub root_of : List CellId → NewCell → List Root
-root_of aside c = if is_aside aside c.id then [] else Attached c.id ∷ []
+abbrev pub root_of : List CellId → Cell → List Root
+root_of aside c = if is_some (group_of c.standing) || is_aside aside c.id then [] else Attached c.id ∷ []
 
 abbrev pub root_of_task : LiveTask → Root
 root_of_task t = Task (record { task = t.number; root = record { 0 = t.root }; pc = t.pc; x = t.registers; stack = t.stack })

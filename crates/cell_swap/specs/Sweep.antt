@@ -8,12 +8,10 @@
 --     unless_kept kept c           the cell, if it isn't among those that are kept
 --     Sweeps old cells result new  all cells that nobody keeps are gone; or one of the cells is kept, and nothing is changed
 use Rattle.std.specs.Prelude.{ℕ, suc, ◌≡◌, List, [], ◌∷◌, Option, Some, None, Ok, Err, Result, Vec, map, flat_map, if◌then◌else◌}
-use Rattle.std.specs.List.Sorted.{IsPermutation}
 use Rattle.cell_num.specs.Lists.{holds}
 use Rattle.cell_num.specs.declared.ids.CellId.{CellId}
-use Rattle.cell_gather.specs.declared.fail.LoadFail.{LoadFail}
-use Rattle.cell_gather.specs.declared.fail.LoadFail.TheVariants.{Refused, OutOfMemory}
-use Rattle.cell_hold.specs.Places.{AreLaid}
+use Rattle.cell_world.specs.declared.fail.Fail.{Fail}
+use Rattle.cell_world.specs.declared.fail.Fail.TheVariants.{Refused, OutOfMemory}
 use Rattle.cell_hold.specs.Roots.{attached_by, claims_by}
 use Rattle.cell_machine.specs.declared.machine.Machine.{Machine}
 use Rattle.cell_machine.specs.Machine.{world_of}
@@ -47,8 +45,7 @@ abbrev pub unless_kept : List ℕ → ℕ → List ℕ
 unless_kept kept c = if holds kept c then [] else c ∷ []
 
 pub record IsSurvey (m : Machine) (cells : List CellId) (s : Survey) : Type 0 where
-  pub sections : IsPermutation (flat_map placed_in (world_of m).cells) s.places.items
-  pub laid : AreLaid s.places.items
+  pub sections : s.places ≡ flat_map placed_in (world_of m).cells
   pub attached : flat_map attached_by s.roots.items ≡ (holding_in m cells).attached
   pub claims : flat_map (claims_by m.memory.regions) s.roots.items ≡ (holding_in m cells).claims
   pub kept : map (λ c. c.0) s.kept.items ≡ kept_in (holding_in m cells)
@@ -59,10 +56,10 @@ pub record IsSwept (old : Machine) (cells removed : List CellId) (new : Machine)
   pub left : IsRemoved old removed new
 
 -- one of the cells is kept, or memory was lacking
-abbrev pub IsUnswept : Machine → List CellId → LoadFail → Machine → Type 0
+abbrev pub IsUnswept : Machine → List CellId → Fail → Machine → Type 0
 IsUnswept old cells (Refused refusal) new = (first_held (holding_in old cells) (map (λ c. c.0) cells) ≡ Some refusal) × IsSame old new
 IsUnswept old cells OutOfMemory new = IsSame old new
 
-abbrev pub Sweeps : {Z : Type 0} → Machine → List CellId → Result (Vec CellId Z) LoadFail → Machine → Type 0
+abbrev pub Sweeps : {Z : Type 0} → Machine → List CellId → Result (Vec CellId Z) Fail → Machine → Type 0
 Sweeps old cells (Ok removed) new = IsSwept old cells removed.items new
 Sweeps old cells (Err fail) new = IsUnswept old cells fail new

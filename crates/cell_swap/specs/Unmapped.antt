@@ -11,7 +11,8 @@ use Rattle.cell_coherent.specs.Grown.{In}
 use Rattle.cell_mem.specs.State.{MemoryState, region_from, unmapped}
 use Rattle.cell_place.specs.Space.{SpaceState}
 use Rattle.cell_world.specs.Memory.{covers}
-use Rattle.cell_world.specs.Relink.{Class, class_start}
+use Rattle.cell_world.specs.Relink.{class_start}
+use Rattle.cell_world.specs.declared.layout.Class.{Class}
 use Rattle.cell_world.specs.UnloadCommand.{starts_of}
 use Rattle.cell_world.specs.World.{Cell}
 

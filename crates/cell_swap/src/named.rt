@@ -1,20 +1,18 @@
 //! The cells that words name.
 
 ghost use Rattle.std.specs.Prelude.{◌≡◌, IfOk, map, option_and_then, option_map};
-ghost use Rattle.cell_gather.specs.Following.{Follows};
+ghost use Rattle.cell_world.specs.Following.{Follows};
 ghost use Rattle.cell_machine.specs.Machine.{IsSound, world_of};
 ghost use Rattle.cell_space.specs.Named.{cell_at, number_as};
 ghost use Rattle.cell_space.specs.Spaces.{namespace_named};
-ghost use Rattle.cell_stage.specs.Loads.{IsUnknown};
+ghost use Rattle.cell_machine.specs.Unknown.{IsUnknown};
 ghost use Rattle.cell_swap.specs.Sweep.{cell_numbered, cells_numbered};
 ghost use Rattle.cell_world.specs.UnloadCommand.{cell_word};
 
-use cell_gather::LoadFail;
-use cell_machine::Machine;
+use cell_machine::{Machine, unknown};
 use cell_num::CellId;
 use cell_space::Spaces;
-use cell_stage::unknown;
-use cell_world::CellName;
+use cell_world::{CellName, Fail};
 use std::alloc::{AllocError, Global};
 
 /// `NS/STEM`
@@ -29,12 +27,12 @@ fn word_of(alloc: Global, name: &CellName) -> Result<Vec<u8>, AllocError>
 }
 
 /// The name is that of no cell.
-fn unknown_cell(alloc: Global, name: &CellName) -> LoadFail
+fn unknown_cell(alloc: Global, name: &CellName) -> Fail
     ensures { IsUnknown (cell_word name.now) result }
 {
     match word_of(alloc, name) {
         Ok(word) => unknown(alloc, &word),
-        Err(_) => LoadFail::OutOfMemory,
+        Err(_) => Fail::OutOfMemory,
     }
 }
 
@@ -47,7 +45,7 @@ fn find_cell(spaces: &Spaces, name: &CellName) -> Option<CellId>
 }
 
 /// The number of the cell of that name.
-fn named_cell(alloc: Global, machine: &Machine, name: &CellName) -> Result<CellId, LoadFail>
+fn named_cell(alloc: Global, machine: &Machine, name: &CellName) -> Result<CellId, Fail>
     requires { IsSound machine.now }
     ensures { Follows (λ c. c.0) result (cell_numbered (world_of machine.now) name.now) }
 {
@@ -62,7 +60,7 @@ pub fn named_cells(
     alloc: Global,
     machine: &Machine,
     names: &[CellName],
-) -> Result<Vec<CellId>, LoadFail>
+) -> Result<Vec<CellId>, Fail>
     requires { IsSound machine.now }
     ensures { Follows (λ cells. map (λ c. c.0) cells.items) result (cells_numbered (world_of machine.now) names.now) }
 {
@@ -70,7 +68,7 @@ pub fn named_cells(
     for name in names {
         let cell = named_cell(alloc, machine, name)?;
         let Ok(()) = cells.push(cell) else {
-            return Err(LoadFail::OutOfMemory);
+            return Err(Fail::OutOfMemory);
         };
     }
     Ok(cells)

@@ -1,19 +1,18 @@
-//! The sections of all cells, by their addresses.
+//! The sections of all cells.
 
 ghost use Rattle.std.specs.Prelude.{◌≡◌, ◌++◌, IfOk, IsTrue, OnOk, flat_map, nat_lt};
-ghost use Rattle.std.specs.List.Sorted.{IsPermutation};
 ghost use Rattle.cell_num.specs.Lists.{each_pair};
 ghost use Rattle.cell_coherent.specs.Grown.{In};
-ghost use Rattle.cell_hold.specs.Places.{AreLaid};
 ghost use Rattle.cell_machine.specs.Machine.{IsSound, world_of};
 ghost use Rattle.cell_world.specs.Kept.{placed_at, placed_in};
 ghost use Rattle.cell_world.specs.World.{attached};
 ghost use Rattle.cell_world.specs.declared.state.NewCell.{NewCell};
 
+use cell_hold::Places;
 use cell_machine::Machine;
 use cell_num::SecKey;
 use cell_object::Section;
-use cell_target::start_of;
+use cell_placed::start_of;
 use cell_world::{NewCell, Placed};
 use std::alloc::{AllocError, Global};
 
@@ -54,15 +53,12 @@ fn add_cells(cells: &[NewCell], into: &mut Vec<Placed>) -> Result<(), AllocError
     Ok(())
 }
 
-/// The sections of all cells, each of which ends at or before the start of each later one.
-pub fn places(alloc: Global, machine: &Machine) -> Result<Vec<Placed>, AllocError>
+/// The sections of all cells.
+pub fn places(alloc: Global, machine: &Machine) -> Result<Places, AllocError>
     requires { IsSound machine.now }
-    ensures all { IfOk result (λ places. IsPermutation (flat_map placed_in (world_of machine.now).cells) places.items) }
-    ensures laid { IfOk result (λ places. AreLaid places.items) }
+    ensures { IfOk result (λ places. places ≡ flat_map placed_in (world_of machine.now).cells) }
 {
-    let mut places = Vec::new(alloc);
-    add_cells(&machine.cells, &mut places)?;
-    // An empty section stands before one that begins where it does.
-    places.sort_unstable_by_key(|place| (place.start, place.size));
-    Ok(places)
+    let mut sections = Vec::new(alloc);
+    add_cells(&machine.cells, &mut sections)?;
+    Places::of(alloc, sections)
 }

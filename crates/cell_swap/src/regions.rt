@@ -1,7 +1,6 @@
 //! The regions of a cell, and their pages.
 
 ghost use Rattle.std.specs.Prelude.{◌≡◌, IsTrue, is_some, nat_lt, true};
-ghost use Rattle.cell_load.specs.Classes.{class_as};
 ghost use Rattle.cell_mem.specs.State.{region_from, unmapped};
 ghost use Rattle.cell_num.specs.Lists.{each_pair};
 ghost use Rattle.cell_world.specs.Relink.{class_start};
@@ -9,19 +8,18 @@ ghost use Rattle.cell_world.specs.UnloadCommand.{starts_of};
 ghost use Rattle.cell_world.specs.World.{attached};
 ghost use Rattle.cell_swap.specs.Unmapped.{CanLeave, IsTabled, class_starts, without_regions};
 
-use cell_load::{Class, is_in_class};
 use cell_mem::Memory;
 use cell_place::{Run, Space};
-use cell_target::start_of;
-use cell_world::NewCell;
+use cell_placed::start_of;
+use cell_world::{Class, NewCell};
 
 /// Where the region of a class starts. A class without a section has none.
 fn class_start(cell: &NewCell, class: Class) -> Option<u64>
     requires { IsTrue (each_pair (λ a b. nat_lt a.section b.section) cell.now.places) }
-    ensures { result ≡ class_start (attached cell.now) (class_as class) }
+    ensures { result ≡ class_start (attached cell.now) class }
 {
     for section in cell.object.sections.as_slice() {
-        if is_in_class(section, class) {
+        if class.has(section) {
             return Some(start_of(cell, section.number));
         }
     }
@@ -47,8 +45,8 @@ fn unmap(memory: &mut Memory, space: &mut Space, start: u64)
 fn unmap_class(memory: &mut Memory, space: &mut Space, cell: &NewCell, class: Class)
     requires places { IsTrue (each_pair (λ a b. nat_lt a.section b.section) cell.now.places) }
     requires tabled { IsTabled memory.old space.old }
-    requires there { CanLeave memory.old (class_starts (attached cell.now) (class_as class)) }
-    ensures memory { memory.new ≡ without_regions memory.old (class_starts (attached cell.now) (class_as class)) }
+    requires there { CanLeave memory.old (class_starts (attached cell.now) class) }
+    ensures memory { memory.new ≡ without_regions memory.old (class_starts (attached cell.now) class) }
     ensures tabled { IsTabled memory.new space.new }
 {
     if let Some(start) = class_start(cell, class) {

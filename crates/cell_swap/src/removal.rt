@@ -3,7 +3,8 @@
 ghost use Rattle.std.specs.Prelude.{◌≡◌, ◌==◌, All, IsTrue, false, filter, map, nat_lt, not};
 ghost use Rattle.std.specs.List.{list_any};
 ghost use Rattle.cell_graph.specs.Removal.{is_outside_use, is_used_outside, links_without, sections_without};
-ghost use Rattle.cell_machine.specs.Machine.{IsSound, cells_of, world_of};
+ghost use Rattle.cell_machine.specs.Machine.{IsSound, world_of};
+ghost use Rattle.cell_machine.specs.Staged.{all_attached};
 ghost use Rattle.cell_num.specs.Lists.{each_pair, holds};
 ghost use Rattle.cell_space.specs.Spaces.{HasCell};
 ghost use Rattle.cell_world.specs.Answer.{numbers_of};
@@ -29,8 +30,8 @@ fn is_listed(cells: &[CellId], cell: CellId) -> bool
 fn unmap_cells(present: &[NewCell], memory: &mut Memory, space: &mut Space, cells: &[CellId])
     requires places { All (λ c. IsTrue (each_pair (λ a b. nat_lt a.section b.section) c.places)) present.now }
     requires tabled { IsTabled memory.old space.old }
-    requires there { CanLeave memory.old (lost_starts (cells_of present.now) (map (λ c. c.0) cells.now)) }
-    ensures memory { memory.new ≡ without_regions memory.old (lost_starts (cells_of present.now) (map (λ c. c.0) cells.now)) }
+    requires there { CanLeave memory.old (lost_starts (all_attached present.now) (map (λ c. c.0) cells.now)) }
+    ensures memory { memory.new ≡ without_regions memory.old (lost_starts (all_attached present.now) (map (λ c. c.0) cells.now)) }
     ensures tabled { IsTabled memory.new space.new }
 {
     for place in 0..present.len() {

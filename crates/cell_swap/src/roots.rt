@@ -2,6 +2,7 @@
 
 ghost use Rattle.std.specs.Prelude.{◌≡◌, ◌++◌, IfOk, IsTrue, OnOk, flat_map, map, nat_lt};
 ghost use Rattle.std.specs.List.{list_all};
+ghost use Rattle.cell_coherent.specs.Grown.{In};
 ghost use Rattle.cell_num.specs.Lists.{each_pair, holds};
 ghost use Rattle.cell_hold.specs.Roots.{attached_by, claims_by, named_by};
 ghost use Rattle.cell_machine.specs.Machine.{IsSound, world_of};
@@ -9,6 +10,7 @@ ghost use Rattle.cell_swap.specs.Begun.{is_aside, root_of, root_of_task};
 ghost use Rattle.cell_swap.specs.Sweep.{holding_in};
 ghost use Rattle.cell_task.specs.State.{seen_as};
 ghost use Rattle.cell_world.specs.Answer.{numbers_of};
+ghost use Rattle.cell_world.specs.World.{Cell};
 
 use cell_hold::{Root, TaskView};
 use cell_machine::Machine;
@@ -23,22 +25,32 @@ fn is_aside(aside: &[CellId], cell: CellId) -> bool
     aside.iter().any(|other| other.0 == cell.0)
 }
 
-/// Adds a cell, unless it is put aside.
-fn add_cell(cell: &NewCell, aside: &[CellId], into: &mut Vec<Root>) -> Result<(), AllocError>
-    ensures { OnOk result (into.new.items ≡ into.old.items ++ root_of aside.now cell.now) }
+/// Adds a cell that is attached, unless it is put aside.
+fn add_cell(
+    machine: &Machine,
+    cell: &NewCell,
+    aside: &[CellId],
+    into: &mut Vec<Root>,
+) -> Result<(), AllocError>
+    requires sound { IsSound machine.now }
+    requires there { In cell.now machine.now.cells.items }
+    ensures { OnOk result ((c : Cell) → In c (world_of machine.now).cells → c.placed ≡ cell.now → into.new.items ≡ into.old.items ++ root_of aside.now c) }
 {
-    if !is_aside(aside, cell.id) {
-        into.push(Root::Attached(cell.id))?;
+    if machine.group(cell).is_some() || is_aside(aside, cell.id) {
+        return Ok(());
     }
+    into.push(Root::Attached(cell.id))?;
     Ok(())
 }
 
 /// Adds the cells that stay attached.
-fn add_cells(cells: &[NewCell], aside: &[CellId], into: &mut Vec<Root>) -> Result<(), AllocError>
-    ensures { OnOk result (into.new.items ≡ into.old.items ++ flat_map (root_of aside.now) cells.now) }
+fn add_cells(machine: &Machine, aside: &[CellId], into: &mut Vec<Root>) -> Result<(), AllocError>
+    requires { IsSound machine.now }
+    ensures { OnOk result (into.new.items ≡ into.old.items ++ flat_map (root_of aside.now) (world_of machine.now).cells) }
 {
+    let cells = machine.cells.as_slice();
     for place in 0..cells.len() {
-        add_cell(&cells[place], aside, into)?;
+        add_cell(machine, &cells[place], aside, into)?;
     }
     Ok(())
 }
@@ -77,7 +89,7 @@ pub fn roots(alloc: Global, machine: &Machine, aside: &[CellId]) -> Result<Vec<R
     ensures present { IfOk result (λ roots. IsTrue (list_all (λ root. list_all (holds (numbers_of (world_of machine.now).cells)) (named_by root)) roots.items)) }
 {
     let mut roots = Vec::new(alloc);
-    add_cells(&machine.cells, aside, &mut roots)?;
+    add_cells(machine, aside, &mut roots)?;
     add_tasks(&machine.tasks, &mut roots)?;
     Ok(roots)
 }

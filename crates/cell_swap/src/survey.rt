@@ -1,28 +1,26 @@
 //! What is read of a machine before cells go.
 
-ghost use Rattle.std.specs.Prelude.{◌≡◌, ◌++◌, IfOk, List, OnOk, flat_map, map};
-ghost use Rattle.std.specs.List.Sorted.{IsPermutation};
-ghost use Rattle.cell_hold.specs.Places.{AreLaid};
-ghost use Rattle.cell_machine.specs.Machine.{IsSound, world_of};
+ghost use Rattle.std.specs.Prelude.{◌≡◌, ◌++◌, IfOk, List, OnOk, map};
+ghost use Rattle.cell_machine.specs.Machine.{IsSound};
 ghost use Rattle.cell_num.specs.Lists.{holds};
+ghost use Rattle.cell_space.specs.Joined.{AreJoined};
 ghost use Rattle.cell_num.specs.declared.ids.CellId.{CellId as IdOfCell};
-ghost use Rattle.cell_world.specs.Kept.{placed_in};
 ghost use Rattle.cell_world.specs.UnloadCommand.{first_held, garbage_of};
 ghost use Rattle.cell_world.specs.declared.refusal.Refusal.TheVariants.{Held};
 ghost use Rattle.cell_swap.specs.Sweep.{IsSurvey, aside_in, holding_in, refusal_of, unless_kept};
 
 use crate::places::places;
 use crate::roots::roots;
-use cell_hold::{Root, holder_of, kept};
+use cell_hold::{Places, Root, holder_of, kept};
 use cell_machine::Machine;
 use cell_num::{CellId, Holder};
-use cell_world::{Placed, Refusal};
+use cell_world::Refusal;
 use std::alloc::{AllocError, Global};
 
-/// The sections by their addresses, where holding begins, and the cells that are kept, ascending.
+/// The sections, where holding begins, and the cells that are kept, ascending.
 #[derive(Drop)]
 pub struct Survey {
-    pub places: Vec<Placed>,
+    pub places: Places,
     pub roots: Vec<Root>,
     pub kept: Vec<CellId>,
 }
@@ -60,9 +58,6 @@ impl Survey {
 
     /// The refusal for the cell, if it is kept.
     fn refusal(&self, machine: &Machine, cell: CellId) -> Option<Refusal>
-        requires sound { IsSound machine.now }
-        requires sections { IsPermutation (flat_map placed_in (world_of machine.now).cells) self.now.places.items }
-        requires laid { AreLaid self.now.places.items }
         ensures { (aside : List IdOfCell) → IsSurvey machine.now aside self.now → result ≡ refusal_of (holding_in machine.now aside) cell.0 }
     {
         if !self.keeps(cell) {
@@ -81,8 +76,7 @@ impl Survey {
 
     /// The refusal for the first of the cells that is kept.
     pub fn first_held(&self, machine: &Machine, aside: &[CellId]) -> Option<Refusal>
-        requires sound { IsSound machine.now }
-        requires survey { IsSurvey machine.now aside.now self.now }
+        requires { IsSurvey machine.now aside.now self.now }
         ensures { result ≡ first_held (holding_in machine.now aside.now) (map (λ c. c.0) aside.now) }
     {
         for cell in aside {
@@ -107,6 +101,7 @@ impl Survey {
 
     /// The cells that nobody keeps, ascending.
     pub fn unkept(&self, alloc: Global, machine: &Machine) -> Result<Vec<CellId>, AllocError>
+        requires { AreJoined machine.now.cells.items machine.now.spaces.cells }
         ensures { (aside : List IdOfCell) → IsSurvey machine.now aside self.now → IfOk result (λ cells. map (λ c. c.0) cells.items ≡ garbage_of (aside_in machine.now aside)) }
     {
         let mut cells = Vec::new(alloc);

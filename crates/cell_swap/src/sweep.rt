@@ -5,24 +5,20 @@ ghost use Rattle.cell_swap.specs.Sweep.{Sweeps};
 
 use crate::removal::remove;
 use crate::survey::Survey;
-use cell_gather::LoadFail;
 use cell_machine::Machine;
 use cell_num::CellId;
+use cell_world::Fail;
 use std::alloc::Global;
 
 /// Removes all cells that nobody keeps while these are put aside, and answers them, ascending. If
 /// one of these is kept, that is the refusal. All that can fail comes before the first change.
-pub fn sweep(
-    alloc: Global,
-    machine: &mut Machine,
-    aside: &[CellId],
-) -> Result<Vec<CellId>, LoadFail>
+pub fn sweep(alloc: Global, machine: &mut Machine, aside: &[CellId]) -> Result<Vec<CellId>, Fail>
     requires { IsSound machine.old }
     ensures { Sweeps machine.old aside.now result machine.new }
 {
     let survey = Survey::of(alloc, machine, aside)?;
     match survey.first_held(machine, aside) {
-        Some(refusal) => return Err(LoadFail::Refused(refusal)),
+        Some(refusal) => return Err(Fail::Refused(refusal)),
         None => {}
     }
     let removed = survey.unkept(alloc, machine)?;

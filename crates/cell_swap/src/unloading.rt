@@ -6,10 +6,9 @@ ghost use Rattle.cell_world.specs.UnloadCommand.{next_purge, next_unload};
 
 use crate::named::named_cells;
 use crate::sweep::sweep;
-use cell_gather::LoadFail;
 use cell_machine::Machine;
 use cell_num::Listed;
-use cell_world::{CellName, Reply};
+use cell_world::{CellName, Fail, Reply};
 use std::alloc::Global;
 
 /// Removes the cells of these names, and with them every cell that was put aside and that nobody
@@ -18,9 +17,9 @@ use std::alloc::Global;
 ///
 /// Refusals, of which the first that holds is answered: a name that is no attached cell's, and a
 /// named cell that is kept, with its holder.
-pub fn unload(alloc: Global, machine: &mut Machine, names: &[CellName]) -> Result<Reply, LoadFail>
+pub fn unload(alloc: Global, machine: &mut Machine, names: &[CellName]) -> Result<Reply, Fail>
     requires { IsSound machine.old }
-    ensures { Does (next_unload (world_of machine.old) names.now) machine.old result machine.new }
+    ensures { Does (next_unload (world_of machine.old) names.now) 0 machine.old result machine.new }
 {
     let cells = named_cells(alloc, machine, names)?;
     let removed = sweep(alloc, machine, &cells)?;
@@ -30,9 +29,9 @@ pub fn unload(alloc: Global, machine: &mut Machine, names: &[CellName]) -> Resul
 }
 
 /// Removes every cell that was put aside and that nobody keeps.
-pub fn purge(alloc: Global, machine: &mut Machine) -> Result<Reply, LoadFail>
+pub fn purge(alloc: Global, machine: &mut Machine) -> Result<Reply, Fail>
     requires { IsSound machine.old }
-    ensures { Does (next_purge (world_of machine.old)) machine.old result machine.new }
+    ensures { Does (next_purge (world_of machine.old)) 0 machine.old result machine.new }
 {
     let removed = sweep(alloc, machine, &[])?;
     Ok(Reply::Purge {

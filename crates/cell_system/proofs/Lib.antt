@@ -1,8 +1,7 @@
 pub mod Ready
+pub mod NewRegions
 pub mod Committing
 pub mod Added
 pub mod MoreNamespaces
-pub mod Steps
-pub mod DistinctFiles
 pub mod Loads
-pub mod Patchless
+pub mod Steps

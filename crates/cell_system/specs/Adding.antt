@@ -7,19 +7,19 @@ use Rattle.std.specs.Prelude.{◌≡◌, ◌≤◌, ◌+◌, ℕ, List, ◌++◌
 use Rattle.cell_num.specs.declared.ids.CellId.{CellId}
 use Rattle.cell_world.specs.declared.state.NewCell.{NewCell}
 use Rattle.cell_world.specs.declared.reply.Reply.TheVariants.{Load as LoadDone}
-use Rattle.cell_world.specs.Answer.{done, ids, numbers_of}
 use Rattle.cell_world.specs.Coherent.{AreSound}
 use Rattle.cell_world.specs.Gather.{Source}
 use Rattle.cell_world.specs.LoadCommand.{next_load}
 use Rattle.cell_space.specs.Machine.{called}
 use Rattle.cell_commit.specs.Cells.{AreAbove, AreFree, arrived, name_count, section_count}
-use Rattle.cell_commit.specs.Commit.{AreRoom, AreUnbound, IsMapped, all_mapped, fields_written}
+use Rattle.cell_commit.specs.Commit.{AreRoom, IsMapped, all_mapped, fields_written}
 use Rattle.cell_commit.specs.declared.sections.CellSections.{CellSections}
+use Rattle.cell_graph.specs.Order.{Rises, below_link}
 use Rattle.cell_machine.specs.declared.machine.Machine.{Machine}
 use Rattle.cell_machine.specs.declared.staged.Staged.{Staged}
-use Rattle.cell_machine.specs.Machine.{IsSound, cells_of, keys_of, world_of}
-use Rattle.cell_machine.specs.Same.{raised}
-use Rattle.cell_machine.specs.Staged.{IsStaged}
+use Rattle.cell_machine.specs.Machine.{IsSound, keys_of, world_of}
+use Rattle.cell_machine.specs.Does.{IsDone, state_of}
+use Rattle.cell_machine.specs.Staged.{IsStaged, all_attached}
 use Rattle.cell_system.specs.declared.prepared.Prepared.{Prepared}
 
 pub record IsReadyToAdd (m : Machine) (s : Staged) : Type 0 where
@@ -38,7 +38,7 @@ abbrev pub listed : CellSections → CellId × List ℕ
 listed s = (s.cell, s.sections.items)
 
 pub record IsPrepared (s : Staged) (p : Prepared) : Type 0 where
-  pub newcomers : map arrived p.newcomers.items ≡ map called (cells_of s.cells.items)
+  pub newcomers : map arrived p.newcomers.items ≡ map called (all_attached s.cells.items)
   pub sections : map listed p.sections.items ≡ map numbers_in s.cells.items
 
 -- room for all that the staged cells add
@@ -59,15 +59,16 @@ pub record IsCommittable (m : Machine) (s : Staged) (p : Prepared) : Type 0 wher
   pub undo : (all_mapped m.memory s.regions.items).writes_left ≡ None
   pub above : AreAbove m.graph.sections p.sections.items
   pub present : All (λ r. Contains (m.graph.sections ++ keys_of s.cells.items) r.user × Contains (m.graph.sections ++ keys_of s.cells.items) r.target) s.rows.items
-  pub unbound : AreUnbound m.graph.rows s.rows.items
+  pub rise : Rises below_link (m.graph.rows ++ s.rows.items)
   pub free : AreFree m.spaces.namespaces m.spaces.cells p.newcomers.items
   pub next : m.next + length s.cells.items ≤ 65536
 
 pub record IsCommitted (old : Machine) (s : Staged) (new : Machine) : Type 0 where
   pub cells : new.cells.items ≡ old.cells.items ++ s.cells.items
   pub next : new.next ≡ old.next + length s.cells.items
+  pub swaps : new.swaps ≡ old.swaps
   pub namespaces : new.spaces.namespaces ≡ old.spaces.namespaces
-  pub known : new.spaces.cells ≡ old.spaces.cells ++ map called (cells_of s.cells.items)
+  pub known : new.spaces.cells ≡ old.spaces.cells ++ map called (all_attached s.cells.items)
   pub space : new.space ≡ s.space
   pub spare : ℕ
   pub memory : new.memory ≡ fields_written (all_mapped (record old.memory { spare = spare }) s.regions.items) s.fields.items
@@ -75,11 +76,8 @@ pub record IsCommitted (old : Machine) (s : Staged) (new : Machine) : Type 0 whe
   pub rows : new.graph.rows ≡ old.graph.rows ++ s.rows.items
   pub tasks : new.tasks ≡ old.tasks
 
--- the machine is sound, and it is what each load comes to by which the cells were staged
+-- the machine is sound, and it is what each load comes to by which the cells were staged; each field was patched, and each region mapped
 pub record IsAdded (old : Machine) (s : Staged) (new : Machine) : Type 0 where
   pub sound : IsSound new
   pub loaded : (sources : List Source) (ns stem : List ℕ) → AreSound sources → IsStaged sources (world_of old) ns stem s
-      → next_load sources (world_of old) ns stem ≡ done (LoadDone (ids (numbers_of (cells_of s.cells.items))) (length s.fields.items)) (world_of new)
-  pub regions : length new.memory.regions ≡ length old.memory.regions + length s.regions.items
-  pub patches : new.memory.patches ≡ raised old.memory.patches (length s.fields.items)
-  pub maps : new.memory.maps ≡ raised old.memory.maps (length s.regions.items)
+      → IsDone (next_load sources (world_of old) ns stem) 0 (state_of old) (LoadDone (map (λ c. c.id) s.cells.items) (length s.fields.items)) (state_of new)

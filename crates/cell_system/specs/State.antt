@@ -1,11 +1,9 @@
 -- What a system is seen as.
-use Rattle.std.specs.Prelude.{ℕ, List}
+use Rattle.std.specs.Prelude.{List}
 use Rattle.cell_world.specs.declared.file.File.{File}
-use Rattle.cell_world.specs.World.{World}
+use Rattle.cell_machine.specs.Does.{State as MachineState}
 
--- the object files of the run, which no command changes, the machine, and how many fields were written and regions mapped
+-- the object files of the run, which no command changes, and the machine
 pub record State : Type 0 where
   pub files : List File
-  pub world : World
-  pub patches : ℕ
-  pub maps : ℕ
+  pub machine : MachineState

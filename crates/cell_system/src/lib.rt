@@ -7,6 +7,5 @@ mod prepared;
 mod room;
 mod system;
 
-pub use cell_gather::LoadFail as Fail;
-pub use cell_world::{Command, File, Refusal, Reply};
+pub use cell_world::{Command, Fail, File, Refusal, Reply};
 pub use system::System;

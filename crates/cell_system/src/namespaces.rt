@@ -2,20 +2,17 @@
 
 ghost use Rattle.std.specs.Prelude.{◌≡◌, IfOk};
 ghost use Rattle.cell_world.specs.declared.refusal.Refusal.TheVariants.{NameTaken};
-ghost use Rattle.cell_gather.specs.Following.{Follows};
-ghost use Rattle.cell_machine.specs.Machine.{IsSound};
-ghost use Rattle.cell_system.specs.Namespaces.{AddsNamespace, may_add};
+ghost use Rattle.cell_world.specs.Following.{Follows};
+ghost use Rattle.cell_machine.specs.Does.{Does};
+ghost use Rattle.cell_machine.specs.Machine.{IsSound, world_of};
+ghost use Rattle.cell_world.specs.NsCommand.{next_ns};
+ghost use Rattle.cell_system.specs.Namespaces.{may_add};
 
-use cell_gather::LoadFail;
-use cell_machine::Machine;
+use cell_machine::{Machine, namespace};
 use cell_num::Name;
 use cell_space::Spaces;
-use cell_stage::namespace;
-use cell_world::{Many, Refusal, Reply};
+use cell_world::{Fail, MAX_NAMESPACES, Many, Refusal, Reply};
 use std::alloc::{AllocError, Global};
-
-/// The most namespaces that there may be.
-const MAX_NAMESPACES: usize = 256;
 
 /// The name is taken.
 fn taken(alloc: Global, name: &[u8]) -> Result<Refusal, AllocError>
@@ -27,16 +24,16 @@ fn taken(alloc: Global, name: &[u8]) -> Result<Refusal, AllocError>
 }
 
 /// Sees that the name is free and that one more namespace may come.
-fn check(alloc: Global, spaces: &Spaces, name: &[u8]) -> Result<(), LoadFail>
+fn check(alloc: Global, spaces: &Spaces, name: &[u8]) -> Result<(), Fail>
     ensures { Follows (λ _. tt) result (may_add spaces.now.namespaces name.now) }
 {
     if spaces.find_ns(name).is_some() {
-        return Err(LoadFail::Refused(taken(alloc, name)?));
+        return Err(Fail::Refused(taken(alloc, name)?));
     }
-    if spaces.namespace_count() >= MAX_NAMESPACES {
-        return Err(LoadFail::Refused(Refusal::TooMany {
+    if spaces.namespace_count() >= MAX_NAMESPACES as usize {
+        return Err(Fail::Refused(Refusal::TooMany {
             kind: Many::Namespaces,
-            limit: MAX_NAMESPACES as u32,
+            limit: MAX_NAMESPACES,
         }));
     }
     Ok(())
@@ -48,9 +45,9 @@ pub fn add_namespace(
     machine: &mut Machine,
     name: &[u8],
     parent: &[u8],
-) -> Result<Reply, LoadFail>
+) -> Result<Reply, Fail>
     requires { IsSound machine.old }
-    ensures { AddsNamespace machine.old name.now parent.now result machine.new }
+    ensures { Does (next_ns (world_of machine.old) name.now parent.now) 0 machine.old result machine.new }
 {
     let up = namespace(alloc, &machine.spaces, parent)?;
     check(alloc, &machine.spaces, name)?;

@@ -2,7 +2,7 @@
 
 ghost use Rattle.std.specs.Prelude.{◌≡◌, IfOk, map};
 ghost use Rattle.cell_commit.specs.Cells.{arrived};
-ghost use Rattle.cell_machine.specs.Machine.{cells_of};
+ghost use Rattle.cell_machine.specs.Staged.{all_attached};
 ghost use Rattle.cell_space.specs.Machine.{called};
 ghost use Rattle.cell_system.specs.Adding.{listed, numbers_in};
 ghost use Rattle.cell_world.specs.Names.{definitions_of};
@@ -28,7 +28,7 @@ impl Prepared {
         names: Vec<NameRows>,
     ) -> Result<Prepared, AllocError>
         requires { names.items ≡ map (λ c. definitions_of c.object) cells.now }
-        ensures newcomers { IfOk result (λ p. map arrived p.newcomers.items ≡ map called (cells_of cells.now)) }
+        ensures newcomers { IfOk result (λ p. map arrived p.newcomers.items ≡ map called (all_attached cells.now)) }
         ensures sections { IfOk result (λ p. map listed p.sections.items ≡ map numbers_in cells.now) }
     {
         Ok(Prepared {
@@ -45,7 +45,7 @@ fn newcomers(
     names: Vec<NameRows>,
 ) -> Result<Vec<Newcomer>, AllocError>
     requires { names.items ≡ map (λ c. definitions_of c.object) cells.now }
-    ensures { IfOk result (λ new. map arrived new.items ≡ map called (cells_of cells.now)) }
+    ensures { IfOk result (λ new. map arrived new.items ≡ map called (all_attached cells.now)) }
 {
     let mut newcomers = Vec::new(alloc);
     for names in names {

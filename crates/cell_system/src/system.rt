@@ -2,7 +2,8 @@
 
 ghost use Rattle.std.specs.Prelude.{◌≡◌, ◌≤◌, IfOk, All, length, map, true};
 ghost use Rattle.std.specs.List.{list_all};
-ghost use Rattle.cell_depot.specs.Files.{are_in_order};
+ghost use Rattle.cell_depot.specs.Files.{are_apart};
+ghost use Rattle.cell_script.specs.Script.{is_said};
 ghost use Rattle.cell_depot.specs.ObjectName.{is_object_name};
 ghost use Rattle.cell_world.specs.Coherent.{IsCoherent};
 ghost use Rattle.cell_world.specs.Pages.{IsSpace};
@@ -35,7 +36,7 @@ pub struct System {
 
 impl Model for System {
     ghost use Rattle.std.specs.Prelude.{All, ◌≡◌, ◌≤◌, length, true};
-    ghost use Rattle.cell_depot.specs.Files.{are_in_order};
+    ghost use Rattle.cell_depot.specs.Files.{are_apart};
     ghost use Rattle.cell_machine.specs.Machine.{IsSound};
     ghost use Rattle.cell_system.specs.State.{State};
     ghost use Rattle.cell_system.specs.Step.{state_of};
@@ -44,7 +45,7 @@ impl Model for System {
 
     ghost view = { λ s. state_of s.depot s.machine };
 
-    ghost invariant = { λ s. IsSound s.machine × All (λ f. length f.bytes ≤ 1048576) s.depot × (are_in_order s.depot ≡ true) };
+    ghost invariant = { λ s. IsSound s.machine × All (λ f. length f.bytes ≤ 1048576) s.depot × (are_apart s.depot ≡ true) };
 }
 
 /// The numbers of the cells.
@@ -65,8 +66,8 @@ impl System {
         requires few { length files.items ≤ 1024 }
         requires small { All (λ f. length f.bytes ≤ 1048576) files.items }
         requires named { list_all (λ f. is_object_name f.name) files.items ≡ true }
-        requires ordered { are_in_order files.items ≡ true }
-        ensures { IfOk result (λ s. s ≡ record { files = files.items; world = empty_world base pages; patches = 0; maps = 0 }) }
+        requires apart { are_apart files.items ≡ true }
+        ensures { IfOk result (λ s. s ≡ record { files = files.items; machine = record { world = empty_world base pages; patches = 0; maps = 0 } }) }
     {
         Ok(System {
             alloc,
@@ -180,13 +181,14 @@ impl System {
     /// The machine is coherent between any two commands. A turn keeps it so, by the law
     /// `turn_keeps_coherent` of `cell_turns`: it holds after each turn inside a command too.
     pub fn coherent(&self)
-        ensures { IsCoherent self.now.world }
+        ensures { IsCoherent self.now.machine.world }
     {
         let _ = &self.machine;
     }
 
-    /// Does a command.
+    /// Does a command that a line of a script can say, which are all but swaps.
     pub fn do_command(&mut self, command: &Command) -> Result<Reply, Fail>
+        requires { is_said command.now ≡ true }
         ensures { IsStep self.old command.now result self.new }
     {
         match command {
@@ -204,6 +206,7 @@ impl System {
             Command::Users { cell } => self.users(*cell),
             Command::Map => self.map(),
             Command::Dump { cell, section } => self.dump(*cell, *section),
+            Command::Swap { .. } => unreachable!(),
         }
     }
 }

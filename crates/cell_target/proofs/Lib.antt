@@ -1,4 +1,3 @@
-pub mod InOrder
 pub mod Lookups
 pub mod Tabled
 pub mod Seen

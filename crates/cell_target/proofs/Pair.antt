@@ -12,7 +12,9 @@ use Rattle.cell_space.specs.declared.cell.CellState.TheVariants.{Attached as IsA
 use Rattle.cell_space.specs.declared.cell.SpaceCell.{SpaceCell}
 use Rattle.cell_space.specs.Machine.{called}
 use Rattle.cell_world.specs.World.{attached}
-use Rattle.cell_target.specs.Scene.{AreCells, AreLow, IsLow}
+use Rattle.cell_space.proofs.Joined.{joined_by}
+use Rattle.cell_target.specs.Scene.{AreCells}
+use Rattle.cell_placed.specs.Low.{AreLow, IsLow}
 
 in_two : (p f c : NewCell) → IsLow p → IsLow f → In c (p ∷ f ∷ []) → IsLow c
 in_two p f c lp lf (inl e) = subst IsLow (sym e) lp
@@ -24,7 +26,7 @@ in_order a b lt = grind (arith, nat_tests)
 
 pub two_cells : (p f : NewCell) (spaces : List SpaceCell) → spaces ≡ called (attached p) ∷ called (attached f) ∷ [] → p.id.0 < f.id.0 → IsLow p → IsLow f → AreCells spaces (p ∷ f ∷ [])
 two_cells p f spaces e lt lp lf = record {
-  known = sym e;
+  joined = joined_by (attached p ∷ attached f ∷ []) (p ∷ f ∷ []) spaces refl e;
   ordered = rw (in_order p.id.0 f.id.0 lt) refl;
   low = λ c i. in_two p f c lp lf i;
 }

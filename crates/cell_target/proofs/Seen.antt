@@ -10,10 +10,12 @@ use Rattle.cell_world.specs.declared.state.Namespace.{Namespace}
 use Rattle.cell_world.specs.declared.state.NewCell.{NewCell}
 use Rattle.cell_world.specs.declared.state.Target.{Target}
 use Rattle.cell_world.specs.declared.state.Target.TheVariants.{Number}
-use Rattle.cell_world.specs.World.{World, Cell, Standing, Attached, Detached, cell_of, is_attached, is_of_group, attached}
+use Rattle.cell_world.specs.World.{World, Cell, Standing, Attached, Detached, cell_of, is_attached, is_of_group}
 use Rattle.cell_world.specs.Names.{Provider, chain, first_provider, attached_provider, provider_for, provider_of}
 use Rattle.cell_world.specs.Target.{numbered_target, own_target, provided_target, symbol_target, targets_of, naming_entry}
 use Rattle.cell_num.specs.Lists.{or_else}
+use Rattle.cell_space.specs.Joined.{cells_of}
+use Rattle.cell_space.specs.declared.cell.SpaceCell.{SpaceCell}
 use Rattle.cell_target.specs.Scene.{seen}
 use Rattle.cell_target.proofs.Tabled.{map-same}
 
@@ -72,15 +74,15 @@ module _ (v w : World) (spaces : v.namespaces ≡ w.namespaces) (cells : v.cells
     targets_same = map-same _ _ (λ e. ap (λ (t : Option Target). unwrap_or t (Number 0)) (by_naming (naming_entry c.object e))) c.object.entries
 
 -- a machine with these namespaces and cells
-module _ (w : World) (namespaces : List Namespace) (cells : List NewCell) (spaces : w.namespaces ≡ namespaces) (are : w.cells ≡ map attached cells) where
-  pub cell_seen : (n : ℕ) → cell_of w n ≡ cell_of (seen namespaces cells) n
-  cell_seen n = cell_same w (seen namespaces cells) spaces are n
+module _ (w : World) (namespaces : List Namespace) (cells : List NewCell) (known : List SpaceCell) (spaces : w.namespaces ≡ namespaces) (are : w.cells ≡ cells_of cells known) where
+  pub cell_seen : (n : ℕ) → cell_of w n ≡ cell_of (seen namespaces cells known) n
+  cell_seen n = cell_same w (seen namespaces cells known) spaces are n
 
-  pub provider_seen : (ns : ℕ) (name : List ℕ) → attached_provider w ns name ≡ attached_provider (seen namespaces cells) ns name
-  provider_seen ns name = provider_same w (seen namespaces cells) spaces are ns name
+  pub provider_seen : (ns : ℕ) (name : List ℕ) → attached_provider w ns name ≡ attached_provider (seen namespaces cells known) ns name
+  provider_seen ns name = provider_same w (seen namespaces cells known) spaces are ns name
 
-  pub provided_seen : (p : Provider) → provided_target w p ≡ provided_target (seen namespaces cells) p
-  provided_seen p = provided_same w (seen namespaces cells) spaces are p
+  pub provided_seen : (p : Provider) → provided_target w p ≡ provided_target (seen namespaces cells known) p
+  provided_seen p = provided_same w (seen namespaces cells known) spaces are p
 
-  pub targets_seen : (c : Cell) → targets_of w c ≡ targets_of (seen namespaces cells) c
-  targets_seen c = targets_same w (seen namespaces cells) spaces are c
+  pub targets_seen : (c : Cell) → targets_of w c ≡ targets_of (seen namespaces cells known) c
+  targets_seen c = targets_same w (seen namespaces cells known) spaces are c

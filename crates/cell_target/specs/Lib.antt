@@ -1,4 +1,3 @@
 pub mod Scene
-pub mod Before
 pub mod Entries
 pub mod Highs

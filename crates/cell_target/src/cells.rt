@@ -1,42 +1,18 @@
-//! Cells by their numbers.
+//! The cells of a scene by their numbers.
 
-ghost use Rattle.std.specs.Prelude.{IsTrue, nat_lt, ◌≡◌, ◌==◌, ◌++◌, find, option_map};
-ghost use Rattle.cell_num.specs.Lists.{each_pair};
-ghost use Rattle.cell_world.specs.World.{cell_of, attached};
-ghost use Rattle.cell_target.specs.Before.{AreBefore, number_in};
+ghost use Rattle.std.specs.Prelude.{◌≡◌, ◌++◌, option_map};
+ghost use Rattle.cell_world.specs.World.{cell_of};
+ghost use Rattle.cell_space.specs.Joined.{placed_of};
 ghost use Rattle.cell_target.specs.Scene.{seen};
 
 use crate::scene::Scene;
+use cell_placed::cell_numbered;
 use cell_world::NewCell;
-
-/// How many of the cells, which are in the order of their numbers, have a lower number.
-fn cells_before(cells: &[NewCell], number: u32) -> usize
-    requires { IsTrue (each_pair (λ a b. nat_lt a.id.0 b.id.0) cells.now) }
-    ensures { AreBefore number_in number cells.now result }
-{
-    cells.partition_point(
-        |cell: &NewCell| -> bool
-            ensures { result ≡ nat_lt cell.now.id.0 number }
-        { cell.id.0 < number },
-    )
-}
-
-/// The cell of that number, among cells in the order of their numbers.
-fn cell_numbered(cells: &[NewCell], number: u32) -> Option<&NewCell>
-    requires { IsTrue (each_pair (λ a b. nat_lt a.id.0 b.id.0) cells.now) }
-    ensures { option_map (λ c. c.now) result ≡ find (λ c. c.id.0 == number) cells.now }
-{
-    let cell = cells.get(cells_before(cells, number))?;
-    if cell.id.0 != number {
-        return None;
-    }
-    Some(cell)
-}
 
 impl<'a> Scene<'a> {
     /// The present or new cell of that number.
     pub fn cell(&self, number: u32) -> Option<&'a NewCell>
-        ensures { option_map (λ c. attached c.now) result ≡ cell_of (seen self.now.layers.namespaces (self.now.present.now ++ self.now.fresh.now)) number }
+        ensures { option_map (λ c. c.now) result ≡ option_map placed_of (cell_of (seen self.now.layers.namespaces (self.now.present.now ++ self.now.fresh.now) self.now.layers.cells) number) }
     {
         if let Some(cell) = cell_numbered(self.present, number) {
             return Some(cell);

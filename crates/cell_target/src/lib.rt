@@ -5,8 +5,6 @@
 mod cells;
 mod entries;
 mod highs;
-mod own;
-mod places;
 mod provided;
 mod scene;
 mod symbols;
@@ -14,7 +12,6 @@ mod targets;
 
 pub use cell_gather::Layers;
 pub use cell_world::{NewCell, Target};
-pub use places::start_of;
 pub use scene::Scene;
 
 #[cfg(test)]

@@ -6,15 +6,15 @@ ghost use Rattle.cell_world.specs.Target.{provided_target as provided_at};
 ghost use Rattle.cell_space.specs.Named.{provider_as};
 ghost use Rattle.cell_target.specs.Scene.{seen};
 
-use crate::own::target_in;
 use crate::scene::Scene;
+use cell_placed::target_in;
 use cell_space::Provider;
 use cell_world::Target;
 
 impl<'a> Scene<'a> {
     /// The target that a provider's symbol is.
     fn provided_target(&self, provider: &Provider) -> Option<Target>
-        ensures { result ≡ provided_at (seen self.now.layers.namespaces (self.now.present.now ++ self.now.fresh.now)) (provider_as provider.now) }
+        ensures { result ≡ provided_at (seen self.now.layers.namespaces (self.now.present.now ++ self.now.fresh.now) self.now.layers.cells) (provider_as provider.now) }
     {
         let cell = self.cell(provider.cell.0)?;
         target_in(cell, provider.symbol)
@@ -23,7 +23,7 @@ impl<'a> Scene<'a> {
     /// Where a name's provider for a namespace has it.
     pub fn provided(&self, ns: u16, name: &[u8]) -> Option<Target>
         requires { ns < length self.now.layers.namespaces }
-        ensures { result ≡ option_and_then (provided_at (seen self.now.layers.namespaces (self.now.present.now ++ self.now.fresh.now))) (attached_provider (seen self.now.layers.namespaces (self.now.present.now ++ self.now.fresh.now)) ns name.now) }
+        ensures { result ≡ option_and_then (provided_at (seen self.now.layers.namespaces (self.now.present.now ++ self.now.fresh.now) self.now.layers.cells)) (attached_provider (seen self.now.layers.namespaces (self.now.present.now ++ self.now.fresh.now) self.now.layers.cells) ns name.now) }
     {
         let provider = self.layers.provider(ns, name)?;
         self.provided_target(&provider)

@@ -5,11 +5,12 @@ ghost use Rattle.cell_world.specs.Target.{symbol_target as target_with};
 ghost use Rattle.cell_coherent.specs.Grown.{In};
 ghost use Rattle.cell_target.specs.Entries.{symbol_targets as targets_with};
 ghost use Rattle.cell_world.specs.World.{attached};
-ghost use Rattle.cell_target.specs.Scene.{IsLow, seen};
+ghost use Rattle.cell_target.specs.Scene.{seen};
+ghost use Rattle.cell_placed.specs.Low.{IsLow};
 
-use crate::own::own_target;
 use crate::scene::Scene;
 use cell_object::{Bind, Home, Symbol};
+use cell_placed::own_target;
 use cell_world::{NewCell, Target};
 use std::alloc::{AllocError, Global};
 
@@ -19,7 +20,7 @@ impl<'a> Scene<'a> {
         requires low { IsLow cell.now }
         requires there { In symbol.now cell.now.object.symbols }
         requires ns { cell.now.ns < length self.now.layers.namespaces }
-        ensures { result ≡ target_with (seen self.now.layers.namespaces (self.now.present.now ++ self.now.fresh.now)) (attached cell.now) symbol.now symbol.now.home }
+        ensures { result ≡ target_with (seen self.now.layers.namespaces (self.now.present.now ++ self.now.fresh.now) self.now.layers.cells) (attached cell.now) symbol.now symbol.now.home }
     {
         if symbol.home != Home::Undef {
             return own_target(cell, symbol);
@@ -38,7 +39,7 @@ impl<'a> Scene<'a> {
     ) -> Result<Vec<Option<Target>>, AllocError>
         requires low { IsLow cell.now }
         requires ns { cell.now.ns < length self.now.layers.namespaces }
-        ensures { IfOk result (λ targets. targets.items ≡ targets_with (seen self.now.layers.namespaces (self.now.present.now ++ self.now.fresh.now)) (attached cell.now)) }
+        ensures { IfOk result (λ targets. targets.items ≡ targets_with (seen self.now.layers.namespaces (self.now.present.now ++ self.now.fresh.now) self.now.layers.cells) (attached cell.now)) }
     {
         let mut targets = Vec::new(alloc);
         let symbols = cell.object.symbols.as_slice();

@@ -3,11 +3,13 @@ ghost use Rattle.cell_gather.specs.Layers.{AreAlike};
 ghost use Rattle.cell_world.specs.Names.{definitions_of, is_definition};
 ghost use Rattle.cell_space.specs.Machine.{called};
 ghost use Rattle.cell_world.specs.World.{attached};
-ghost use Rattle.cell_target.specs.Scene.{AreCells, AreLow, IsLow};
+ghost use Rattle.cell_target.specs.Scene.{AreCells};
+ghost use Rattle.cell_placed.specs.Low.{AreLow, IsLow};
 
 use super::*;
-use cell_num::{CellId, Listed, Name, RelKind, SecKey};
+use cell_num::{Bytes, CellId, Listed, Name, RelKind, SecKey};
 use cell_object::{Bind, Entry, Home, Object, Sort, Symbol};
+use cell_placed::start_of;
 use cell_space::{NameRows, Spaces};
 use cell_world::SecPlace;
 use std::alloc::{AllocError, Global};
@@ -20,7 +22,7 @@ fn defined(alloc: Global, name: &[u8]) -> Result<Symbol, AllocError>
     ensures low { IfOk result (λ s. s.value < 2 ^ 63) }
 {
     Ok(Symbol {
-        name: Listed::from_vec(Vec::from_slice(alloc, name)?),
+        name: Bytes::from_vec(Vec::from_slice(alloc, name)?),
         bind: Bind::Global,
         sort: Sort::NoType,
         home: Home::Inside(1),
@@ -35,7 +37,7 @@ fn needed(alloc: Global, name: &[u8]) -> Result<Symbol, AllocError>
     ensures low { IfOk result (λ s. s.value < 2 ^ 63) }
 {
     Ok(Symbol {
-        name: Listed::from_vec(Vec::from_slice(alloc, name)?),
+        name: Bytes::from_vec(Vec::from_slice(alloc, name)?),
         bind: Bind::Global,
         sort: Sort::NoType,
         home: Home::Undef,
@@ -50,7 +52,7 @@ fn fixed(alloc: Global) -> Result<Symbol, AllocError>
     ensures low { IfOk result (λ s. s.value < 2 ^ 63) }
 {
     Ok(Symbol {
-        name: Listed::from_vec(Vec::from_slice(alloc, b"fixed")?),
+        name: Bytes::from_vec(Vec::from_slice(alloc, b"fixed")?),
         bind: Bind::Global,
         sort: Sort::NoType,
         home: Home::Abs,

@@ -3,8 +3,8 @@ use Rattle.std.proofs.Common.{◌≡◌, ◌≢◌, refl, sym, ap, subst, ◌∙
 use Rattle.std.specs.Prelude.{option_map}
 use Rattle.slab.specs.Slab.{get, with_value}
 use Rattle.cell_world.specs.World.{Task}
-use Rattle.cell_world.specs.Turn.{with_task}
-use Rattle.cell_world.specs.Execute.{execute}
+use Rattle.cell_world.specs.Move.{move}
+use Rattle.cell_world.specs.Turn.{task_column, with_task}
 use Rattle.cell_hart.specs.Step.{seen_of}
 use Rattle.cell_mem.specs.Index.{IsLaid}
 use Rattle.cell_mem.specs.State.{MemoryState, region_from, unmapped}
@@ -14,7 +14,7 @@ use Rattle.cell_task.specs.declared.turned.Turned.{Turned as Answer}
 use Rattle.cell_task.specs.declared.turned.Turned.TheVariants.{Done}
 use Rattle.cell_task.specs.Inside.{IsSound, state_of}
 use Rattle.cell_task.specs.Numbers.{HasAt}
-use Rattle.cell_task.specs.Ran.{IsRan, ran_by, regions_by}
+use Rattle.cell_task.specs.Ran.{IsRan, hart_as}
 use Rattle.cell_task.specs.State.{TasksState, live_in, seen_as, without}
 use Rattle.cell_task.specs.Turns.{IsTurn}
 use Rattle.cell_task.proofs.Places.{live_at, sound_changed, state_changed}
@@ -47,8 +47,8 @@ module _ (i : Inside) (sound : IsSound i) (s : TasksState) (view : state_of i �
   live_then = ap is_some there_then
 
   module _ (m m1 : MemoryState) (laid : IsLaid m.base m.regions (m.base + 4096 * m.pages)) (out out' : List ℕ) (answer : Answer)
-      (r : IsRan (ran_by t.hart.pc t.hart.x t.fault (execute (seen_of m) t.hart.x t.hart.pc)) answer t u out out')
-      (memory : m1 ≡ record m { regions = regions_by m.regions (execute (seen_of m) t.hart.x t.hart.pc) }) where
+      (r : IsRan (move task_column (seen_of m) (hart_as t.hart)) answer t u out out')
+      (memory : m1 ≡ record m { regions = (move task_column (seen_of m) (hart_as t.hart)).regions }) where
     pub stays : ((code : ℕ) → answer ≢ Done code) → (w : Task) → live_in s number ≡ Some w → IsTurn s m w out answer (state_of turned) m1 out'
     stays goes w live =
         subst (λ (x : Task). IsTurn s m x out answer (state_of turned) m1 out') (some_same (seen_as number t) w (live_in s number) there live)

@@ -5,16 +5,14 @@ use Rattle.std.specs.List.{find}
 use Rattle.cell_world.specs.declared.reply.TaskState.{TaskState}
 use Rattle.cell_world.specs.declared.reply.TaskState.TheVariants.{Ready as IsReady, Done as IsDone, Fault as IsFault}
 use Rattle.cell_world.specs.World.{Region, Task}
-use Rattle.cell_world.specs.Turn.{Turned, with_task}
+use Rattle.cell_world.specs.Turn.{Turned, standing, with_task}
 use Rattle.cell_mem.specs.Index.{IsLaid}
 use Rattle.cell_mem.specs.State.{MemoryState, region_from, unmapped}
 use Rattle.cell_task.specs.declared.task.Task.{Task as LiveTask}
 use Rattle.cell_task.specs.declared.turned.Turned.{Turned as Answer}
-use Rattle.cell_task.specs.declared.turned.Turned.TheVariants.{Ready, Yield, Done, Fault}
-use Rattle.cell_task.specs.Ran.{ran_by}
 use Rattle.cell_task.specs.State.{TasksState, live_in, seen_as}
-use Rattle.cell_task.specs.Turns.{turned_in, memory_after, IsTurn}
-use Rattle.cell_task.proofs.Turning.{after, task_after, effect, regions', still_mapped, found_changed, turned_is}
+use Rattle.cell_task.specs.Turns.{turned_in, with_parts, memory_after, IsTurn}
+use Rattle.cell_task.proofs.Turning.{moved, still_mapped, found_changed}
 
 gone : (number : ℕ) (ts : List Task) → find (λ t. t.number == number) (filter (λ t. not (t.number == number)) ts) ≡ None
 gone number [] = refl
@@ -35,28 +33,25 @@ module _ (s : TasksState) (m : MemoryState) (number : ℕ) (t : LiveTask) (laid 
   Leaves x = let s' : TasksState = record s { tasks = x.world.tasks } in Stacked s' (memory_after m (seen_as number t) x)
 
   stays_stacked : (u w : Task) → u.number ≡ number → u.stack ≡ t.stack → find (λ v. v.number == number) (with_task u s.tasks) ≡ Some w
-      → (let m' : MemoryState = record m { regions = regions' m t laid } in is_some (region_from m' w.stack) ≡ true)
+      → (let m' : MemoryState = record m { regions = (moved m t laid).regions } in is_some (region_from m' w.stack) ≡ true)
   stays_stacked u w n k found =
-      let m' : MemoryState = record m { regions = regions' m t laid } in
+      let m' : MemoryState = record m { regions = (moved m t laid).regions } in
       let here : find (λ v. v.number == u.number) s.tasks ≡ Some (seen_as number t) = ap (λ i. find (λ v. v.number == i) s.tasks) n ∙ live in
       let found_then : find (λ v. v.number == number) (with_task u s.tasks) ≡ Some u =
       ap (λ i. find (λ v. v.number == i) (with_task u s.tasks)) (sym n) ∙ found_changed u (seen_as number t) s.tasks here in
       let same : w ≡ u = cc in
       ap (λ (v : Task). is_some (region_from m' v.stack)) same ∙ ap (λ i. is_some (region_from m' i)) k ∙ still_mapped m t laid m' t.stack refl mapped
 
-  leaves : (u : Task) (answer : Answer) (out : List ℕ) → u.number ≡ number → u.stack ≡ t.stack → Leaves (after s (regions' m t laid) (seen_as number t) u answer out)
-  leaves u Ready out n k = λ w found. stays_stacked u w n k found
-  leaves u Yield out n k = λ w found. stays_stacked u w n k found
-  leaves u (Done code) out n k = λ w found. absurd (cc (gone number s.tasks, found))
-  leaves u (Fault cause pc) out n k = λ w found. stays_stacked u w n k found
+  leaves : (state : TaskState) → (let u : Task = record (seen_as number t) { pc = (moved m t laid).hart.pc; registers = (moved m t laid).hart.registers } in
+      let x : Turned = record { world = standing (with_parts s (moved m t laid).regions) u state; state = state; yields = (moved m t laid).yields; out = (moved m t laid).out } in Leaves x)
+  leaves IsReady = λ w found. stays_stacked (record (seen_as number t) { pc = (moved m t laid).hart.pc; registers = (moved m t laid).hart.registers }) w refl refl found
+  leaves (IsDone code) = λ w found. absurd (cc (gone number s.tasks, found))
+  leaves (IsFault cause pc) = λ w found. stays_stacked (record (seen_as number t) { pc = (moved m t laid).hart.pc; registers = (moved m t laid).hart.registers; fault = Some (record { cause = cause; pc = pc }) }) w refl refl found
 
   pub stack_stays : (out : List ℕ) (answer : Answer) (s' : TasksState) (m' : MemoryState) (out' : List ℕ) → IsTurn s m (seen_as number t) out answer s' m' out' → Stacked s' m'
   stack_stays out answer s' m' out' turn =
-      let ran = ran_by t.hart.pc t.hart.x t.fault (effect m t laid) in
-      let l : Leaves (turned_in s m (seen_as number t)) =
-      subst Leaves (sym (turned_is s number t m.regions (effect m t laid))) (leaves (task_after (seen_as number t) ran) ran.answer ran.out refl refl) in
       subst (λ (x : TasksState). Stacked x m') (sym turn.tasks)
-      (subst (λ (x : MemoryState). let y : TasksState = record s { tasks = (turned_in s m (seen_as number t)).world.tasks } in Stacked y x) (sym turn.memory) l)
+      (subst (λ (x : MemoryState). let y : TasksState = record s { tasks = (turned_in s m (seen_as number t)).world.tasks } in Stacked y x) (sym turn.memory) (leaves (moved m t laid).state))
 
 pub undo_stays : (s : TasksState) (m : MemoryState) (t : Task) (out : List ℕ) (answer : Answer) (s' : TasksState) (m' : MemoryState) (out' : List ℕ)
     → IsTurn s m t out answer s' m' out' → m.writes_left ≡ None → m'.writes_left ≡ None

@@ -1,15 +1,15 @@
 -- What a turn comes to.
 --     turned_in s m t            a turn of the task among these tasks, over this memory
 --     IsTurn s m t out ..        what tasks, memory and output are after it
-use Rattle.std.specs.Prelude.{ℕ, ◌≡◌, List, [], ◌++◌, if◌then◌else◌}
+use Rattle.std.specs.Prelude.{ℕ, ◌≡◌, List, [], ◌++◌}
 use Rattle.cell_hart.specs.Step.{seen_of}
 use Rattle.cell_mem.specs.State.{MemoryState, unmapped}
 use Rattle.cell_world.specs.declared.reply.TaskState.TheVariants.{Ready as IsReady, Done as IsDone, Fault as IsFault}
 use Rattle.cell_world.specs.World.{World, Region, Task}
-use Rattle.cell_world.specs.Execute.{execute}
-use Rattle.cell_world.specs.Turn.{Turned, turned_by}
+use Rattle.cell_world.specs.Move.{move}
+use Rattle.cell_world.specs.Turn.{Turned, hart_of, task_column, turned}
 use Rattle.cell_task.specs.declared.turned.Turned.{Turned as Answer}
-use Rattle.cell_task.specs.declared.turned.Turned.TheVariants.{Ready, Yield, Done, Fault}
+use Rattle.cell_task.specs.Ran.{answered}
 use Rattle.cell_task.specs.State.{TasksState}
 
 -- a machine of these tasks and regions alone: a turn sees and changes no other part
@@ -30,15 +30,10 @@ with_parts s regions =
 
 -- where stores go is told by the marks of the memory
 abbrev pub turned_in : TasksState → MemoryState → Task → Turned
-turned_in s m t = turned_by (with_parts s m.regions) t (execute (seen_of m) t.registers t.pc)
+turned_in s m t = turned (with_parts s m.regions) t (move task_column (seen_of m) (hart_of t))
 
 abbrev pub answer_of : Turned → Answer
-answer_of after =
-    elim after.state [
-      | IsReady ↦ if after.yields then Yield else Ready
-      | IsDone code ↦ Done code
-      | IsFault cause pc ↦ Fault cause pc
-    ]
+answer_of after = answered after.state after.yields
 
 -- a task that ends gives its stack back
 abbrev pub memory_after : MemoryState → Task → Turned → MemoryState

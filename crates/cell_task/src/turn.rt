@@ -1,8 +1,9 @@
 //! One turn of a task.
 
-ghost use Rattle.std.specs.Prelude.{◌≡◌, ◌+◌, ◌≤◌, None, Some, [], slice_index, vec_capacity, vec_len};
+ghost use Rattle.std.specs.Prelude.{◌≡◌, ◌+◌, ◌≤◌, None, Some, [], vec_capacity, vec_len};
 ghost use Rattle.cell_hart.specs.Step.{seen_of};
-ghost use Rattle.cell_world.specs.Execute.{execute};
+ghost use Rattle.cell_world.specs.Move.{called, move, passed, state_at};
+ghost use Rattle.cell_world.specs.Turn.{task_column, task_row};
 
 use crate::output::put_decimal;
 use crate::{Task, TaskFault, Turned};
@@ -11,16 +12,16 @@ use cell_mem::Memory;
 use cell_num::Cause;
 
 impl Task {
-    ghost use Rattle.cell_task.specs.Ran.{IsRan, answer_at, called_by, passed, ran_by, regions_by};
+    ghost use Rattle.cell_task.specs.Ran.{IsRan, answered, hart_as};
 
     /// How a task stands that has gone on: at the pc 0 it ends.
-    fn gone_on(&self, turned: Turned) -> Turned
-        ensures { result ≡ answer_at self.now.hart.pc self.now.hart.x turned }
+    fn gone_on(&self, yields: bool) -> Turned
+        ensures { result ≡ answered (state_at (hart_as self.now.hart)) yields }
     {
         if self.hart.pc == 0 {
             return Turned::Done(self.hart.x[10]);
         }
-        turned
+        if yields { Turned::Yield } else { Turned::Ready }
     }
 
     /// The task stands still at its pc.
@@ -34,18 +35,18 @@ impl Task {
     }
 
     /// On to the instruction after a call.
-    fn pass(&mut self, turned: Turned) -> Turned
-        ensures { IsRan (passed self.old.hart.pc self.old.hart.x self.old.fault turned []) result self.old self.new [] [] }
+    fn pass(&mut self, yields: bool) -> Turned
+        ensures { IsRan (passed [] (hart_as self.old.hart) yields []) result self.old self.new [] [] }
     {
         self.hart.pc = self.hart.pc.wrapping_add(4);
-        self.gone_on(turned)
+        self.gone_on(yields)
     }
 
     /// The call whose number stands in x17: 0 ends the task with the code in x10, 1 puts out the
     /// low byte of x10, 2 puts out x10 in decimal, 3 yields. Any other traps.
     fn call(&mut self, out: &mut Vec<u8>) -> Turned
         requires { vec_len out.old + 20 ≤ vec_capacity out.old }
-        ensures ran { IsRan (called_by self.old.hart.pc self.old.hart.x self.old.fault (slice_index self.old.hart.x 17) (slice_index self.old.hart.x 10)) result self.old self.new out.old.items out.new.items }
+        ensures ran { IsRan (called [] (hart_as self.old.hart) (task_row self.old.hart.x)) result self.old self.new out.old.items out.new.items }
         ensures room { vec_capacity out.new ≡ vec_capacity out.old }
         ensures short { vec_len out.new ≤ vec_len out.old + 20 }
     {
@@ -54,13 +55,13 @@ impl Task {
             0 => Turned::Done(x10),
             1 => {
                 out.push_reserved((x10 % 256) as u8);
-                self.pass(Turned::Ready)
+                self.pass(false)
             }
             2 => {
                 put_decimal(x10, out);
-                self.pass(Turned::Ready)
+                self.pass(false)
             }
-            3 => self.pass(Turned::Yield),
+            3 => self.pass(true),
             _ => self.trap(Cause::Call),
         }
     }
@@ -69,13 +70,13 @@ impl Task {
     pub(crate) fn turn(&mut self, memory: &mut Memory, out: &mut Vec<u8>) -> Turned
         requires undo { memory.old.writes_left ≡ None }
         requires room { vec_len out.old + 20 ≤ vec_capacity out.old }
-        ensures ran { IsRan (ran_by self.old.hart.pc self.old.hart.x self.old.fault (execute (seen_of memory.old) self.old.hart.x self.old.hart.pc)) result self.old self.new out.old.items out.new.items }
-        ensures memory { memory.new ≡ record memory.old { regions = regions_by memory.old.regions (execute (seen_of memory.old) self.old.hart.x self.old.hart.pc) } }
+        ensures ran { IsRan (move task_column (seen_of memory.old) (hart_as self.old.hart)) result self.old self.new out.old.items out.new.items }
+        ensures memory { memory.new ≡ record memory.old { regions = (move task_column (seen_of memory.old) (hart_as self.old.hart)).regions } }
         ensures room { vec_capacity out.new ≡ vec_capacity out.old }
         ensures short { vec_len out.new ≤ vec_len out.old + 20 }
     {
         match self.hart.step(memory) {
-            Stop::Next => self.gone_on(Turned::Ready),
+            Stop::Next => self.gone_on(false),
             Stop::Call => self.call(out),
             Stop::Trap { cause, .. } => self.trap(cause),
         }

@@ -45,12 +45,13 @@ impl<'a> Host for Folder<'a> {
 
     ghost faults = { λ _. 0 };
 
-    fn list(&mut self, _dir: &str, _limit: u32, into: &mut Vec<String>) -> Result<(), HostFault> {
+    fn list(&mut self, _dir: &str, limit: u32, into: &mut Vec<String>) -> Result<(), HostFault> {
         into.clear();
         if self.add_names(into).is_err() {
             into.clear();
             return Err(HostFault::OutOfMemory);
         }
+        into.truncate(limit as usize + 1);
         Ok(())
     }
 
@@ -58,7 +59,7 @@ impl<'a> Host for Folder<'a> {
         &mut self,
         _dir: &str,
         name: &str,
-        _limit: u32,
+        limit: u32,
         into: &mut Vec<u8>,
     ) -> Result<(), HostFault> {
         into.clear();
@@ -66,6 +67,7 @@ impl<'a> Host for Folder<'a> {
             into.clear();
             return Err(HostFault::OutOfMemory);
         }
+        into.truncate(limit as usize + 1);
         Ok(())
     }
 }

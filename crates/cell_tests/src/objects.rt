@@ -40,7 +40,7 @@ pub struct PlainObject<'a> {
 }
 
 fn list(alloc: Global, bytes: &[u8]) -> Result<Bytes, AllocError> {
-    Ok(Listed::from_vec(Vec::from_slice(alloc, bytes)?))
+    Ok(Bytes::from_vec(Vec::from_slice(alloc, bytes)?))
 }
 
 /// A section that is only read.
@@ -140,9 +140,8 @@ impl<'a> PlainObject<'a> {
 
 /// The file that an object is written as.
 pub fn image(alloc: Global, object: &Object) -> Result<Vec<u8>, Fail> {
-    Ok(
-        write_object(alloc, object)
-            .ok()
-            .ok_or("the object can be written")?,
-    )
+    let image = write_object(alloc, object)
+        .ok()
+        .ok_or("the object can be written")?;
+    Ok(image.as_slice().to_vec(alloc)?)
 }

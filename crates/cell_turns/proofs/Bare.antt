@@ -5,13 +5,16 @@ use Rattle.std.proofs.lemmas.Bool.{eqb-true, leb-true}
 use Rattle.cell_num.specs.Lists.{first}
 use Rattle.cell_world.specs.World.{World, Cell, Region, Permission}
 use Rattle.cell_world.specs.Memory.{covers}
-use Rattle.cell_world.specs.Relink.{Class, Text, ReadOnly, class_start, is_region_of, images_for, image_of, sections_in, permission_of, restored}
+use Rattle.cell_world.specs.Relink.{class_start, is_region_of, images_for, restored}
+use Rattle.cell_world.specs.Layout.{image_of, sections_in, permission_of}
+use Rattle.cell_world.specs.declared.layout.Class.TheVariants.{Text, ReadOnly}
+use Rattle.cell_world.specs.declared.layout.Class.{Class}
 use Rattle.cell_world.specs.Coherent.{IsCoherent, Shape, shape_of, ends_before}
 use Rattle.cell_coherent.proofs.Elements.{In, In-map, filter_none, pairs-In}
 use Rattle.cell_coherent.proofs.FieldsInside.{shape-In}
 use Rattle.cell_coherent.proofs.Relinked.{own_image, restore, restored_is}
 use Rattle.cell_turns.proofs.Stacks.{long}
-use Rattle.cell_turns.proofs.Writes.{begins_below, ends_above}
+use Rattle.cell_turns.proofs.Stores.{one_covers}
 
 -- where no class that is made anew starts at the region, it keeps its bytes
 pub no_image : (w : World) (r : Region) → ((class : Class) → (permission_of class).write ≡ false → (c : Cell) → In c w.cells → is_region_of class r c ≡ false) → own_image w r ≡ None
@@ -39,12 +42,7 @@ starts_elsewhere class c r n = go (class_start c class) refl
 module _ (w : World) (h : IsCoherent w) where
   -- one region covers an address
   pub covers_once : (r s : Region) (addr : ℕ) → In r w.regions → In s w.regions → covers r addr ≡ true → covers s addr ≡ true → r ≡ s
-  covers_once r s addr i j a b = go (pairs-In ends_before w.regions h.ready.apart r s i j)
-    where
-      go : (r ≡ s) ⊎ ((ends_before r s ≡ true) ⊎ (ends_before s r ≡ true)) → r ≡ s
-      go (inl e) = e
-      go (inr (inl l)) = absurd (omega (arith, leb-true (r.start + length r.bytes) s.start l, begins_below s addr b, ends_above r addr a))
-      go (inr (inr l)) = absurd (omega (arith, leb-true (s.start + length s.bytes) r.start l, begins_below r addr a, ends_above s addr b))
+  covers_once = one_covers w.regions h.ready.apart
 
   -- one region begins at a place
   pub region_once : (r s : Region) → In r w.regions → In s w.regions → r.start ≡ s.start → r ≡ s

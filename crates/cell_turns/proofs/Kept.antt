@@ -1,25 +1,24 @@
 -- A turn of a live task changes no cell, no region that isn't writable, and no field of a present cell.
-use Rattle.std.proofs.Common.{◌≡◌, refl, sym, ◌∙◌, ap, subst, arith, ℕ, ◌+◌, ◌-◌, ◌≤◌, ◌⊎◌, inl, inr, Bool, true, false, not, ◌&&◌, List, [], length, map, true≢false, Option, Some}
-use Rattle.std.specs.Prelude.{All, nat_lt, nat_le, ◌==◌, slice_range, option_and_then}
+use Rattle.std.proofs.Common.{◌≡◌, refl, sym, ◌∙◌, ap, subst, ℕ, ◌+◌, ◌-◌, Bool, true, false, not, List, [], length, map, true≢false, Option, Some}
+use Rattle.std.specs.Prelude.{All, nat_le, ◌==◌, slice_range, option_and_then}
 use Rattle.std.proofs.lemmas.Bool.{eqb-true}
 use Rattle.cell_num.specs.Kinds.{width_of}
 use Rattle.cell_num.specs.Lists.{where_true}
 use Rattle.cell_object.specs.declared.object.Entry.{Entry}
 use Rattle.cell_world.specs.World.{World, Cell, Region, Permission, Task}
-use Rattle.cell_world.specs.Memory.{covers, end_of, pasted, written, read}
+use Rattle.cell_world.specs.Memory.{covers, end_of, written, read}
 use Rattle.cell_world.specs.Field.{fields_of, place_of}
-use Rattle.cell_world.specs.Coherent.{IsCoherent, Shape}
+use Rattle.cell_world.specs.Coherent.{IsCoherent}
 use Rattle.cell_world.specs.Execute.{allows, seen_in}
 use Rattle.cell_world.specs.Turn.{without_task}
 use Rattle.cell_coherent.specs.Present.{IsInside}
-use Rattle.cell_coherent.proofs.Elements.{In, All-In, found-In, filter-In, In-filtered, map-In, In-map}
+use Rattle.cell_coherent.proofs.Elements.{In, All-In, found-In, filter-In, In-filtered}
 use Rattle.cell_coherent.proofs.FieldsInside.{among-In}
 use Rattle.cell_coherent.proofs.Inside.{fields_lie, ready_linkable}
-use Rattle.cell_turns.proofs.Slices.{range_untouched}
-use Rattle.cell_turns.proofs.Writes.{Holds, begins_below, written_in, written_out, same_length}
 use Rattle.cell_turns.proofs.Bare.{covers_once, region_once}
 use Rattle.cell_turns.proofs.Stacks.{stack_region}
-use Rattle.cell_turns.proofs.Stored.{field_apart, holding, stored_shape, store_coherent}
+use Rattle.cell_turns.proofs.Stored.{field_apart}
+use Rattle.cell_turns.proofs.Stores.{keeps_bytes, keeps_read_only}
 use Rattle.cell_turns.proofs.Killed.{kill_coherent}
 
 -- the two worlds agree as the law says, point by point
@@ -82,44 +81,9 @@ module _ (w : World) (h : IsCoherent w) (addr : ℕ) (new : List ℕ) (free : (s
   abbrev after : World
   after = record w { regions = map (λ r. written r addr new) w.regions }
 
-  unwritten : (r : Region) → In r w.regions → r.permission.write ≡ false → In r after.regions
-  unwritten r i n = go (covers r addr) refl
-    where
-      go : (b : Bool) → covers r addr ≡ b → In r after.regions
-      go true c = absurd (true≢false (sym (holding w h addr new free may r i c).1 ∙ n))
-      go false c = subst (λ (x : Region). In x after.regions) (written_out r addr new c) (map-In (λ x. written x addr new) w.regions r i)
-
-  -- the region covers what it covered
-  covers_still : (r : Region) → In r w.regions → (x : ℕ) → covers (written r addr new) x ≡ covers r x
-  covers_still r i x = ap (λ (s : Shape). nat_le s.start x && nat_lt x (s.start + s.size)) (stored_shape w h addr new free may r i)
-
-  part_still : (r : Region) → In r w.regions → (p n : ℕ) → r.start ≤ p → (p + n ≤ addr) ⊎ (addr + length new ≤ p) → part p n (written r addr new) ≡ part p n r
-  part_still r i p n l apart = go (covers r addr) refl
-    where
-      go : (b : Bool) → covers r addr ≡ b → part p n (written r addr new) ≡ part p n r
-      go false c = ap (part p n) (written_out r addr new c)
-      go true c =
-          let k : Holds addr new r = (holding w h addr new free may r i c).0 in
-          ap (part p n) (written_in r addr new c)
-          ∙ (ap (λ (m : ℕ). where_true (nat_le (p + n) (r.start + m)) (slice_range (pasted r.bytes (addr - r.start) new) (p - r.start) (p - r.start + n))) (same_length r addr new k)
-          ∙ ap (where_true (nat_le (p + n) (end_of r))) (range_untouched r.bytes new (addr - r.start) (p - r.start) n (omega (arith, k.after_start, k.ends)) (moved apart k)))
-        where
-          moved : (p + n ≤ addr) ⊎ (addr + length new ≤ p) → Holds addr new r → (p - r.start + n ≤ addr - r.start) ⊎ (addr - r.start + length new ≤ p - r.start)
-          moved (inl a) k = inl (omega (arith, a, l, k.after_start))
-          moved (inr a) k = inr (omega (arith, a, l, k.after_start))
-
-  read_still : (c : Cell) → In c w.cells → (f : Entry) → In f (fields_of c.object) → read after (place_of c.placed f) (width_of f.kind) ≡ read w (place_of c.placed f) (width_of f.kind)
-  read_still c k f m =
-      let a = field_in w h c k f m in
-      let b = field_in after (store_coherent w h addr new free may) c k f m in
-      let x = found-In (λ r. covers r (place_of c.placed f)) w.regions a.region a.at in
-      let y = found-In (λ r. covers r (place_of c.placed f)) after.regions b.region b.at in
-      let z = In-map (λ r. written r addr new) w.regions b.region y.0 in
-      let d : covers z.0 (place_of c.placed f) ≡ true = sym (covers_still z.0 z.1 (place_of c.placed f)) ∙ (ap (λ (r : Region). covers r (place_of c.placed f)) (sym z.2) ∙ y.1) in
-      let e : z.0 ≡ a.region = covers_once w h z.0 a.region (place_of c.placed f) z.1 x.0 d x.1 in
-      ap (λ (o : Option Region). option_and_then (part (place_of c.placed f) (width_of f.kind)) o) (b.at ∙ ap (λ (r : Region). Some r) (z.2 ∙ ap (λ (r : Region). written r addr new) e))
-      ∙ (part_still a.region x.0 (place_of c.placed f) (width_of f.kind) (begins_below a.region (place_of c.placed f) x.1) (field_apart w h addr new free c k f m)
-      ∙ ap (λ (o : Option Region). option_and_then (part (place_of c.placed f) (width_of f.kind)) o) (sym a.at))
-
   pub kept_stored : Kept w after
-  kept_stored = record { same = refl; read_only = unwritten; fields = read_still }
+  kept_stored = record {
+    same = refl;
+    read_only = keeps_read_only w.regions h.ready.apart addr new may;
+    fields = λ c k f m. keeps_bytes w.regions h.ready.apart addr new may (place_of c.placed f) (width_of f.kind) (field_apart w h addr new free c k f m);
+  }

@@ -6,12 +6,15 @@ pub mod Killed
 pub mod Changed
 pub mod Pastes
 pub mod Writes
+pub mod Slices
+pub mod Stores
 pub mod Bare
 pub mod Stored
 pub mod Executed
 pub mod Turned
 pub mod Commands
 pub mod Spawned
-pub mod Slices
 pub mod Kept
 pub mod TurnKept
+mod OtherTasks
+pub mod Memory

@@ -31,7 +31,7 @@ cut a u c e v j h =
     ∙ append_assoc a (u ++ c) (v ++ drop (length v) e)
     ∙ ap (λ x. a ++ x) (append_assoc u c (v ++ drop (length v) e))
 
-over : (a x z u : List ℕ) → length x ≡ length u → pasted (a ++ (x ++ z)) (length a) u ≡ a ++ (u ++ z)
+pub over : (a x z u : List ℕ) → length x ≡ length u → pasted (a ++ (x ++ z)) (length a) u ≡ a ++ (u ++ z)
 over a x z u h =
     paste_at a (x ++ z) u ∙ ap (λ k. a ++ (u ++ drop k (x ++ z))) (sym h) ∙ ap (λ y. a ++ (u ++ y)) (drop_front x z)
 

@@ -10,7 +10,9 @@ use Rattle.cell_world.specs.World.{stack_size, World, Cell, Region, Task, cell_o
 use Rattle.cell_world.specs.Memory.{covers}
 use Rattle.cell_world.specs.Names.{Provider, attached_provider}
 use Rattle.cell_world.specs.Field.{fields_of, place_of}
-use Rattle.cell_world.specs.Relink.{Writable, permission_of, Patch, patch_of, patched, patches_of, bound_entries, remade}
+use Rattle.cell_world.specs.Relink.{Patch, patch_of, patched, patches_of, bound_entries, remade}
+use Rattle.cell_world.specs.Layout.{permission_of}
+use Rattle.cell_world.specs.declared.layout.Class.TheVariants.{Writable}
 use Rattle.cell_world.specs.Place.{with_region, start_of_run}
 use Rattle.cell_world.specs.Outcome.{need, found}
 use Rattle.cell_world.specs.declared.reply.Reply.{Reply}
@@ -34,7 +36,7 @@ use Rattle.cell_turns.proofs.Stacks.{long, limits_with}
 use Rattle.cell_turns.proofs.Changed.{TaskParts, live_parts, task_from}
 use Rattle.cell_turns.proofs.Bare.{no_image, restored_bare, starts_elsewhere}
 
-abbrev new_stack : ℕ → Region
+abbrev pub new_stack : ℕ → Region
 new_stack start = record { start = start; permission = permission_of Writable; bytes = replicate stack_size 0 }
 
 stack_length : length {A = ℕ} (replicate stack_size 0) ≡ 16384
@@ -44,16 +46,16 @@ module _ (w : World) (h : IsCoherent w) (start : ℕ) (run : start_of_run w 4 �
   runs : start_of_run w (length {A = ℕ} (replicate stack_size 0) / 4096) ≡ Ok start
   runs = ap (λ n. start_of_run w (n / 4096)) stack_length ∙ run
 
-  some_bytes : 0 < length {A = ℕ} (replicate stack_size 0)
+  pub some_bytes : 0 < length {A = ℕ} (replicate stack_size 0)
   some_bytes = omega (arith, stack_length)
 
   whole_pages : length {A = ℕ} (replicate stack_size 0) % 4096 ≡ 0
   whole_pages = ap (λ n. n % 4096) stack_length
 
-  spaced : Spaced (with_stack w start)
+  pub spaced : Spaced (with_stack w start)
   spaced = spaced_more w (new_stack start) runs some_bytes whole_pages (ready_spaced w h.ready)
 
-  apart : (s : Region) → In s w.regions → Disjoint (new_stack start) s
+  pub apart : (s : Region) → In s w.regions → Disjoint (new_stack start) s
   apart s i =
       run_disjoint w (new_stack start) (run_ok w (length {A = ℕ} (replicate stack_size 0) / 4096) start (omega (arith, stack_length)) runs) some_bytes whole_pages s i
       (whole_region w s (all-In (is_in_space w) w.regions h.ready.in_space s i))

@@ -3,7 +3,8 @@ use Rattle.std.proofs.Common.{◌≡◌, refl, sym, ◌∙◌, ap, subst, arith,
 use Rattle.std.specs.Prelude.{flat_map, nat_lt, ◌==◌}
 use Rattle.std.proofs.lemmas.Bool.{eqb-true, eq-eqb, leb-true, ltb-true, le-leb}
 use Rattle.cell_world.specs.World.{World, Region, Task}
-use Rattle.cell_world.specs.Relink.{Writable, permission_of}
+use Rattle.cell_world.specs.Layout.{permission_of}
+use Rattle.cell_world.specs.declared.layout.Class.TheVariants.{Writable}
 use Rattle.cell_world.specs.Coherent.{IsCoherent, Shape, shape_of, stack_shape, wanted_shapes, are_limits_kept}
 use Rattle.cell_coherent.proofs.Elements.{In, all-In, map-In, In-map, In-right, pairs-In, pairs-map}
 use Rattle.cell_coherent.proofs.FieldsInside.{In-fold_shape}

@@ -1,23 +1,24 @@
 -- A store outside all fields, in a writable region, keeps the machine coherent.
-use Rattle.std.proofs.Common.{◌≡◌, refl, sym, ◌∙◌, ap, subst, ℕ, ◌+◌, ◌-◌, ◌≤◌, ◌⊎◌, inl, inr, Bool, true, false, ◌&&◌, List, length, map, true≢false, Option, Some, None}
+use Rattle.std.proofs.Common.{◌≡◌, refl, sym, ◌∙◌, ap, subst, ℕ, ◌+◌, ◌-◌, ◌≤◌, ◌⊎◌, inl, inr, Bool, true, false, ◌&&◌, List, length, map, true≢false, None}
 use Rattle.std.specs.Prelude.{fold, nat_lt, nat_le, ◌==◌, ◌*◌, ◌%◌}
-use Rattle.std.proofs.lemmas.Bool.{and_from, leb-true, ltb-false}
+use Rattle.std.proofs.lemmas.Bool.{and_from, ltb-false}
 use Rattle.cell_num.specs.Bits.{bytes_of}
 use Rattle.cell_num.specs.Kinds.{width_of}
 use Rattle.cell_object.specs.declared.object.Entry.{Entry}
 use Rattle.cell_world.specs.World.{World, Cell, Region}
-use Rattle.cell_world.specs.Memory.{region_in, covers, pasted, written}
+use Rattle.cell_world.specs.Memory.{covers, pasted, written}
 use Rattle.cell_world.specs.Field.{fields_of, field_value_of, place_of}
 use Rattle.cell_world.specs.Relink.{Patch, patch_of, patched, patches_of, bound_entries, remade, restored}
-use Rattle.cell_world.specs.Coherent.{IsCoherent, Shape, shape_of, is_in_space, ends_before}
+use Rattle.cell_world.specs.Coherent.{IsCoherent, Shape, shape_of, is_in_space}
 use Rattle.cell_world.specs.Execute.{allows, is_field_at, seen_in}
-use Rattle.cell_coherent.proofs.Elements.{In, all-In, In-all, none-In, found-In, In-map, In-flat_map, map_same}
+use Rattle.cell_coherent.proofs.Elements.{In, all-In, In-all, none-In, In-map, In-flat_map}
 use Rattle.cell_coherent.proofs.FieldsInside.{length-bytes_of}
-use Rattle.cell_coherent.proofs.Relinked.{patches, own_image, map_twice}
-use Rattle.cell_turns.proofs.Lists.{and_left, and_right, pairs_kept, fold_commutes}
+use Rattle.cell_coherent.proofs.Relinked.{patches, own_image}
+use Rattle.cell_turns.proofs.Lists.{fold_commutes}
 use Rattle.cell_turns.proofs.Fixed.{remade_fixed, links_fixed, relinked}
-use Rattle.cell_turns.proofs.Writes.{Holds, begins_below, ends_above, written_in, written_out, written_exchanged, same_length}
-use Rattle.cell_turns.proofs.Bare.{covers_once, writable_bare, restored_bare}
+use Rattle.cell_turns.proofs.Writes.{Holds, written_in, written_out, written_exchanged}
+use Rattle.cell_turns.proofs.Bare.{writable_bare, restored_bare}
+use Rattle.cell_turns.proofs.Stores.{holds_store, keeps_apart, keeps_shape, keeps_shapes}
 
 not_both : (a b c d : ℕ) → (nat_lt a b && nat_lt c d) ≡ false → (b ≤ a) ⊎ (d ≤ c)
 not_both a b c d h = go (nat_lt a b) refl (nat_lt c d) refl
@@ -31,10 +32,6 @@ not_both a b c d h = go (nat_lt a b) refl (nat_lt c d) refl
 shape_space : (w : World) (r s : Region) → shape_of r ≡ shape_of s → is_in_space w s ≡ true → is_in_space w r ≡ true
 shape_space w r s e h =
     subst (λ (x : Shape). (nat_le w.base x.start && ((x.start - w.base) % 4096 == 0) && nat_lt 0 x.size && (x.size % 4096 == 0) && nat_le (x.start + x.size) (w.base + 4096 * w.pages)) ≡ true) (sym e) h
-
-shape_apart : (r r' s s' : Region) → shape_of r ≡ shape_of r' → shape_of s ≡ shape_of s' → ends_before r s ≡ ends_before r' s'
-shape_apart r r' s s' e f =
-    ap (λ (x : Shape). nat_le (x.start + x.size) s.start) e ∙ ap (λ (x : Shape). nat_le (r'.start + length r'.bytes) x.start) f
 
 module _ (w : World) (h : IsCoherent w) (addr : ℕ) (new : List ℕ) (free : (seen_in w).is_sealed addr (length new) ≡ false) where
   -- no field meets the store
@@ -57,44 +54,8 @@ module _ (w : World) (h : IsCoherent w) (addr : ℕ) (new : List ℕ) (free : (s
   patches_commute r k = (fold_commutes patched (λ x. written x addr new) (Holds addr new) (patches w) (λ p m x q. written_exchanged x addr new p.addr p.bytes q (patch_apart p m)) r k).0
 
   module _ (may : allows w.regions (λ p. p.write) addr (length new) ≡ true) where
-    -- the region of the store
-    pub record Target : Type 0 where
-      pub region : Region
-      pub there : In region w.regions
-      pub covered : covers region addr ≡ true
-      pub writable : region.permission.write ≡ true
-      pub ends : addr + length new ≤ region.start + length region.bytes
-
-    target : Target
-    target = go (region_in w.regions addr) refl may
-      where
-        go : (o : Option Region) → region_in w.regions addr ≡ o → (elim o as (λ _. Bool) [ None ↦ false | Some r ↦ r.permission.write && nat_le (addr + length new) (r.start + length r.bytes) ]) ≡ true → Target
-        go None e t = absurd (true≢false (sym t))
-        go (Some r) e t =
-            let f = found-In (λ x. covers x addr) w.regions r e in
-            record {
-              region = r;
-              there = f.0;
-              covered = f.1;
-              writable = and_left r.permission.write (nat_le (addr + length new) (r.start + length r.bytes)) t;
-              ends = leb-true (addr + length new) (r.start + length r.bytes) (and_right r.permission.write (nat_le (addr + length new) (r.start + length r.bytes)) t);
-            }
-
-    -- a region that covers the store's address holds it, and is writable
-    pub holding : (r : Region) → In r w.regions → covers r addr ≡ true → Holds addr new r × (r.permission.write ≡ true)
-    holding r i c =
-        let f : Target = target in
-        subst (λ (x : Region). Holds addr new x × (x.permission.write ≡ true)) (covers_once w h f.region r addr f.there i f.covered c)
-        (record { after_start = begins_below f.region addr f.covered; before_end = ends_above f.region addr f.covered; ends = f.ends }, f.writable)
-
     pub stored_shape : (r : Region) → In r w.regions → shape_of (written r addr new) ≡ shape_of r
-    stored_shape r i = go (covers r addr) refl
-      where
-        go : (b : Bool) → covers r addr ≡ b → shape_of (written r addr new) ≡ shape_of r
-        go false c = ap shape_of (written_out r addr new c)
-        go true c =
-            ap shape_of (written_in r addr new c)
-            ∙ ap (λ n. record { start = r.start; permission = r.permission; size = n }) (same_length r addr new (holding r i c).0)
+    stored_shape = keeps_shape w.regions h.ready.apart addr new may
 
     remade_stored : (r : Region) → In r w.regions → remade w (written r addr new) ≡ written r addr new
     remade_stored r i = go (covers r addr) refl
@@ -102,7 +63,7 @@ module _ (w : World) (h : IsCoherent w) (addr : ℕ) (new : List ℕ) (free : (s
         go : (b : Bool) → covers r addr ≡ b → remade w (written r addr new) ≡ written r addr new
         go false c = subst (λ x. remade w x ≡ x) (sym (written_out r addr new c)) (remade_fixed w h.linked r i)
         go true c =
-            let g : Holds addr new r × (r.permission.write ≡ true) = holding r i c in
+            let g : Holds addr new r × (r.permission.write ≡ true) = holds_store w.regions h.ready.apart addr new may r i c in
             let bare : own_image w r ≡ None = writable_bare w h r i g.1 in
             let old : restored w r ≡ r = restored_bare w r bare in
             let now : restored w (written r addr new) ≡ written r addr new =
@@ -117,9 +78,9 @@ module _ (w : World) (h : IsCoherent w) (addr : ℕ) (new : List ℕ) (free : (s
       ready = record {
         names = h.ready.names;
         own_names = h.ready.own_names;
-        regions = map_twice shape_of (λ r. written r addr new) w.regions ∙ (map_same _ _ w.regions stored_shape ∙ h.ready.regions);
+        regions = keeps_shapes w.regions h.ready.apart addr new may ∙ h.ready.regions;
         in_space = In-all (is_in_space w) (map (λ r. written r addr new) w.regions) (λ r i. at r (In-map (λ x. written x addr new) w.regions r i));
-        apart = pairs_kept ends_before ends_before (λ r. written r addr new) w.regions (λ x y i j. shape_apart (written x addr new) x (written y addr new) y (stored_shape x i) (stored_shape y j)) h.ready.apart;
+        apart = keeps_apart w.regions h.ready.apart addr new may;
         placed = h.ready.placed;
         supplied = h.ready.supplied;
         fitting = h.ready.fitting;

@@ -11,7 +11,7 @@ use Rattle.std.proofs.lemmas.List.Sorted.{IsPermutation-append_left, IsPermutati
 use Rattle.cell_num.specs.Lists.{each_pair}
 use Rattle.cell_coherent.specs.Grown.{In}
 use Rattle.cell_coherent.proofs.Elements.{all-In, any-Has, filter_none, map-In}
-use Rattle.cell_target.proofs.Lookups.{in_get}
+use Rattle.cell_machine.proofs.Lists.{in_get}
 
 pub filter_same : {X : Type 0} (p q : X → Bool) (xs : List X) → ((x : X) → In x xs → p x ≡ q x) → filter p xs ≡ filter q xs
 filter_same p q [] same = refl

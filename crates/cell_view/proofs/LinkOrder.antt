@@ -14,10 +14,9 @@ use Rattle.cell_object.specs.declared.object.Section.{Section as ObjectSection}
 use Rattle.cell_object.specs.declared.object.Entry.{Entry}
 use Rattle.cell_object.specs.Parts.{section_of}
 use Rattle.cell_world.specs.declared.state.LinkRow.{LinkRow}
-use Rattle.cell_world.specs.declared.state.NewCell.{NewCell}
 use Rattle.cell_world.specs.declared.state.Target.{Target}
 use Rattle.cell_world.specs.declared.state.Target.TheVariants.{Section, Number}
-use Rattle.cell_world.specs.World.{World, Cell, attached, cell_of, key_of}
+use Rattle.cell_world.specs.World.{World, Cell, cell_of, key_of}
 use Rattle.cell_world.specs.Coherent.{IsCoherent}
 use Rattle.cell_world.specs.Relink.{link_of, link_to}
 use Rattle.cell_world.specs.Target.{target_of}
@@ -29,7 +28,9 @@ use Rattle.cell_coherent.proofs.Present.{links_present, some_same}
 use Rattle.cell_law.proofs.Elements.{pairs-filter}
 use Rattle.cell_graph.specs.Links.{is_same}
 use Rattle.cell_machine.specs.Machine.{section_keys}
-use Rattle.cell_view.specs.Links.{AreInOrder, is_before, links_in, links_out}
+use Rattle.cell_machine.specs.LinkOrder.{is_before}
+use Rattle.cell_machine.proofs.LinksRise.{links_rise}
+use Rattle.cell_view.specs.Links.{AreInOrder, links_in, links_out}
 use Rattle.cell_view.proofs.Gathering.{filter_same, gathered}
 use Rattle.cell_view.proofs.Sorting.{one_order}
 
@@ -49,123 +50,47 @@ before_is_order = record {
 pub before_is : (a b m n : ℕ) → is_lt (ordering_then (nat_cmp a b) (nat_cmp m n)) ≡ (nat_lt a b || a == b && nat_lt m n)
 before_is a b m n = grind (arith, nat_tests)
 
-lower_cell : (a b m n : ℕ) → a < b → (nat_lt a b || a == b && nat_lt m n) ≡ true
-lower_cell a b m n lt = grind (arith, nat_tests)
-
-lower_entry : (a b m n : ℕ) → a ≡ b → m < n → (nat_lt a b || a == b && nat_lt m n) ≡ true
-lower_entry a b m n same lt = grind (arith, nat_tests)
-
-pairs_append : {X : Type 0} (t : X → X → Bool) (xs ys : List X) → each_pair t xs ≡ true → each_pair t ys ≡ true → ((x y : X) → In x xs → In y ys → t x y ≡ true) → each_pair t (xs ++ ys) ≡ true
-pairs_append t [] ys up more across = more
-pairs_append {X = X} t (x ∷ xs) ys up more across =
-    let k : (list_all (t x) xs ≡ true) × (each_pair t xs ≡ true) = and_parts (list_all (t x) xs) (each_pair t xs) up in
-    and_from (list_all (t x) (xs ++ ys)) (each_pair t (xs ++ ys)) (In-all (t x) (xs ++ ys) (λ y i. each y k.0 (In-append xs ys y i)))
-    (pairs_append t xs ys k.1 more (λ y z i j. across y z (inr i) j))
-  where
-    each : (y : X) → list_all (t x) xs ≡ true → In y xs ⊎ In y ys → t x y ≡ true
-    each y own (inl i) = all-In (t x) xs own y i
-    each y own (inr j) = across x y (inl refl) j
-
--- lists that rise, of elements that rise
-pairs_flat : {X Y : Type 0} (t : X → X → Bool) (u : Y → Y → Bool) (f : X → List Y) (xs : List X) → each_pair t xs ≡ true
-    → ((x : X) → In x xs → each_pair u (f x) ≡ true)
-    → ((x y : X) → t x y ≡ true → (a b : Y) → In a (f x) → In b (f y) → u a b ≡ true)
-    → each_pair u (flat_map f xs) ≡ true
-pairs_flat t u f [] up own across = refl
-pairs_flat {X = X} {Y = Y} t u f (x ∷ xs) up own across =
-    let k : (list_all (t x) xs ≡ true) × (each_pair t xs ≡ true) = and_parts (list_all (t x) xs) (each_pair t xs) up in
-    pairs_append u (f x) (flat_map f xs) (own x (inl refl)) (pairs_flat t u f xs k.1 (λ y i. own y (inr i)) across)
-    (λ a b i j. let y : (y : X) × In y xs × In b (f y) = In-flat_map f xs b j in across x y.0 (all-In (t x) xs k.0 y.0 y.1) a b i y.2)
-
-module _ (w : World) (c : Cell) where
-  abbrev rows_from : ℕ → List Entry → List LinkRow
-  rows_from i entries = filter_map (link_of w c) (numbered_from i entries)
-
-  abbrev linked : ℕ → Entry → Option Target → Option LinkRow
-  linked i e o = elim o as (λ _. Option LinkRow) [ None ↦ None | Some target ↦ link_to c i e target ]
-
-  -- a link of the cell, of the i-th entry or a later one
-  abbrev IsFrom : ℕ → LinkRow → Type 0
-  IsFrom i r = (r.user.cell.0 ≡ c.id.0) × (i ≤ r.entry)
-
-  from_entry : (i : ℕ) (e : Entry) (o : Option Target) (rows : List LinkRow) (r : LinkRow) → In r (cons_option (linked i e o) rows) → (In r rows → IsFrom (suc i) r) → IsFrom i r
-  from_entry i e None rows r k rest = let h = rest k in (h.0, omega (arith, h.1))
-  from_entry i e (Some (Number value)) rows r k rest = let h = rest k in (h.0, omega (arith, h.1))
-  from_entry i e (Some (Section key offset addr)) rows r (inl same) rest =
-      let at : r.entry ≡ i = ap (λ (r : LinkRow). r.entry) same in (ap (λ (r : LinkRow). r.user.cell.0) same, omega (arith, at))
-  from_entry i e (Some (Section key offset addr)) rows r (inr k) rest = let h = rest k in (h.0, omega (arith, h.1))
-
-  from_here : (i : ℕ) (entries : List Entry) (r : LinkRow) → In r (rows_from i entries) → IsFrom i r
-  from_here i [] r k = absurd k
-  from_here i (e ∷ entries) r k = from_entry i e (target_of w c e) (rows_from (suc i) entries) r k (from_here (suc i) entries r)
-
-  entry_rises : (i : ℕ) (e : Entry) (o : Option Target) (rows : List LinkRow) → ((r : LinkRow) → In r rows → IsFrom (suc i) r) → each_pair is_before rows ≡ true → each_pair is_before (cons_option (linked i e o) rows) ≡ true
-  entry_rises i e None rows later up = up
-  entry_rises i e (Some (Number value)) rows later up = up
-  entry_rises i e (Some (Section key offset addr)) rows later up = and_from (list_all (is_before row) rows) (each_pair is_before rows) (In-all (is_before row) rows before) up
-    where
-      row : LinkRow
-      row = record { user = key_of c.id.0 e.section; entry = i; target = key }
-
-      before : (r : LinkRow) → In r rows → is_before row r ≡ true
-      before r k = let h = later r k in lower_entry c.id.0 r.user.cell.0 i r.entry (sym h.0) (omega (arith, h.1))
-
-  own_rise : (i : ℕ) (entries : List Entry) → each_pair is_before (rows_from i entries) ≡ true
-  own_rise i [] = refl
-  own_rise i (e ∷ entries) = entry_rises i e (target_of w c e) (rows_from (suc i) entries) (from_here (suc i) entries) (own_rise (suc i) entries)
-
-links_rise : (w : World) → IsCoherent w → each_pair is_before w.links ≡ true
-links_rise w coherent =
-    subst (λ (ls : List LinkRow). each_pair is_before ls ≡ true) (ap (λ (u : World). u.links) coherent.linked)
-    (pairs_flat (λ (a b : Cell). nat_lt a.id.0 b.id.0) is_before (λ c. rows_from w c 0 c.object.entries) w.cells coherent.ready.cell_order (λ c i. own_rise w c 0 c.object.entries) across)
-  where
-    across : (c d : Cell) → nat_lt c.id.0 d.id.0 ≡ true → (a b : LinkRow) → In a (rows_from w c 0 c.object.entries) → In b (rows_from w d 0 d.object.entries) → is_before a b ≡ true
-    across c d lower a b i j =
-        let of_a = (from_here w c 0 c.object.entries a i).0 in
-        let of_b = (from_here w d 0 d.object.entries b j).0 in
-        lower_cell a.user.cell.0 b.user.cell.0 a.entry b.entry (omega (arith, of_a, of_b, ltb-true c.id.0 d.id.0 lower))
-
 not_both : (a n s m k : ℕ) → m < k → not ((a == n && s == m) && (a == n && s == k)) ≡ true
 not_both a n s m k lt = grind (arith, nat_tests)
 
 both_hold : (a n s m : ℕ) → (a == n && s == m) ≡ true → a ≡ n
 both_hold a n s m h = eqb-true a n (and_parts (a == n) (s == m) h).0
 
-module _ (w : World) (coherent : IsCoherent w) (number : ℕ) (c : NewCell) (here : cell_of w number ≡ Some (attached c)) where
-  there : In (attached c) w.cells × ((c.id.0 == number) ≡ true)
-  there = found-In (λ (d : Cell). d.id.0 == number) w.cells (attached c) here
+module _ (w : World) (coherent : IsCoherent w) (number : ℕ) (c : Cell) (here : cell_of w number ≡ Some c) where
+  there : In c w.cells × ((c.id.0 == number) ≡ true)
+  there = found-In (λ (d : Cell). d.id.0 == number) w.cells c here
 
   same_number : c.id.0 ≡ number
   same_number = eqb-true c.id.0 number there.1
 
   -- no section of it is two of its sections
-  apart : (key : SecKey) → each_pair (λ (k l : SecKey). not (is_same key k && is_same key l)) (section_keys c) ≡ true
+  apart : (key : SecKey) → each_pair (λ (k l : SecKey). not (is_same key k && is_same key l)) (section_keys c.placed) ≡ true
   apart key =
       pairs-map (λ (k l : SecKey). not (is_same key k && is_same key l)) (λ (s : ObjectSection). key_of c.id.0 s.number) c.object.sections
       ∙ pairs_same (λ (s t : ObjectSection). nat_lt s.number t.number) (λ (s t : ObjectSection). not (is_same key (key_of c.id.0 s.number) && is_same key (key_of c.id.0 t.number))) c.object.sections
       (λ s t i j lower. not_both key.cell.0 c.id.0 key.section s.number t.number (ltb-true s.number t.number lower))
-      (object_sound w coherent.ready.objects (attached c) there.0).numbers
+      (object_sound w coherent.ready.objects c there.0).numbers
 
   -- a present section is of the cell where it is one of its sections
-  of_cell : (key : SecKey) → HasSection w key → (key.cell.0 == number) ≡ list_any (λ k. is_same key k) (section_keys c)
-  of_cell key has = go (key.cell.0 == number) (list_any (λ k. is_same key k) (section_keys c)) to from
+  of_cell : (key : SecKey) → HasSection w key → (key.cell.0 == number) ≡ list_any (λ k. is_same key k) (section_keys c.placed)
+  of_cell key has = go (key.cell.0 == number) (list_any (λ k. is_same key k) (section_keys c.placed)) to from
     where
       go : (a b : Bool) → (a ≡ true → b ≡ true) → (b ≡ true → a ≡ true) → a ≡ b
       go true b f g = sym (f refl)
       go false true f g = g refl
       go false false f g = refl
 
-      to : (key.cell.0 == number) ≡ true → list_any (λ k. is_same key k) (section_keys c) ≡ true
+      to : (key.cell.0 == number) ≡ true → list_any (λ k. is_same key k) (section_keys c.placed) ≡ true
       to is =
           let at : key.cell.0 ≡ number = eqb-true key.cell.0 number is in
-          let same : has.cell ≡ attached c = some_same has.cell (attached c) (sym has.present ∙ (ap (cell_of w) at ∙ here)) in
+          let same : has.cell ≡ c = some_same has.cell c (sym has.present ∙ (ap (cell_of w) at ∙ here)) in
           let s : In has.section c.object.sections × ((has.section.number == key.section) ≡ true) = found-In (λ (s : ObjectSection). s.number == key.section) c.object.sections has.section (subst (λ (d : Cell). section_of d.object key.section ≡ Some has.section) same has.has) in
-          any-In (λ k. is_same key k) (section_keys c) (key_of c.id.0 has.section.number) (map-In (λ (s : ObjectSection). key_of c.id.0 s.number) c.object.sections has.section s.0)
+          any-In (λ k. is_same key k) (section_keys c.placed) (key_of c.id.0 has.section.number) (map-In (λ (s : ObjectSection). key_of c.id.0 s.number) c.object.sections has.section s.0)
           (and_from (key.cell.0 == c.id.0) (key.section == has.section.number) (eq-eqb key.cell.0 c.id.0 (at ∙ sym same_number)) (eq-eqb key.section has.section.number (sym (eqb-true has.section.number key.section s.1))))
 
-      from : list_any (λ k. is_same key k) (section_keys c) ≡ true → (key.cell.0 == number) ≡ true
+      from : list_any (λ k. is_same key k) (section_keys c.placed) ≡ true → (key.cell.0 == number) ≡ true
       from any =
-          let k = any-Has (λ k. is_same key k) (section_keys c) any in
+          let k = any-Has (λ k. is_same key k) (section_keys c.placed) any in
           let s = In-map (λ (s : ObjectSection). key_of c.id.0 s.number) c.object.sections k.0 k.1 in
           let at : key.cell.0 ≡ k.0.cell.0 = both_hold key.cell.0 k.0.cell.0 key.section k.0.section k.2 in
           eq-eqb key.cell.0 number (at ∙ (ap (λ (k : SecKey). k.cell.0) s.2 ∙ same_number))
@@ -174,19 +99,19 @@ module _ (w : World) (coherent : IsCoherent w) (number : ℕ) (c : NewCell) (her
   joins = All-In (JoinsPresent w) w.links (links_present w coherent)
 
   -- the cell's links, in order
-  pub deps_are : (rows : List LinkRow) → IsPermutation (links_out w.links (section_keys c)) rows → AreInOrder rows → rows ≡ filter (λ r. r.user.cell.0 == number) w.links
+  pub deps_are : (rows : List LinkRow) → IsPermutation (links_out w.links (section_keys c.placed)) rows → AreInOrder rows → rows ≡ filter (λ r. r.user.cell.0 == number) w.links
   deps_are rows moved sorted =
       one_order is_before before_is_order (filter (λ r. r.user.cell.0 == number) w.links) rows (pairs-filter is_before (λ r. r.user.cell.0 == number) w.links (links_rise w coherent))
       (IsPermutation-trans _ _ _
-      (subst (λ (rs : List LinkRow). IsPermutation rs (links_out w.links (section_keys c))) (sym (filter_same (λ (r : LinkRow). r.user.cell.0 == number) (λ r. list_any (λ k. is_same r.user k) (section_keys c)) w.links (λ r i. of_cell r.user (joins r i).user)))
-      (gathered (λ (k : SecKey) (r : LinkRow). is_same r.user k) (section_keys c) w.links (λ r. apart r.user)))
+      (subst (λ (rs : List LinkRow). IsPermutation rs (links_out w.links (section_keys c.placed))) (sym (filter_same (λ (r : LinkRow). r.user.cell.0 == number) (λ r. list_any (λ k. is_same r.user k) (section_keys c.placed)) w.links (λ r i. of_cell r.user (joins r i).user)))
+      (gathered (λ (k : SecKey) (r : LinkRow). is_same r.user k) (section_keys c.placed) w.links (λ r. apart r.user)))
       moved) sorted
 
   -- the links into the cell, in order
-  pub users_are : (rows : List LinkRow) → IsPermutation (links_in w.links (section_keys c)) rows → AreInOrder rows → rows ≡ filter (λ r. r.target.cell.0 == number) w.links
+  pub users_are : (rows : List LinkRow) → IsPermutation (links_in w.links (section_keys c.placed)) rows → AreInOrder rows → rows ≡ filter (λ r. r.target.cell.0 == number) w.links
   users_are rows moved sorted =
       one_order is_before before_is_order (filter (λ r. r.target.cell.0 == number) w.links) rows (pairs-filter is_before (λ r. r.target.cell.0 == number) w.links (links_rise w coherent))
       (IsPermutation-trans _ _ _
-      (subst (λ (rs : List LinkRow). IsPermutation rs (links_in w.links (section_keys c))) (sym (filter_same (λ (r : LinkRow). r.target.cell.0 == number) (λ r. list_any (λ k. is_same r.target k) (section_keys c)) w.links (λ r i. of_cell r.target (joins r i).target)))
-      (gathered (λ (k : SecKey) (r : LinkRow). is_same r.target k) (section_keys c) w.links (λ r. apart r.target)))
+      (subst (λ (rs : List LinkRow). IsPermutation rs (links_in w.links (section_keys c.placed))) (sym (filter_same (λ (r : LinkRow). r.target.cell.0 == number) (λ r. list_any (λ k. is_same r.target k) (section_keys c.placed)) w.links (λ r i. of_cell r.target (joins r i).target)))
+      (gathered (λ (k : SecKey) (r : LinkRow). is_same r.target k) (section_keys c.placed) w.links (λ r. apart r.target)))
       moved) sorted

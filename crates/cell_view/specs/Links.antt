@@ -2,7 +2,6 @@
 --     HasSections graph c     the graph has each section of the cell
 --     links_out rows keys     the links from each of the sections in turn
 --     links_in rows keys      the links into each of the sections in turn
---     is_before a b           the user of a has the lower cell, or both have one cell and a has the lower entry
 --     AreInOrder rows         no link follows one that it is before
 use Rattle.std.specs.Prelude.{◌==◌, nat_lt, Bool, ◌&&◌, ◌||◌, List, Contains, flat_map}
 use Rattle.std.specs.List.Sorted.{IsSortedBy}
@@ -11,6 +10,7 @@ use Rattle.cell_world.specs.declared.state.LinkRow.{LinkRow}
 use Rattle.cell_world.specs.declared.state.NewCell.{NewCell}
 use Rattle.cell_coherent.specs.Grown.{In}
 use Rattle.cell_graph.specs.Links.{Links, links_from, links_to}
+use Rattle.cell_machine.specs.LinkOrder.{is_before}
 use Rattle.cell_machine.specs.Machine.{section_keys}
 
 abbrev pub HasSections : Links → NewCell → Type 0
@@ -21,9 +21,6 @@ links_out rows keys = flat_map (λ key. links_from key rows) keys
 
 abbrev pub links_in : List LinkRow → List SecKey → List LinkRow
 links_in rows keys = flat_map (λ key. links_to key rows) keys
-
-abbrev pub is_before : LinkRow → LinkRow → Bool
-is_before a b = nat_lt a.user.cell.0 b.user.cell.0 || a.user.cell.0 == b.user.cell.0 && nat_lt a.entry b.entry
 
 abbrev pub AreInOrder : List LinkRow → Type 0
 AreInOrder rows = IsSortedBy is_before rows

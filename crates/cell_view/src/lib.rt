@@ -3,12 +3,10 @@
 
 mod links;
 mod overview;
-mod present;
 mod provider;
 mod section;
 
 pub use links::{deps, users};
 pub use overview::map;
-pub use present::scene;
 pub use provider::find;
-pub use section::{dump, section_of};
+pub use section::dump;

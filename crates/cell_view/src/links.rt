@@ -5,18 +5,14 @@ ghost use Rattle.std.specs.List.Sorted.{IsPermutation};
 ghost use Rattle.cell_world.specs.LinkCommands.{link_line as line_of, next_deps, next_users};
 ghost use Rattle.cell_graph.specs.Links.{links_from, links_to};
 ghost use Rattle.cell_machine.specs.Machine.{IsSound, section_keys, world_of};
-ghost use Rattle.cell_target.specs.Scene.{seen};
 ghost use Rattle.cell_view.specs.Links.{AreInOrder, HasSections, links_in, links_out};
-ghost use Rattle.cell_view.specs.Shows.{Shows};
+ghost use Rattle.cell_world.specs.Following.{Follows};
+ghost use Rattle.cell_machine.specs.Does.{answer_in};
 
-use crate::present::scene;
-use cell_gather::LoadFail;
 use cell_graph::Graph;
-use cell_machine::Machine;
+use cell_machine::{Machine, unknown_number};
 use cell_num::{CellId, Listed, SecKey};
-use cell_stage::unknown_number;
-use cell_target::Scene;
-use cell_world::{LinkLine, LinkRow, NewCell, Reply};
+use cell_world::{Fail, LinkLine, LinkRow, NewCell, Reply};
 use std::alloc::{AllocError, Global};
 
 /// Adds the links of a section.
@@ -107,10 +103,11 @@ fn sorted_users(alloc: Global, graph: &Graph, cell: &NewCell) -> Result<Vec<Link
 }
 
 /// The link with the offset and the kind of its entry, which is one of the user's cell.
-fn link_line(scene: &Scene, row: &LinkRow) -> Option<LinkLine>
-    ensures { result ≡ line_of (seen scene.now.layers.namespaces (scene.now.present.now ++ scene.now.fresh.now)) row.now }
+fn link_line(machine: &Machine, row: &LinkRow) -> Option<LinkLine>
+    requires { IsSound machine.now }
+    ensures { result ≡ line_of (world_of machine.now) row.now }
 {
-    let user = scene.cell(row.user.cell.0)?;
+    let user = machine.cell(row.user.cell.0)?;
     let entry = user.object.entries.as_slice().get(row.entry as usize)?;
     Some(LinkLine {
         user: row.user,
@@ -121,37 +118,41 @@ fn link_line(scene: &Scene, row: &LinkRow) -> Option<LinkLine>
 }
 
 /// Adds the line of a link.
-fn add_line(scene: &Scene, row: &LinkRow, lines: &mut Vec<LinkLine>) -> Result<(), AllocError>
-    ensures { OnOk result (lines.new.items ≡ lines.old.items ++ filter_map (line_of (seen scene.now.layers.namespaces (scene.now.present.now ++ scene.now.fresh.now))) (row.now ∷ [])) }
+fn add_line(machine: &Machine, row: &LinkRow, lines: &mut Vec<LinkLine>) -> Result<(), AllocError>
+    requires { IsSound machine.now }
+    ensures { OnOk result (lines.new.items ≡ lines.old.items ++ filter_map (line_of (world_of machine.now)) (row.now ∷ [])) }
 {
-    if let Some(line) = link_line(scene, row) {
+    if let Some(line) = link_line(machine, row) {
         lines.push(line)?;
     }
     Ok(())
 }
 
-fn link_lines(alloc: Global, scene: &Scene, rows: &[LinkRow]) -> Result<Vec<LinkLine>, AllocError>
-    ensures { IfOk result (λ lines. lines.items ≡ filter_map (line_of (seen scene.now.layers.namespaces (scene.now.present.now ++ scene.now.fresh.now))) rows.now) }
+fn link_lines(
+    alloc: Global,
+    machine: &Machine,
+    rows: &[LinkRow],
+) -> Result<Vec<LinkLine>, AllocError>
+    requires { IsSound machine.now }
+    ensures { IfOk result (λ lines. lines.items ≡ filter_map (line_of (world_of machine.now)) rows.now) }
 {
     let mut lines = Vec::new(alloc);
     for row in rows {
-        add_line(scene, row, &mut lines)?;
+        add_line(machine, row, &mut lines)?;
     }
     Ok(lines)
 }
 
 /// Shows the links of a cell, in the order of its entries.
-pub fn deps(alloc: Global, machine: &Machine, cell: u32) -> Result<Reply, LoadFail>
+pub fn deps(alloc: Global, machine: &Machine, cell: u32) -> Result<Reply, Fail>
     requires { IsSound machine.now }
-    ensures { Shows (next_deps (world_of machine.now) cell) (world_of machine.now) result }
+    ensures { Follows (answer_in (world_of machine.now)) result (next_deps (world_of machine.now) cell) }
 {
-    let none = machine.spaces.without_cells(alloc)?;
-    let scene = scene(machine, &none);
-    let Some(present) = scene.cell(cell) else {
+    let Some(present) = machine.cell(cell) else {
         return Err(unknown_number(alloc, cell));
     };
     let rows = sorted_deps(alloc, &machine.graph, present)?;
-    let lines = link_lines(alloc, &scene, &rows)?;
+    let lines = link_lines(alloc, machine, &rows)?;
     Ok(Reply::Deps {
         cell: CellId(cell),
         links: Listed::from_vec(lines),
@@ -159,17 +160,15 @@ pub fn deps(alloc: Global, machine: &Machine, cell: u32) -> Result<Reply, LoadFa
 }
 
 /// Shows the links into a cell, by user cell and entry.
-pub fn users(alloc: Global, machine: &Machine, cell: u32) -> Result<Reply, LoadFail>
+pub fn users(alloc: Global, machine: &Machine, cell: u32) -> Result<Reply, Fail>
     requires { IsSound machine.now }
-    ensures { Shows (next_users (world_of machine.now) cell) (world_of machine.now) result }
+    ensures { Follows (answer_in (world_of machine.now)) result (next_users (world_of machine.now) cell) }
 {
-    let none = machine.spaces.without_cells(alloc)?;
-    let scene = scene(machine, &none);
-    let Some(present) = scene.cell(cell) else {
+    let Some(present) = machine.cell(cell) else {
         return Err(unknown_number(alloc, cell));
     };
     let rows = sorted_users(alloc, &machine.graph, present)?;
-    let lines = link_lines(alloc, &scene, &rows)?;
+    let lines = link_lines(alloc, machine, &rows)?;
     Ok(Reply::Users {
         cell: CellId(cell),
         links: Listed::from_vec(lines),

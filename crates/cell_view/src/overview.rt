@@ -2,24 +2,24 @@
 
 ghost use Rattle.std.specs.Prelude.{◌≡◌, IfOk, IsTrue, map, nat_lt};
 ghost use Rattle.cell_num.specs.Lists.{each_pair};
-ghost use Rattle.cell_world.specs.MapCommand.{map_cell as shown_cell, map_section as shown_section, next_map};
-ghost use Rattle.cell_world.specs.World.{attached};
-ghost use Rattle.cell_world.specs.declared.state.NewCell.{NewCell};
+ghost use Rattle.cell_world.specs.MapCommand.{map_cell as shown_cell, next_map};
+ghost use Rattle.cell_world.specs.World.{Cell};
 ghost use Rattle.cell_coherent.specs.Grown.{In};
 ghost use Rattle.cell_machine.specs.Machine.{IsSound, world_of};
-ghost use Rattle.cell_view.specs.Shows.{CanShow, Shows};
+ghost use Rattle.cell_world.specs.Following.{Follows};
+ghost use Rattle.cell_view.specs.Shows.{section_shown};
+ghost use Rattle.cell_machine.specs.Does.{answer_in};
 
-use cell_gather::LoadFail;
 use cell_machine::Machine;
 use cell_num::Listed;
 use cell_object::Section;
-use cell_target::start_of;
-use cell_world::{MapCell, MapSection, NewCell, Reply};
+use cell_placed::start_of;
+use cell_world::{Fail, MapCell, MapSection, NewCell, Reply};
 use std::alloc::{AllocError, Global};
 
 fn map_section(cell: &NewCell, section: &Section) -> MapSection
     requires { IsTrue (each_pair (λ a b. nat_lt a.section b.section) cell.now.places) }
-    ensures { result ≡ shown_section (attached cell.now) section.now }
+    ensures { result ≡ section_shown cell.now section.now }
 {
     MapSection {
         section: section.number,
@@ -32,7 +32,7 @@ fn map_section(cell: &NewCell, section: &Section) -> MapSection
 
 fn map_sections(alloc: Global, cell: &NewCell) -> Result<Vec<MapSection>, AllocError>
     requires { IsTrue (each_pair (λ a b. nat_lt a.section b.section) cell.now.places) }
-    ensures { IfOk result (λ sections. sections.items ≡ map (shown_section (attached cell.now)) cell.now.object.sections) }
+    ensures { IfOk result (λ sections. sections.items ≡ map (section_shown cell.now) cell.now.object.sections) }
 {
     let mut sections = Vec::new(alloc);
     for section in cell.object.sections.as_slice() {
@@ -42,28 +42,26 @@ fn map_sections(alloc: Global, cell: &NewCell) -> Result<Vec<MapSection>, AllocE
 }
 
 fn map_cell(alloc: Global, machine: &Machine, cell: &NewCell) -> Result<MapCell, AllocError>
-    requires { CanShow machine.now cell.now }
-    ensures { IfOk result (λ shown. shown ≡ shown_cell (world_of machine.now) (attached cell.now)) }
+    requires sound { IsSound machine.now }
+    requires there { In cell.now machine.now.cells.items }
+    ensures { IfOk result (λ shown. (c : Cell) → In c (world_of machine.now).cells → c.placed ≡ cell.now → shown ≡ shown_cell (world_of machine.now) c) }
 {
     Ok(MapCell {
         cell: cell.id,
         ns: machine.spaces.ns_name(cell.ns).copy(alloc)?,
         stem: cell.stem.copy(alloc)?,
         file: cell.file.copy(alloc)?,
-        group: None,
+        group: machine.group(cell),
         sections: Listed::from_vec(map_sections(alloc, cell)?),
     })
 }
 
-fn map_cells(
-    alloc: Global,
-    machine: &Machine,
-    cells: &[NewCell],
-) -> Result<Vec<MapCell>, AllocError>
-    requires { (c : NewCell) → In c cells.now → CanShow machine.now c }
-    ensures { IfOk result (λ shown. shown.items ≡ map (λ c. shown_cell (world_of machine.now) (attached c)) cells.now) }
+fn map_cells(alloc: Global, machine: &Machine) -> Result<Vec<MapCell>, AllocError>
+    requires { IsSound machine.now }
+    ensures { IfOk result (λ shown. shown.items ≡ map (shown_cell (world_of machine.now)) (world_of machine.now).cells) }
 {
     let mut shown = Vec::new(alloc);
+    let cells = machine.cells.as_slice();
     for index in 0..cells.len() {
         shown.push(map_cell(alloc, machine, &cells[index])?)?;
     }
@@ -71,10 +69,10 @@ fn map_cells(
 }
 
 /// Shows all cells, in the order of their numbers.
-pub fn map(alloc: Global, machine: &Machine) -> Result<Reply, LoadFail>
+pub fn map(alloc: Global, machine: &Machine) -> Result<Reply, Fail>
     requires { IsSound machine.now }
-    ensures { Shows (next_map (world_of machine.now)) (world_of machine.now) result }
+    ensures { Follows (answer_in (world_of machine.now)) result (next_map (world_of machine.now)) }
 {
-    let cells = Listed::from_vec(map_cells(alloc, machine, &machine.cells)?);
+    let cells = Listed::from_vec(map_cells(alloc, machine)?);
     Ok(Reply::Map { cells })
 }

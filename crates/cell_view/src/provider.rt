@@ -3,13 +3,11 @@
 ghost use Rattle.std.specs.Prelude.{◌≡◌};
 ghost use Rattle.cell_world.specs.FindCommand.{found_at as place_at, next_find};
 ghost use Rattle.cell_machine.specs.Machine.{IsSound, world_of};
-ghost use Rattle.cell_view.specs.Shows.{Shows};
+ghost use Rattle.cell_world.specs.Following.{Follows};
+ghost use Rattle.cell_machine.specs.Does.{answer_in};
 
-use crate::present::scene;
-use cell_gather::LoadFail;
-use cell_machine::Machine;
-use cell_stage::namespace;
-use cell_world::{Found, Reply, Target};
+use cell_machine::{Machine, namespace};
+use cell_world::{Fail, Found, Reply, Target};
 use std::alloc::Global;
 
 /// The place in a section that a target is.
@@ -23,14 +21,12 @@ fn found_at(target: Target) -> Option<Found>
 }
 
 /// Shows where the provider of a name for a namespace has it.
-pub fn find(alloc: Global, machine: &Machine, ns: &[u8], symbol: &[u8]) -> Result<Reply, LoadFail>
+pub fn find(alloc: Global, machine: &Machine, ns: &[u8], symbol: &[u8]) -> Result<Reply, Fail>
     requires { IsSound machine.now }
-    ensures { Shows (next_find (world_of machine.now) ns.now symbol.now) (world_of machine.now) result }
+    ensures { Follows (answer_in (world_of machine.now)) result (next_find (world_of machine.now) ns.now symbol.now) }
 {
     let ns = namespace(alloc, &machine.spaces, ns)?;
-    let none = machine.spaces.without_cells(alloc)?;
-    let scene = scene(machine, &none);
-    let found = match scene.provided(ns, symbol) {
+    let found = match machine.provided(ns, symbol) {
         Some(target) => found_at(target),
         None => None,
     };

@@ -2,19 +2,22 @@
 --     IsCoherent w         all of it
 --     IsReady w            all of it, but that memory and links are those of the objects
 --     AreSound sources     each file's object is one that a coherent machine may hold
-use Rattle.std.specs.Prelude.{slice_index, ℕ, ◌+◌, ◌-◌, ◌*◌, ◌%◌, ◌^◌, ◌≡◌, ◌<◌, ◌==◌, nat_lt, nat_le, Bool, true, false, not, ◌&&◌, ◌||◌, IsTrue, List, [], ◌∷◌, ◌++◌, Result, Ok, Err, Some, None, All, is_some, is_none, map, flat_map, fold, length, codes, unwrap_or, if◌then◌else◌}
+use Rattle.std.specs.Prelude.{slice_index, ℕ, suc, ◌+◌, ◌-◌, ◌*◌, ◌%◌, ◌^◌, ◌≡◌, ◌<◌, ◌==◌, nat_lt, nat_le, Bool, true, false, not, ◌&&◌, ◌||◌, IsTrue, List, [], ◌∷◌, ◌++◌, Result, Ok, Err, Some, None, All, is_some, is_none, map, flat_map, fold, length, codes, unwrap_or, if◌then◌else◌}
 use Rattle.std.specs.List.{list_any, list_all}
 use Rattle.cell_object.specs.declared.object.Object.{Object}
 use Rattle.cell_object.specs.Bytes.{Broken}
 use Rattle.cell_object.specs.Sound.{IsSoundObject}
 use Rattle.cell_world.specs.declared.state.Namespace.{Namespace}
+use Rattle.cell_world.specs.Limits.{max_namespaces, max_cells, max_tasks, max_cell_number, max_task_number, min_pages, max_pages, min_base, max_base}
 use Rattle.cell_world.specs.World.{stack_size, World, Cell, Region, Permission, Task, Standing, Attached, Detached, is_attached, cell_of}
 use Rattle.cell_num.specs.Lists.{equals, holds_name, numbered, each_pair}
 use Rattle.cell_world.specs.Names.{are_on_one_path, names_of, needs_of, provider_of, definitions_of}
 use Rattle.cell_world.specs.Target.{start_of}
 use Rattle.cell_world.specs.Field.{misfit_of}
-use Rattle.cell_world.specs.Relink.{Class, Text, ReadOnly, Writable, sections_in, class_start, image_of, permission_of, bound_entries, relink}
-use Rattle.cell_world.specs.Place.{offset_in}
+use Rattle.cell_world.specs.Relink.{class_start, bound_entries, relink}
+use Rattle.cell_world.specs.Layout.{sections_in, image_of, permission_of, offset_in}
+use Rattle.cell_world.specs.declared.layout.Class.TheVariants.{Text, ReadOnly, Writable}
+use Rattle.cell_world.specs.declared.layout.Class.{Class}
 use Rattle.cell_world.specs.Gather.{Source}
 
 -- an object that a present cell may have
@@ -127,10 +130,10 @@ is_sound_task w t =
 
 abbrev pub are_limits_kept : World → Bool
 are_limits_kept w =
-    nat_le (length w.namespaces) 256 && nat_le (length w.cells) 1024 && nat_le (length w.tasks) 64
-    && nat_le w.next_cell 65536 && nat_le w.next_task 65536 && nat_lt w.swaps w.next_cell
-    && nat_le 16 w.pages && nat_le w.pages 4096
-    && (w.base % 4096 == 0) && nat_le 0x1000 w.base && nat_le w.base 0x7ff_ffff_f000
+    nat_le (length w.namespaces) max_namespaces && nat_le (length w.cells) max_cells && nat_le (length w.tasks) max_tasks
+    && nat_le w.next_cell (suc max_cell_number) && nat_le w.next_task (suc max_task_number) && nat_lt w.swaps w.next_cell
+    && nat_le min_pages w.pages && nat_le w.pages max_pages
+    && (w.base % 4096 == 0) && nat_le min_base w.base && nat_le w.base max_base
 
 -- all of a coherent machine that linking doesn't make
 pub record IsReady (w : World) : Type 0 where

@@ -4,11 +4,11 @@
 --     execute m registers pc    the instruction at the pc
 -- From the RISC-V unprivileged manual, "RV32I Base Integer Instruction Set", "RV64I" and "M Extension"; the causes of
 -- traps and their order are this product's.
-use Rattle.std.specs.Prelude.{ℕ, zero, suc, ◌+◌, ◌*◌, ◌%◌, ◌==◌, nat_lt, nat_le, Bool, true, false, not, ◌&&◌, List, Some, None, ◌-◌, map, slice_index, slice_range, slice_set, if◌then◌else◌}
+use Rattle.std.specs.Prelude.{ℕ, zero, suc, ◌+◌, ◌*◌, ◌%◌, ◌==◌, nat_lt, nat_le, Bool, true, false, not, ◌&&◌, List, Option, Some, None, ◌-◌, slice_index, slice_range, slice_set, if◌then◌else◌}
 use Rattle.std.specs.List.{list_any}
 use Rattle.cell_num.specs.declared.ids.Cause.{Cause}
 use Rattle.cell_num.specs.declared.ids.Cause.TheVariants.{Fetch, Jump as BadJump, Illegal, Break, LoadAlign, Load, StoreAlign, Store as BadStore}
-use Rattle.cell_num.specs.Bits.{wrap, wrap_ℤ, sign_extended, little, bytes_of}
+use Rattle.cell_num.specs.Bits.{wrap, wrap_ℤ, sign_extended, little}
 use Rattle.cell_num.specs.Kinds.{width_of}
 use Rattle.cell_isa.specs.declared.insn.Insn.{Insn}
 use Rattle.cell_isa.specs.declared.insn.Op.{Op}
@@ -18,7 +18,7 @@ use Rattle.cell_alu.specs.declared.memory.Access.{Access}
 use Rattle.cell_alu.specs.declared.memory.Access.TheVariants.{Untouched, Loads, Stores}
 use Rattle.cell_alu.specs.Meaning.{result_of, is_taken, aim_of, access_of}
 use Rattle.cell_world.specs.World.{World, Cell, Region, Permission}
-use Rattle.cell_world.specs.Memory.{region_in, end_of, written}
+use Rattle.cell_world.specs.Memory.{Write, region_in, end_of}
 use Rattle.cell_world.specs.Field.{place_of, fields_of}
 
 -- the memory as an instruction sees it: regions, and whether one of n bytes from an address on is sealed
@@ -39,9 +39,9 @@ abbrev pub with_register : List ℕ → ℕ → ℕ → List ℕ
 with_register registers zero n = registers
 with_register registers (suc k) n = slice_set registers (suc k) n
 
--- what there is after an instruction, or how it stops
+-- what there is after an instruction, with its store where it is one, or how it stops
 pub data Effect : Type 0 where
-  Goes : (registers : List ℕ) → (pc : ℕ) → (regions : List Region) → Effect
+  Goes : (registers : List ℕ) → (pc : ℕ) → (store : Option Write) → Effect
   Calls : Effect
   Traps : Cause → Effect
 
@@ -61,12 +61,12 @@ extended false n value = value
 
 -- on to the next instruction, with a number in rd
 abbrev pub computed : Seen → List ℕ → ℕ → ℕ → ℕ → Effect
-computed m registers pc rd value = Goes (with_register registers rd value) (wrap (pc + 4)) m.regions
+computed m registers pc rd value = Goes (with_register registers rd value) (wrap (pc + 4)) None
 
 -- a jump, or a branch that is taken
 abbrev pub jumped : Seen → List ℕ → ℕ → ℕ → ℕ → Effect
 jumped m registers aim rd value =
-    if aim % 4 == 0 then Goes (with_register registers rd value) aim m.regions else Traps BadJump
+    if aim % 4 == 0 then Goes (with_register registers rd value) aim None else Traps BadJump
 
 -- n bytes from the address on go into rd
 abbrev pub loaded : Seen → List ℕ → ℕ → ℕ → ℕ → ℕ → Bool → Effect
@@ -80,7 +80,7 @@ abbrev pub stored : Seen → List ℕ → ℕ → ℕ → ℕ → ℕ → Effect
 stored m registers pc addr n value =
     if not (addr % n == 0) then Traps StoreAlign else
     if not (allows m.regions (λ p. p.write) addr n && not (m.is_sealed addr n)) then Traps BadStore else
-    Goes registers (wrap (pc + 4)) (map (λ r. written r addr (bytes_of n value)) m.regions)
+    Goes registers (wrap (pc + 4)) (Some (record { addr = addr; width = n; value = value }))
 
 -- a load, a store, or neither. a and b are rs1 and rs2
 abbrev pub accessed : Seen → List ℕ → ℕ → Insn → ℕ → ℕ → Access → Effect
@@ -97,7 +97,7 @@ stepped m registers pc insn a b =
 abbrev pub performed : Seen → List ℕ → ℕ → Insn → Op → Effect
 performed m registers pc insn Ecall = Calls
 performed m registers pc insn Ebreak = Traps Break
-performed m registers pc insn Fence = Goes registers (wrap (pc + 4)) m.regions
+performed m registers pc insn Fence = Goes registers (wrap (pc + 4)) None
 performed m registers pc insn _ = stepped m registers pc insn (slice_index registers insn.rs1) (slice_index registers insn.rs2)
 
 abbrev pub execute_word : Seen → List ℕ → ℕ → ℕ → Effect

@@ -13,6 +13,7 @@ use Rattle.cell_world.specs.declared.file.File.{File}
 use Rattle.cell_world.specs.declared.refusal.Refusal.{Refusal}
 use Rattle.cell_world.specs.declared.refusal.Refusal.TheVariants.{TooMany, Ambiguous, BadObject, Duplicate, Missing}
 use Rattle.cell_world.specs.declared.refusal.Many.TheVariants.{Cells, CellNumbers}
+use Rattle.cell_world.specs.Limits.{max_cells, max_cell_number}
 use Rattle.cell_world.specs.World.{World, Cell, Alias, Attached, is_attached}
 use Rattle.cell_world.specs.Names.{chain, needs_of, definitions_of, provider_of, clash_stem, clash_name, crate_of}
 use Rattle.cell_num.specs.Lists.{equals, is_before, holds, first, or_else}
@@ -76,8 +77,8 @@ new_cell w ns f object =
 
 abbrev pub append_cell : World → Source → ℕ → Outcome World
 append_cell w f ns = do
-  need (nat_lt (length w.cells) 1024) (TooMany Cells 1024)
-  need (nat_le w.next_cell 65535) (TooMany CellNumbers 65535)
+  need (nat_lt (length w.cells) max_cells) (TooMany Cells max_cells)
+  need (nat_le w.next_cell max_cell_number) (TooMany CellNumbers max_cell_number)
   object ← object_in f
   refused_by (option_map (duplicate (stem_of_file f.name)) (clash_stem w ns (stem_of_file f.name)))
   refused_by (clash_among w ns (definitions_of object))
@@ -136,4 +137,4 @@ bring_within (suc turns) sources from w =
     ]
 
 abbrev pub bring : List Source → ℕ → World → Outcome World
-bring sources from w = bring_within 1025 sources from w
+bring sources from w = bring_within (suc max_cells) sources from w

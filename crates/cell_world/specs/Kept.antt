@@ -17,7 +17,7 @@ use Rattle.cell_world.specs.declared.state.LinkRow.{LinkRow}
 use Rattle.cell_world.specs.declared.state.Placed.{Placed}
 use Rattle.cell_world.specs.World.{World, Cell, Region, Task, is_attached, key_of}
 use Rattle.cell_world.specs.Closure.{closure}
-use Rattle.cell_world.specs.Relink.{gap}
+use Rattle.cell_world.specs.Layout.{gap}
 use Rattle.cell_world.specs.Target.{start_of}
 use Rattle.cell_world.specs.Memory.{read_in}
 use Rattle.cell_world.specs.Words.{words_in, words_of}

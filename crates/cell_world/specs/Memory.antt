@@ -5,8 +5,11 @@
 --     region_at w, read w                 the same of the machine's regions
 --     pasted bytes i new                  the bytes with new from place i on
 --     written r addr new                  the region with new from the address on, where it covers the address
-use Rattle.std.specs.Prelude.{ℕ, ◌+◌, ◌-◌, nat_lt, nat_le, Bool, ◌&&◌, List, ◌++◌, Option, length, take, drop, find, slice_range, if◌then◌else◌, option_and_then}
+--     put_in regions x                    the regions after a write
+--     put_by regions store                the regions after a store, where there is one
+use Rattle.std.specs.Prelude.{ℕ, ◌+◌, ◌-◌, nat_lt, nat_le, Bool, ◌&&◌, List, ◌++◌, Option, Some, None, length, map, take, drop, find, slice_range, if◌then◌else◌, option_and_then}
 use Rattle.cell_world.specs.World.{World, Region}
+use Rattle.cell_num.specs.Bits.{bytes_of}
 use Rattle.cell_num.specs.Lists.{where_true}
 
 abbrev pub end_of : Region → ℕ
@@ -36,3 +39,16 @@ read_in regions addr n = option_and_then (λ r. part_of r addr n) (region_in reg
 
 abbrev pub read : World → ℕ → ℕ → Option (List ℕ)
 read w addr n = read_in w.regions addr n
+
+-- so many low bytes of a number go to the address: a store that succeeds, or a patch
+pub record Write : Type 0 where
+  pub addr : ℕ
+  pub width : ℕ
+  pub value : ℕ
+
+abbrev pub put_in : List Region → Write → List Region
+put_in regions x = map (λ r. written r x.addr (bytes_of x.width x.value)) regions
+
+abbrev pub put_by : List Region → Option Write → List Region
+put_by regions None = regions
+put_by regions (Some x) = put_in regions x

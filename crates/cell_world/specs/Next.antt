@@ -3,7 +3,7 @@
 use Rattle.std.specs.Prelude.{List, Result, Ok, Err}
 use Rattle.cell_world.specs.declared.refusal.Refusal.{Refusal}
 use Rattle.cell_world.specs.declared.command.Command.{Command}
-use Rattle.cell_world.specs.declared.command.Command.TheVariants.{Ns, Load, Spawn, Step, Run, Kill, Unload, Purge, Tasks, Find, Deps, Users, Map, Dump}
+use Rattle.cell_world.specs.declared.command.Command.TheVariants.{Ns, Load, Spawn, Step, Run, Kill, Swap, Unload, Purge, Tasks, Find, Deps, Users, Map, Dump}
 use Rattle.cell_world.specs.declared.reply.Reply.{Reply}
 use Rattle.cell_world.specs.World.{World}
 use Rattle.cell_world.specs.Gather.{Source}
@@ -16,6 +16,7 @@ use Rattle.cell_world.specs.MapCommand.{next_map}
 use Rattle.cell_world.specs.DumpCommand.{next_dump}
 use Rattle.cell_world.specs.SpawnCommand.{next_spawn}
 use Rattle.cell_world.specs.LinkCommands.{next_deps, next_users}
+use Rattle.cell_world.specs.SwapCommand.{next_swap}
 use Rattle.cell_world.specs.UnloadCommand.{next_unload, next_purge}
 use Rattle.cell_world.specs.TaskCommands.{next_step, next_run, next_kill, next_tasks}
 
@@ -28,6 +29,7 @@ outcome_of sources w (Spawn ns symbol arg) = next_spawn w ns symbol arg
 outcome_of sources w (Step task turns) = next_step w task turns
 outcome_of sources w (Run turns) = next_run w turns
 outcome_of sources w (Kill task) = next_kill w task
+outcome_of sources w (Swap items reexport strict routines budget) = next_swap sources w items reexport strict routines budget
 outcome_of sources w (Unload cells) = next_unload w cells
 outcome_of sources w Purge = next_purge w
 outcome_of sources w Tasks = next_tasks w

@@ -3,6 +3,7 @@ use Rattle.std.specs.Prelude.{ℕ, nat_lt, List, [], ◌∷◌, ◌++◌, Some, 
 use Rattle.cell_world.specs.declared.refusal.Many.TheVariants.{Namespaces}
 use Rattle.cell_world.specs.declared.refusal.Refusal.TheVariants.{NameTaken, TooMany}
 use Rattle.cell_world.specs.declared.reply.Reply.TheVariants.{Ns as NsDone}
+use Rattle.cell_world.specs.Limits.{max_namespaces}
 use Rattle.cell_world.specs.World.{World}
 use Rattle.cell_world.specs.Names.{namespace_named}
 use Rattle.cell_world.specs.Outcome.{Outcome, ◌>>=◌, ◌>>◌, need}
@@ -15,5 +16,5 @@ abbrev pub next_ns : World → List ℕ → List ℕ → Outcome Done
 next_ns w name parent = do
   up ← space_of w parent
   need (is_none (namespace_named w name)) (NameTaken name)
-  need (nat_lt (length w.namespaces) 256) (TooMany Namespaces 256)
+  need (nat_lt (length w.namespaces) max_namespaces) (TooMany Namespaces max_namespaces)
   done (NsDone name) (with_namespace w name up)

@@ -9,14 +9,15 @@
 use Rattle.std.specs.Prelude.{◌≡◌, ◌≤◌, ℕ, ◌+◌, ◌%◌, Bool, false, true, not, List, [], ◌∷◌, ◌++◌, Option, length, take, drop, find, max, replicate, slice_index_or}
 use Rattle.std.specs.List.{list_all, prefix_len}
 use Rattle.cell_num.specs.Lists.{from_on, upto}
+use Rattle.cell_world.specs.Limits.{min_base, max_base, min_pages, max_pages}
 
 -- the first address of the space and its number of pages
 pub record IsSpace (base pages : ℕ) : Type 0 where
   pub aligned : base % 4096 ≡ 0
-  pub lowest : 0x1000 ≤ base
-  pub highest : base ≤ 0x7fffffff000
-  pub fewest : 16 ≤ pages
-  pub most : pages ≤ 4096
+  pub lowest : min_base ≤ base
+  pub highest : base ≤ max_base
+  pub fewest : min_pages ≤ pages
+  pub most : pages ≤ max_pages
 
 -- a page that isn't in the table counts as taken
 abbrev pub is_free : List Bool → ℕ → Bool

@@ -1,18 +1,19 @@
 -- Which pages are free, and where the sections of new cells stand.
 --     page_table w                          which pages the regions take
---     offset_in sections number             where the section stands in its class's run
 --     place_cell w c, place_all w cells     w with the cells' regions and starts
 use Rattle.std.specs.Prelude.{ℕ, ◌+◌, ◌*◌, ◌/◌, ◌==◌, nat_lt, Bool, List, [], ◌∷◌, Some, None, Ok, Err, map, length, if◌then◌else◌}
 use Rattle.std.specs.List.{list_any}
 use Rattle.cell_object.specs.declared.object.Object.{Object}
 use Rattle.cell_object.specs.declared.object.Section.{Section as ObjectSection}
 use Rattle.cell_world.specs.declared.refusal.Refusal.TheVariants.{Exhausted}
-use Rattle.cell_world.specs.declared.state.SecPlace.{SecPlace}
 use Rattle.cell_world.specs.World.{World, Cell, Region}
 use Rattle.cell_num.specs.Lists.{upto}
 use Rattle.cell_world.specs.Memory.{covers}
 use Rattle.cell_world.specs.Pages.{lowest_run, longest_run}
-use Rattle.cell_world.specs.Relink.{Class, Text, ReadOnly, Writable, sections_in, image_of, permission_of, gap}
+use Rattle.cell_world.specs.Layout.{sections_in, image_of, permission_of, places_in}
+use Rattle.cell_world.specs.declared.layout.Starts.{Starts}
+use Rattle.cell_world.specs.declared.layout.Class.TheVariants.{Text, ReadOnly, Writable}
+use Rattle.cell_world.specs.declared.layout.Class.{Class}
 use Rattle.cell_world.specs.Outcome.{Outcome, ◌>>=◌, each}
 
 -- the page table: a page is taken where a region covers it
@@ -26,15 +27,6 @@ page_table w = map (is_taken w) (upto w.pages)
 abbrev pub with_region : Region → List Region → List Region
 with_region r [] = r ∷ []
 with_region r (s ∷ regions) = if nat_lt r.start s.start then r ∷ s ∷ regions else s ∷ with_region r regions
-
--- n bytes stand before the sections
-abbrev pub offset_from : ℕ → List ObjectSection → ℕ → ℕ
-offset_from n [] number = 0
-offset_from n (s ∷ sections) number =
-    let at = n + gap n s.align in if s.number == number then at else offset_from (at + s.size) sections number
-
-abbrev pub offset_in : List ObjectSection → ℕ → ℕ
-offset_in sections number = offset_from 0 sections number
 
 -- where the lowest free run of n pages starts, or the refusal
 abbrev pub start_of_run : World → ℕ → Outcome ℕ
@@ -62,28 +54,6 @@ place_sections w class (s ∷ rest) =
 
 abbrev pub place_class : World → Class → Object → Outcome Placing
 place_class w class object = place_sections w class (sections_in class object)
-
--- where the runs of the three classes start
-pub record Starts : Type 0 where
-  pub text : ℕ
-  pub read_only : ℕ
-  pub writable : ℕ
-
-abbrev pub class_of : ObjectSection → Class
-class_of s = if s.exec then Text else if s.write then Writable else ReadOnly
-
-abbrev pub start_in : Starts → Class → ℕ
-start_in starts Text = starts.text
-start_in starts ReadOnly = starts.read_only
-start_in starts Writable = starts.writable
-
-abbrev pub place_in : Starts → Object → ObjectSection → SecPlace
-place_in starts object s =
-    record { section = s.number; start = start_in starts (class_of s) + offset_in (sections_in (class_of s) object) s.number }
-
--- in the order of the object's sections
-abbrev pub places_in : Starts → Object → List SecPlace
-places_in starts object = map (place_in starts object) object.sections
 
 abbrev pub with_places : ℕ → Starts → Cell → Cell
 with_places number starts c =

@@ -1,69 +1,24 @@
 -- The machine with all code and all links made anew from the objects: no history is in it.
---     is_in_class class s        the section is one of text, of read-only or of writable ones
---     image_of sections          the sections' own bytes, each at the next multiple of its alignment, up to whole pages
 --     patches_of w c             what linking writes for the cell, field by field
 --     remade w r                 the region with its own bytes again, where it isn't writable, and with all fields
 --     links_of w                 one link for each entry whose target is a section
 --     relink w                   w with each region and the links made anew
-use Rattle.std.specs.Prelude.{ℕ, ◌-◌, ◌%◌, ◌==◌, Bool, true, false, not, ◌&&◌, List, [], ◌∷◌, ◌++◌, Option, Some, None, length, replicate, map, filter, filter_map, flat_map, fold, option_map, max}
+use Rattle.std.specs.Prelude.{ℕ, ◌==◌, Bool, false, List, ◌++◌, Option, Some, None, map, filter, filter_map, flat_map, fold, option_map}
 use Rattle.cell_object.specs.declared.object.Object.{Object}
-use Rattle.cell_object.specs.declared.object.Section.{Section as ObjectSection}
 use Rattle.cell_object.specs.declared.object.Entry.{Entry}
-use Rattle.cell_object.specs.declared.object.Fill.{Fill}
-use Rattle.cell_object.specs.declared.object.Fill.TheVariants.{Prog, Note, Zero}
 use Rattle.cell_world.specs.declared.state.LinkRow.{LinkRow}
 use Rattle.cell_world.specs.declared.state.Target.{Target}
 use Rattle.cell_world.specs.declared.state.Target.TheVariants.{Section, Number}
-use Rattle.cell_world.specs.World.{World, Cell, Region, Permission, key_of}
+use Rattle.cell_world.specs.World.{World, Cell, Region, key_of}
+use Rattle.cell_world.specs.Layout.{sections_in, image_of}
+use Rattle.cell_world.specs.declared.layout.Class.TheVariants.{Text, ReadOnly}
+use Rattle.cell_world.specs.declared.layout.Class.{Class}
 use Rattle.cell_num.specs.Lists.{numbered, first}
 use Rattle.cell_num.specs.Bits.{bytes_of}
 use Rattle.cell_num.specs.Kinds.{width_of}
 use Rattle.cell_world.specs.Target.{target_of, targets_of, start_of}
 use Rattle.cell_world.specs.Memory.{written}
 use Rattle.cell_world.specs.Field.{Bound, bound_by, fields_of, field_value_of, place_of}
-
-pub data Class : Type 0 where
-  Text : Class
-  ReadOnly : Class
-  Writable : Class
-
-abbrev pub is_in_class : Class → ObjectSection → Bool
-is_in_class Text s = s.exec
-is_in_class ReadOnly s = not s.exec && not s.write
-is_in_class Writable s = s.write && not s.exec
-
--- the sections of the class, in the order of their numbers
-abbrev pub sections_in : Class → Object → List ObjectSection
-sections_in class object = filter (is_in_class class) object.sections
-
-abbrev pub permission_of : Class → Permission
-permission_of Text = record { read = true; write = false; exec = true }
-permission_of ReadOnly = record { read = true; write = false; exec = false }
-permission_of Writable = record { read = true; write = true; exec = false }
-
--- the section's bytes in the object; a Zero section has zeros
-abbrev pub own_bytes : ObjectSection → Fill → List ℕ
-own_bytes s Prog = s.bytes
-own_bytes s Note = s.bytes
-own_bytes s Zero = replicate s.size 0
-
--- how many bytes are missing from n to the next multiple of the alignment
-abbrev pub gap : ℕ → ℕ → ℕ
-gap n align = (align - n % max 1 align) % max 1 align
-
--- the bytes so far and then each section at the next multiple of its alignment
-abbrev pub laid_out : List ℕ → List ObjectSection → List ℕ
-laid_out bytes [] = bytes
-laid_out bytes (s ∷ sections) =
-    laid_out (bytes ++ replicate (gap (length bytes) s.align) 0 ++ own_bytes s s.fill) sections
-
--- up to whole pages, at least one
-abbrev pub to_pages : List ℕ → List ℕ
-to_pages [] = replicate 4096 0
-to_pages bytes = bytes ++ replicate (gap (length bytes) 4096) 0
-
-abbrev pub image_of : List ObjectSection → List ℕ
-image_of sections = to_pages (laid_out [] sections)
 
 -- the first section of a class stands at the start of the class's region
 abbrev pub class_start : Cell → Class → Option ℕ

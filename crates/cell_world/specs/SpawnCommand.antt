@@ -9,11 +9,13 @@ use Rattle.cell_num.specs.Lists.{where_true}
 use Rattle.cell_world.specs.declared.refusal.Refusal.TheVariants.{TooMany, NoEntry}
 use Rattle.cell_world.specs.declared.refusal.Many.TheVariants.{Tasks as ManyTasks, TaskNumbers}
 use Rattle.cell_world.specs.declared.reply.Reply.TheVariants.{Spawn as SpawnDone}
+use Rattle.cell_world.specs.Limits.{max_tasks, max_task_number}
 use Rattle.cell_world.specs.World.{stack_size, World, Cell, Task, cell_of}
 use Rattle.cell_world.specs.Names.{attached_provider}
 use Rattle.cell_world.specs.Target.{start_of}
-use Rattle.cell_world.specs.Relink.{Text, Writable, sections_in, permission_of}
-use Rattle.cell_world.specs.Place.{offset_in, start_of_run, with_region}
+use Rattle.cell_world.specs.Layout.{sections_in, permission_of, offset_in}
+use Rattle.cell_world.specs.declared.layout.Class.TheVariants.{Text, Writable}
+use Rattle.cell_world.specs.Place.{start_of_run, with_region}
 use Rattle.cell_world.specs.Outcome.{Outcome, ◌>>=◌, ◌>>◌, need, found}
 use Rattle.cell_world.specs.Answer.{Done, done, space_of}
 
@@ -51,6 +53,9 @@ with_stack w start =
     record w { regions = with_region (record { start = start; permission = permission_of Writable; bytes = replicate stack_size 0 }) w.regions }
 
 -- all registers are 0 but x2, 16 bytes below the stack's end, and x10
+abbrev pub first_registers : ℕ → ℕ → List ℕ
+first_registers arg stack = slice_set (slice_set (replicate 32 0) 10 arg) 2 (stack + stack_size - 16)
+
 abbrev pub new_task : ℕ → ℕ → ℕ → ℕ → ℕ → Task
 new_task number root entry arg stack =
     record {
@@ -58,15 +63,15 @@ new_task number root entry arg stack =
       root = root;
       stack = stack;
       pc = entry;
-      registers = slice_set (slice_set (replicate 32 0) 10 arg) 2 (stack + stack_size - 16);
+      registers = first_registers arg stack;
       fault = None;
     }
 
 abbrev pub next_spawn : World → List ℕ → List ℕ → ℕ → Outcome Done
 next_spawn w name symbol arg = do
   ns ← space_of w name
-  need (nat_lt (length w.tasks) 64) (TooMany ManyTasks 64)
-  need (nat_le w.next_task 65535) (TooMany TaskNumbers 65535)
+  need (nat_lt (length w.tasks) max_tasks) (TooMany ManyTasks max_tasks)
+  need (nat_le w.next_task max_task_number) (TooMany TaskNumbers max_task_number)
   entry ← found (entry_named w ns symbol) (NoEntry symbol)
   stack ← start_of_run w 4
   done (SpawnDone w.next_task entry.1)

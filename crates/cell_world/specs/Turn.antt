@@ -1,16 +1,29 @@
 -- One turn of a task, and many.
+--     task_column           the column of a task's calls
 --     turn w t              an instruction of the task, or its call
 --     turns_of n w task     at most n turns, fewer where it ends or faults
 --     slice_of n w task     at most n turns, fewer also where it yields
-use Rattle.std.specs.Prelude.{ℕ, zero, suc, ◌+◌, ◌%◌, ◌==◌, Bool, true, false, not, List, [], ◌∷◌, ◌++◌, Some, None, map, filter, slice_index, decimal, if◌then◌else◌}
-use Rattle.cell_num.specs.declared.ids.Cause.{Cause}
-use Rattle.cell_num.specs.declared.ids.Cause.TheVariants.{Call as BadCall}
-use Rattle.cell_num.specs.Bits.{wrap}
+use Rattle.std.specs.Prelude.{ℕ, zero, suc, ◌%◌, ◌==◌, Bool, true, false, not, List, [], ◌∷◌, ◌++◌, Some, None, map, filter, slice_index, decimal, if◌then◌else◌}
 use Rattle.cell_world.specs.declared.reply.TaskState.{TaskState}
 use Rattle.cell_world.specs.declared.reply.TaskState.TheVariants.{Ready, Done, Fault as Faulted}
 use Rattle.cell_world.specs.declared.reply.TaskRun.{TaskRun}
 use Rattle.cell_world.specs.World.{World, Region, Task, task_of}
-use Rattle.cell_world.specs.Execute.{Effect, Goes, Calls, Traps, execute, seen_in}
+use Rattle.cell_world.specs.Execute.{seen_in}
+use Rattle.cell_world.specs.Move.{Hart, Row, Column, Ends, Yields, PutsOut, Refuses, Move, move}
+
+-- x17 has the number of the call: 0 ends, 1 puts out a byte, 2 a number, 3 yields
+abbrev pub task_row : List ℕ → Row
+task_row registers =
+    let number = slice_index registers 17 in
+    let x10 = slice_index registers 10 in
+    if number == 0 then Ends else
+    if number == 1 then PutsOut (x10 % 256 ∷ []) else
+    if number == 2 then PutsOut (decimal x10) else
+    if number == 3 then Yields else Refuses
+
+-- it doesn't hang on the memory
+abbrev pub task_column : Column
+task_column m = task_row
 
 -- the world after a turn, how the task is, whether it yields, and what it puts out
 pub record Turned : Type 0 where
@@ -30,42 +43,27 @@ abbrev pub without_task : World → Task → World
 without_task w t =
     record w { tasks = filter (λ u. not (u.number == t.number)) w.tasks; regions = without_region t.stack w.regions }
 
-abbrev pub ended : World → Task → Turned
-ended w t =
-    record { world = without_task w t; state = Done (slice_index t.registers 10); yields = false; out = [] }
+-- the machine with the task as it stands
+abbrev pub standing : World → Task → TaskState → World
+standing w t Ready = record w { tasks = with_task t w.tasks }
+standing w t (Done code) = without_task w t
+standing w t (Faulted cause pc) =
+    record w { tasks = with_task (record t { fault = Some (record { cause = cause; pc = pc }) }) w.tasks }
 
-abbrev pub trapped : World → Task → Cause → Turned
-trapped w t cause =
+abbrev pub hart_of : Task → Hart
+hart_of t = record { pc = t.pc; registers = t.registers }
+
+abbrev pub turned : World → Task → Move → Turned
+turned w t after =
     record {
-      world = record w { tasks = with_task (record t { fault = Some (record { cause = cause; pc = t.pc }) }) w.tasks };
-      state = Faulted cause t.pc;
-      yields = false;
-      out = [];
+      world = standing (record w { regions = after.regions }) (record t { pc = after.hart.pc; registers = after.hart.registers }) after.state;
+      state = after.state;
+      yields = after.yields;
+      out = after.out;
     }
 
--- the task goes on, but at the pc 0 it ends
-abbrev pub gone_on : World → Task → Bool → List ℕ → Turned
-gone_on w t yields out =
-    if t.pc == 0 then record (ended w t) { out = out } else
-    record { world = record w { tasks = with_task t w.tasks }; state = Ready; yields = yields; out = out }
-
--- x17 has the number of the call: 0 ends, 1 puts out a byte, 2 a number, 3 yields
-abbrev pub called : World → Task → ℕ → ℕ → Turned
-called w t number x10 =
-    let next = record t { pc = wrap (t.pc + 4) } in
-    if number == 0 then ended w t else
-    if number == 1 then gone_on w next false (x10 % 256 ∷ []) else
-    if number == 2 then gone_on w next false (decimal x10) else
-    if number == 3 then gone_on w next true [] else trapped w t BadCall
-
-abbrev pub turned_by : World → Task → Effect → Turned
-turned_by w t (Goes registers pc regions) =
-    gone_on (record w { regions = regions }) (record t { registers = registers; pc = pc }) false []
-turned_by w t Calls = called w t (slice_index t.registers 17) (slice_index t.registers 10)
-turned_by w t (Traps cause) = trapped w t cause
-
 abbrev pub turn : World → Task → Turned
-turn w t = turned_by w t (execute (seen_in w) t.registers t.pc)
+turn w t = turned w t (move task_column (seen_in w) (hart_of t))
 
 -- the turns that a task has had, and the world after them
 pub record Ran : Type 0 where

@@ -7,7 +7,8 @@ use Rattle.cell_world.specs.declared.reply.Reply.TheVariants.{Unload as UnloadDo
 use Rattle.cell_world.specs.declared.command.CellName.{CellName}
 use Rattle.cell_world.specs.World.{World, Cell, Detached, is_attached}
 use Rattle.cell_world.specs.Names.{namespace_named, cell_at}
-use Rattle.cell_world.specs.Relink.{Text, ReadOnly, Writable, class_start}
+use Rattle.cell_world.specs.Relink.{class_start}
+use Rattle.cell_world.specs.declared.layout.Class.TheVariants.{Text, ReadOnly, Writable}
 use Rattle.cell_world.specs.Kept.{Holding, holding_of, kept_in, holder_in}
 use Rattle.cell_world.specs.Outcome.{Outcome, ◌>>=◌, ◌>>◌, found, refused_by, each}
 use Rattle.cell_world.specs.Answer.{Done, done, ids, numbers_of}
@@ -26,11 +27,13 @@ without_cells w numbers =
       regions = filter (λ r. not (holds starts r.start)) w.regions;
     }
 
+-- the cells that swaps put aside
+abbrev pub detached_of : World → List ℕ
+detached_of w = numbers_of (filter (λ c. not (is_attached c.standing)) w.cells)
+
 -- the detached cells that nobody keeps
 abbrev pub garbage_of : World → List ℕ
-garbage_of w =
-    let kept = kept_in (holding_of w) in
-    filter (λ n. not (holds kept n)) (numbers_of (filter (λ c. not (is_attached c.standing)) w.cells))
+garbage_of w = let kept = kept_in (holding_of w) in filter (λ n. not (holds kept n)) (detached_of w)
 
 abbrev pub purged : World → World
 purged w = without_cells w (garbage_of w)

@@ -3,13 +3,21 @@
 #![tactic(auto)]
 
 mod command;
+mod fail;
 mod file;
+mod layout;
+mod limits;
 mod refusal;
 mod reply;
 mod state;
 
-pub use command::{CellName, Command};
+pub use command::{CellName, Command, SwapItem};
+pub use fail::Fail;
 pub use file::File;
+pub use layout::{Class, Starts};
+pub use limits::{
+    MAX_CELL_NUMBER, MAX_CELLS, MAX_NAMESPACES, MAX_TASK_NUMBER, MAX_TASKS, PAGE, STACK_PAGES,
+};
 pub use refusal::{Many, Refusal};
 pub use reply::{Found, LinkLine, MapCell, MapSection, Reply, TaskLine, TaskRun, TaskState};
 pub use state::{LinkRow, Namespace, NewCell, Permission, Placed, Region, SecPlace, Target};

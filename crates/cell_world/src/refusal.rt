@@ -1,6 +1,6 @@
 //! Refusals.
 
-use cell_num::{Cause, CellId, Holder, Name, RelKind};
+use cell_num::{Cause, CellId, Holder, Name, RelKind, Why};
 
 /// What there may be only so much of.
 #[derive(Clone, Copy, Debug, PartialEq, Eq)]
@@ -74,6 +74,18 @@ pub enum Refusal {
         section: u16,
         offset: u32,
         kind: RelKind,
+    },
+    /// The task stands inside what the field at that place is a part of.
+    Torn {
+        task: u32,
+        cell: CellId,
+        section: u16,
+        offset: u32,
+    },
+    /// The transfer routine of that name didn't end with the code 0.
+    Transfer {
+        name: Name,
+        why: Why,
     },
     /// The cell has to stay, by that holder.
     Held {

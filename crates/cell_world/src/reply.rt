@@ -96,6 +96,14 @@ pub enum Reply {
     Kill {
         task: u32,
     },
+    /// The swap's number, the new cells, how many fields were patched, the cells that were removed, and those that are put aside and stay.
+    Swap {
+        number: u32,
+        fresh: Listed<CellId>,
+        patched: u32,
+        removed: Listed<CellId>,
+        kept: Listed<CellId>,
+    },
     /// The cells that were removed.
     Unload {
         removed: Listed<CellId>,

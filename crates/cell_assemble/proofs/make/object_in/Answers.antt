@@ -1,3 +1,4 @@
+use Rattle.std.proofs.Common.{List, ℕ}
 use Rattle.std.proofs.lemmas.Result.{err_from_is_err_and}
 use Rattle.cell_io.specs.Files.{folder}
 use Rattle.cell_assemble.proofs.Making.{not_read, then_made}
@@ -11,5 +12,5 @@ returns-in_err-text-clause-object g c =
 
 pub returns-clause-object : goal.returns-clause-object
 returns-clause-object g c = λ all told.
-    then_made _ c.object_of.result c.args.source.now (folder c.args.dir.now all) _ (c.in_ok-text.ensures.bytes all told)
+    then_made (λ (bytes : List ℕ). bytes) c.object_of.result c.args.source.now (folder c.args.dir.now all) _ (c.in_ok-text.ensures.bytes all told)
     (rw c.as_slice.ensures.value at c.object_of.ensures.object)

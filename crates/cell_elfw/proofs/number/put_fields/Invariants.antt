@@ -1,6 +1,6 @@
 use Rattle.std.proofs.Common.{◌≡◌, ◌++◌, take}
 use Rattle.std.specs.List.{flat_map}
-use Rattle.cell_elfw.specs.Rows.{stored}
+use Rattle.cell_object.specs.Rows.{stored}
 use Rattle.cell_elfw.proofs.number.put_fields.Given as goal
 
 -- the numbers so far

@@ -1,6 +1,6 @@
 use Rattle.std.proofs.Common.{◌≡◌, take}
 use Rattle.std.specs.List.{flat_map}
-use Rattle.cell_elfw.specs.Rows.{entry_bytes}
+use Rattle.cell_object.specs.Rows.{entry_bytes}
 use Rattle.cell_elfw.proofs.tables.table_bytes.Given as goal
 
 -- the bytes of the entries so far

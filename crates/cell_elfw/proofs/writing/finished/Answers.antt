@@ -1,5 +1,5 @@
 use Rattle.std.proofs.Common.{◌++◌, ◌/◌, length, drop, ap, sym, ◌∙◌}
-use Rattle.cell_elfw.specs.Rows.{header_bytes}
+use Rattle.cell_object.specs.Rows.{header_bytes}
 use Rattle.cell_elfw.proofs.Whole.{header_put, header_length, write_back, front_fits}
 use Rattle.cell_elfw.proofs.writing.finished.Goals as goal
 

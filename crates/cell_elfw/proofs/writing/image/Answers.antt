@@ -1,5 +1,5 @@
-use Rattle.std.proofs.Common.{ℕ, ◌+◌, ◌++◌, List, length, ap, sym, subst, ◌∙◌}
-use Rattle.cell_elfw.specs.Parts.{padded, parts}
+use Rattle.std.proofs.Common.{ℕ, ◌+◌, ◌++◌, List, length, ap, sym, subst, refl, ◌∙◌}
+use Rattle.cell_object.specs.ImageParts.{padded, parts}
 use Rattle.cell_elfw.specs.Drafts.{HoldsSections, HoldsSymbols}
 use Rattle.cell_elfw.proofs.Whole.{Stages, tables_none, fourth_is, has_room, image_is, ok_along}
 use Rattle.cell_elfw.proofs.writing.image.Goals as goal
@@ -53,14 +53,14 @@ returns c =
     } in
     let places = c.in_ok-names.ensures in
     ok_along c.finished.result
-    (λ file e. image_is _ _ _ _ _ _ _ _ _ _ _ _ c.deref-5.result.now file.items c.symtab_row.result c.strings_row.result c.strings_row-2.result
+    (λ file e. image_is _ _ _ _ _ _ _ _ _ _ _ _ c.deref-5.result.now file.items _ _ _
     c.in_ok-names.names.symtab c.in_ok-symtab_offset.symtab_offset c.len.result
     c.in_ok-names.names.strtab c.in_ok-strtab_offset.strtab_offset c.len-2.result
     c.in_ok-names.names.shstrtab c.in_ok-shstrtab_offset.shstrtab_offset c.len-3.result
     stages places.symtab places.strtab places.shstrtab
     c.in_ok-symtab_offset.ensures.offset c.in_ok-strtab_offset.ensures.offset c.in_ok-shstrtab_offset.ensures.offset
     (c.len.ensures ∙ sym c.deref.ensures.len ∙ ap length c.deref.ensures.value) (c.len-2.ensures ∙ sym c.deref-3.ensures.len ∙ ap length c.deref-3.ensures.value) (c.len-3.ensures ∙ sym c.deref-4.ensures.len ∙ ap length c.deref-4.ensures.value)
-    c.symtab_row.ensures c.strings_row.ensures c.strings_row-2.ensures
+    refl refl refl
     (c.deref-5.ensures.value ∙ c.in_ok-headers.ensures)
     e)
     c.finished.ensures

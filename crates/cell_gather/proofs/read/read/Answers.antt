@@ -1,7 +1,5 @@
-use Rattle.std.proofs.Common.{◌∙◌, ap, sym}
-use Rattle.cell_object.specs.Reads.{reads}
 use Rattle.cell_gather.proofs.Loadables.{loadable}
 use Rattle.cell_gather.proofs.read.read.Goals as goal
 
 pub returns-in-Ok-clause-loadable : goal.returns-in-Ok-clause-loadable
-returns-in-Ok-clause-loadable c = loadable c.args.file.now.bytes c.in-Ok.object c.requires (ap reads (sym c.as_slice.ensures) ∙ c.in-Ok.ensures.object)
+returns-in-Ok-clause-loadable c = loadable c.args.file.now.bytes c.in-Ok.object c.requires c.in-Ok.ensures.object

@@ -1,10 +1,7 @@
-use Rattle.std.proofs.Common.{◌∙◌, ap}
-use Rattle.std.specs.Prelude.{◌==◌}
-use Rattle.std.specs.List.{list_any}
-use Rattle.cell_world.specs.declared.state.Placed.{Placed}
-use Rattle.cell_hold.proofs.Wording.{cells_found}
+use Rattle.std.proofs.Common.{◌∙◌}
+use Rattle.cell_world.specs.Kept.{is_inside}
+use Rattle.cell_hold.proofs.Nearing.{inside_at}
 use Rattle.cell_hold.proofs.words.word_leads.Goals as goal
 
 pub returns : goal.returns
-returns c =
-    c.has_section_of.ensures ∙ (ap (λ found. list_any (λ (s : Placed). s.key.cell.0 == c.args.cell.0) found) c.sections_at.ensures ∙ cells_found c.args.cell.0 c.args.word c.args.places.now)
+returns c = c.is_cells.ensures ∙ c.near.ensures.only c.args.word c.ranges.word.fits c.near.ensures.here (is_inside c.args.cell.0 c.args.word) (inside_at c.args.cell.0 c.args.word)

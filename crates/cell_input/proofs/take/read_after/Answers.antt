@@ -22,4 +22,4 @@ unfolding bytes_after
 returns-clause-bytes g c = λ all told.
     goes_on _ _ (within_all c.args.total) (c.in_ok-bytes.ensures.bytes all told)
     ∙ all_long c.args.total c.len.result c.in_ok-bytes.bytes.items (omega (arith, c.in_ok-bytes.bytes.ok.0)) (omega arith)
-    ∙ ap Ok (sym c.from_vec.ensures)
+    ∙ ap Ok (sym c.in_ok-shared.ensures)

@@ -1,6 +1,6 @@
 use Rattle.std.proofs.Common.{◌≡◌, ◌+◌, ◌||◌, drop, inr, sym, ap, ◌∙◌, arith}
 use Rattle.cell_run.specs.Run.{any_refused, plain_of}
-use Rattle.cell_run.proofs.Transcript.{one_more, cut_off, refused_more}
+use Rattle.cell_run.proofs.Transcript.{one_more, cut_off, refused_more, said_at}
 use Rattle.cell_run.proofs.top.do_lines.Goals as goal
 use Rattle.cell_run.proofs.top.do_lines.Goals.{then-some_refused, else-some_refused}
 
@@ -27,3 +27,6 @@ loop-line-preserved g c =
       room = c.in-Ok.ensures.room ∙ c.loop-line.invariant.room;
       later = omega (arith, c.in-Ok.ensures.cause.later);
     }
+
+pub do_line-requires : goal.do_line-requires
+do_line-requires g c = said_at c.args.lines.now c.loop-line.line-index c.line-item.result (omega arith) c.line-item.is c.requires

@@ -54,6 +54,7 @@ returns c =
     killed m c.requires c.args.task t c.in_ok-live.ensures refl new (record {
       cells = refl;
       next = refl;
+      swaps = refl;
       namespaces = refl;
       known = refl;
       sections = refl;

@@ -1,8 +1,12 @@
-use Rattle.std.proofs.Common.{◌∙◌}
-use Rattle.cell_schedule.proofs.Entries.{scene_entry}
+use Rattle.std.proofs.Common.{◌∙◌, ap}
+use Rattle.std.specs.Prelude.{option_map}
+use Rattle.cell_schedule.specs.Starts.{entry_as}
+use Rattle.cell_schedule.proofs.Entries.{named_by}
 use Rattle.cell_schedule.proofs.entry.find_entry.Goals as goal
 
-pub returns-in-Some : goal.returns-in-Some
-returns-in-Some c =
-    c.entry_at.ensures
-    ∙ scene_entry c.args.machine.now c.requires.sound c.scene-scene.result.layers.namespaces _ _ c.scene-scene.ensures.namespaces c.scene-scene.ensures.present c.scene-scene.ensures.fresh c.args.ns c.args.symbol.now c.in-Some.target c.in-Some.ensures
+pub returns-in_err-target : goal.returns-in_err-target
+returns-in_err-target c =
+    ap (option_map entry_as) c.from_residual.ensures ∙ named_by c.args.machine.now c.requires.sound c.args.ns c.args.symbol.now _ (c.in_err-target.ensures {u = tt})
+
+pub returns : goal.returns
+returns c = c.entry_at.ensures ∙ named_by c.args.machine.now c.requires.sound c.args.ns c.args.symbol.now _ (c.in_ok-target.ensures {u = tt})

@@ -4,7 +4,7 @@ use Rattle.cell_world.specs.declared.reply.Reply.TheVariants.{Run as RunDone}
 use Rattle.cell_world.specs.declared.reply.TaskRun.{TaskRun}
 use Rattle.cell_world.specs.TaskCommands.{next_run}
 use Rattle.cell_machine.specs.Machine.{world_of}
-use Rattle.cell_machine.specs.Does.{IsDone}
+use Rattle.cell_machine.specs.Does.{HasDone}
 use Rattle.cell_schedule.proofs.OneStep.{lacking}
 use Rattle.cell_schedule.proofs.Rounds.{all_gone, ready_due}
 use Rattle.cell_schedule.proofs.round.run.Goals as goal
@@ -24,5 +24,5 @@ run_each-runs-requires-clause-due c = ready_due c.args.machine.now c.requires c.
 
 pub returns : goal.returns
 returns c =
-    subst (λ (runs : List TaskRun). IsDone (next_run (world_of c.args.machine.now) c.args.turns) c.args.machine.now (RunDone runs) c.run_each-runs.new.machine) (sym c.from_vec.ensures)
+    subst (λ (runs : List TaskRun). HasDone (next_run (world_of c.args.machine.now) c.args.turns) 0 c.args.machine.now (RunDone runs) c.run_each-runs.new.machine) (sym c.from_vec.ensures)
     (all_gone c.args.machine.now c.requires c.args.turns c.in_ok-due.due.items c.in_ok-due.ensures.ready c.run_each-runs.result.items c.run_each-runs.new.machine c.run_each-runs.ensures)

@@ -33,7 +33,7 @@ pub start-requires-clause-present : goal.start-requires-clause-present
 start-requires-clause-present c =
     let m = c.args.machine.now in
     let e = entry_as c.in_ok-entry.entry in
-    entry_present (world_of m) c.requires.settled.coherent c.in_ok-ns.ns c.args.symbol.now e (found_ok (entry_named (world_of m) c.in_ok-ns.ns c.args.symbol.now) (NoEntry c.args.symbol.now) e c.in_ok-entry.ensures)
+    entry_present (world_of m) c.requires.coherent c.in_ok-ns.ns c.args.symbol.now e (found_ok (entry_named (world_of m) c.in_ok-ns.ns c.args.symbol.now) (NoEntry c.args.symbol.now) e c.in_ok-entry.ensures)
 
 pub returns : goal.returns
 returns c = then_started c.args.machine.now c.args.ns.now c.args.symbol.now c.args.arg c.in_ok-ns.ns c.in_ok-ns.ensures.number tt c.in_ok-check.ensures (entry_as c.in_ok-entry.entry) c.in_ok-entry.ensures _ _ c.start.ensures

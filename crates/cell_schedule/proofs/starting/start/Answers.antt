@@ -19,6 +19,7 @@ returns-in_err-reserve c =
     rw (p.1, p.2) (record {
       cells = refl;
       next = refl;
+      swaps = refl;
       namespaces = refl;
       known = refl;
       space = refl;
@@ -36,6 +37,7 @@ returns-in-Err c =
       record {
         cells = refl;
         next = refl;
+        swaps = refl;
         namespaces = refl;
         known = refl;
         space = c.in-Err.ensures.refused;
@@ -58,6 +60,7 @@ returns-in-Err-spawn c =
     record {
       cells = refl;
       next = refl;
+      swaps = refl;
       namespaces = refl;
       known = refl;
       space = c.give.ensures ∙ (ap (λ (s : SpaceState). with_run s c.in-Ok.run' false) c.in-Ok.ensures.taken ∙ given m c.requires.sound c.in-Ok.run' c.in-Ok.ensures.answer);

@@ -11,4 +11,4 @@ pub returns : goal.returns
 returns c =
     let wanted = c.from_ref.ensures.value ∙ ap (λ (want : Want). want ∷ []) (c.in_ok-want.ensures {u = tt}) in
     let gathered = subst (λ (wants : List Want). Gathers c.args.depot.now c.args.machine.now.spaces c.args.machine.now.next wants c.gather.result) wanted c.gather.ensures in
-    gathers c.args.machine.now c.requires.sound c.args.depot.now c.requires.ordered c.args.ns.now c.args.stem.now c.in_ok-number.number c.in_ok-number.ensures.number c.in_ok-file.file.now c.in_ok-file.ensures.listed c.gather.result gathered
+    gathers c.args.machine.now c.requires.sound c.args.depot.now c.requires.apart c.args.ns.now c.args.stem.now c.in_ok-number.number c.in_ok-number.ensures.number c.in_ok-file.file.now c.in_ok-file.ensures.only c.gather.result gathered

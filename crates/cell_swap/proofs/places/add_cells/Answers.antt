@@ -1,7 +1,7 @@
 use Rattle.std.proofs.Common.{subst, sym}
 use Rattle.cell_world.specs.declared.state.NewCell.{NewCell}
 use Rattle.cell_coherent.specs.Grown.{In}
-use Rattle.cell_target.proofs.Lookups.{in_get}
+use Rattle.cell_machine.proofs.Lists.{in_get}
 use Rattle.cell_swap.proofs.places.add_cells.Goals as goal
 
 pub add_sections-requires : goal.add_sections-requires

@@ -1,6 +1,6 @@
 use Rattle.std.proofs.Common.{sym, subst, ap, ◌∙◌}
 use Rattle.cell_mem.specs.State.{MemoryState}
-use Rattle.cell_world.specs.Relink.{ReadOnly, Writable}
+use Rattle.cell_world.specs.declared.layout.Class.TheVariants.{ReadOnly, Writable}
 use Rattle.cell_world.specs.World.{attached}
 use Rattle.cell_swap.specs.Unmapped.{CanLeave, class_starts, without_regions}
 use Rattle.cell_swap.proofs.CellStarts.{in_turn}

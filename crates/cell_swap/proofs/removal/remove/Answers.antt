@@ -1,6 +1,6 @@
 use Rattle.std.proofs.Common.{◌∙◌, ap, map, refl, subst, sym, List}
 use Rattle.std.specs.Prelude.{All, IsTrue, nat_lt}
-use Rattle.cell_machine.specs.Machine.{cells_of}
+use Rattle.cell_machine.specs.Staged.{all_attached}
 use Rattle.cell_num.specs.Lists.{each_pair}
 use Rattle.cell_world.specs.declared.state.NewCell.{NewCell}
 use Rattle.cell_world.specs.declared.state.SecPlace.{SecPlace}
@@ -14,7 +14,7 @@ unmap_cells-requires-clause-places c =
 
 pub unmap_cells-requires-clause-there : goal.unmap_cells-requires-clause-there
 unmap_cells-requires-clause-there c =
-    subst (λ (cs : List NewCell). CanLeave c.args.machine.now.memory (lost_starts (cells_of cs) (map (λ d. d.0) c.args.cells.now))) (sym c.deref.ensures.value) (can_leave c.args.machine.now c.requires.sound c.args.cells.now)
+    subst (λ (cs : List NewCell). CanLeave c.args.machine.now.memory (lost_starts (all_attached cs) (map (λ d. d.0) c.args.cells.now))) (sym c.deref.ensures.value) (can_leave c.args.machine.now c.requires.sound c.args.cells.now)
 
 pub drop_cells-requires-clause-present : goal.drop_cells-requires-clause-present
 drop_cells-requires-clause-present c = all_named c.args.machine.now c.requires.sound c.args.cells.now c.requires.present
@@ -23,7 +23,7 @@ pub returns : goal.returns
 returns c = removed_is c.args.machine.now c.requires.sound c.args.cells.now c.requires.unused _ (record {
   laid = c.laid_out.ensures;
   memory = c.unmap_cells.ensures.memory
-      ∙ ap (λ (cs : List NewCell). without_regions c.args.machine.now.memory (lost_starts (cells_of cs) (map (λ d. d.0) c.args.cells.now))) c.deref.ensures.value;
+      ∙ ap (λ (cs : List NewCell). without_regions c.args.machine.now.memory (lost_starts (all_attached cs) (map (λ d. d.0) c.args.cells.now))) c.deref.ensures.value;
   tabled = c.unmap_cells.ensures.tabled;
   names = c.drop_cells.ensures.cells;
   namespaces = c.drop_cells.ensures.same_namespaces;
@@ -31,5 +31,6 @@ returns c = removed_is c.args.machine.now c.requires.sound c.args.cells.now c.re
   sections = c.remove_links.ensures.sections;
   left = c.leave_others.ensures;
   next = refl;
+  swaps = refl;
   tasks = refl;
 })

@@ -27,21 +27,21 @@ remove-requires-clause-rising c =
     let m = c.args.machine.now in
     let are : map (λ (x : CellId). x.0) c.deref.result.now ≡ garbage_of (aside_in m c.args.aside.now) =
     ap (map (λ (x : CellId). x.0)) c.deref.ensures.value ∙ c.in_ok-removed.ensures c.args.aside.now c.in_ok-survey.ensures in
-    garbage_rises (world_of m) (suc (world_of m).swaps) (map (λ (x : CellId). x.0) c.args.aside.now) c.requires.settled.coherent c.deref.result.now are
+    garbage_rises (world_of m) (suc (world_of m).swaps) (map (λ (x : CellId). x.0) c.args.aside.now) c.requires.coherent c.deref.result.now are
 
 pub remove-requires-clause-present : goal.remove-requires-clause-present
 remove-requires-clause-present c =
     let m = c.args.machine.now in
     let are : map (λ (x : CellId). x.0) c.deref.result.now ≡ garbage_of (aside_in m c.args.aside.now) =
     ap (map (λ (x : CellId). x.0)) c.deref.ensures.value ∙ c.in_ok-removed.ensures c.args.aside.now c.in_ok-survey.ensures in
-    garbage_present (world_of m) (suc (world_of m).swaps) (map (λ (x : CellId). x.0) c.args.aside.now) c.requires.settled.coherent c.deref.result.now are
+    garbage_present (world_of m) (suc (world_of m).swaps) (map (λ (x : CellId). x.0) c.args.aside.now) c.requires.coherent c.deref.result.now are
 
 pub remove-requires-clause-unused : goal.remove-requires-clause-unused
 remove-requires-clause-unused c =
     let m = c.args.machine.now in
     let are : map (λ (x : CellId). x.0) c.deref.result.now ≡ garbage_of (aside_in m c.args.aside.now) =
     ap (map (λ (x : CellId). x.0)) c.deref.ensures.value ∙ c.in_ok-removed.ensures c.args.aside.now c.in_ok-survey.ensures in
-    garbage_unused (world_of m) (suc (world_of m).swaps) (map (λ (x : CellId). x.0) c.args.aside.now) c.requires.settled.coherent c.deref.result.now are
+    garbage_unused (world_of m) (suc (world_of m).swaps) (map (λ (x : CellId). x.0) c.args.aside.now) c.requires.coherent c.deref.result.now are
 
 pub returns : goal.returns
 returns c = record {

@@ -3,7 +3,7 @@ use Rattle.std.proofs.lemmas.Result.{err_from_is_err_and}
 use Rattle.cell_num.specs.declared.ids.CellId.{CellId}
 use Rattle.cell_world.specs.declared.reply.Reply.TheVariants.{Unload as UnloadDone}
 use Rattle.cell_world.specs.UnloadCommand.{next_unload}
-use Rattle.cell_machine.specs.Does.{IsDone}
+use Rattle.cell_machine.specs.Does.{HasDone}
 use Rattle.cell_machine.specs.Machine.{world_of}
 use Rattle.cell_swap.specs.Sweep.{cells_numbered}
 use Rattle.cell_swap.proofs.Swept.{unload_done, unload_failed, unload_unnamed}
@@ -25,5 +25,5 @@ pub returns : goal.returns
 returns c =
     let named : cells_numbered (world_of c.args.machine.now) c.args.names.now ≡ Ok (map (λ (x : CellId). x.0) c.deref.result.now) =
     c.in_ok-cells.ensures ∙ ap (λ (cells : List CellId). Ok (map (λ (x : CellId). x.0) cells)) (sym c.deref.ensures.value) in
-    subst (λ (cells : List CellId). IsDone (next_unload (world_of c.args.machine.now) c.args.names.now) c.args.machine.now (UnloadDone cells) c.sweep.new.machine) (sym c.from_vec.ensures)
+    subst (λ (cells : List CellId). HasDone (next_unload (world_of c.args.machine.now) c.args.names.now) 0 c.args.machine.now (UnloadDone cells) c.sweep.new.machine) (sym c.from_vec.ensures)
     (unload_done c.args.machine.now c.requires c.args.names.now c.deref.result.now named c.in_ok-removed.removed.items c.sweep.new.machine c.in_ok-removed.ensures)

@@ -1,10 +1,11 @@
-use Rattle.std.proofs.Common.{◌≡◌, arith, refl, sym, ap, ◌∙◌, subst, ◌+◌, ℕ, List, ◌++◌, length}
+use Rattle.std.proofs.Common.{◌≡◌, arith, refl, sym, ap, ap₂, ◌∙◌, subst, ◌+◌, ℕ, List, ◌++◌, length}
 use Rattle.std.specs.Prelude.{All, Contains, flat_map}
 use Rattle.cell_num.specs.declared.ids.SecKey.{SecKey}
 use Rattle.cell_world.specs.declared.state.LinkRow.{LinkRow}
 use Rattle.cell_commit.specs.Cells.{keys_in}
 use Rattle.cell_commit.specs.Commit.{fields_written}
 use Rattle.cell_commit.specs.declared.sections.CellSections.{CellSections}
+use Rattle.cell_graph.specs.Order.{Rises, below_link}
 use Rattle.cell_link.specs.declared.value.FieldValue.{FieldValue}
 use Rattle.cell_mem.specs.State.{MemoryState}
 use Rattle.cell_space.specs.declared.cell.SpaceCell.{SpaceCell}
@@ -19,6 +20,10 @@ bind_rows-requires-clause-present c =
     subst (λ (rows : List LinkRow). All (λ (r : LinkRow). Contains c.add_sections.new.graph.sections r.user × Contains c.add_sections.new.graph.sections r.target) rows) (sym c.deref-3.ensures.value)
     (subst (λ (ks : List SecKey). All (λ (r : LinkRow). Contains ks r.user × Contains ks r.target) c.args.staged.rows.items) (sym sections) c.requires.present)
 
+pub bind_rows-requires-clause-rising : goal.bind_rows-requires-clause-rising
+bind_rows-requires-clause-rising c =
+    subst (Rises below_link) (ap₂ (λ (old rows : List LinkRow). old ++ rows) (sym c.add_sections.ensures.rows) (sym c.deref-3.ensures.value)) c.requires.rise
+
 pub returns : goal.returns
 returns c =
     let keys = all_keys_listed c.args.prepared.sections.items c.args.staged.cells.items c.requires.prepared.sections in
@@ -30,6 +35,7 @@ returns c =
     record {
       cells = c.append.ensures;
       next = ap (λ (n : ℕ). c.args.machine.now.next + n) count;
+      swaps = refl;
       namespaces = c.attach_cells.ensures.namespaces;
       known = c.attach_cells.ensures.cells ∙ ap (λ (cells : List SpaceCell). c.args.machine.now.spaces.cells ++ cells) c.requires.prepared.newcomers;
       space = refl;

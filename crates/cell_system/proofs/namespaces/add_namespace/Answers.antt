@@ -3,7 +3,9 @@ use Rattle.std.proofs.lemmas.Result.{err_from_is_err_and}
 use Rattle.cell_world.specs.declared.reply.Reply.TheVariants.{Ns}
 use Rattle.cell_world.specs.declared.state.Namespace.{Namespace}
 use Rattle.cell_machine.specs.declared.machine.Machine.{Machine}
-use Rattle.cell_system.specs.Namespaces.{HasNamespace}
+use Rattle.cell_world.specs.NsCommand.{next_ns}
+use Rattle.cell_machine.specs.Does.{HasDone}
+use Rattle.cell_machine.specs.Machine.{world_of}
 use Rattle.cell_system.proofs.MoreNamespaces.{check_failed, comes_to, has_namespace, memory_lacked, parent_failed}
 use Rattle.cell_system.proofs.namespaces.add_namespace.Goals as goal
 
@@ -34,6 +36,7 @@ returns-in_err-add_ns c =
     (record {
       cells = refl;
       next = refl;
+      swaps = refl;
       namespaces = (c.in_err-add_ns.ensures {u = tt}).unchanged;
       known = (c.in_err-add_ns.ensures {u = tt}).same_cells;
       space = refl;
@@ -51,5 +54,5 @@ returns c =
     let parent = c.args.parent.now in
     let added = (c.in_ok-add_ns.ensures {u = tt}).added ∙ ap (λ (own : List ℕ). m.spaces.namespaces ++ (let s : Namespace = record { name = own; parent = Some c.in_ok-up.up } in s) ∷ []) c.in_ok-own.ensures in
     let new : Machine = record m { spaces = c.add_ns.new.self } in
-    subst (λ (x : List ℕ). HasNamespace m name parent (Ns x) new) (sym c.in_ok-shown.ensures)
-    (has_namespace m new c.requires name parent c.in_ok-up.up refl refl refl refl refl refl refl (c.in_ok-add_ns.ensures {u = tt}).same_cells added (comes_to m name parent c.in_ok-up.up c.in_ok-up.ensures.number c.in_ok-check.ensures))
+    subst (λ (x : List ℕ). HasDone (next_ns (world_of m) name parent) 0 m (Ns x) new) (sym c.in_ok-shown.ensures)
+    (has_namespace m new c.requires name parent c.in_ok-up.up (c.in_ok-add_ns.ensures {u = tt}).same_cells refl added (comes_to m name parent c.in_ok-up.up c.in_ok-up.ensures.number c.in_ok-check.ensures))

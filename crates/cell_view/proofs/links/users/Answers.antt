@@ -1,6 +1,10 @@
-use Rattle.std.proofs.Common.{◌∙◌, ◌++◌, ap, filter_map}
+use Rattle.std.proofs.Common.{◌∙◌, ap, filter_map, subst, sym}
+use Rattle.cell_world.specs.declared.state.LinkRow.{LinkRow}
+use Rattle.cell_world.specs.declared.state.NewCell.{NewCell}
 use Rattle.cell_world.specs.LinkCommands.{link_line}
-use Rattle.cell_target.specs.Scene.{seen}
+use Rattle.cell_machine.specs.Machine.{section_keys, world_of}
+use Rattle.cell_view.specs.Links.{HasSections, links_in}
+use Rattle.std.specs.List.Sorted.{IsPermutation}
 use Rattle.cell_view.proofs.LinksShown.{users_shown, has_sections}
 use Rattle.cell_view.proofs.Showing.{here_is}
 use Rattle.cell_view.proofs.links.users.Goals as goal
@@ -8,14 +12,13 @@ use Rattle.cell_view.proofs.links.users.Goals as goal
 pub sorted_users-requires : goal.sorted_users-requires
 sorted_users-requires c =
     let m = c.args.machine.now in
-    has_sections m c.requires c.args.cell c.in-Some.present.now
-    (here_is m c.args.cell c.in-Some.present.now c.scene-scene.result.layers.namespaces _ _ c.scene-scene.ensures.present c.scene-scene.ensures.fresh c.in-Some.ensures)
+    let d = here_is (world_of m) c.args.cell c.in-Some.present.now (c.in-Some.ensures {u = tt}) in
+    subst (λ (p : NewCell). HasSections m.graph p) (sym d.2) (has_sections m c.requires c.args.cell d.0 d.1)
 
 pub returns : goal.returns
 returns c =
     let m = c.args.machine.now in
-    let scene = c.scene-scene.result in
-    users_shown m c.requires c.args.cell c.in-Some.present.now (here_is m c.args.cell c.in-Some.present.now scene.layers.namespaces _ _ c.scene-scene.ensures.present c.scene-scene.ensures.fresh c.in-Some.ensures)
-    scene.layers.namespaces scene.present.now scene.fresh.now c.scene-scene.ensures.present c.scene-scene.ensures.fresh c.in_ok-rows.rows.items c.in_ok-rows.ensures.order c.from_vec.result
-    (c.from_vec.ensures ∙ (c.in_ok-lines.ensures ∙ ap (filter_map (link_line (seen scene.layers.namespaces (scene.present.now ++ scene.fresh.now)))) c.deref.ensures.value))
-    c.in_ok-rows.ensures.links
+    let d = here_is (world_of m) c.args.cell c.in-Some.present.now (c.in-Some.ensures {u = tt}) in
+    users_shown m c.requires c.args.cell d.0 d.1 c.in_ok-rows.rows.items c.in_ok-rows.ensures.order c.from_vec.result
+    (c.from_vec.ensures ∙ (c.in_ok-lines.ensures ∙ ap (filter_map (link_line (world_of m))) c.deref.ensures.value))
+    (subst (λ (p : NewCell). IsPermutation (links_in m.graph.rows (section_keys p)) c.in_ok-rows.rows.items) d.2 c.in_ok-rows.ensures.links)

@@ -1,9 +1,8 @@
 use Rattle.std.proofs.Common.{◌≡◌, map, take}
 use Rattle.cell_world.specs.MapCommand.{map_cell}
-use Rattle.cell_world.specs.World.{attached}
 use Rattle.cell_machine.specs.Machine.{world_of}
 use Rattle.cell_view.proofs.overview.map_cells.Given as goal
 
 -- the cells so far
 abbrev pub invariant-loop-index : goal.invariant-loop-index
-invariant-loop-index l = l.shown.items ≡ map (λ c. map_cell (world_of l.machine) (attached c)) (take l.index l.cells)
+invariant-loop-index l = l.shown.items ≡ map (map_cell (world_of l.machine)) (take l.index (world_of l.machine).cells)

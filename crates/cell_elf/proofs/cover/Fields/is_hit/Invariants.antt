@@ -1,5 +1,6 @@
 use Rattle.std.proofs.Common.{◌≡◌, ℕ, ◌+◌, ◌<◌, false}
-use Rattle.cell_elf.specs.Cover.{hits, field_at}
+use Rattle.cell_elf.specs.Cover.{hits}
+use Rattle.cell_elf.specs.Fields.{field_at}
 use Rattle.cell_elf.proofs.cover.Fields.is_hit.Given as goal
 
 abbrev pub invariant-loop-start : goal.invariant-loop-start

@@ -1,6 +1,6 @@
 use Rattle.std.proofs.Common.{◌≡◌, ◌+◌, ◌<◌, length, ap, sym, subst, ◌∙◌, refl, get_or, take, arith}
 use Rattle.cell_elfw.specs.declared.draft.Draft.{Draft}
-use Rattle.cell_elfw.specs.Parts.{relocated, entries_for}
+use Rattle.cell_object.specs.ImageParts.{relocated, entries_for}
 use Rattle.cell_elfw.specs.Drafts.{HoldsTables}
 use Rattle.cell_elfw.proofs.Stages.{table_more, table_same}
 use Rattle.cell_elfw.proofs.draft.Draft.add_tables.Goals as goal

@@ -1,6 +1,6 @@
 use Rattle.std.proofs.Common.{◌≡◌, take}
 use Rattle.cell_elfw.specs.Drafts.{HoldsTables}
-use Rattle.cell_elfw.specs.Parts.{relocated}
+use Rattle.cell_object.specs.ImageParts.{relocated}
 use Rattle.cell_elfw.proofs.draft.Draft.add_tables.Given as goal
 
 -- the draft holds the relocations of the sections so far

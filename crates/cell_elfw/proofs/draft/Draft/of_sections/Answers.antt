@@ -1,9 +1,9 @@
 use Rattle.std.proofs.Common.{◌++◌, ℕ, List, ap, length, ◌∙◌}
 use Rattle.cell_object.specs.declared.object.Section.{Section}
-use Rattle.cell_elfw.specs.Strings.{string, place_in}
-use Rattle.cell_elfw.specs.Rows.{section_row_bytes}
-use Rattle.cell_elfw.specs.Parts.{padded, content}
-use Rattle.cell_elfw.specs.Image.{section_row}
+use Rattle.cell_object.specs.Strings.{string, place_in}
+use Rattle.cell_object.specs.Rows.{section_row_bytes}
+use Rattle.cell_object.specs.ImageParts.{padded, content}
+use Rattle.cell_object.specs.Image.{section_row}
 use Rattle.cell_elfw.proofs.Stages.{section_more}
 use Rattle.cell_elfw.proofs.draft.Draft.of_sections.Goals as goal
 

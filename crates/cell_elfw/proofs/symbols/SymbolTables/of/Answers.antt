@@ -1,7 +1,7 @@
 use Rattle.std.proofs.Common.{◌∙◌, ℕ, List, ap, ◌++◌, length}
 use Rattle.cell_object.specs.declared.object.Symbol.{Symbol}
-use Rattle.cell_elfw.specs.Strings.{string, place_in}
-use Rattle.cell_elfw.specs.Rows.{symbol_bytes}
+use Rattle.cell_object.specs.Strings.{string, place_in}
+use Rattle.cell_object.specs.Rows.{symbol_bytes}
 use Rattle.cell_elfw.proofs.Stages.{symbols_none_at, symbol_more}
 use Rattle.cell_elfw.proofs.symbols.SymbolTables.of.Goals as goal
 

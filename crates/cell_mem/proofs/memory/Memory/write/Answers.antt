@@ -1,57 +1,60 @@
-use Rattle.std.proofs.Common.{◌≡◌, ◌+◌, ◌*◌, ℕ, List, length, subst, sym, ap, ◌∙◌, arith}
+use Rattle.std.proofs.Common.{◌≡◌, ◌+◌, ◌*◌, ◌<◌, ℕ, List, Option, None, length, get_or, subst, sym, ap, ◌∙◌, arith}
 use Rattle.std.specs.Vec.{with_items}
+use Rattle.std.specs.Prelude.{IsSomeAnd, slice_set, option_map}
 use Rattle.std.proofs.lemmas.List.{with_items_is}
 use Rattle.cell_num.specs.Bits.{bytes_of}
 use Rattle.cell_world.specs.World.{Region}
-use Rattle.cell_mem.specs.Index.{IsLaid, IsIndex}
-use Rattle.cell_mem.specs.State.{MemoryState}
-use Rattle.cell_mem.specs.Writing.{HasBytes, put, at_place}
-use Rattle.cell_mem.proofs.Reading.{mapped_place, mapped_somewhere}
-use Rattle.cell_mem.proofs.Soundness.{laid_of, written_is}
-use Rattle.cell_mem.proofs.Writes.{laid_written, index_written, length-bytes_of}
+use Rattle.cell_mem.specs.State.{written_at}
+use Rattle.cell_mem.specs.Writing.{HasBytes, put}
+use Rattle.cell_mem.proofs.Soundness.{holds, holds_none, has_at, Written, written_is, few_written, state_written}
 use Rattle.cell_mem.proofs.memory.Memory.write.Goals as goal
 
 pub unreachable-requires : goal.unreachable-requires
-unreachable-requires c =
-    mapped_somewhere c.args.self.now c.args.addr c.args.width _ (laid_of c.self.inside c.args.self.now c.self.invariant c.self.view_is) c.requires.mapped
-    (sym (c.in_default.ensures {u = tt}))
+unreachable-requires c = holds_none c.self.inside c.args.self.now c.args.addr c.args.width c.self.invariant c.self.view_is c.requires.mapped (c.in_default.ensures {u = tt})
 
-pub write_in-requires : goal.write_in-requires
-write_in-requires c =
-    let has = mapped_place c.args.self.now c.args.addr c.args.width _ (laid_of c.self.inside c.args.self.now c.self.invariant c.self.view_is) c.requires.mapped
-    c.in-Some.place (sym (c.in-Some.ensures {u = tt})) in
-    rw c.deref_mut.ensures.value
-    (subst (λ (m : MemoryState). HasBytes m.regions c.in-Some.place c.args.addr c.args.width) (sym c.self.view_is) has)
+pub write_in-requires-clause-there : goal.write_in-requires-clause-there
+write_in-requires-clause-there c =
+    let h = holds c.self.inside c.args.self.now c.args.addr c.args.width c.in-Some.first c.self.invariant c.self.view_is c.requires.mapped (c.in-Some.ensures {u = tt}) in
+    omega (arith, h.is_at.inside, ap length c.deref_mut.ensures.value)
+
+pub write_in-requires-clause-inside : goal.write_in-requires-clause-inside
+write_in-requires-clause-inside c =
+    let h = holds c.self.inside c.args.self.now c.args.addr c.args.width c.in-Some.first c.self.invariant c.self.view_is c.requires.mapped (c.in-Some.ensures {u = tt}) in
+    subst (λ (rs : List (Option Region)). IsSomeAnd (get_or rs c.in-Some.first None) (λ r. HasBytes r c.args.addr c.args.width)) (sym c.deref_mut.ensures.value)
+    (has_at c.self.inside c.args.addr c.args.width c.in-Some.first h)
 
 pub invariant_of-self : goal.invariant_of-self
 invariant_of-self c =
     let i = c.self.inside in
-    let has = mapped_place c.args.self.now c.args.addr c.args.width _ (laid_of i c.args.self.now c.self.invariant c.self.view_is) c.requires.mapped
-    c.in-Some.place (sym (c.in-Some.ensures {u = tt})) in
-    let here : HasBytes i.regions.items c.in-Some.place c.args.addr (length (bytes_of c.args.width c.args.value)) =
-    subst (λ (n : ℕ). HasBytes i.regions.items c.in-Some.place c.args.addr n) (sym (length-bytes_of c.args.width c.args.value))
-    (subst (λ (m : MemoryState). HasBytes m.regions c.in-Some.place c.args.addr c.args.width) (sym c.self.view_is) has) in
-    let now : (with_items i.regions c.write_in.new.regions).items ≡ at_place (put c.args.addr (bytes_of c.args.width c.args.value)) c.in-Some.place i.regions.items =
+    let h = holds i c.args.self.now c.args.addr c.args.width c.in-Some.first c.self.invariant c.self.view_is c.requires.mapped (c.in-Some.ensures {u = tt}) in
+    let new = bytes_of c.args.width c.args.value in
+    let now : (with_items i.regions c.write_in.new.regions).items ≡ slice_set i.regions.items c.in-Some.first (option_map (put c.args.addr new) (get_or i.regions.items c.in-Some.first None)) =
     with_items_is i.regions c.write_in.new.regions (omega (arith, c.write_in.auto.regions, c.deref_mut.ensures.len))
     ∙ c.write_in.ensures
-    ∙ ap (λ (rs : List Region). at_place (put c.args.addr (bytes_of c.args.width c.args.value)) c.in-Some.place rs) c.deref_mut.ensures.value in
+    ∙ ap (λ (rs : List (Option Region)). slice_set rs c.in-Some.first (option_map (put c.args.addr new) (get_or rs c.in-Some.first None))) c.deref_mut.ensures.value in
+    let w : Written i c.args.addr new (with_items i.regions c.write_in.new.regions).items =
+    subst (Written i c.args.addr new) (sym now) (written_is i c.args.addr c.args.width c.args.value c.in-Some.first c.self.invariant h) in
     record {
       space = c.self.invariant.space;
-      laid = subst (λ (rs : List Region). IsLaid i.base rs (i.base + 4096 * i.pages)) (sym now)
-          (laid_written i.base i.regions.items _ c.in-Some.place c.args.addr (bytes_of c.args.width c.args.value) here c.self.invariant.laid);
-      slots = c.self.invariant.slots;
-      index = subst (λ (rs : List Region). IsIndex i.base rs i.slots.items) (sym now)
-          (index_written i.base i.regions.items i.slots.items c.in-Some.place c.args.addr (bytes_of c.args.width c.args.value) here c.self.invariant.index);
+      regions = w.length_is ∙ c.self.invariant.regions;
+      in_place = w.in_place;
+      laid = w.laid;
+      firsts = c.self.invariant.firsts;
+      index = w.index;
       sealed = c.self.invariant.sealed;
-      room = c.self.invariant.room;
+      few = few_written i c.args.addr new _ c.self.invariant w;
     }
 
 pub returns : goal.returns
 returns c =
     let i = c.self.inside in
-    let now : (with_items i.regions c.write_in.new.regions).items ≡ at_place (put c.args.addr (bytes_of c.args.width c.args.value)) c.in-Some.place i.regions.items =
+    let h = holds i c.args.self.now c.args.addr c.args.width c.in-Some.first c.self.invariant c.self.view_is c.requires.mapped (c.in-Some.ensures {u = tt}) in
+    let new = bytes_of c.args.width c.args.value in
+    let now : (with_items i.regions c.write_in.new.regions).items ≡ slice_set i.regions.items c.in-Some.first (option_map (put c.args.addr new) (get_or i.regions.items c.in-Some.first None)) =
     with_items_is i.regions c.write_in.new.regions (omega (arith, c.write_in.auto.regions, c.deref_mut.ensures.len))
     ∙ c.write_in.ensures
-    ∙ ap (λ (rs : List Region). at_place (put c.args.addr (bytes_of c.args.width c.args.value)) c.in-Some.place rs) c.deref_mut.ensures.value in
+    ∙ ap (λ (rs : List (Option Region)). slice_set rs c.in-Some.first (option_map (put c.args.addr new) (get_or rs c.in-Some.first None))) c.deref_mut.ensures.value in
     c.count_write.ensures
-    ∙ written_is i c.args.self.now c.args.addr c.args.width c.args.value c.in-Some.place _ c.self.invariant c.self.view_is (sym (c.in-Some.ensures {u = tt})) now
+    ∙ state_written i c.args.addr c.args.width c.args.value _
+    (subst (Written i c.args.addr new) (sym now) (written_is i c.args.addr c.args.width c.args.value c.in-Some.first c.self.invariant h))
+    ∙ ap (λ m. written_at m c.args.addr c.args.width c.args.value) c.self.view_is

@@ -5,4 +5,4 @@ use Rattle.cell_swap.proofs.survey.Survey.unkept.Goals as goal
 pub returns : goal.returns
 returns c = λ aside survey.
     let all : length c.args.machine.now.cells.items ≤ c.loop-place.place = omega (arith, c.loop-place-test.false, c.len-place-end.ensures) in
-    c.loop-place.invariant ∙ unkept_all c.args.machine.now aside c.args.self.now survey c.loop-place.place all
+    c.loop-place.invariant ∙ unkept_all c.args.machine.now c.requires aside c.args.self.now survey c.loop-place.place all

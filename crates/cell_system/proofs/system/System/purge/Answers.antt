@@ -10,4 +10,4 @@ returns c =
     let files = c.self.inside.depot in
     let m = c.self.inside.machine in
     subst (λ (old : State). IsStep old Purge c.purge.result (state_of files c.purge.new.machine)) c.self.view_is
-    (does_purge files m c.self.invariant.0 c.purge.result c.purge.new.machine c.purge.ensures)
+    (does_purge files m c.purge.result c.purge.new.machine c.purge.ensures)

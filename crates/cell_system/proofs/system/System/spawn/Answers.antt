@@ -10,4 +10,4 @@ returns c =
     let files = c.self.inside.depot in
     let m = c.self.inside.machine in
     subst (λ (old : State). IsStep old (Spawn c.args.ns.now c.args.symbol.now c.args.arg) c.spawn.result (state_of files c.spawn.new.machine)) c.self.view_is
-    (does_spawn files m c.self.invariant.0 c.args.ns.now c.args.symbol.now c.args.arg c.spawn.result c.spawn.new.machine c.spawn.ensures)
+    (does_spawn files m c.args.ns.now c.args.symbol.now c.args.arg c.spawn.result c.spawn.new.machine c.spawn.ensures)

@@ -1,0 +1,21 @@
+-- What the fields of a graph mean, and what always holds of them.
+--     links_of g     the view
+--     IsSound g      the invariant
+use Rattle.std.specs.Prelude.{◌-◌, min, map, vec_capacity, vec_len}
+use Rattle.slab.specs.Slab.{get, slab_len}
+use Rattle.cell_graph.specs.declared.graph.Graph.TheInside.{Inside}
+use Rattle.cell_graph.specs.Links.{Links}
+use Rattle.cell_graph.specs.Places.{link_at}
+use Rattle.cell_graph.specs.Listed.{IsWhole}
+
+abbrev pub links_of : Inside → Links
+links_of g =
+    record {
+      sections = map (λ s. s.key) g.section_list.items;
+      rows = map (link_at (get g.rows)) g.row_list.items;
+      spare_sections = min (vec_capacity g.section_list - vec_len g.section_list) (g.sections.capacity - slab_len g.sections);
+      spare_rows = min (vec_capacity g.row_list - vec_len g.row_list) (g.rows.capacity - slab_len g.rows);
+    }
+
+abbrev pub IsSound : Inside → Type 0
+IsSound g = IsWhole (get g.rows) (get g.sections) g.section_list.items g.row_list.items

@@ -1,0 +1,339 @@
+//! The links by both their arenas and both their lists.
+
+ghost use Rattle.std.specs.Prelude.{◌≡◌, ◌≢◌, ◌↔◌, ℕ, ◌+◌, ◌*◌, ◌<◌, ◌≤◌, ◌∷◌, ◌++◌, [], List, Option, Some, true, false, Contains, IsTrue, length, map, slice_index_or, vec_capacity, vec_len};
+ghost use Rattle.std.specs.List.{remove};
+ghost use Rattle.slab.specs.Slab.{ContainsKey, HasRoomFor, get, slab_len};
+ghost use Rattle.cell_graph.specs.Chains.{AreChained, SameKeys};
+ghost use Rattle.cell_graph.specs.Dropped.{AreDropped, DropsIf, HasNone, links_at};
+ghost use Rattle.cell_graph.specs.Removal.{is_listed, links_without, sections_without};
+ghost use Rattle.cell_graph.specs.declared.rows.ChainRow.{ChainRow};
+ghost use Rattle.cell_graph.specs.declared.order.SectionPlace.{SectionPlace};
+ghost use Rattle.cell_graph.specs.declared.order.RowPlace.{RowPlace};
+ghost use Rattle.cell_graph.specs.Listed.{IsWhole, SectionsListed};
+ghost use Rattle.cell_graph.specs.Lists.{IsCellRange, IsRowAt, IsSectionAt, IsSectionRange, RowsRise, SectionsRise, has_row};
+ghost use Rattle.cell_graph.specs.Moves.{moved};
+ghost use Rattle.cell_graph.specs.Order.{below_section, with_link};
+ghost use Rattle.cell_graph.specs.Places.{link_at};
+
+use crate::chains::{link, unlink};
+use crate::order::{
+    RowPlace, SectionPlace, is_same, row_cell_end, row_cell_start, row_cut, section_cell_end,
+    section_cell_start, section_cut,
+};
+use crate::removal::is_listed;
+use crate::rows::{ChainRow, Rows};
+use crate::section::Section;
+use crate::steps::Steps;
+use crate::walks::read_at;
+use cell_num::{CellId, SecKey};
+use cell_world::LinkRow;
+use slab::Slab;
+use std::sync::ledger::Ledger;
+
+/// Where in the list a section is that is there.
+pub fn section_index(list: &[SectionPlace], key: SecKey) -> usize
+    requires rise { SectionsRise list.now }
+    requires present { Contains (map (λ s. s.key) list.now) key }
+    ensures { IsSectionAt list.now result key }
+{
+    section_cut(list, key)
+}
+
+/// Whether the list names the section.
+pub fn has_section(list: &[SectionPlace], key: SecKey) -> bool
+    requires { SectionsRise list.now }
+    ensures { IsTrue result ↔ Contains (map (λ s. s.key) list.now) key }
+{
+    let index = section_cut(list, key);
+    if index < list.len() {
+        is_same(list[index].key, key)
+    } else {
+        false
+    }
+}
+
+/// The place of a section that is there.
+pub fn section_place(list: &[SectionPlace], key: SecKey) -> usize
+    requires rise { SectionsRise list.now }
+    requires present { Contains (map (λ s. s.key) list.now) key }
+    ensures { Contains list.now (record { key = key; place = result }) }
+{
+    list[section_index(list, key)].place
+}
+
+/// The links that the list names with users of the cell.
+pub fn cell_rows(list: &[RowPlace], cell: CellId) -> &[RowPlace]
+    requires { RowsRise list.now }
+    ensures { IsCellRange list.now cell.0 result.now }
+{
+    let front = &list[..row_cell_end(list, cell)];
+    &front[row_cell_start(front, cell)..]
+}
+
+/// The sections of a cell that the list names.
+pub fn cell_sections(list: &[SectionPlace], cell: CellId) -> &[SectionPlace]
+    requires { SectionsRise list.now }
+    ensures { IsSectionRange list.now cell.0 result.now }
+{
+    let front = &list[..section_cell_end(list, cell)];
+    &front[section_cell_start(front, cell)..]
+}
+
+/// Adds a section that is above all others.
+pub fn add_section(sections: &mut Slab<Section>, section_list: &mut Vec<SectionPlace>, key: SecKey)
+    requires above { (s : SectionPlace) → Contains section_list.old.items s → below_section s.key key ≡ true }
+    requires room { HasRoomFor sections.old 1 }
+    requires room_in_list { vec_len section_list.old < vec_capacity section_list.old }
+    ensures whole { (rows : ℕ → Option ChainRow) (row_list : List RowPlace) → IsWhole rows (get sections.old) section_list.old.items row_list → IsWhole rows (get sections.new) section_list.new.items row_list }
+    ensures added { map (λ s. s.key) section_list.new.items ≡ map (λ s. s.key) section_list.old.items ++ key ∷ [] }
+    ensures count { slab_len sections.new ≡ slab_len sections.old + 1 }
+    ensures capacity { sections.new.capacity ≡ sections.old.capacity }
+    ensures list_len { vec_len section_list.new ≡ vec_len section_list.old + 1 }
+    ensures list_capacity { vec_capacity section_list.old ≤ vec_capacity section_list.new }
+{
+    let place = sections.insert_reserved(Section {
+        key,
+        first: None,
+        users: 0,
+    });
+    let _ = section_list.push(SectionPlace { key, place });
+}
+
+/// Where in the list a link is that is there.
+pub fn row_index(list: &[RowPlace], user: SecKey, entry: u32) -> usize
+    requires rise { RowsRise list.now }
+    requires bound { IsTrue (has_row list.now user entry) }
+    ensures { IsRowAt list.now result user entry }
+{
+    row_cut(list, user, entry)
+}
+
+/// Gives a link its new target. One link is read.
+pub fn move_row<L: Ledger>(
+    sections: &mut Slab<Section>,
+    rows: &mut Rows,
+    section_list: &[SectionPlace],
+    row_list: &[RowPlace],
+    to: LinkRow,
+    steps: &mut Steps<L>,
+)
+    requires whole { IsWhole (get rows.old) (get sections.old) section_list.now row_list.now }
+    requires bound { IsTrue (has_row row_list.now to.user to.entry) }
+    requires present { Contains (map (λ s. s.key) section_list.now) to.target }
+    ensures whole { IsWhole (get rows.new) (get sections.new) section_list.now row_list.now }
+    ensures moved { map (link_at (get rows.new)) row_list.now ≡ moved (map (link_at (get rows.old)) row_list.now) (to ∷ []) }
+    ensures steps { steps.new ≡ steps.old + 1 }
+    ensures row_count { slab_len rows.new ≡ slab_len rows.old }
+    ensures section_count { slab_len sections.new ≡ slab_len sections.old }
+    ensures row_capacity { rows.new.capacity ≡ rows.old.capacity }
+    ensures section_capacity { sections.new.capacity ≡ sections.old.capacity }
+{
+    let place = row_list[row_index(row_list, to.user, to.entry)].place;
+    let chain = rows.read(place, steps);
+    let old = section_place(section_list, chain.row.target);
+    unlink(sections, rows, old, place, chain);
+    let new = section_place(section_list, to.target);
+    link(sections, rows, new, place, to);
+}
+
+/// Adds a link.
+pub fn bind_row(
+    sections: &mut Slab<Section>,
+    rows: &mut Rows,
+    section_list: &[SectionPlace],
+    row_list: &mut Vec<RowPlace>,
+    row: LinkRow,
+)
+    requires whole { IsWhole (get rows.old) (get sections.old) section_list.now row_list.old.items }
+    requires unbound { has_row row_list.old.items row.user row.entry ≡ false }
+    requires present { Contains (map (λ s. s.key) section_list.now) row.target }
+    requires room { HasRoomFor rows.old 1 }
+    requires room_in_list { vec_len row_list.old < vec_capacity row_list.old }
+    ensures whole { IsWhole (get rows.new) (get sections.new) section_list.now row_list.new.items }
+    ensures added { map (link_at (get rows.new)) row_list.new.items ≡ with_link row (map (link_at (get rows.old)) row_list.old.items) }
+    ensures row_count { slab_len rows.new ≡ slab_len rows.old + 1 }
+    ensures section_count { slab_len sections.new ≡ slab_len sections.old }
+    ensures row_capacity { rows.new.capacity ≡ rows.old.capacity }
+    ensures section_capacity { sections.new.capacity ≡ sections.old.capacity }
+    ensures list_len { vec_len row_list.new ≡ vec_len row_list.old + 1 }
+    ensures list_capacity { vec_capacity row_list.old ≤ vec_capacity row_list.new }
+{
+    let target = section_place(section_list, row.target);
+    let place = rows.insert(ChainRow {
+        row,
+        before: None,
+        after: None,
+    });
+    link(sections, rows, target, place, row);
+    let index = row_cut(row_list.as_slice(), row.user, row.entry);
+    let at = RowPlace {
+        user: row.user,
+        entry: row.entry,
+        place,
+    };
+    let _ = row_list.insert(index, at);
+}
+
+/// Takes the link at a place out of its chain and its arena. The list still names it.
+fn drop_row(
+    sections: &mut Slab<Section>,
+    rows: &mut Rows,
+    section_list: &[SectionPlace],
+    place: usize,
+)
+    requires chained { AreChained (get rows.old) (get sections.old) }
+    requires listed { SectionsListed (get sections.old) section_list.now }
+    requires stands { ContainsKey rows.old place }
+    ensures chained { AreChained (get rows.new) (get sections.new) }
+    ensures links { HasNone (links_at (get rows.old)) (links_at (get rows.new)) place }
+    ensures keys { SameKeys (get sections.old) (get sections.new) }
+    ensures row_count { slab_len rows.new + 1 ≡ slab_len rows.old }
+    ensures section_count { slab_len sections.new ≡ slab_len sections.old }
+    ensures row_capacity { rows.new.capacity ≡ rows.old.capacity }
+    ensures section_capacity { sections.new.capacity ≡ sections.old.capacity }
+{
+    let chain = read_at(rows, place);
+    let target = section_place(section_list, chain.row.target);
+    unlink(sections, rows, target, place, chain);
+    rows.remove(place);
+}
+
+/// Takes the link at an index of the list away.
+pub fn unbind_at(
+    sections: &mut Slab<Section>,
+    rows: &mut Rows,
+    section_list: &[SectionPlace],
+    row_list: &mut Vec<RowPlace>,
+    index: usize,
+)
+    requires whole { IsWhole (get rows.old) (get sections.old) section_list.now row_list.old.items }
+    requires within { index < length row_list.old.items }
+    ensures whole { IsWhole (get rows.new) (get sections.new) section_list.now row_list.new.items }
+    ensures items { row_list.new.items ≡ remove row_list.old.items index }
+    ensures left { map (link_at (get rows.new)) row_list.new.items ≡ map (link_at (get rows.old)) (remove row_list.old.items index) }
+    ensures row_count { slab_len rows.new + 1 ≡ slab_len rows.old }
+    ensures section_count { slab_len sections.new ≡ slab_len sections.old }
+    ensures row_capacity { rows.new.capacity ≡ rows.old.capacity }
+    ensures section_capacity { sections.new.capacity ≡ sections.old.capacity }
+    ensures list_len { vec_len row_list.new + 1 ≡ vec_len row_list.old }
+    ensures list_capacity { vec_capacity row_list.new ≡ vec_capacity row_list.old }
+{
+    drop_row(sections, rows, section_list, row_list[index].place);
+    let _ = row_list.remove(index);
+}
+
+/// The same for a link whose user is of a listed cell.
+fn drop_listed_row(
+    sections: &mut Slab<Section>,
+    rows: &mut Rows,
+    section_list: &[SectionPlace],
+    at: &RowPlace,
+    cells: &[CellId],
+)
+    requires chained { AreChained (get rows.old) (get sections.old) }
+    requires listed { SectionsListed (get sections.old) section_list.now }
+    requires stands { is_listed cells.now at.now.user ≡ true → ContainsKey rows.old at.now.place }
+    ensures chained { AreChained (get rows.new) (get sections.new) }
+    ensures links { DropsIf (is_listed cells.now at.now.user) (links_at (get rows.old)) (links_at (get rows.new)) at.now.place }
+    ensures keys { SameKeys (get sections.old) (get sections.new) }
+    ensures row_count { slab_len rows.new ≤ slab_len rows.old }
+    ensures section_count { slab_len sections.new ≡ slab_len sections.old }
+    ensures row_capacity { rows.new.capacity ≡ rows.old.capacity }
+    ensures section_capacity { sections.new.capacity ≡ sections.old.capacity }
+{
+    if !is_listed(cells, at.user) {
+        return;
+    }
+    drop_row(sections, rows, section_list, at.place);
+}
+
+/// The same for all links whose users are of listed cells.
+fn drop_listed_rows(
+    sections: &mut Slab<Section>,
+    rows: &mut Rows,
+    section_list: &[SectionPlace],
+    row_list: &[RowPlace],
+    cells: &[CellId],
+)
+    requires { IsWhole (get rows.old) (get sections.old) section_list.now row_list.now }
+    ensures chained { AreChained (get rows.new) (get sections.new) }
+    ensures links { AreDropped (λ r. r.place) (λ r. is_listed cells.now r.user) (links_at (get rows.old)) (links_at (get rows.new)) row_list.now }
+    ensures keys { SameKeys (get sections.old) (get sections.new) }
+    ensures row_count { slab_len rows.new ≤ slab_len rows.old }
+    ensures section_count { slab_len sections.new ≡ slab_len sections.old }
+    ensures row_capacity { rows.new.capacity ≡ rows.old.capacity }
+    ensures section_capacity { sections.new.capacity ≡ sections.old.capacity }
+{
+    for at in row_list {
+        drop_listed_row(sections, rows, section_list, at, cells);
+    }
+}
+
+/// Takes the links away whose users are of listed cells. Each list is gone over once.
+pub fn remove_rows(
+    sections: &mut Slab<Section>,
+    rows: &mut Rows,
+    section_list: &[SectionPlace],
+    row_list: &mut Vec<RowPlace>,
+    cells: &[CellId],
+)
+    requires { IsWhole (get rows.old) (get sections.old) section_list.now row_list.old.items }
+    ensures whole { IsWhole (get rows.new) (get sections.new) section_list.now row_list.new.items }
+    ensures left { map (link_at (get rows.new)) row_list.new.items ≡ links_without cells.now (map (link_at (get rows.old)) row_list.old.items) }
+    ensures row_count { slab_len rows.new ≤ slab_len rows.old }
+    ensures section_count { slab_len sections.new ≡ slab_len sections.old }
+    ensures row_capacity { rows.new.capacity ≡ rows.old.capacity }
+    ensures section_capacity { sections.new.capacity ≡ sections.old.capacity }
+    ensures list_len { vec_len row_list.new ≤ vec_len row_list.old }
+    ensures list_capacity { vec_capacity row_list.new ≡ vec_capacity row_list.old }
+{
+    drop_listed_rows(sections, rows, section_list, row_list, cells);
+    row_list.retain(|at| !is_listed(cells, at.user));
+}
+
+/// Takes a section of a listed cell out of its arena. The list still names it.
+fn drop_listed_section(sections: &mut Slab<Section>, at: &SectionPlace, cells: &[CellId])
+    requires { is_listed cells.now at.now.key ≡ true → ContainsKey sections.old at.now.place }
+    ensures sections { DropsIf (is_listed cells.now at.now.key) (get sections.old) (get sections.new) at.now.place }
+    ensures count { slab_len sections.new ≤ slab_len sections.old }
+    ensures capacity { sections.new.capacity ≡ sections.old.capacity }
+{
+    if !is_listed(cells, at.key) {
+        return;
+    }
+    let _ = sections.remove(at.place);
+}
+
+/// The same for all sections of listed cells.
+fn drop_listed_sections(
+    sections: &mut Slab<Section>,
+    section_list: &[SectionPlace],
+    cells: &[CellId],
+)
+    requires { SectionsListed (get sections.old) section_list.now }
+    ensures sections { AreDropped (λ s. s.place) (λ s. is_listed cells.now s.key) (get sections.old) (get sections.new) section_list.now }
+    ensures count { slab_len sections.new ≤ slab_len sections.old }
+    ensures capacity { sections.new.capacity ≡ sections.old.capacity }
+{
+    for at in section_list {
+        drop_listed_section(sections, at, cells);
+    }
+}
+
+/// Takes the sections of listed cells away, which have no link. The list is gone over once.
+pub fn remove_sections(
+    sections: &mut Slab<Section>,
+    section_list: &mut Vec<SectionPlace>,
+    cells: &[CellId],
+)
+    requires { SectionsListed (get sections.old) section_list.old.items }
+    ensures whole { (rows : ℕ → Option ChainRow) (row_list : List RowPlace) → IsWhole rows (get sections.old) section_list.old.items row_list → ((p : ℕ) (row : ChainRow) → rows p ≡ Some row → is_listed cells.now row.row.target ≡ false) → IsWhole rows (get sections.new) section_list.new.items row_list }
+    ensures left { map (λ s. s.key) section_list.new.items ≡ sections_without cells.now (map (λ s. s.key) section_list.old.items) }
+    ensures count { slab_len sections.new ≤ slab_len sections.old }
+    ensures capacity { sections.new.capacity ≡ sections.old.capacity }
+    ensures list_len { vec_len section_list.new ≤ vec_len section_list.old }
+    ensures list_capacity { vec_capacity section_list.new ≡ vec_capacity section_list.old }
+{
+    drop_listed_sections(sections, section_list, cells);
+    section_list.retain(|at| !is_listed(cells, at.key));
+}

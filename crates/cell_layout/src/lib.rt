@@ -1,0 +1,16 @@
+//! Where a new cell comes to stand, and what its pages hold before its fields are written.
+#![tactic(auto)]
+
+mod cells;
+mod image;
+mod layout;
+mod placement;
+mod places;
+mod regions;
+mod starts;
+
+pub use cells::{PlacedCells, place_cells};
+pub use placement::{PlaceFail, Placement, place};
+
+#[cfg(test)]
+mod tests;

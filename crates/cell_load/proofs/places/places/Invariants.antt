@@ -1,8 +1,0 @@
-use Rattle.std.proofs.Common.{◌≡◌, map, take}
-use Rattle.cell_world.specs.Place.{place_in}
-use Rattle.cell_load.specs.Placing.{starts_as}
-use Rattle.cell_load.proofs.places.places.Given as goal
-
--- the places of the sections so far
-abbrev pub invariant-loop-index : goal.invariant-loop-index
-invariant-loop-index l = l.places.items ≡ map (place_in (starts_as l.starts) l.object) (take l.index l.object.sections)

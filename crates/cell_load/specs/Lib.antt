@@ -1,4 +1,0 @@
-pub mod Classes
-pub mod Layout
-pub mod Placing
-pub mod Many

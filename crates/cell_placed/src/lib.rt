@@ -1,0 +1,12 @@
+//! Placed cells: the one of a number, where its sections stand, and what its symbols are.
+#![tactic(auto)]
+
+mod cells;
+mod own;
+mod places;
+mod sections;
+
+pub use cells::cell_numbered;
+pub use own::{own_target, target_in};
+pub use places::start_of;
+pub use sections::section_of;

@@ -1,0 +1,154 @@
+-- Each command of a script is one that a line can say.
+use Rattle.std.proofs.Common.{◌≡◌, refl, ap, ◌∙◌, ℕ, ◌+◌, Bool, true, false, cond, ◌&&◌, List, [], ◌∷◌}
+use Rattle.std.specs.Prelude.{Option, Some, None, Result, Ok, Err, bytes_eq, codes, option_and_then, option_map}
+use Rattle.cell_world.specs.declared.command.Command.{Command}
+use Rattle.cell_world.specs.declared.command.Command.TheVariants.{Ns, Load, Spawn, Step, Run, Kill, Unload, Purge, Find, Map, Tasks, Deps, Users, Dump}
+use Rattle.cell_script.specs.declared.command.Reading.{Reading}
+use Rattle.cell_script.specs.declared.command.Reading.TheVariants.{Nothing, Does, Bad}
+use Rattle.cell_script.specs.declared.line.Line.{Line}
+use Rattle.cell_script.specs.Grammar.{Form, all_three, alone, argument, both, both_around, cell_names, command_in, forms, name, number, several, single, symbol, turns_of_run, turns_of_step}
+use Rattle.cell_script.specs.Script.{add_line, are_said, does, is_comment, is_said, reading_in, reading_of, script_from}
+use Rattle.cell_text.specs.Text.{words_of}
+
+abbrev IsSaid : Option Command → Type 0
+IsSaid None = Unit {0}
+IsSaid (Some command) = is_said command ≡ true
+
+module _ {A : Type 0} (made : A → Command) (h : (a : A) → is_said (made a) ≡ true) where
+  mapped : (o : Option A) → IsSaid (option_map made o)
+  mapped None = tt
+  mapped (Some a) = h a
+
+  single_said : (said : List ℕ → Option A) (words : List (List ℕ)) → IsSaid (single said made words)
+  single_said said [] = tt
+  single_said said (a ∷ []) = mapped (said a)
+  single_said said (a ∷ b ∷ words) = tt
+
+  several_said : (said : List (List ℕ) → Option A) (words : List (List ℕ)) → IsSaid (several said made words)
+  several_said said [] = tt
+  several_said said (word ∷ words) = mapped (said (word ∷ words))
+
+module _ {A B : Type 0} (one : List ℕ → Option A) (other : List ℕ → Option B) (made : A → B → Command) (h : (a : A) (b : B) → is_said (made a b) ≡ true) where
+  both_said : (words : List (List ℕ)) → IsSaid (both one other made words)
+  both_said [] = tt
+  both_said (a ∷ []) = tt
+  both_said (a ∷ b ∷ []) = go (one a)
+    where
+      go : (o : Option A) → IsSaid (option_and_then (λ x. option_map (made x) (other b)) o)
+      go None = tt
+      go (Some x) = mapped (made x) (h x) (other b)
+  both_said (a ∷ b ∷ c ∷ words) = tt
+
+  around_said : (middle : List ℕ) (words : List (List ℕ)) → IsSaid (both_around middle one other made words)
+  around_said middle [] = tt
+  around_said middle (a ∷ []) = tt
+  around_said middle (a ∷ m ∷ []) = tt
+  around_said middle (a ∷ m ∷ b ∷ []) = go (bytes_eq m middle)
+    where
+      go : (t : Bool) → IsSaid (cond t (both one other made (a ∷ b ∷ [])) None)
+      go true = both_said (a ∷ b ∷ [])
+      go false = tt
+  around_said middle (a ∷ m ∷ b ∷ c ∷ words) = tt
+
+three_said : {A B C : Type 0} (one : List ℕ → Option A) (other : List ℕ → Option B) (last : List ℕ → Option C) (made : A → B → C → Command) → ((a : A) (b : B) (c : C) → is_said (made a b c) ≡ true)
+    → (words : List (List ℕ)) → IsSaid (all_three one other last made words)
+three_said one other last made h [] = tt
+three_said one other last made h (a ∷ []) = tt
+three_said one other last made h (a ∷ b ∷ []) = tt
+three_said {A} one other last made h (a ∷ b ∷ c ∷ []) = go (one a)
+  where
+    go : (o : Option A) → IsSaid (option_and_then (λ x. both other last (made x) (b ∷ c ∷ [])) o)
+    go None = tt
+    go (Some x) = both_said other last (made x) (h x) (b ∷ c ∷ [])
+three_said one other last made h (a ∷ b ∷ c ∷ d ∷ words) = tt
+
+alone_said : (command : Command) → is_said command ≡ true → (words : List (List ℕ)) → IsSaid (alone command words)
+alone_said command h [] = h
+alone_said command h (word ∷ words) = tt
+
+abbrev AreSaid : List Form → Type 0
+AreSaid [] = Unit {0}
+AreSaid (form ∷ rest) = ((words : List (List ℕ)) → IsSaid (form.arguments words)) × AreSaid rest
+
+in_forms : (fs : List Form) → AreSaid fs → (word : List ℕ) (words : List (List ℕ)) → IsSaid (command_in fs word words)
+in_forms [] all word words = tt
+in_forms (form ∷ rest) all word words = go (bytes_eq word form.word) (in_forms rest all.1 word words)
+  where
+    go : (t : Bool) → IsSaid (command_in rest word words) → IsSaid (cond t (form.arguments words) (command_in rest word words))
+    go true later = all.0 words
+    go false later = later
+
+all_forms : AreSaid forms
+all_forms = (
+  around_said name name (λ fresh parent. Ns fresh parent) (λ a b. refl) (codes "under"),
+  (
+    both_said name name (λ ns stem. Load ns stem) (λ a b. refl),
+    (
+      three_said name symbol argument (λ ns what arg. Spawn ns what arg) (λ a b c. refl),
+      (
+        both_said number turns_of_step (λ task turns. Step task turns) (λ a b. refl),
+        (
+          single_said (λ turns. Run turns) (λ a. refl) turns_of_run,
+          (
+            single_said (λ task. Kill task) (λ a. refl) number,
+            (
+              several_said (λ cells. Unload cells) (λ a. refl) cell_names,
+              (
+                alone_said Purge refl,
+                (
+                  both_said name symbol (λ ns what. Find ns what) (λ a b. refl),
+                  (
+                    alone_said Map refl,
+                    (
+                      alone_said Tasks refl,
+                      (
+                        single_said (λ cell. Deps cell) (λ a. refl) number,
+                        (
+                          single_said (λ cell. Users cell) (λ a. refl) number,
+                          (
+                            both_said number number (λ cell section. Dump cell section) (λ a b. refl),
+                            tt,
+                          ),
+                        ),
+                      ),
+                    ),
+                  ),
+                ),
+              ),
+            ),
+          ),
+        ),
+      ),
+    ),
+  ),
+)
+
+abbrev IsReading : Reading → Type 0
+IsReading (Does command) = is_said command ≡ true
+IsReading _ = Unit {0}
+
+does_said : (o : Option Command) → IsSaid o → IsReading (does o)
+does_said None h = tt
+does_said (Some command) h = h
+
+reading_said : (words : List (List ℕ)) → IsReading (reading_in words)
+reading_said [] = tt
+reading_said (word ∷ words) = go (is_comment word)
+  where
+    go : (t : Bool) → IsReading (cond t Nothing (does (command_in forms word words)))
+    go true = tt
+    go false = does_said (command_in forms word words) (in_forms forms all_forms word words)
+
+abbrev pub AreCommands : Result (List Line) ℕ → Type 0
+AreCommands (Ok lines) = are_said lines ≡ true
+AreCommands (Err n) = Unit {0}
+
+one_more : (n : ℕ) (r : Reading) (later : Result (List Line) ℕ) → IsReading r → AreCommands later → AreCommands (add_line n r later)
+one_more n Nothing later h all = all
+one_more n Bad later h all = tt
+one_more n (Does command) (Ok lines) h all = ap (λ b. b && are_said lines) h ∙ all
+one_more n (Does command) (Err m) h all = tt
+
+pub script_said : (n : ℕ) (texts : List (List ℕ)) → AreCommands (script_from n texts)
+script_said n [] = refl
+script_said n (text ∷ texts) = one_more n (reading_of text) (script_from (n + 1) texts) (reading_said (words_of text)) (script_said (n + 1) texts)

@@ -1,0 +1,6 @@
+pub mod Regrown
+pub mod Targets
+pub mod Swapping
+pub mod Commands
+pub mod Moved
+pub mod Begins

@@ -1,0 +1,3 @@
+pub mod Worked
+pub mod Turns
+pub mod Undo

@@ -1,0 +1,9 @@
+-- An undo that is under way.
+use Rattle.std.specs.Prelude.{All, List}
+use Rattle.cell_world.specs.World.{Region}
+use Rattle.cell_world.specs.Undo.{Record, undone}
+use Rattle.cell_coherent.specs.Grown.{In}
+
+-- going back by the records leaves each region of `saved` as it is there
+abbrev pub GivesBack : List Region → List Region → List Record → Type 0
+GivesBack saved regions records = All (λ r. In r (undone regions records)) saved

@@ -1,0 +1,41 @@
+-- How much of each kind there may be.
+use Rattle.std.specs.Prelude.{ℕ}
+
+-- namespaces, `k` among them
+abbrev pub max_namespaces : ℕ
+max_namespaces = 256
+
+-- present cells, the old and the new ones of a swap counted together
+abbrev pub max_cells : ℕ
+max_cells = 1024
+
+-- cells are numbered from 1 on, and no number is used again
+abbrev pub max_cell_number : ℕ
+max_cell_number = 65535
+
+abbrev pub max_tasks : ℕ
+max_tasks = 64
+
+abbrev pub max_task_number : ℕ
+max_task_number = 65535
+
+-- object files, and the bytes of one of them
+abbrev pub max_files : ℕ
+max_files = 1024
+
+abbrev pub max_file_bytes : ℕ
+max_file_bytes = 1048576
+
+-- pages of the memory
+abbrev pub min_pages : ℕ
+min_pages = 16
+
+abbrev pub max_pages : ℕ
+max_pages = 4096
+
+-- where the memory starts
+abbrev pub min_base : ℕ
+min_base = 0x1000
+
+abbrev pub max_base : ℕ
+max_base = 0x7ff_ffff_f000
