@@ -1,7 +1,7 @@
 #!/bin/bash
-# Prints how long one `purge` takes, which finds out what is kept and removes nothing here: 1000 cells in a chain of
-# links, each with a writable section of 64 words, and 64 tasks whose stacks are full of addresses. And how long it
-# takes to unload these cells at once.
+# Prints how long one `purge` takes, which finds out what is kept and removes nothing here: 1000 cells of ten
+# links, each with a writable section of 64 words, and 64 tasks whose stacks are full of addresses. How long it
+# takes to unload these cells at once. And how long one `purge` takes with 60 cells of 48,000 sections and 136,020 links.
 #
 #     bench/holding.sh [CELLS CELLAS]
 #
@@ -41,13 +41,15 @@ bne a0,zero,f::fill
 f::wait: j f::wait
 SOURCE
 
-# Each other crate has data, a function, and links to the next crate.
+# Each other crate has data, a function, and ten links to the next crates.
 for i in $(seq 0 $last); do
     {
         echo ".data"
         echo ".globl g$i::x"
-        echo "g$i::x: .zero 504"
-        if [ "$i" -lt $last ]; then echo ".quad g$((i + 1))::x"; else echo ".quad 0"; fi
+        echo "g$i::x: .zero 440"
+        for next in $(seq $((i + 1)) $((i + 9))); do
+            if [ "$next" -le $last ]; then echo ".quad g$next::x"; else echo ".quad 0"; fi
+        done
         echo ".text"
         echo ".globl g$i::f"
         echo "g$i::f: ret"
@@ -95,3 +97,14 @@ if ! tail -n 1 "$work/text.txt" | grep -q 'ok unload removed #1 #2 .* #1000$'; t
     exit 1
 fi
 awk -v a="$killed" -v b="$all" 'BEGIN { printf "an unload of 1000 cells at once: %.4f s\n", b - a }'
+
+PYTHONDONTWRITEBYTECODE=1 python3 "$top/bench/objects.py" crowd "$work/crowds" || exit 1
+rm -rf "$work/d"
+mv "$work/crowds/crowd" "$work/d"
+before=$(seconds script)
+with=$(seconds purges)
+if [ "$(grep -c 'ok purge removed -' "$work/text.txt")" != $purges ]; then
+    echo 'unexpected text'
+    exit 1
+fi
+awk -v a="$before" -v b="$with" -v n=$purges 'BEGIN { printf "one purge of 60 cells with 48,000 sections and 136,020 links: %.4f s\n", (b - a) / n }'

@@ -7,6 +7,7 @@ As a program:
     objects.py example FOLDER    the two objects of examples/first, into a folder
     objects.py large FOLDER      folders with large objects and their scripts, for bench/read.sh
     objects.py spaces FOLDER     folders that show what namespaces cost, for bench/spaces.sh
+    objects.py crowd FOLDER      crates of many sections and links, for bench/holding.sh
     objects.py links             the dumps that cells has to show of the GNU objects, as GNU ld links them
     objects.py check             looks at the offsets of three objects that were worked out by hand
 
@@ -544,6 +545,26 @@ def crate_of_many(n, count):
     return image([Section(".rodata", 0, bytes(24), entries)], symbols)
 
 
+def crate_of_crowd(n, count):
+    """Crate `pN` of `count` in a ring: 800 writable sections, whose 2,267 entries lead to its own and to those of the next crate."""
+    sections, links = 800, 2267
+    name = lambda crate, section: "p%d::s%d" % (crate % count, section % sections)
+    symbols = [Symbol(name(n, s), s + 1) for s in range(sections)] + [Symbol(name(n + 1, s), UNDEFINED) for s in range(sections)]
+    parts = []
+    for s in range(sections):
+        entries = [(0, R_64, 1 + (s + 1) % sections, 0), (8, R_64, 1 + sections + s, 0), (16, R_64, 1 + sections + (7 * s) % sections, 0)]
+        parts.append(Section(".data.%d" % s, WRITE, bytes(24), entries[: 3 if s < links - 2 * sections else 2]))
+    return image(parts, symbols)
+
+
+def crowd(folder):
+    """One load of 60 crates with 48,000 sections and 136,020 links, alone and with 20 times `purge`."""
+    files = {"k#p%d.o" % n: crate_of_crowd(n, 60) for n in range(60)}
+    write_folder(folder, "crowd", files, "load k p0\n")
+    with open(os.path.join(folder, "crowd", "purges"), "w") as out:
+        out.write("load k p0\n" + "purge\n" * 20)
+
+
 def large(folder):
     """For each kind a folder, with the whole size and with half of it."""
     loads = "load k a\n"
@@ -622,6 +643,8 @@ def check():
 if __name__ == "__main__":
     if sys.argv[1:2] == ["images"] and len(sys.argv) == 3:
         images(sys.argv[2])
+    elif sys.argv[1:2] == ["crowd"] and len(sys.argv) == 3:
+        crowd(sys.argv[2])
     elif sys.argv[1:2] == ["large"] and len(sys.argv) == 3:
         large(sys.argv[2])
     elif sys.argv[1:2] == ["spaces"] and len(sys.argv) == 3:
