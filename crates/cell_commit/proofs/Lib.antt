@@ -5,6 +5,5 @@ pub mod RegionsLeft
 pub mod Mapping
 pub mod Writing
 pub mod Sealing
-pub mod Pair
 pub mod SectionsLeft
 pub mod NewcomersLeft

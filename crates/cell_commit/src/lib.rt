@@ -16,6 +16,3 @@ pub use fields::write_fields;
 pub use laws::{mapping_adds, writing_adds, writing_seals};
 pub use regions::map_regions;
 pub use sections::{CellSections, add_sections};
-
-#[cfg(test)]
-mod tests;

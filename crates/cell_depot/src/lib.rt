@@ -9,6 +9,3 @@ mod shelves;
 pub use cell_world::File;
 pub use depot::{Depot, DepotFault};
 pub use file_name::{namespace_of, stem_of};
-
-#[cfg(test)]
-mod tests;

@@ -20,7 +20,7 @@ use Rattle.cell_space.specs.Spaces.{SpacesState}
 use Rattle.cell_num.specs.Lists.{equals}
 use Rattle.cell_gather.specs.Appending.{clash_among_now, stem_free, names_free, room_now, cell_from, append_now}
 use Rattle.cell_gather.specs.Growing.{called_new}
-use Rattle.cell_gather.proofs.Layered.{rival-append}
+use Rattle.cell_space.proofs.Layered.{rival-append}
 use Rattle.cell_gather.proofs.Outcomes.{then_ok, bind_ok, need_ok, refused_ok, ok_same}
 
 pub record IsAccepted (s : SpacesState) (total next ns : ℕ) (c : NewCell) : Type 0 where
@@ -57,65 +57,3 @@ accepted s total next ns f c h =
           ap (λ (d : NewCell). names_free s d.ns d.stem (definitions_of d.object)) (sym is)
           ∙ unit_ok (names_free s ns (stem_of_file f.name) (definitions_of read.0)) free.0 free.1;
     }
-
--- neither of the two
-second_none : {X : Type 0} (a b : Option X) → or_else a b ≡ None → b ≡ None
-second_none None b e = e
-second_none (Some x) b e = cc
-
-first_none : {X : Type 0} (a b : Option X) → or_else a b ≡ None → a ≡ None
-first_none None b e = refl
-first_none (Some x) b e = cc
-
-unmapped : {X Y : Type 0} (f : X → Y) (o : Option X) → option_map f o ≡ None → o ≡ None
-unmapped f None e = refl
-unmapped f (Some x) e = cc
-
-module _ (s : SpacesState) (ns : ℕ) (fresh : List SpaceCell) (before : List SpaceCell) (are : s.cells ≡ before ++ fresh) where
-  name_free : (name : List ℕ) → clash_name s.namespaces ns name s.cells ≡ None → clash_name s.namespaces ns name fresh ≡ None
-  name_free name e =
-      second_none (clash_name s.namespaces ns name before) (clash_name s.namespaces ns name fresh)
-      (sym (rival-append (λ c. has_name c.names name) (is_rival s.namespaces ns) before fresh) ∙ ap (λ cells. clash_name s.namespaces ns name cells) (sym are) ∙ e)
-
-  all_free : (names : List Alias) → clash_among_now s ns names ≡ None → All (λ a. clash_name s.namespaces ns a.name fresh ≡ None) names
-  all_free [] e = All-nil (λ (a : Alias). clash_name s.namespaces ns a.name fresh ≡ None)
-  all_free (a ∷ names) e =
-      All-cons (λ (a : Alias). clash_name s.namespaces ns a.name fresh ≡ None) a names
-      (name_free a.name (unmapped (duplicate a.name) (clash_name s.namespaces ns a.name s.cells) (first_none (option_map (duplicate a.name) (clash_name s.namespaces ns a.name s.cells)) (clash_among_now s ns names) e)))
-      (all_free names (second_none (option_map (duplicate a.name) (clash_name s.namespaces ns a.name s.cells)) (clash_among_now s ns names) e))
-
-  module _ (stem : List ℕ) (names : List Alias) (free : names_free s ns stem names ≡ Ok tt) where
-    -- none of the new cells has the stem
-    pub fresh_stem_free : clash_stem s.namespaces ns stem fresh ≡ None
-    fresh_stem_free =
-        let two = then_ok (stem_free s ns stem) (refused_by (clash_among_now s ns names)) tt free in
-        second_none (clash_stem s.namespaces ns stem before) (clash_stem s.namespaces ns stem fresh)
-        (sym (rival-append (λ c. equals c.stem stem) (is_rival s.namespaces ns) before fresh)
-        ∙ ap (λ cells. clash_stem s.namespaces ns stem cells) (sym are)
-        ∙ unmapped (duplicate stem) (clash_stem s.namespaces ns stem s.cells) (refused_ok (option_map (duplicate stem) (clash_stem s.namespaces ns stem s.cells)) two.0 two.1))
-
-    pub fresh_names_free : All (λ a. clash_name s.namespaces ns a.name fresh ≡ None) names
-    fresh_names_free =
-        let two = then_ok (stem_free s ns stem) (refused_by (clash_among_now s ns names)) tt free in
-        all_free names (refused_ok (clash_among_now s ns names) tt two.2)
-
-not_same : (a n : ℕ) → a < n → (a == n) ≡ false
-not_same a n lt = grind (arith, nat_tests)
-
-not_higher : (a n : ℕ) → a < n → nat_lt n a ≡ false
-not_higher a n lt = grind (arith, nat_tests)
-
--- no new cell has the next number
-pub next_is_new : (n : ℕ) (cells : List NewCell) → All (λ c. c.id.0 < n) cells → find (is_numbered n) (map called_new cells) ≡ None
-next_is_new n [] all = refl
-next_is_new n (c ∷ cells) all =
-    ap (λ b. cond b (Some (called_new c)) (find (is_numbered n) (map called_new cells))) (not_same c.id.0 n (All-head (λ (d : NewCell). d.id.0 < n) c cells all))
-    ∙ next_is_new n cells (All-tail (λ (d : NewCell). d.id.0 < n) c cells all)
-
--- a cell of the next number stands last
-pub stands_last : (row : SpaceCell) (n : ℕ) (cells : List NewCell) → row.cell.0 ≡ n → All (λ c. c.id.0 < n) cells → with_cell row (map called_new cells) ≡ map called_new cells ++ row ∷ []
-stands_last row n [] is all = refl
-stands_last row n (c ∷ cells) is all =
-    ap (λ b. cond b (row ∷ called_new c ∷ map called_new cells) (called_new c ∷ with_cell row (map called_new cells)))
-    (ap (λ m. nat_lt m c.id.0) is ∙ not_higher c.id.0 n (All-head (λ (d : NewCell). d.id.0 < n) c cells all))
-    ∙ ap (λ rows. called_new c ∷ rows) (stands_last row n cells is (All-tail (λ (d : NewCell). d.id.0 < n) c cells all))

@@ -18,7 +18,7 @@ use Rattle.cell_space.specs.Spaces.{SpacesState}
 use Rattle.cell_space.proofs.Machines as machines
 use Rattle.cell_gather.specs.Choosing.{one_in, here_or, nearest_now, space_name, lacking, choose_now}
 use Rattle.cell_gather.specs.Gathering.{IsOf}
-use Rattle.cell_gather.specs.Layers.{has_stem_in}
+use Rattle.cell_space.specs.Ahead.{has_stem_in}
 
 any_called : (spaces stem : List ℕ) (cells : List Cell)
     → list_any (λ c. is_attached c.standing && holds spaces c.ns && equals c.stem stem) cells ≡ has_stem_in spaces stem (map called cells)

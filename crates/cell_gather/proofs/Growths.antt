@@ -1,5 +1,5 @@
 -- One more new cell.
-use Rattle.std.proofs.Common.{◌≡◌, sym, ◌∙◌, ap, ap₂, arith, ℕ, suc, ◌+◌, ◌<◌, ◌≤◌, List, [], ◌∷◌, ◌++◌, length, map, append-nil, length-append}
+use Rattle.std.proofs.Common.{◌≡◌, sym, ◌∙◌, ap, ap₂, arith, ℕ, suc, ◌+◌, ◌<◌, ◌≤◌, List, [], ◌∷◌, ◌++◌, length, map, append-nil, append_assoc, length-append}
 use Rattle.std.proofs.lemmas.List.{map-append}
 use Rattle.std.proofs.lemmas.List.Elements.{All-push, All-same, All-weaker}
 use Rattle.cell_num.specs.declared.ids.CellId.{CellId}
@@ -9,11 +9,9 @@ use Rattle.cell_world.specs.Names.{definitions_of}
 use Rattle.cell_world.specs.World.{Alias}
 use Rattle.cell_space.specs.declared.cell.CellState.TheVariants.{Attached}
 use Rattle.cell_space.specs.declared.cell.SpaceCell.{SpaceCell}
-use Rattle.cell_space.specs.Named.{with_cell}
 use Rattle.cell_space.specs.Spaces.{SpacesState}
 use Rattle.cell_gather.specs.declared.gathering.Gathered.{Gathered}
 use Rattle.cell_gather.specs.Growing.{IsGrowing, called_new}
-use Rattle.cell_gather.proofs.Accepted.{stands_last}
 
 -- the row of a cell in the spaces
 abbrev pub row_of : CellId → ℕ → List ℕ → List Alias → SpaceCell
@@ -28,8 +26,8 @@ one_longer xs x = let l = length-append xs (x ∷ []) in omega arith
 module _ (spaces : SpacesState) (next : ℕ) (old new : Gathered) (c : NewCell) (names : List Alias) (growing : IsGrowing spaces next old) where
   pub grown_by_one : c.ns < length spaces.namespaces → c.id.0 ≡ next + length old.cells.items → length spaces.cells + length old.cells.items < 1024
       → names ≡ definitions_of c.object → IsLoadable c.object
-      → new.spaces.namespaces ≡ old.spaces.namespaces
-      → new.spaces.cells ≡ with_cell (row_of c.id c.ns c.stem names) old.spaces.cells
+      → new.ahead.namespaces ≡ old.ahead.namespaces
+      → new.ahead.cells ≡ old.ahead.cells ++ row_of c.id c.ns c.stem names ∷ []
       → new.names.items ≡ old.names.items ++ names ∷ []
       → new.cells.items ≡ old.cells.items ++ c ∷ []
       → IsGrowing spaces next new
@@ -41,11 +39,10 @@ module _ (spaces : SpacesState) (next : ℕ) (old new : Gathered) (c : NewCell) 
         namespaces = same ∙ growing.namespaces;
         cells =
             rows
-            ∙ ap (with_cell (row_of c.id c.ns c.stem names)) growing.cells
-            ∙ stands_last (row_of c.id c.ns c.stem names) (next + length cs) cs number growing.below
-            ∙ ap (λ row. map called_new cs ++ row ∷ []) (row_is c names named)
-            ∙ sym (map-append called_new cs (c ∷ []))
-            ∙ ap (map called_new) (sym cells);
+            ∙ ap (λ all. all ++ row_of c.id c.ns c.stem names ∷ []) growing.cells
+            ∙ append_assoc spaces.cells (map called_new cs) (row_of c.id c.ns c.stem names ∷ [])
+            ∙ ap (λ row. spaces.cells ++ (map called_new cs ++ row ∷ [])) (row_is c names named)
+            ∙ ap (λ rows. spaces.cells ++ rows) (sym (map-append called_new cs (c ∷ [])) ∙ ap (map called_new) (sym cells));
         names =
             listed
             ∙ ap₂ (λ all one. all ++ one ∷ []) growing.names named

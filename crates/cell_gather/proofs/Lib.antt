@@ -1,4 +1,3 @@
-pub mod Layered
 pub mod Outcomes
 pub mod Worlds
 pub mod Accepted
@@ -13,7 +12,6 @@ pub mod Supplies
 pub mod Supplying
 pub mod Loadables
 pub mod Gatherings
-pub mod Chains
 pub mod TakenNames
 pub mod Failing
 pub mod NewSteps

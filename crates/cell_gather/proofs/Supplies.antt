@@ -13,7 +13,7 @@ use Rattle.cell_space.specs.declared.cell.SpaceCell.{SpaceCell}
 use Rattle.cell_space.specs.Named.{first_provider}
 use Rattle.cell_space.specs.Spaces.{SpacesState}
 use Rattle.cell_gather.specs.Growing.{called_new, IsProvided, IsSupplied, AreSupplied, IsTurnOf, IsNext}
-use Rattle.cell_gather.proofs.Layered.{first_provider-append}
+use Rattle.cell_space.proofs.Layered.{first_provider-append}
 
 still_some : (a b : Option Provider) → is_some a ≡ true → is_some (or_else a b) ≡ true
 still_some (Some p) b e = refl

@@ -11,7 +11,7 @@ use Rattle.cell_world.specs.Gather.{Source, depot_files}
 use Rattle.cell_world.specs.Names.{chain, crate_of}
 use Rattle.cell_world.specs.Outcome.{Outcome, ◌>>=◌, ◌>>◌, need, found}
 use Rattle.cell_space.specs.Spaces.{SpacesState}
-use Rattle.cell_gather.specs.Layers.{has_stem_in}
+use Rattle.cell_space.specs.Ahead.{has_stem_in}
 
 abbrev pub space_name : List Namespace → ℕ → List ℕ
 space_name spaces ns = elim (slice_get spaces ns) [ None ↦ [] | Some space ↦ space.name ]

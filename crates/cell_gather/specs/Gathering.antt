@@ -35,9 +35,9 @@ grown w cells = record w { cells = w.cells ++ map attached cells; next_cell = w.
 
 pub record IsGathered (files : List File) (spaces : SpacesState) (next : ℕ) (wants : List Want) (g : Gathered) : Type 0 where
   pub gathered : (w : World) → IsOf spaces next w → gather (map source_of files) w wants ≡ Ok (grown w g.cells.items)
-  -- the new cells alone, in the same namespaces
-  pub namespaces : g.spaces.namespaces ≡ spaces.namespaces
-  pub cells : g.spaces.cells ≡ map (λ c. called (attached c)) g.cells.items
+  -- the new cells ahead of the present ones, in the same namespaces
+  pub namespaces : g.ahead.namespaces ≡ spaces.namespaces
+  pub cells : g.ahead.cells ≡ spaces.cells ++ map (λ c. called (attached c)) g.cells.items
   -- what each of them defines
   pub names : g.names.items ≡ map (λ c. definitions_of c.object) g.cells.items
   pub loadable : All (λ c. IsLoadable c.object) g.cells.items

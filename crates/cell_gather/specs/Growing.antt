@@ -29,8 +29,8 @@ abbrev pub with_new : SpacesState → List NewCell → SpacesState
 with_new spaces cells = record spaces { cells = spaces.cells ++ map called_new cells }
 
 pub record IsGrowing (spaces : SpacesState) (next : ℕ) (g : Gathered) : Type 0 where
-  pub namespaces : g.spaces.namespaces ≡ spaces.namespaces
-  pub cells : g.spaces.cells ≡ map called_new g.cells.items
+  pub namespaces : g.ahead.namespaces ≡ spaces.namespaces
+  pub cells : g.ahead.cells ≡ spaces.cells ++ map called_new g.cells.items
   pub names : g.names.items ≡ map (λ c. definitions_of c.object) g.cells.items
   pub loadable : All (λ c. IsLoadable c.object) g.cells.items
   pub inside : All (λ c. c.ns < length spaces.namespaces) g.cells.items

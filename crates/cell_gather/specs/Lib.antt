@@ -1,5 +1,4 @@
 pub mod Gathering
-pub mod Layers
 pub mod Appending
 pub mod Choosing
 pub mod Growing

@@ -1,12 +1,10 @@
 //! Adding a new cell.
 
-ghost use Rattle.std.specs.Prelude.{◌≡◌, ◌<◌, ◌≤◌, ◌+◌, ◌++◌, ◌∷◌, [], OnOk, Ok, All, length, map};
+ghost use Rattle.std.specs.Prelude.{◌≡◌, ◌<◌, ◌≤◌, ◌+◌, ◌++◌, ◌∷◌, [], OnOk, All, length, map};
 ghost use Rattle.cell_world.specs.Gather.{source_of, append_cell};
-ghost use Rattle.cell_world.specs.Names.{definitions_of};
 ghost use Rattle.cell_world.specs.Outcome.{each};
-ghost use Rattle.cell_gather.specs.Appending.{append_now, names_free};
 ghost use Rattle.cell_gather.specs.Gathering.{append_wanted, grown};
-ghost use Rattle.cell_gather.specs.Growing.{Ends, IsGrowing, IsOneMore, with_new};
+ghost use Rattle.cell_gather.specs.Growing.{Ends, IsGrowing, IsOneMore};
 
 use crate::fresh::Fresh;
 use crate::load::Load;
@@ -16,21 +14,19 @@ use cell_world::{Fail, File, Refusal};
 use std::alloc::{AllocError, Global};
 
 impl<'a> Load<'a> {
-    /// Attaches a cell that takes no name that is there, and lists it.
+    /// Lists a cell, and attaches it ahead.
     fn add(&self, alloc: Global, gathered: &mut Gathered, fresh: Fresh) -> Result<(), AllocError>
         requires growing { IsGrowing self.now.spaces.now self.now.next gathered.old }
         requires there { fresh.cell.ns < length self.now.spaces.now.namespaces }
         requires number { fresh.cell.id.0 ≡ self.now.next + length gathered.old.cells.items }
         requires room { length self.now.spaces.now.cells + length gathered.old.cells.items < 1024 }
-        requires free { names_free (with_new self.now.spaces.now gathered.old.cells.items) fresh.cell.ns fresh.cell.stem (definitions_of fresh.cell.object) ≡ Ok tt }
         ensures growing { OnOk result (IsGrowing self.now.spaces.now self.now.next gathered.new) }
         ensures added { OnOk result (gathered.new.cells.items ≡ gathered.old.cells.items ++ fresh.cell ∷ []) }
     {
         let names = fresh.names.copy(alloc)?;
         let stem = fresh.cell.stem.copy(alloc)?;
         let (id, ns) = (fresh.cell.id, fresh.cell.ns);
-        gathered.spaces.reserve(1, names.len() as u32)?;
-        gathered.spaces.attach(id, ns, stem, names);
+        gathered.ahead.append(id, ns, stem, names)?;
         gathered.names.push(fresh.names)?;
         gathered.cells.push(fresh.cell)?;
         Ok(())

@@ -65,8 +65,9 @@ impl<'a> Load<'a> {
         self.check_room(count)?;
         let object = read(alloc, file)?;
         let names = definitions(alloc, &object)?;
-        let layers = self.layers(gathered);
-        check_names(alloc, &layers, ns, stem_of(file.name.bytes()), &names)?;
+        let path = gathered.ahead.path(alloc, ns)?;
+        let stem = stem_of(file.name.bytes());
+        check_names(alloc, &gathered.ahead, &path, stem, &names)?;
         let cell = new_cell(alloc, self.next + count as u32, ns, file, object)?;
         Ok(Fresh { cell, names })
     }

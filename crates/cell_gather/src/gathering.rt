@@ -6,16 +6,17 @@ ghost use Rattle.cell_gather.specs.Gathering.{Gathers};
 use crate::Want;
 use crate::load::Load;
 use cell_depot::Depot;
-use cell_space::{NameRows, Spaces};
+use cell_space::{Ahead, NameRows, Spaces};
 use cell_world::{Fail, NewCell};
 use std::alloc::Global;
 
-/// New cells, attached to spaces of their own, and what each of them defines. They have no places yet.
+/// New cells, and what each of them defines; and the spaces as they would be with them. The cells
+/// have no places yet.
 #[derive(Drop)]
-pub struct Gathered {
+pub struct Gathered<'a> {
     pub cells: Vec<NewCell>,
     pub names: Vec<NameRows>,
-    pub spaces: Spaces,
+    pub ahead: Ahead<'a>,
 }
 
 /// Appends the wanted cells in order. Then, while a new cell needs a name that nobody provides, appends
@@ -25,14 +26,14 @@ pub struct Gathered {
 /// Refusals, of which the first that holds is answered: too many cells or cell numbers, a file that is
 /// no object, a stem or a name that is taken, several files of one crate, and a name that nobody
 /// provides and no file brings.
-pub fn gather(
+pub fn gather<'a>(
     alloc: Global,
-    depot: &Depot,
-    spaces: &Spaces,
+    depot: &'a Depot,
+    spaces: &'a Spaces,
     present: u32,
     next: u32,
     wants: &[Want],
-) -> Result<Gathered, Fail>
+) -> Result<Gathered<'a>, Fail>
     requires present { present ≡ length spaces.now.cells }
     requires given { All (λ c. c.cell.0 < next) spaces.now.cells }
     requires there { All (λ want. want.ns < length spaces.now.namespaces) wants.now }
@@ -45,7 +46,7 @@ pub fn gather(
         present,
         next,
     };
-    let mut gathered = load.start(alloc)?;
+    let mut gathered = load.start(alloc);
     load.append_all(alloc, &mut gathered, wants)?;
     load.bring(alloc, &mut gathered)?;
     Ok(gathered)

@@ -2,13 +2,11 @@
 #![tactic(auto)]
 
 mod append;
-mod both;
 mod bring;
 mod clashes;
 mod definitions;
 mod fresh;
 mod gathering;
-mod layers;
 mod load;
 mod nearest;
 mod needs;
@@ -17,10 +15,4 @@ mod supply;
 mod want;
 
 pub use gathering::{Gathered, gather};
-pub use layers::Layers;
 pub use want::Want;
-
-#[cfg(test)]
-mod fixtures;
-#[cfg(test)]
-mod tests;

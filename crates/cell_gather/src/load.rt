@@ -1,15 +1,15 @@
 //! What a load is gathered from.
 
-ghost use Rattle.std.specs.Prelude.{◌≡◌, ◌<◌, ◌≤◌, ◌+◌, ◌++◌, All, IfOk, length, map};
+ghost use Rattle.std.specs.Prelude.{◌≡◌, ◌<◌, ◌≤◌, ◌+◌, All, length};
 ghost use Rattle.cell_gather.specs.Appending.{room_now};
 ghost use Rattle.cell_world.specs.Following.{Follows};
-ghost use Rattle.cell_gather.specs.Growing.{IsGrowing, called_new};
+ghost use Rattle.cell_gather.specs.Growing.{IsGrowing};
 
-use crate::{Gathered, Layers};
+use crate::Gathered;
 use cell_depot::Depot;
-use cell_space::Spaces;
+use cell_space::{Ahead, Spaces};
 use cell_world::{Fail, Many, Refusal};
-use std::alloc::{AllocError, Global};
+use std::alloc::Global;
 
 const MAX_CELLS: usize = 1024;
 
@@ -29,24 +29,15 @@ pub struct Load<'a> {
 
 impl<'a> Load<'a> {
     /// No new cells.
-    pub fn start(&self, alloc: Global) -> Result<Gathered, AllocError>
-        ensures growing { IfOk result (λ g. IsGrowing self.now.spaces.now self.now.next g) }
-        ensures empty { IfOk result (λ g. length g.cells.items ≡ 0) }
+    pub fn start(&self, alloc: Global) -> Gathered<'a>
+        ensures growing { IsGrowing self.now.spaces.now self.now.next result }
+        ensures empty { length result.cells.items ≡ 0 }
     {
-        Ok(Gathered {
+        Gathered {
             cells: Vec::new(alloc),
             names: Vec::new(alloc),
-            spaces: self.spaces.without_cells(alloc)?,
-        })
-    }
-
-    /// The present cells, and then the new ones.
-    pub fn layers<'b>(&'b self, gathered: &'b Gathered) -> Layers<'b>
-        requires { IsGrowing self.now.spaces.now self.now.next gathered.now }
-        ensures namespaces { result.namespaces ≡ self.now.spaces.now.namespaces }
-        ensures cells { result.cells ≡ self.now.spaces.now.cells ++ map called_new gathered.now.cells.items }
-    {
-        Layers::of(self.spaces, &gathered.spaces)
+            ahead: Ahead::of(alloc, self.spaces),
+        }
     }
 
     /// Sees that there may be one more cell, where so many are new.

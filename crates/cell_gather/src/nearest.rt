@@ -93,7 +93,7 @@ impl<'a> Load<'a> {
             return Err(Fail::Refused(missing(alloc, name, needed_by)?));
         };
         let stem = &name[..end];
-        if self.layers(gathered).has_stem(ns, stem) {
+        if gathered.ahead.has_stem(ns, stem) {
             return Err(Fail::Refused(missing(alloc, name, needed_by)?));
         }
         match self.nearest(alloc, ns, stem)? {

@@ -22,7 +22,7 @@ impl<'a> Load<'a> {
         requires there { ns < length self.now.spaces.now.namespaces }
         ensures { result ≡ is_some (provider_for (chain self.now.spaces.now.namespaces ns) Attached name.now (self.now.spaces.now.cells ++ map called_new gathered.now.cells.items)) }
     {
-        self.layers(gathered).provider(ns, name).is_some()
+        gathered.ahead.provider(ns, name).is_some()
     }
 
     /// Brings what a new cell needs under a name, where nothing before that is lacking. Where the file

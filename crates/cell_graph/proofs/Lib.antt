@@ -15,4 +15,3 @@ pub mod Adding
 pub mod Outside
 pub mod Dropping
 pub mod Calling
-pub mod Sample

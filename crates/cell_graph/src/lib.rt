@@ -20,6 +20,3 @@ pub use rows::{ChainRow, Rows};
 pub use steps::Steps;
 pub use walks::{CellDeps, Deps, Users};
 pub use weak::Weak;
-
-#[cfg(test)]
-mod tests;

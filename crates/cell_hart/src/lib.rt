@@ -8,6 +8,3 @@ mod stop;
 
 pub use hart::Hart;
 pub use stop::Stop;
-
-#[cfg(test)]
-mod tests;

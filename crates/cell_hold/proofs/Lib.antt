@@ -11,4 +11,3 @@ pub mod Claiming
 pub mod Spreading
 pub mod Counting
 pub mod Keeping
-pub mod Sample

@@ -5,11 +5,16 @@ ghost use Rattle.cell_hold.specs.Adds.{Adds, has_cell};
 
 use cell_num::CellId;
 
-/// Whether the cell is in the list.
+/// Whether the cell is in the list. Cells lead mostly to such as came into it lately, so it is read from its end.
 pub fn has_cell(cells: &[CellId], cell: CellId) -> bool
     ensures { result ≡ has_cell cells.now cell.0 }
 {
-    cells.iter().any(|other| other.0 == cell.0)
+    for place in (0..cells.len()).rev() {
+        if cells[place].0 == cell.0 {
+            return true;
+        }
+    }
+    false
 }
 
 /// Adds a cell, unless it is there. There is room for all that are ever added: a full list has them.

@@ -17,6 +17,3 @@ pub use holder::holder_of;
 pub use places::Places;
 pub use roots::{Root, TaskView};
 pub use worklist::kept;
-
-#[cfg(test)]
-mod tests;

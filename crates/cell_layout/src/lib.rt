@@ -11,6 +11,3 @@ mod starts;
 
 pub use cells::{PlacedCells, place_cells};
 pub use placement::{PlaceFail, Placement, place};
-
-#[cfg(test)]
-mod tests;

@@ -18,6 +18,3 @@ pub use maps::insert_first;
 pub use numbers::{label_of, spot};
 pub use one_field::field_value;
 pub use value::FieldValue;
-
-#[cfg(test)]
-mod tests;

@@ -12,6 +12,3 @@ mod region;
 pub use fault::MemFault;
 pub use memory::Memory;
 pub use perm::Perm;
-
-#[cfg(test)]
-mod tests;

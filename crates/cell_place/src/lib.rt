@@ -7,6 +7,3 @@ mod space;
 
 pub use search::{NoRun, Run};
 pub use space::Space;
-
-#[cfg(test)]
-mod tests;

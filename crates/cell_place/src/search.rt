@@ -1,7 +1,8 @@
 //! The lowest free run that is long enough, and the longest one.
 
-ghost use Rattle.std.specs.Prelude.{if◌then◌else◌, nat_le, ◌≡◌, ◌+◌, ◌<◌, ◌≤◌, length, IfOk};
-ghost use Rattle.cell_place.specs.Runs.{IsFound, run_of};
+ghost use Rattle.std.specs.Prelude.{if◌then◌else◌, ◌≡◌, ◌+◌, ◌<◌, ◌≤◌, length, IfOk};
+ghost use Rattle.cell_world.specs.Pages.{longest_run, lowest_run};
+ghost use Rattle.cell_place.specs.Runs.{AreTakenBefore, IsFound, run_of};
 
 /// A run of pages: its first page, by its number in the space, and how many pages it has.
 #[derive(Clone, Copy, Debug, PartialEq, Eq)]
@@ -17,33 +18,50 @@ pub struct NoRun {
     pub largest: u32,
 }
 
-/// What is known of the free runs from a page on: how many pages are free there without a gap,
-/// the length of the longest free run, and the lowest page from which enough pages are free.
+/// How many pages are free without a gap up to a page, and so many were before it.
+fn with_page(taken: bool, free: u32) -> u32
+    requires { free < 4096 }
+    ensures { result ≡ (if taken then 0 else free + 1) }
+{
+    if taken {
+        return 0;
+    }
+    free + 1
+}
+
+/// The lowest page from which enough pages are free. All pages before `from` are taken.
+fn lowest_from(taken: &[bool], from: u32, count: u32) -> Option<u32>
+    requires few { length taken.now ≤ 4096 }
+    requires wanted { 1 ≤ count }
+    requires inside { from ≤ length taken.now }
+    requires before { AreTakenBefore taken.now from }
+    ensures { result ≡ lowest_run taken.now count }
+{
+    let mut free = 0;
+    for page in from..taken.len() as u32 {
+        free = with_page(taken[page as usize], free);
+        if free >= count {
+            return Some(page + 1 - free);
+        }
+    }
+    None
+}
+
+/// What is known of the free runs from a page on: how many pages are free there without a gap, and
+/// the length of the longest free run.
 #[derive(Clone, Copy)]
 pub struct Found {
     pub free: u32,
     pub longest: u32,
-    pub lowest: Option<u32>,
 }
 
 impl Found {
-    /// The lowest page from which enough pages are free, where so many are free from this one on.
-    fn lowest_with(self, page: u32, free: u32, count: u32) -> Option<u32>
-        ensures { result ≡ (if nat_le count free then Some page else self.lowest) }
-    {
-        if free >= count {
-            return Some(page);
-        }
-        self.lowest
-    }
-
     /// The same from the page before on.
-    fn with_page(self, taken: &[bool], page: u32, count: u32) -> Found
+    fn with_page(self, taken: &[bool], page: u32) -> Found
         requires few { length taken.now ≤ 4096 }
         requires inside { page < length taken.now }
-        requires wanted { 1 ≤ count }
-        requires later { IsFound taken.now count (page + 1) self }
-        ensures { IsFound taken.now count page result }
+        requires later { IsFound taken.now (page + 1) self }
+        ensures { IsFound taken.now page result }
     {
         if taken[page as usize] {
             return Found { free: 0, ..self };
@@ -52,41 +70,39 @@ impl Found {
         Found {
             free,
             longest: self.longest.max(free),
-            lowest: self.lowest_with(page, free, count),
         }
     }
 }
 
-/// Goes over the pages from the last to the first.
-fn find_runs(taken: &[bool], count: u32) -> Found
-    requires few { length taken.now ≤ 4096 }
-    requires wanted { 1 ≤ count }
-    ensures { IsFound taken.now count 0 result }
+/// The length of the longest free run. This goes over the pages from the last to the first.
+fn longest(taken: &[bool]) -> u32
+    requires { length taken.now ≤ 4096 }
+    ensures { result ≡ longest_run taken.now }
 {
     let mut found = Found {
         free: 0,
         longest: 0,
-        lowest: None,
     };
     for page in (0..taken.len() as u32).rev() {
-        found = found.with_page(taken, page, count);
+        found = found.with_page(taken, page);
     }
-    found
+    found.longest
 }
 
-/// The lowest free run of so many pages.
-pub fn search(taken: &[bool], count: u32) -> Result<Run, NoRun>
+/// The lowest free run of so many pages. All pages before `from` are taken.
+pub fn search(taken: &[bool], from: u32, count: u32) -> Result<Run, NoRun>
     requires few { length taken.now ≤ 4096 }
     requires wanted { 1 ≤ count }
+    requires from { from ≤ length taken.now }
+    requires before { AreTakenBefore taken.now from }
     ensures answer { result ≡ run_of taken.now count }
     ensures inside { IfOk result (λ run. run.page + run.count ≤ length taken.now) }
 {
-    let found = find_runs(taken, count);
-    match found.lowest {
+    match lowest_from(taken, from, count) {
         Some(page) => Ok(Run { page, count }),
         None => Err(NoRun {
             wanted: count,
-            largest: found.longest,
+            largest: longest(taken),
         }),
     }
 }

@@ -8,24 +8,26 @@ use crate::search::{NoRun, Run, search};
 use std::alloc::{AllocError, Global};
 use std::marker::Model;
 
-/// The space: the address of its first page, and which pages are taken. Contracts see a record of
-/// the two.
+/// The space: the address of its first page, and which pages are taken. No page below `first` is
+/// free. Contracts see a record of base and pages.
 #[derive(Drop)]
 pub struct Space {
     base: u64,
     taken: Vec<bool>,
+    first: u32,
 }
 
 impl Model for Space {
-    ghost use Rattle.std.specs.Prelude.{length};
+    ghost use Rattle.std.specs.Prelude.{◌≤◌, length};
     ghost use Rattle.cell_world.specs.Pages.{IsSpace};
+    ghost use Rattle.cell_place.specs.Runs.{AreTakenBefore};
     ghost use Rattle.cell_place.specs.Space.{SpaceState};
 
     ghost Value = { SpaceState };
 
     ghost view = { λ s. record { base = s.base; taken = s.taken.items } };
 
-    ghost invariant = { λ s. IsSpace s.base (length s.taken.items) };
+    ghost invariant = { λ s. IsSpace s.base (length s.taken.items) × (s.first ≤ length s.taken.items) × AreTakenBefore s.taken.items s.first };
 }
 
 /// Marks the pages of a run as taken or free.
@@ -51,7 +53,11 @@ impl Space {
         for _ in 0..pages {
             taken.push(false)?;
         }
-        Ok(Space { base, taken })
+        Ok(Space {
+            base,
+            taken,
+            first: 0,
+        })
     }
 
     /// The address of the first page.
@@ -83,8 +89,11 @@ impl Space {
         ensures taken { IfOk result (λ run. self.new ≡ with_run self.old run true) }
         ensures refused { OnErr result (self.new ≡ self.old) }
     {
-        let run = search(&self.taken, count)?;
+        let run = search(&self.taken, self.first, count)?;
         fill(&mut self.taken, run, true);
+        if run.page == self.first {
+            self.first += count;
+        }
         Ok(run)
     }
 
@@ -94,6 +103,7 @@ impl Space {
         ensures { self.new ≡ with_run self.old run false }
     {
         fill(&mut self.taken, run, false);
+        self.first = self.first.min(run.page);
     }
 
     /// An equal space.
@@ -103,6 +113,7 @@ impl Space {
         Ok(Space {
             base: self.base,
             taken: self.taken.to_vec(alloc)?,
+            first: self.first,
         })
     }
 }

@@ -20,7 +20,7 @@ use Rattle.cell_space.specs.Hash.{stem_hash, name_hash}
 use Rattle.cell_space.specs.Rows.{has_name, symbol_in}
 use Rattle.cell_space.specs.Named.{is_in, is_holder, is_rival, provider_at, first_provider, cell_numbered}
 use Rattle.cell_space.specs.Rising.{IsRising, lower}
-use Rattle.cell_space.specs.Index.{may_be, IsTaken, IsListed, IsWhole, hashes, name_hashes, has_word, word_hash, is_at, kept_if}
+use Rattle.cell_space.specs.Index.{may_be, IsTaken, IsListed, IsWhole, anywhere, hashes, name_hashes, has_word, word_hash, is_at, kept_if}
 use Rattle.cell_space.proofs.NameTables.{is_some_symbol}
 use Rattle.cell_space.proofs.Rising.{one_at_most, none_passes, find-or, same_number, turned, left, right}
 
@@ -49,7 +49,7 @@ module _ (f : ℕ → ℕ → Option Holder) (ns : ℕ) (kind : WordKind) (word 
   answered c listed at =
       let here = left (is_in Attached c && c.ns == ns) (has_word kind word c) at in
       let P : ℕ → Type 0 = λ hash. IsTaken c.cell.0 (is_in Attached c) (f c.ns hash) in
-      let taken : IsTaken c.cell.0 (is_in Attached c) (f c.ns (word_hash kind word)) = of_word P kind word c listed (right (is_in Attached c && c.ns == ns) (has_word kind word c) at) in
+      let taken : IsTaken c.cell.0 (is_in Attached c) (f c.ns (word_hash kind word)) = of_word P kind word c listed.0 (right (is_in Attached c && c.ns == ns) (has_word kind word c) at) in
       ap (λ m. may_be c.cell.0 (f m (word_hash kind word))) (sym (same_number c.ns ns (right (is_in Attached c) (c.ns == ns) here)))
       ∙ taken.answers (left (is_in Attached c) (c.ns == ns) here)
 
@@ -66,6 +66,39 @@ module _ (f : ℕ → ℕ → Option Holder) (ns : ℕ) (kind : WordKind) (word 
       sym (one_at_most (is_at ns kind word) n cells rising (λ k d lt at.
       let c = get_or cells k d in
       turned n c.cell.0 (sym (ap (may_be c.cell.0) one) ∙ answered c (whole.each k d lt) at)))
+
+-- what a test finds that asks for the word and for an attached cell
+module _ (f : ℕ → ℕ → Option Holder) (kind : WordKind) (word : List ℕ) (test : SpaceCell → Bool)
+    (asks : (c : SpaceCell) → test c ≡ true → (is_in Attached c ≡ true) × (has_word kind word c ≡ true)) where
+  answered_anywhere : (c : SpaceCell) → IsListed f c → test c ≡ true → may_be c.cell.0 (f anywhere (word_hash kind word)) ≡ true
+  answered_anywhere c listed passes =
+      let P : ℕ → Type 0 = λ hash. IsTaken c.cell.0 (is_in Attached c) (f anywhere hash) in
+      let taken : IsTaken c.cell.0 (is_in Attached c) (f anywhere (word_hash kind word)) = of_word P kind word c listed.1 (asks c passes).1 in
+      taken.answers (asks c passes).0
+
+  pub none_anywhere : (cells : List SpaceCell) → IsWhole f cells → f anywhere (word_hash kind word) ≡ None → None ≡ find test cells
+  none_anywhere cells whole none =
+      sym (none_passes test cells (λ k d lt passes.
+      let c = get_or cells k d in
+      let yes : may_be c.cell.0 (f anywhere (word_hash kind word)) ≡ true = answered_anywhere c (whole.each k d lt) passes in
+      let shut : may_be c.cell.0 (f anywhere (word_hash kind word)) ≡ false = ap (may_be c.cell.0) none in
+      absurd (cc (yes, shut))))
+
+  pub one_anywhere : (cells : List SpaceCell) (n : ℕ) → IsRising cells → IsWhole f cells → f anywhere (word_hash kind word) ≡ Some (One n) → kept_if test (cell_numbered cells n) ≡ find test cells
+  one_anywhere cells n rising whole one =
+      sym (one_at_most test n cells rising (λ k d lt passes.
+      let c = get_or cells k d in
+      turned n c.cell.0 (sym (ap (may_be c.cell.0) one) ∙ answered_anywhere c (whole.each k d lt) passes)))
+
+pub asks_above : (spaces : List ℕ) (kind : WordKind) (word : List ℕ) (c : SpaceCell) → (has_word kind word c && is_holder spaces Attached c) ≡ true → (is_in Attached c ≡ true) × (has_word kind word c ≡ true)
+asks_above spaces kind word c e =
+    let holder = right (has_word kind word c) (is_holder spaces Attached c) e in
+    (left (is_in Attached c) (holds spaces c.ns) holder, left (has_word kind word c) (is_holder spaces Attached c) e)
+
+pub asks_rival : (spaces : List Namespace) (ns : ℕ) (kind : WordKind) (word : List ℕ) (c : SpaceCell) → (has_word kind word c && is_rival spaces ns c) ≡ true → (is_in Attached c ≡ true) × (has_word kind word c ≡ true)
+asks_rival spaces ns kind word c e =
+    let rival = right (has_word kind word c) (is_rival spaces ns c) e in
+    (left (is_in Attached c) (are_on_one_path spaces ns c.ns) rival, left (has_word kind word c) (is_rival spaces ns c) e)
 
 pub find-same : (p q : SpaceCell → Bool) (cells : List SpaceCell) → All (λ c. p c ≡ q c) cells → find p cells ≡ find q cells
 find-same p q [] all = refl

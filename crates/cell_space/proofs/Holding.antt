@@ -1,5 +1,5 @@
 -- What the index answers for, after a change of it or of the cells.
-use Rattle.std.proofs.Common.{◌≡◌, ℕ, zero, suc, ◌+◌, ◌<◌, ◌≤◌, take, Bool, true, false, cond, List, [], ◌∷◌, ◌++◌, Some, None, length, get_or, inl, inr, refl, ap, sym, subst, ◌∙◌, arith}
+use Rattle.std.proofs.Common.{◌≡◌, ℕ, zero, suc, ◌+◌, ◌*◌, ◌<◌, ◌≤◌, take, Bool, true, false, cond, List, [], ◌∷◌, ◌++◌, Some, None, length, get_or, inl, inr, refl, ap, sym, subst, ◌∙◌, arith}
 use Rattle.std.specs.Map.{lookup}
 use Rattle.std.specs.Prelude.{Option, Result, Ok, Err, OnOk, OnErr, ◌⊎◌, All, IsSome, is_some, slice_get, not, ◌&&◌, ◌||◌, ◌==◌, nat_eq}
 use Rattle.std.proofs.lemmas.List.Elements.{All-filter, All-map, All-head, All-tail, All-same, All-push, All-cons, All-weaker, All-take, All-more}
@@ -14,7 +14,7 @@ use Rattle.cell_space.specs.declared.index.Holder.{Holder}
 use Rattle.cell_space.specs.declared.index.Holder.TheVariants.{One, Many}
 use Rattle.cell_space.specs.Named.{is_numbered, is_in, put_into, with_cell, with_state, without, cell_numbered}
 use Rattle.cell_space.specs.Rising.{IsRising}
-use Rattle.cell_space.specs.Index.{held, attached_at, claimed, may_be, IsTaken, Grows, IsCellTaken, IsListed, IsWhole, hashes, name_hashes}
+use Rattle.cell_space.specs.Index.{held, attached_at, claimed, may_be, IsTaken, Grows, AreHeld, AreTaken, IsCellTaken, IsListed, IsWhole, anywhere, hashes, name_hashes}
 use Rattle.cell_space.proofs.Changes.{All-with_cell, All-find}
 use Rattle.cell_space.proofs.Rising.{attached_there, numbered_there, same_number, itself, left, right}
 
@@ -125,13 +125,16 @@ module _ (cells : List SpaceCell) (n : ℕ) (attached : Bool) where
 
 module _ (cells : List SpaceCell) (rising : IsRising cells) where
   listed_more : (n : ℕ) (f g : ℕ → ℕ → Option Holder) (c : SpaceCell) → (is_in Attached c ≡ true → attached_at cells c.cell.0 ≡ true) → Grows cells n f g → IsListed f c → IsListed g c
-  listed_more n f g c known grows listed = λ i h below.
-      let taken = listed i h below in
-      let hash = get_or (hashes c.stem c.names) i h in
-      record {
-        there = grows.there c.ns hash taken.there;
-        answers = λ on. grows.answers c.ns hash c.cell.0 (or_right (c.cell.0 == n) (attached_at cells c.cell.0) (known on)) (taken.answers on);
-      }
+  listed_more n f g c known grows listed = (all_in c.ns listed.0, all_in anywhere listed.1)
+    where
+      all_in : (ns : ℕ) → All (λ hash. IsTaken c.cell.0 (is_in Attached c) (f ns hash)) (hashes c.stem c.names) → All (λ hash. IsTaken c.cell.0 (is_in Attached c) (g ns hash)) (hashes c.stem c.names)
+      all_in ns all = λ i h below.
+          let taken = all i h below in
+          let hash = get_or (hashes c.stem c.names) i h in
+          record {
+            there = grows.there ns hash taken.there;
+            answers = λ on. grows.answers ns hash c.cell.0 (or_right (c.cell.0 == n) (attached_at cells c.cell.0) (known on)) (taken.answers on);
+          }
 
   abbrev IsKnown : SpaceCell → Type 0
   IsKnown c = is_in Attached c ≡ true → attached_at cells c.cell.0 ≡ true
@@ -163,7 +166,10 @@ module _ (cells : List SpaceCell) (rising : IsRising cells) where
   }
 
 aside_by : (f : ℕ → ℕ → Option Holder) (b : Bool) (group : ℕ) (c : SpaceCell) → IsListed f c → IsListed f (cond b (record c { state = Detached group }) c)
-aside_by f true group c listed = λ i h below. record { there = (listed i h below).there; answers = λ on. absurd (cc on) }
+aside_by f true group c listed = (
+  λ i h below. record { there = (listed.0 i h below).there; answers = λ on. absurd (cc on) },
+  λ i h below. record { there = (listed.1 i h below).there; answers = λ on. absurd (cc on) },
+)
 aside_by f false group c listed = listed
 
 pub whole_aside : (n group : ℕ) (f : ℕ → ℕ → Option Holder) (cells : List SpaceCell) → IsWhole f cells → IsWhole f (with_state (Detached group) n cells)
@@ -227,6 +233,19 @@ module _ (cells : List SpaceCell) (n : ℕ) (f g : ℕ → ℕ → Option Holder
   names_ready stem rows before now room (inr all) =
       inr (All-weaker (λ h. IsSome (f ns h)) (λ h. IsSome (g ns h)) (λ h t. grows.there ns h t) (name_hashes rows) (All-tail (λ h. IsSome (f ns h)) (stem_hash stem) (name_hashes rows) all))
 
+-- a cell is taken in anywhere, and then in its namespace
+module _ (cells : List SpaceCell) (n : ℕ) (f g : ℕ → ℕ → Option Holder) (ns : ℕ) (grows : Grows cells n f g) (all : List ℕ) where
+  pub both_taken : (attached : Bool) → All (λ h. IsTaken n attached (f anywhere h)) all → All (λ h. IsTaken n attached (g ns h)) all → AreTaken g ns n attached all
+  both_taken attached first second = (second, All-weaker (λ h. IsTaken n attached (f anywhere h)) (λ h. IsTaken n attached (g anywhere h)) (λ h t. taken_more cells n attached f g anywhere h grows t) all first)
+
+  pub second_ready : (count before now : ℕ) → before ≤ now + count + 1 → (2 * count + 1 < before) ⊎ AreHeld f ns all → (count < now) ⊎ All (λ h. IsSome (g ns h)) all
+  second_ready count before now room (inl lt) = inl (omega arith)
+  second_ready count before now room (inr held) = inr (All-weaker (λ h. IsSome (f ns h)) (λ h. IsSome (g ns h)) (λ h t. grows.there ns h t) all held.0)
+
+pub first_ready : (f : ℕ → ℕ → Option Holder) (ns : ℕ) (all : List ℕ) (count before : ℕ) → (2 * count + 1 < before) ⊎ AreHeld f ns all → (count < before) ⊎ All (λ h. IsSome (f anywhere h)) all
+first_ready f ns all count before (inl lt) = inl (omega arith)
+first_ready f ns all count before (inr held) = inr held.1
+
 pub stem_ready : (f : ℕ → ℕ → Option Holder) (ns : ℕ) (stem : List ℕ) (rows : List Alias) (before : ℕ)
     → (length rows < before) ⊎ All (λ h. IsSome (f ns h)) (hashes stem rows) → (0 < before) ⊎ IsSome (f ns (stem_hash stem))
 stem_ready f ns stem rows before (inl lt) = inl (omega arith)
@@ -237,10 +256,10 @@ ok_more (Ok x) P Q more p = more p
 ok_more (Err e) P Q more p = p
 
 -- a cell that the index answers for has its hashes there
-pub again_ready : (f : ℕ → ℕ → Option Holder) (cells : List SpaceCell) (n : ℕ) (c : SpaceCell) → IsWhole f cells → cell_numbered cells n ≡ Some c → All (λ h. IsSome (f c.ns h)) (hashes c.stem c.names)
+pub again_ready : (f : ℕ → ℕ → Option Holder) (cells : List SpaceCell) (n : ℕ) (c : SpaceCell) → IsWhole f cells → cell_numbered cells n ≡ Some c → AreHeld f c.ns (hashes c.stem c.names)
 again_ready f cells n c whole found =
     let listed : IsListed f c = All-find (IsListed f) (is_numbered n) cells c whole.each found in
-    λ i h below. (listed i h below).there
+    (λ i h below. (listed.0 i h below).there, λ i h below. (listed.1 i h below).there)
 
 number_by : (b : Bool) (d c : SpaceCell) (n : ℕ) (rest : Option SpaceCell) → is_numbered n d ≡ b → (rest ≡ Some c → c.cell.0 ≡ n) → cond b (Some d) rest ≡ Some c → c.cell.0 ≡ n
 number_by true d c n rest is later e = let found : d ≡ c = cc in ap (λ (x : SpaceCell). x.cell.0) (sym found) ∙ same_number d.cell.0 n is
@@ -251,9 +270,9 @@ found_number [] n c e = absurd (cc e)
 found_number (d ∷ cells) n c e = number_by (is_numbered n d) d c n (cell_numbered cells n) refl (found_number cells n c) e
 
 pub again_taken : (g : ℕ → ℕ → Option Holder) (cells : List SpaceCell) (n : ℕ) (c : SpaceCell) (stem : List ℕ) → cell_numbered cells n ≡ Some c → stem ≡ c.stem
-    → All (λ h. IsTaken n true (g c.ns h)) (hashes stem c.names) → (d : SpaceCell) → cell_numbered cells n ≡ Some d → IsCellTaken g true d
+    → AreTaken g c.ns n true (hashes stem c.names) → (d : SpaceCell) → cell_numbered cells n ≡ Some d → IsCellTaken g true d
 again_taken g cells n c stem found is all d other =
     let same : c ≡ d = cc in
-    let OfStem : List ℕ → Type 0 = λ s. All (λ h. IsTaken n true (g c.ns h)) (hashes s c.names) in
-    let OfNumber : ℕ → Type 0 = λ m. All (λ h. IsTaken m true (g c.ns h)) (hashes c.stem c.names) in
+    let OfStem : List ℕ → Type 0 = λ s. AreTaken g c.ns n true (hashes s c.names) in
+    let OfNumber : ℕ → Type 0 = λ m. AreTaken g c.ns m true (hashes c.stem c.names) in
     subst (IsCellTaken g true) same (subst OfNumber (sym (found_number cells n c found)) (subst OfStem is all))

@@ -10,3 +10,8 @@ pub mod Finding
 pub mod Keeping
 pub mod Machines
 pub mod Joined
+pub mod Layered
+pub mod Chains
+pub mod Appended
+pub mod InOrder
+pub mod RisingOrder

@@ -3,7 +3,8 @@
 --     claimed cells n b holder   what it has there once the cell of that number is added, attached or not
 --     IsTaken n b holder         the cell is answered for: the entry is there, and, if the cell is attached, may be of it
 --     Grows cells n f g          each attached cell that f answers for, and the cell of that number, g answers for
---     IsWhole f cells            the index answers for each cell
+--     anywhere                   where the index has what it holds of a hash in whatever namespace
+--     IsWhole f cells            the index answers for each cell, in its namespace and anywhere
 use Rattle.std.specs.Prelude.{◌≡◌, ℕ, ◌==◌, nat_eq, Bool, true, false, not, ◌&&◌, ◌||◌, List, ◌∷◌, Option, Some, None, IsSome, All, map, if◌then◌else◌}
 use Rattle.std.specs.Option.{option_map_or}
 use Rattle.indexmap.specs.IndexMap.{get}
@@ -22,6 +23,10 @@ use Rattle.cell_space.specs.Hash.{stem_hash, name_hash}
 
 abbrev pub held : Index → ℕ → ℕ → Option Holder
 held index ns hash = get (λ a b. nat_eq a.0 b.0 && nat_eq a.1 b.1) index.holders (ns, hash)
+
+-- no namespace has this number
+abbrev pub anywhere : ℕ
+anywhere = 65535
 
 -- a cell of that number is attached
 abbrev pub attached_at : List SpaceCell → ℕ → Bool
@@ -55,8 +60,17 @@ name_hashes names = map (λ a. name_hash a.name) names
 abbrev pub hashes : List ℕ → List Alias → List ℕ
 hashes stem names = stem_hash stem ∷ name_hashes names
 
+-- the entries of the hashes are there, in the namespace and anywhere
+abbrev pub AreHeld : (ℕ → ℕ → Option Holder) → ℕ → List ℕ → Type 0
+AreHeld f ns all = All (λ hash. IsSome (f ns hash)) all × All (λ hash. IsSome (f anywhere hash)) all
+
+-- and the cell of that number is answered for under each of them
+abbrev pub AreTaken : (ℕ → ℕ → Option Holder) → ℕ → ℕ → Bool → List ℕ → Type 0
+AreTaken f ns number attached all =
+    All (λ hash. IsTaken number attached (f ns hash)) all × All (λ hash. IsTaken number attached (f anywhere hash)) all
+
 abbrev pub IsCellTaken : (ℕ → ℕ → Option Holder) → Bool → SpaceCell → Type 0
-IsCellTaken f attached c = All (λ hash. IsTaken c.cell.0 attached (f c.ns hash)) (hashes c.stem c.names)
+IsCellTaken f attached c = AreTaken f c.ns c.cell.0 attached (hashes c.stem c.names)
 
 abbrev pub IsListed : (ℕ → ℕ → Option Holder) → SpaceCell → Type 0
 IsListed f c = IsCellTaken f (is_in Attached c) c

@@ -1,9 +1,12 @@
 pub mod Rows
 pub mod Named
 pub mod Rising
+pub mod Before
 pub mod Hash
 pub mod Index
 pub mod Spaces
 pub mod Rooted
 pub mod Machine
 pub mod Joined
+pub mod Ahead
+pub mod Path

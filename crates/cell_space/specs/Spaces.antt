@@ -13,7 +13,7 @@ use Rattle.cell_space.specs.Rising.{IsRising}
 use Rattle.cell_space.specs.Index.{IsWhole}
 use Rattle.cell_space.specs.Rooted.{AreRooted}
 
--- the namespaces by number, the cells by rising numbers, and how many more cells there is room for, and more stems and names
+-- the namespaces by number, the cells by rising numbers, and how many more cells there is room for, and more stems and names, each of which has two entries in the index
 pub record SpacesState : Type 0 where
   pub namespaces : List Namespace
   pub cells : List SpaceCell

@@ -1,12 +1,12 @@
-//! Which cell may have a stem or a name, by namespace and hash, so that no look-up walks over the
-//! cells. An entry answers for the attached cells alone, and stays when its cell is put aside or
+//! Which cell may have a stem or a name, by namespace and hash, and by hash alone, so that no look-up
+//! walks over the cells, and few ask one namespace after the other. An entry answers for the attached cells alone, and stays when its cell is put aside or
 //! goes: what is found is always asked whether it is right.
 
-ghost use Rattle.std.specs.Prelude.{◌≡◌, ◌<◌, ◌≤◌, ◌+◌, ◌⊎◌, ◌&&◌, ℕ, [], Some, true, nat_eq, length, All, IsOk, IsSome, IfOk, OnOk, OnErr, if◌then◌else◌};
+ghost use Rattle.std.specs.Prelude.{◌≡◌, ◌<◌, ◌≤◌, ◌+◌, ◌*◌, ◌⊎◌, ◌&&◌, ℕ, [], Some, true, nat_eq, length, All, IsOk, IsSome, IfOk, OnOk, OnErr, if◌then◌else◌};
 ghost use Rattle.indexmap.specs.IndexMap.{spare};
 ghost use Rattle.cell_space.specs.Rising.{IsRising};
 ghost use Rattle.cell_space.specs.Named.{cell_numbered as numbered};
-ghost use Rattle.cell_space.specs.Index.{held, claimed, attached_at, hashes, name_hashes, Grows, IsTaken, IsCellTaken, IsListed, IsWhole};
+ghost use Rattle.cell_space.specs.Index.{held, claimed, attached_at, hashes, name_hashes, Grows, IsTaken, AreHeld, AreTaken, IsCellTaken, IsListed, IsWhole};
 
 use crate::cell::{CellState, SpaceCell};
 use crate::hash::{name_hash, stem_hash};
@@ -15,7 +15,10 @@ use crate::names::NameRows;
 use indexmap::IndexMap;
 use std::alloc::{AllocError, Global};
 
-/// Among the attached cells of a namespace only this one may have the hash, or any may.
+/// Where the index has what it holds of a hash in whatever namespace. No namespace has this number.
+pub const ANYWHERE: u16 = 65535;
+
+/// Among the attached cells of a namespace, or among all, only this one may have the hash, or any may.
 #[derive(Clone, Copy, Debug, PartialEq, Eq)]
 pub enum Holder {
     One(u32),
@@ -134,8 +137,8 @@ impl Index {
         Ok(())
     }
 
-    /// Takes a cell in that has the stem and the names.
-    pub fn claim_all(
+    /// Takes a cell in that has the stem and the names, in a namespace or anywhere.
+    fn claim_in(
         &mut self,
         cells: &[SpaceCell],
         ns: u16,
@@ -152,6 +155,26 @@ impl Index {
     {
         self.claim(cells, ns, stem_hash(stem), cell, attached)?;
         self.claim_names(cells, ns, names, cell, attached)
+    }
+
+    /// Takes a cell in that has the stem and the names.
+    pub fn claim_all(
+        &mut self,
+        cells: &[SpaceCell],
+        ns: u16,
+        stem: &[u8],
+        names: &NameRows,
+        cell: u32,
+        attached: bool,
+    ) -> Result<(), AllocError>
+        requires { IsRising cells.now }
+        ensures grows { Grows cells.now cell (held self.old) (held self.new) }
+        ensures taken { OnOk result (AreTaken (held self.new) ns cell attached (hashes stem.now names.now)) }
+        ensures succeeds { (2 * length names.now + 1 < spare self.old.holders) ⊎ AreHeld (held self.old) ns (hashes stem.now names.now) → IsOk result }
+        ensures room { spare self.old.holders ≤ spare self.new.holders + 2 * length names.now + 2 }
+    {
+        self.claim_in(cells, ANYWHERE, stem, names, cell, attached)?;
+        self.claim_in(cells, ns, stem, names, cell, attached)
     }
 
     /// Takes a cell in.
@@ -175,10 +198,10 @@ impl Index {
         cell: u32,
     )
         requires rising { IsRising cells.now }
-        requires ready { (length names.now < spare self.old.holders) ⊎ All (λ h. IsSome (held self.old ns h)) (hashes stem.now names.now) }
+        requires ready { (2 * length names.now + 1 < spare self.old.holders) ⊎ AreHeld (held self.old) ns (hashes stem.now names.now) }
         ensures grows { Grows cells.now cell (held self.old) (held self.new) }
-        ensures taken { All (λ h. IsTaken cell true (held self.new ns h)) (hashes stem.now names.now) }
-        ensures room { spare self.old.holders ≤ spare self.new.holders + length names.now + 1 }
+        ensures taken { AreTaken (held self.new) ns cell true (hashes stem.now names.now) }
+        ensures room { spare self.old.holders ≤ spare self.new.holders + 2 * length names.now + 2 }
     {
         match self.claim_all(cells, ns, stem, names, cell, true) {
             Ok(()) => {}
@@ -194,7 +217,7 @@ pub fn claim_again(index: &mut Index, cells: &[SpaceCell], number: u32)
     requires whole { IsWhole (held index.old) cells.now }
     ensures grows { Grows cells.now number (held index.old) (held index.new) }
     ensures taken { (c : SpaceCell) → numbered cells.now number ≡ Some c → IsCellTaken (held index.new) true c }
-    ensures room { (c : SpaceCell) → numbered cells.now number ≡ Some c → spare index.old.holders ≤ spare index.new.holders + length c.names + 1 }
+    ensures room { (c : SpaceCell) → numbered cells.now number ≡ Some c → spare index.old.holders ≤ spare index.new.holders + 2 * length c.names + 2 }
 {
     if let Some(cell) = cell_numbered(cells, number) {
         let stem = cell.stem.bytes();

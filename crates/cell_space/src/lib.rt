@@ -1,6 +1,7 @@
 //! Namespaces, the cells in them by stem and name, and who provides a name.
 #![tactic(auto)]
 
+mod ahead;
 mod cell;
 mod chain;
 mod hash;
@@ -8,19 +9,19 @@ mod index;
 mod lookup;
 mod names;
 mod namespaces;
+mod path;
 mod provider;
 mod rows;
 mod spaces;
 mod symbol_name;
 mod word;
 
+pub use ahead::Ahead;
 pub use cell::{CellState, SpaceCell};
 pub use cell_world::Namespace;
 pub use chain::Chain;
 pub use names::NameRows;
+pub use path::Path;
 pub use provider::{Provider, Scope};
 pub use spaces::Spaces;
 pub use symbol_name::{base_name, crate_of};
-
-#[cfg(test)]
-mod tests;

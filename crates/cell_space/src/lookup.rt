@@ -1,34 +1,48 @@
-//! Looking among the cells. Attached ones are found by the index, one look-up for a namespace; what
-//! it finds is asked by its own table of names.
+//! Looking among the cells. Attached ones are found by the index, by their hash alone where few have
+//! it, and else by one look-up for a namespace; what it finds is asked by its own table of names.
 
-ghost use Rattle.std.specs.Prelude.{◌≡◌, ◌<◌, ◌≤◌, ◌&&◌, ◌==◌, All, filter_map, find, length, option_map};
+ghost use Rattle.std.specs.Prelude.{◌≡◌, ◌<◌, ◌≤◌, ◌&&◌, ◌==◌, All, filter_map, find, length, nat_lt, option_map};
 ghost use Rattle.cell_num.specs.Lists.{first};
 ghost use Rattle.cell_world.specs.Names.{chain};
 ghost use Rattle.cell_space.specs.Named.{cell_numbered, provider_for, first_provider, offer, provider_as, number_as, clash_stem, clash_name, cell_at, is_rival, is_holder, is_in};
 ghost use Rattle.cell_space.specs.Index.{held, has_word, is_at as at, kept_if, IsWhole};
+ghost use Rattle.cell_space.specs.Before.{AreBefore, number_in};
+ghost use Rattle.cell_space.specs.Path.{IsPath};
 ghost use Rattle.cell_space.specs.Rising.{IsRising, lower};
 ghost use Rattle.cell_space.specs.Rooted.{AreRooted};
 ghost use Rattle.cell_space.specs.declared.cell.CellState.TheVariants.{Attached};
 
 use crate::cell::{CellState, SpaceCell};
-use crate::chain::{are_on_one_path, chain_of, is_above};
-use crate::index::{Holder, Index};
+use crate::chain::{chain_of, is_above};
+use crate::index::{ANYWHERE, Holder, Index};
+use crate::path::Path;
 use crate::provider::Provider;
-use crate::word::{WordKind, is_at, word_hash};
+use crate::word::{Word, WordKind, has_word, is_at};
 use cell_num::CellId;
 use cell_world::Namespace;
+
+/// How many of the cells have a lower number.
+fn cells_before(cells: &[SpaceCell], number: u32) -> usize
+    requires { IsRising cells.now }
+    ensures { AreBefore number_in number cells.now result }
+{
+    cells.partition_point(
+        |cell: &SpaceCell| -> bool
+            ensures { result ≡ nat_lt cell.now.cell.0 number }
+        { cell.cell.0 < number },
+    )
+}
 
 /// The cell of a number.
 pub fn cell_numbered(cells: &[SpaceCell], number: u32) -> Option<&SpaceCell>
     requires { IsRising cells.now }
     ensures { option_map (λ c. c.now) result ≡ cell_numbered cells.now number }
 {
-    for cell in cells {
-        if cell.is_numbered(number) {
-            return Some(cell);
-        }
+    let cell = cells.get(cells_before(cells, number))?;
+    if cell.cell.0 != number {
+        return None;
     }
-    None
+    Some(cell)
 }
 
 /// The cell as a provider of the name, where it is in the state and in the namespace's chain. The
@@ -96,31 +110,21 @@ fn first_provider(
 }
 
 /// The cell where it is attached in the namespace and has the word.
-fn if_at<'a>(
-    found: Option<&'a SpaceCell>,
-    ns: u16,
-    kind: WordKind,
-    word: &[u8],
-) -> Option<&'a SpaceCell>
-    ensures { option_map (λ c. c.now) result ≡ kept_if (at ns kind word.now) (option_map (λ c. c.now) found.entry) }
+fn if_at<'a>(found: Option<&'a SpaceCell>, ns: u16, word: &Word) -> Option<&'a SpaceCell>
+    ensures { option_map (λ c. c.now) result ≡ kept_if (at ns word.now.kind word.now.text.now) (option_map (λ c. c.now) found.entry) }
 {
     match found {
-        Some(cell) if is_at(cell, ns, kind, word) => Some(cell),
+        Some(cell) if is_at(cell, ns, word) => Some(cell),
         _ => None,
     }
 }
 
 /// The attached cell of the namespace that has the word, where each is asked.
-fn holder_by_walk<'a>(
-    cells: &'a [SpaceCell],
-    ns: u16,
-    kind: WordKind,
-    word: &[u8],
-) -> Option<&'a SpaceCell>
-    ensures { option_map (λ c. c.now) result ≡ find (at ns kind word.now) cells.now }
+fn holder_by_walk<'a>(cells: &'a [SpaceCell], ns: u16, word: &Word) -> Option<&'a SpaceCell>
+    ensures { option_map (λ c. c.now) result ≡ find (at ns word.now.kind word.now.text.now) cells.now }
 {
     for cell in cells {
-        if is_at(cell, ns, kind, word) {
+        if is_at(cell, ns, word) {
             return Some(cell);
         }
     }
@@ -128,21 +132,15 @@ fn holder_by_walk<'a>(
 }
 
 /// The attached cell of the namespace that has the word.
-fn holder<'a>(
-    index: &Index,
-    cells: &'a [SpaceCell],
-    ns: u16,
-    kind: WordKind,
-    word: &[u8],
-) -> Option<&'a SpaceCell>
+fn holder<'a>(index: &Index, cells: &'a [SpaceCell], ns: u16, word: &Word) -> Option<&'a SpaceCell>
     requires rising { IsRising cells.now }
     requires whole { IsWhole (held index.now) cells.now }
-    ensures { option_map (λ c. c.now) result ≡ find (at ns kind word.now) cells.now }
+    ensures { option_map (λ c. c.now) result ≡ find (at ns word.now.kind word.now.text.now) cells.now }
 {
-    match index.get(ns, word_hash(kind, word)) {
+    match index.get(ns, word.hash) {
         None => None,
-        Some(Holder::One(number)) => if_at(cell_numbered(cells, number), ns, kind, word),
-        Some(Holder::Many) => holder_by_walk(cells, ns, kind, word),
+        Some(Holder::One(number)) => if_at(cell_numbered(cells, number), ns, word),
+        Some(Holder::Many) => holder_by_walk(cells, ns, word),
     }
 }
 
@@ -157,26 +155,68 @@ fn lower<'a>(a: Option<&'a SpaceCell>, b: Option<&'a SpaceCell>) -> Option<&'a S
     }
 }
 
+/// The cell of a number, where it is attached in the namespace's chain and has the word.
+fn above_numbered<'a>(
+    namespaces: &[Namespace],
+    cells: &'a [SpaceCell],
+    ns: u16,
+    word: &Word,
+    number: u32,
+) -> Option<&'a SpaceCell>
+    requires rooted { AreRooted namespaces.now }
+    requires there { ns < length namespaces.now }
+    requires rising { IsRising cells.now }
+    ensures { option_map (λ c. c.now) result ≡ kept_if (λ c. has_word word.now.kind word.now.text.now c && is_holder (chain namespaces.now ns) Attached c) (cell_numbered cells.now number) }
+{
+    match cell_numbered(cells, number) {
+        Some(cell)
+            if has_word(cell, word.kind, word.text)
+                && cell.is_in(CellState::Attached)
+                && is_above(namespaces, ns, cell.ns) => { Some(cell) }
+        _ => None,
+    }
+}
+
+/// The lowest attached cell in the namespace's chain that has the word, where each namespace is asked.
+fn lowest_by_chain<'a>(
+    namespaces: &[Namespace],
+    index: &Index,
+    cells: &'a [SpaceCell],
+    ns: u16,
+    word: &Word,
+) -> Option<&'a SpaceCell>
+    requires rooted { AreRooted namespaces.now }
+    requires there { ns < length namespaces.now }
+    requires rising { IsRising cells.now }
+    requires whole { IsWhole (held index.now) cells.now }
+    ensures { option_map (λ c. c.now) result ≡ find (λ c. has_word word.now.kind word.now.text.now c && is_holder (chain namespaces.now ns) Attached c) cells.now }
+{
+    let mut lowest = None;
+    for other in chain_of(namespaces, ns) {
+        lowest = lower(lowest, holder(index, cells, other, word));
+    }
+    lowest
+}
+
 /// The lowest attached cell in the namespace's chain that has the word.
 fn lowest_above<'a>(
     namespaces: &[Namespace],
     index: &Index,
     cells: &'a [SpaceCell],
     ns: u16,
-    kind: WordKind,
-    word: &[u8],
+    word: &Word,
 ) -> Option<&'a SpaceCell>
     requires rooted { AreRooted namespaces.now }
     requires there { ns < length namespaces.now }
     requires rising { IsRising cells.now }
     requires whole { IsWhole (held index.now) cells.now }
-    ensures { option_map (λ c. c.now) result ≡ find (λ c. has_word kind word.now c && is_holder (chain namespaces.now ns) Attached c) cells.now }
+    ensures { option_map (λ c. c.now) result ≡ find (λ c. has_word word.now.kind word.now.text.now c && is_holder (chain namespaces.now ns) Attached c) cells.now }
 {
-    let mut lowest = None;
-    for other in chain_of(namespaces, ns) {
-        lowest = lower(lowest, holder(index, cells, other, kind, word));
+    match index.get(ANYWHERE, word.hash) {
+        None => None,
+        Some(Holder::One(number)) => above_numbered(namespaces, cells, ns, word, number),
+        Some(Holder::Many) => lowest_by_chain(namespaces, index, cells, ns, word),
     }
-    lowest
 }
 
 /// The attached cell of another namespace that has the word, where the two are on one path.
@@ -184,23 +224,70 @@ fn rival_in<'a>(
     namespaces: &[Namespace],
     index: &Index,
     cells: &'a [SpaceCell],
-    ns: u16,
+    path: &Path,
     other: u16,
-    kind: WordKind,
-    word: &[u8],
+    word: &Word,
 ) -> Option<&'a SpaceCell>
     requires rooted { AreRooted namespaces.now }
-    requires there { ns < length namespaces.now }
+    requires path { IsPath namespaces.now path.now }
     requires other_there { other < length namespaces.now }
     requires rising { IsRising cells.now }
     requires whole { IsWhole (held index.now) cells.now }
-    ensures { option_map (λ c. c.now) result ≡ find (λ c. has_word kind word.now c && is_rival namespaces.now ns c && c.ns == other) cells.now }
+    ensures { option_map (λ c. c.now) result ≡ find (λ c. has_word word.now.kind word.now.text.now c && is_rival namespaces.now path.now.ns c && c.ns == other) cells.now }
 {
-    if are_on_one_path(namespaces, ns, other) {
-        holder(index, cells, other, kind, word)
+    if path.has(namespaces, other) {
+        holder(index, cells, other, word)
     } else {
         None
     }
+}
+
+/// The cell of a number, where it is attached on the path and has the word.
+fn rival_numbered<'a>(
+    namespaces: &[Namespace],
+    cells: &'a [SpaceCell],
+    path: &Path,
+    word: &Word,
+    number: u32,
+) -> Option<&'a SpaceCell>
+    requires path { IsPath namespaces.now path.now }
+    requires inside { All (λ c. c.ns < length namespaces.now) cells.now }
+    requires rising { IsRising cells.now }
+    ensures { option_map (λ c. c.now) result ≡ kept_if (λ c. has_word word.now.kind word.now.text.now c && is_rival namespaces.now path.now.ns c) (cell_numbered cells.now number) }
+{
+    match cell_numbered(cells, number) {
+        Some(cell)
+            if has_word(cell, word.kind, word.text)
+                && cell.is_in(CellState::Attached)
+                && path.has(namespaces, cell.ns) => { Some(cell) }
+        _ => None,
+    }
+}
+
+/// The lowest attached cell on one path with the namespace that has the word, where each namespace is asked.
+fn lowest_on_path<'a>(
+    namespaces: &[Namespace],
+    index: &Index,
+    cells: &'a [SpaceCell],
+    path: &Path,
+    word: &Word,
+) -> Option<&'a SpaceCell>
+    requires rooted { AreRooted namespaces.now }
+    requires path { IsPath namespaces.now path.now }
+    requires few { length namespaces.now ≤ 256 }
+    requires inside { All (λ c. c.ns < length namespaces.now) cells.now }
+    requires rising { IsRising cells.now }
+    requires whole { IsWhole (held index.now) cells.now }
+    ensures { option_map (λ c. c.now) result ≡ find (λ c. has_word word.now.kind word.now.text.now c && is_rival namespaces.now path.now.ns c) cells.now }
+{
+    let mut lowest = None;
+    for other in 0..namespaces.len() {
+        lowest = lower(
+            lowest,
+            rival_in(namespaces, index, cells, path, other as u16, word),
+        );
+    }
+    lowest
 }
 
 /// The lowest attached cell on one path with the namespace that has the word.
@@ -208,26 +295,22 @@ fn lowest_rival<'a>(
     namespaces: &[Namespace],
     index: &Index,
     cells: &'a [SpaceCell],
-    ns: u16,
-    kind: WordKind,
-    word: &[u8],
+    path: &Path,
+    word: &Word,
 ) -> Option<&'a SpaceCell>
     requires rooted { AreRooted namespaces.now }
-    requires there { ns < length namespaces.now }
+    requires path { IsPath namespaces.now path.now }
     requires few { length namespaces.now ≤ 256 }
     requires inside { All (λ c. c.ns < length namespaces.now) cells.now }
     requires rising { IsRising cells.now }
     requires whole { IsWhole (held index.now) cells.now }
-    ensures { option_map (λ c. c.now) result ≡ find (λ c. has_word kind word.now c && is_rival namespaces.now ns c) cells.now }
+    ensures { option_map (λ c. c.now) result ≡ find (λ c. has_word word.now.kind word.now.text.now c && is_rival namespaces.now path.now.ns c) cells.now }
 {
-    let mut lowest = None;
-    for other in 0..namespaces.len() {
-        lowest = lower(
-            lowest,
-            rival_in(namespaces, index, cells, ns, other as u16, kind, word),
-        );
+    match index.get(ANYWHERE, word.hash) {
+        None => None,
+        Some(Holder::One(number)) => rival_numbered(namespaces, cells, path, word, number),
+        Some(Holder::Many) => lowest_on_path(namespaces, index, cells, path, word),
     }
-    lowest
 }
 
 /// The attached cell that provides the name.
@@ -244,7 +327,8 @@ fn attached_provider(
     requires whole { IsWhole (held index.now) cells.now }
     ensures { option_map provider_as result ≡ first_provider (chain namespaces.now ns) Attached name.now cells.now }
 {
-    let cell = lowest_above(namespaces, index, cells, ns, WordKind::Name, name)?;
+    let word = Word::of(WordKind::Name, name);
+    let cell = lowest_above(namespaces, index, cells, ns, &word)?;
     let symbol = cell.names.symbol_of(name)?;
     Some(Provider {
         cell: cell.cell,
@@ -281,18 +365,19 @@ pub fn clash_stem(
     namespaces: &[Namespace],
     index: &Index,
     cells: &[SpaceCell],
-    ns: u16,
+    path: &Path,
     stem: &[u8],
 ) -> Option<CellId>
     requires rooted { AreRooted namespaces.now }
-    requires there { ns < length namespaces.now }
+    requires path { IsPath namespaces.now path.now }
     requires few { length namespaces.now ≤ 256 }
     requires inside { All (λ c. c.ns < length namespaces.now) cells.now }
     requires rising { IsRising cells.now }
     requires whole { IsWhole (held index.now) cells.now }
-    ensures { option_map number_as result ≡ clash_stem namespaces.now ns stem.now cells.now }
+    ensures { option_map number_as result ≡ clash_stem namespaces.now path.now.ns stem.now cells.now }
 {
-    match lowest_rival(namespaces, index, cells, ns, WordKind::Stem, stem) {
+    let word = Word::of(WordKind::Stem, stem);
+    match lowest_rival(namespaces, index, cells, path, &word) {
         Some(cell) => Some(cell.cell),
         None => None,
     }
@@ -303,18 +388,19 @@ pub fn clash_name(
     namespaces: &[Namespace],
     index: &Index,
     cells: &[SpaceCell],
-    ns: u16,
+    path: &Path,
     name: &[u8],
 ) -> Option<CellId>
     requires rooted { AreRooted namespaces.now }
-    requires there { ns < length namespaces.now }
+    requires path { IsPath namespaces.now path.now }
     requires few { length namespaces.now ≤ 256 }
     requires inside { All (λ c. c.ns < length namespaces.now) cells.now }
     requires rising { IsRising cells.now }
     requires whole { IsWhole (held index.now) cells.now }
-    ensures { option_map number_as result ≡ clash_name namespaces.now ns name.now cells.now }
+    ensures { option_map number_as result ≡ clash_name namespaces.now path.now.ns name.now cells.now }
 {
-    match lowest_rival(namespaces, index, cells, ns, WordKind::Name, name) {
+    let word = Word::of(WordKind::Name, name);
+    match lowest_rival(namespaces, index, cells, path, &word) {
         Some(cell) => Some(cell.cell),
         None => None,
     }
@@ -326,7 +412,7 @@ pub fn cell_at(index: &Index, cells: &[SpaceCell], ns: u16, stem: &[u8]) -> Opti
     requires whole { IsWhole (held index.now) cells.now }
     ensures { option_map number_as result ≡ cell_at ns stem.now cells.now }
 {
-    match holder(index, cells, ns, WordKind::Stem, stem) {
+    match holder(index, cells, ns, &Word::of(WordKind::Stem, stem)) {
         Some(cell) => Some(cell.cell),
         None => None,
     }

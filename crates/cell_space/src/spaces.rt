@@ -3,7 +3,9 @@
 ghost use Rattle.std.specs.Prelude.{◌≡◌, ◌<◌, ◌≤◌, ◌+◌, ◌++◌, ◌∷◌, [], None, Some, All, IfOk, OnOk, OnErr, length, option_map, slice_get};
 ghost use Rattle.cell_world.specs.Names.{chain as chain_in};
 ghost use Rattle.cell_space.specs.declared.cell.CellState.TheVariants.{Attached, Detached};
+ghost use Rattle.cell_space.specs.Path.{IsPath};
 ghost use Rattle.cell_space.specs.Named.{cell_numbered as numbered, provider_as, number_as, clash_stem as stem_clash, clash_name as name_clash, cell_at as cell_in, with_cell, with_state, without};
+ghost use Rattle.cell_space.specs.Rooted.{AreRooted};
 ghost use Rattle.cell_space.specs.Spaces.{IsThere, HasCell, HasDetached, HasAttached, HasNoRival, kernel, provider_in, namespace_named};
 
 use crate::cell::{CellState, SpaceCell, copy_cells};
@@ -12,6 +14,7 @@ use crate::index::{Index, claim_again, index_of};
 use crate::lookup::{cell_at, cell_numbered, clash_name, clash_stem, provider_for};
 use crate::names::NameRows;
 use crate::namespaces::{copy_namespaces, first_namespace, place_of};
+use crate::path::{Path, path_of};
 use crate::provider::{Provider, Scope};
 use crate::rows::{insert_cell, remove_cell, set_state};
 use cell_num::{CellId, Name};
@@ -29,14 +32,14 @@ pub struct Spaces {
 }
 
 impl Model for Spaces {
-    ghost use Rattle.std.specs.Prelude.{◌-◌, vec_capacity, vec_len};
+    ghost use Rattle.std.specs.Prelude.{◌-◌, ◌/◌, vec_capacity, vec_len};
     ghost use Rattle.indexmap.specs.IndexMap.{spare};
     ghost use Rattle.cell_space.specs.Index.{held};
     ghost use Rattle.cell_space.specs.Spaces.{SpacesState, AreKept};
 
     ghost Value = { SpacesState };
 
-    ghost view = { λ s. record { namespaces = s.namespaces.items; cells = s.cells.items; spare_cells = vec_capacity s.cells - vec_len s.cells; spare_names = spare s.index.holders } };
+    ghost view = { λ s. record { namespaces = s.namespaces.items; cells = s.cells.items; spare_cells = vec_capacity s.cells - vec_len s.cells; spare_names = spare s.index.holders / 2 } };
 
     ghost invariant = { λ s. AreKept s.namespaces.items s.cells.items (held s.index) };
 }
@@ -62,6 +65,15 @@ impl Spaces {
             Some(place) => Some(place as u16),
             None => None,
         }
+    }
+
+    /// The namespaces by their numbers.
+    pub fn namespaces(&self) -> &[Namespace]
+        ensures value { result.now ≡ self.now.namespaces }
+        ensures rooted { AreRooted result.now }
+        ensures few { length result.now ≤ 256 }
+    {
+        &self.namespaces
     }
 
     /// How many namespaces there are.
@@ -129,6 +141,15 @@ impl Spaces {
         chain_of(self.namespaces.as_slice(), ns)
     }
 
+    /// The namespaces that are on one path with the namespace.
+    pub fn path(&self, alloc: Global, ns: u16) -> Result<Path, AllocError>
+        requires { ns < length self.now.namespaces }
+        ensures is { IfOk result (λ path. IsPath self.now.namespaces path) }
+        ensures ns { IfOk result (λ path. path.ns ≡ ns) }
+    {
+        path_of(alloc, &self.namespaces, ns)
+    }
+
     /// The attached cell of a stem in the namespace itself.
     pub fn cell_at(&self, ns: u16, stem: &[u8]) -> Option<CellId>
         requires { ns < length self.now.namespaces }
@@ -157,20 +178,20 @@ impl Spaces {
         }
     }
 
-    /// The lowest attached cell on one path with the namespace that has the stem.
-    pub fn clash_stem(&self, ns: u16, stem: &[u8]) -> Option<CellId>
-        requires { ns < length self.now.namespaces }
-        ensures { option_map number_as result ≡ stem_clash self.now.namespaces ns stem.now self.now.cells }
+    /// The lowest attached cell on the path that has the stem.
+    pub fn clash_stem(&self, path: &Path, stem: &[u8]) -> Option<CellId>
+        requires { IsPath self.now.namespaces path.now }
+        ensures { option_map number_as result ≡ stem_clash self.now.namespaces path.now.ns stem.now self.now.cells }
     {
-        clash_stem(&self.namespaces, &self.index, &self.cells, ns, stem)
+        clash_stem(&self.namespaces, &self.index, &self.cells, path, stem)
     }
 
-    /// The lowest attached cell on one path with the namespace that has the name.
-    pub fn clash_name(&self, ns: u16, name: &[u8]) -> Option<CellId>
-        requires { ns < length self.now.namespaces }
-        ensures { option_map number_as result ≡ name_clash self.now.namespaces ns name.now self.now.cells }
+    /// The lowest attached cell on the path that has the name.
+    pub fn clash_name(&self, path: &Path, name: &[u8]) -> Option<CellId>
+        requires { IsPath self.now.namespaces path.now }
+        ensures { option_map number_as result ≡ name_clash self.now.namespaces path.now.ns name.now self.now.cells }
     {
-        clash_name(&self.namespaces, &self.index, &self.cells, ns, name)
+        clash_name(&self.namespaces, &self.index, &self.cells, path, name)
     }
 
     /// Makes room for so many more cells, which have so many names in all.
@@ -182,7 +203,7 @@ impl Spaces {
         ensures same_namespaces { self.new.namespaces ≡ self.old.namespaces }
         ensures same_cells { self.new.cells ≡ self.old.cells }
     {
-        self.index.reserve(cells as usize + names as usize)?;
+        self.index.reserve(2 * (cells as usize + names as usize))?;
         self.cells.reserve(cells as usize)
     }
 

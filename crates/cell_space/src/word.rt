@@ -13,27 +13,47 @@ pub enum WordKind {
     Name,
 }
 
-pub fn word_hash(kind: WordKind, word: &[u8]) -> u64
-    ensures { result ≡ word_hash kind word.now }
+/// A word with its hash, which is made once for all namespaces that it is looked up in.
+#[derive(Clone, Copy)]
+pub struct Word<'a> {
+    pub kind: WordKind,
+    pub text: &'a [u8],
+    pub hash: u64,
+    ghost hashed: { hash ≡ word_hash kind text.now },
+}
+
+fn word_hash(kind: WordKind, text: &[u8]) -> u64
+    ensures { result ≡ word_hash kind text.now }
 {
     match kind {
-        WordKind::Stem => stem_hash(word),
-        WordKind::Name => name_hash(word),
+        WordKind::Stem => stem_hash(text),
+        WordKind::Name => name_hash(text),
     }
 }
 
-fn has_word(cell: &SpaceCell, kind: WordKind, word: &[u8]) -> bool
-    ensures { result ≡ has_word kind word.now cell.now }
+impl<'a> Word<'a> {
+    pub fn of(kind: WordKind, text: &'a [u8]) -> Word<'a>
+        ensures kind { result.kind ≡ kind }
+        ensures text { result.text.now ≡ text.now }
+    {
+        let hash = word_hash(kind, text);
+        Word { kind, text, hash }
+    }
+}
+
+/// Whether the cell has the word.
+pub fn has_word(cell: &SpaceCell, kind: WordKind, text: &[u8]) -> bool
+    ensures { result ≡ has_word kind text.now cell.now }
 {
     match kind {
-        WordKind::Stem => cell.has_stem(word),
-        WordKind::Name => cell.has_name(word),
+        WordKind::Stem => cell.has_stem(text),
+        WordKind::Name => cell.has_name(text),
     }
 }
 
 /// Whether the cell is attached in the namespace and has the word.
-pub fn is_at(cell: &SpaceCell, ns: u16, kind: WordKind, word: &[u8]) -> bool
-    ensures { result ≡ is_at ns kind word.now cell.now }
+pub fn is_at(cell: &SpaceCell, ns: u16, word: &Word) -> bool
+    ensures { result ≡ is_at ns word.now.kind word.now.text.now cell.now }
 {
-    cell.is_in(CellState::Attached) && cell.ns == ns && has_word(cell, kind, word)
+    cell.is_in(CellState::Attached) && cell.ns == ns && has_word(cell, word.kind, word.text)
 }

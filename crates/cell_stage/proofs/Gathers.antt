@@ -112,7 +112,7 @@ module _ (m : Machine) (sound : IsSound m) where
               ∙ (h.gathered (world_of m) is_of
               ∙ ap (λ (n : ℕ). let u : World = record (world_of m) { cells = (world_of m).cells ++ all_attached g.cells.items; next_cell = m.next + n } in let o : Outcome World = Ok u in o) (sym (length-map g.cells.items attached)));
           namespaces = h.namespaces;
-          cells = h.cells ∙ sym (map-map called attached g.cells.items);
+          cells = h.cells ∙ ap (λ (cs : List SpaceCell). m.spaces.cells ++ cs) (sym (map-map called attached g.cells.items));
           names = h.names;
           loadable = h.loadable;
         }

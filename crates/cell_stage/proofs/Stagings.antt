@@ -104,29 +104,33 @@ module _ (files : List File) (small : All (λ f. length f.bytes ≤ 1048576) fil
       placed_are = ap all_attached stand.cells ∙ attached_placed stand.starts new stand.each
 
       abbrev known : List SpaceCell
-      known = m.spaces.cells ++ g.spaces.cells
+      known = g.ahead.cells
+
+      -- what the new cells are called
+      abbrev known_new : List SpaceCell
+      known_new = map called (all_attached g.cells.items)
 
       -- the new cells are what they were called before they had places
-      called_are : g.spaces.cells ≡ map called (all_attached p.cells.items)
+      called_are : known_new ≡ map called (all_attached p.cells.items)
       called_are =
-          loaded.cells
-          ∙ (map-map called attached new
+          map-map called attached new
           ∙ (sym (kept (λ c. called (attached c)) (λ s c. refl) stand.starts new stand.each)
-          ∙ (ap (map (λ c. called (attached c))) (sym stand.cells) ∙ sym (map-map called attached p.cells.items))))
+          ∙ (ap (map (λ c. called (attached c))) (sym stand.cells) ∙ sym (map-map called attached p.cells.items)))
 
       back : p.cells.items ≡ map placed_of (all_attached p.cells.items)
       back = sym (map-map placed_of attached p.cells.items ∙ map-id p.cells.items)
 
-      new_joined : AreJoined p.cells.items g.spaces.cells
-      new_joined = joined_by (all_attached p.cells.items) p.cells.items g.spaces.cells back called_are
+      new_joined : AreJoined p.cells.items known_new
+      new_joined = joined_by (all_attached p.cells.items) p.cells.items known_new back called_are
 
       all_joined : AreJoined all known
-      all_joined = joined_both m.cells.items p.cells.items m.spaces.cells g.spaces.cells sound.joined new_joined
+      all_joined = subst (AreJoined all) (sym loaded.cells) (joined_both m.cells.items p.cells.items m.spaces.cells known_new sound.joined new_joined)
 
       cells_are : W.cells ≡ cells_of all known
       cells_are =
-          sym (cells_both m.cells.items p.cells.items m.spaces.cells g.spaces.cells sound.joined new_joined
-          ∙ ap (λ (cs : List Cell). w.cells ++ cs) (joined_are (all_attached p.cells.items) p.cells.items g.spaces.cells back called_are ∙ placed_are))
+          sym (cells_both m.cells.items p.cells.items m.spaces.cells known_new sound.joined new_joined
+          ∙ ap (λ (cs : List Cell). w.cells ++ cs) (joined_are (all_attached p.cells.items) p.cells.items known_new back called_are ∙ placed_are))
+          ∙ ap (cells_of all) (sym loaded.cells)
 
       placed : HasPlaced sources w ns stem W
       placed = has_placed sources w ns stem sound.coherent sources_are (all_attached new) loaded.gathered taken runs

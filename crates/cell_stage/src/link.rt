@@ -34,8 +34,8 @@ impl Linked {
 /// Links a cell.
 fn link_one(alloc: Global, scene: &Scene, cell: &NewCell) -> Result<Linked, Fail>
     requires there { In cell.now (scene.now.present.now ++ scene.now.fresh.now) }
-    requires can { CanLink scene.now.layers.namespaces cell.now }
-    ensures { Links (seen scene.now.layers.namespaces (scene.now.present.now ++ scene.now.fresh.now) scene.now.layers.cells) cell.now result }
+    requires can { CanLink scene.now.ahead.now.namespaces cell.now }
+    ensures { Links (seen scene.now.ahead.now.namespaces (scene.now.present.now ++ scene.now.fresh.now) scene.now.ahead.now.cells) cell.now result }
 {
     let targets = scene.targets(alloc, cell)?;
     let fields = fields(alloc, cell, &targets)?;
@@ -48,8 +48,8 @@ fn link_one(alloc: Global, scene: &Scene, cell: &NewCell) -> Result<Linked, Fail
 
 /// Links the new cells of the scene, one after another. The first entry that doesn't fit is refused.
 pub fn link_new(alloc: Global, scene: &Scene) -> Result<Linked, Fail>
-    requires { All (CanLink scene.now.layers.namespaces) scene.now.fresh.now }
-    ensures { LinksAll (seen scene.now.layers.namespaces (scene.now.present.now ++ scene.now.fresh.now) scene.now.layers.cells) scene.now.fresh.now result }
+    requires { All (CanLink scene.now.ahead.now.namespaces) scene.now.fresh.now }
+    ensures { LinksAll (seen scene.now.ahead.now.namespaces (scene.now.present.now ++ scene.now.fresh.now) scene.now.ahead.now.cells) scene.now.fresh.now result }
 {
     let mut linked = Linked {
         fields: Vec::new(alloc),

@@ -55,13 +55,13 @@ fn want(alloc: Global, ns: u16, file: &File) -> Result<Want, AllocError>
 }
 
 /// The new cells of `load NS STEM`, which have no places yet.
-pub fn load_cells(
+pub fn load_cells<'a>(
     alloc: Global,
-    depot: &Depot,
-    machine: &Machine,
+    depot: &'a Depot,
+    machine: &'a Machine,
     ns: &[u8],
     stem: &[u8],
-) -> Result<Gathered, Fail>
+) -> Result<Gathered<'a>, Fail>
     requires sound { IsSound machine.now }
     requires small { All (λ f. length f.bytes ≤ 1048576) depot.now }
     requires apart { are_apart depot.now ≡ true }

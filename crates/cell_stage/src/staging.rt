@@ -2,7 +2,6 @@
 
 ghost use Rattle.std.specs.Prelude.{◌≡◌, ◌≤◌, ◌++◌, All, length, true};
 ghost use Rattle.cell_depot.specs.Files.{are_apart};
-ghost use Rattle.cell_gather.specs.Layers.{AreAlike};
 ghost use Rattle.cell_machine.specs.Machine.{IsSound};
 ghost use Rattle.cell_target.specs.Scene.{AreCells, seen};
 ghost use Rattle.cell_stage.specs.Linking.{CanLink, LinksAll};
@@ -12,27 +11,27 @@ use crate::link::{Linked, link_new};
 use crate::load::load_cells;
 use crate::place::place_in_copy;
 use cell_depot::Depot;
-use cell_gather::{Gathered, Layers};
+use cell_gather::Gathered;
 use cell_machine::{Machine, Staged};
-use cell_space::Spaces;
+use cell_space::Ahead;
 use cell_target::Scene;
 use cell_world::{Fail, NewCell};
 use std::alloc::Global;
 
-/// Links new cells in their places, which have those spaces, among the present ones.
+/// Links new cells in their places, which are called so ahead of the present ones, among these.
 fn link_among(
     alloc: Global,
     machine: &Machine,
-    spaces: &Spaces,
+    ahead: &Ahead,
     cells: &[NewCell],
 ) -> Result<Linked, Fail>
-    requires alike { AreAlike machine.now.spaces spaces.now }
-    requires cells { AreCells (machine.now.spaces.cells ++ spaces.now.cells) (machine.now.cells.items ++ cells.now) }
+    requires same { ahead.now.namespaces ≡ machine.now.spaces.namespaces }
+    requires cells { AreCells ahead.now.cells (machine.now.cells.items ++ cells.now) }
     requires can { All (CanLink machine.now.spaces.namespaces) cells.now }
-    ensures { LinksAll (seen machine.now.spaces.namespaces (machine.now.cells.items ++ cells.now) (machine.now.spaces.cells ++ spaces.now.cells)) cells.now result }
+    ensures { LinksAll (seen machine.now.spaces.namespaces (machine.now.cells.items ++ cells.now) ahead.now.cells) cells.now result }
 {
     let scene = Scene {
-        layers: Layers::of(&machine.spaces, spaces),
+        ahead,
         present: &machine.cells,
         fresh: cells,
     };
@@ -60,10 +59,10 @@ pub fn stage(
     let Gathered {
         cells,
         names,
-        spaces,
+        ahead,
     } = gathered;
     let (space, placed) = place_in_copy(alloc, &machine.space, cells)?;
-    let linked = link_among(alloc, machine, &spaces, &placed.cells)?;
+    let linked = link_among(alloc, machine, &ahead, &placed.cells)?;
     Ok(Staged {
         cells: placed.cells,
         names,

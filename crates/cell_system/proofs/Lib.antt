@@ -4,4 +4,5 @@ pub mod Committing
 pub mod Added
 pub mod MoreNamespaces
 pub mod Loads
+pub mod Readings
 pub mod Steps

@@ -1,10 +1,12 @@
 -- A command's answer, as the machine's parts give it, is the plain machine's.
 use Rattle.std.proofs.Common.{◌≡◌, refl, sym, ◌∙◌, ap, ap₂, subst, ℕ, List, [], length, map}
-use Rattle.std.specs.Prelude.{Result, Ok, Err, decimal, unwrap_or}
+use Rattle.std.specs.Prelude.{Result, Ok, Err, decimal, not, true, unwrap_or}
 use Rattle.cell_num.specs.declared.ids.CellId.{CellId}
+use Rattle.cell_num.specs.Lists.{equals}
+use Rattle.cell_coherent.proofs.Elements.{pairs-map}
+use Rattle.cell_depot.specs.Files.{are_apart}
+use Rattle.cell_script.specs.Script.{is_said}
 use Rattle.cell_world.specs.declared.command.Command.{Command}
-use Rattle.cell_world.specs.declared.command.Command.TheVariants.{Ns as AddNs, Load as LoadCrate, Spawn, Step, Run, Kill, Unload, Purge, Tasks, Find, Deps, Users, Map, Dump}
-use Rattle.cell_world.specs.declared.command.CellName.{CellName}
 use Rattle.cell_world.specs.declared.fail.Fail.{Fail}
 use Rattle.cell_world.specs.declared.fail.Fail.TheVariants.{Refused, OutOfMemory}
 use Rattle.cell_world.specs.declared.file.File.{File}
@@ -18,17 +20,14 @@ use Rattle.cell_world.specs.Coherent.{AreSound}
 use Rattle.cell_world.specs.DumpCommand.{next_dump}
 use Rattle.cell_world.specs.FindCommand.{next_find}
 use Rattle.cell_world.specs.Following.{Follows}
-use Rattle.cell_world.specs.Gather.{source_of}
+use Rattle.cell_world.specs.Gather.{Source, source_of}
 use Rattle.cell_world.specs.LinkCommands.{next_deps, next_users}
 use Rattle.cell_world.specs.LoadCommand.{next_load}
 use Rattle.cell_world.specs.MapCommand.{next_map}
-use Rattle.cell_world.specs.NsCommand.{next_ns}
 use Rattle.cell_world.specs.Next.{outcome_of}
 use Rattle.cell_world.specs.Memory.{read}
 use Rattle.cell_world.specs.Outcome.{Outcome, ◌>>=◌, found}
-use Rattle.cell_world.specs.SpawnCommand.{next_spawn}
-use Rattle.cell_world.specs.TaskCommands.{next_step, next_run, next_kill, next_tasks}
-use Rattle.cell_world.specs.UnloadCommand.{next_purge, next_unload}
+use Rattle.cell_world.specs.TaskCommands.{next_tasks}
 use Rattle.cell_object.specs.Parts.{section_of}
 use Rattle.cell_world.specs.Target.{start_of}
 use Rattle.cell_world.specs.World.{World, Cell, key_of}
@@ -38,9 +37,13 @@ use Rattle.cell_machine.specs.Does.{Answers, Does, State as MachineState, answer
 use Rattle.cell_machine.specs.Machine.{IsSound, world_of}
 use Rattle.cell_machine.specs.Same.{IsSame}
 use Rattle.cell_machine.specs.Staged.{IsStaged}
+use Rattle.cell_stage.specs.Stages.{Stages}
 use Rattle.cell_machine.proofs.Counts.{counts_stand}
-use Rattle.cell_machine.proofs.Same.{maps_same, patches_same, world_same}
+use Rattle.cell_machine.proofs.Same.{maps_same, patches_same, sound_same, world_same}
+use Rattle.cell_machine.proofs.Unchanged.{same_itself}
 use Rattle.cell_system.specs.Adding.{IsAdded}
+use Rattle.cell_system.specs.Readings.{AreRead}
+use Rattle.cell_system.proofs.Readings.{outcome_read}
 use Rattle.cell_system.specs.Step.{IsStep, stacks_of, state_of}
 
 -- the reply, where there is one, tells of no cell and of no field
@@ -70,90 +73,65 @@ module _ (m : Machine) where
   answers said stacks (Err (Refused refusal)) n h = (h.0, state_same n h.1)
   answers said stacks (Err OutOfMemory) n h = state_same n h
 
+  pub still_sound : (said : Outcome Done) (stacks : ℕ) (result : Result Reply Fail) (n : Machine) → IsSound m → Does said stacks m result n → IsSound n
+  still_sound said stacks (Ok reply) n sound h = h.sound
+  still_sound said stacks (Err (Refused refusal)) n sound h = sound_same m n h.1 sound
+  still_sound said stacks (Err OutOfMemory) n sound h = sound_same m n h sound
+
+  module _ (files : List File) (command : Command) (n : Machine) where
+    abbrev said : Outcome Done
+    said = outcome_of (map source_of files) (world_of m) command
+
+    pub does : (result : Result Reply Fail) → Does said (stacks_of command) m result n → IsStep (state_of files m) command result (state_of files n)
+    does result h = record { files = refl; answer = answers said (stacks_of command) result n h }
+
+    same_read : IsSame m n → AreRead (map source_of files) (world_of m) → AreRead (map source_of files) (world_of n)
+    same_read same read = subst (AreRead (map source_of files)) (sym (world_same m n same)) read
+
+    pub still_read : (result : Result Reply Fail) → is_said command ≡ true → are_apart files ≡ true → IsSound m → AreRead (map source_of files) (world_of m)
+        → Does said (stacks_of command) m result n → AreRead (map source_of files) (world_of n)
+    still_read (Ok reply) told apart sound read h =
+        outcome_read (map source_of files) (pairs-map (λ (f : Source) (g : Source). not (equals f.name g.name)) source_of files ∙ apart) (world_of m) read command told sound.coherent
+        (answer_in (world_of n) reply) h.is.step
+    still_read (Err (Refused refusal)) told apart sound read h = same_read h.1 read
+    still_read (Err OutOfMemory) told apart sound read h = same_read h read
+
+module _ (m : Machine) (sound : IsSound m) where
   -- what is shown changes nothing
-  shown : IsSound m → (said : Outcome Done) → IsQuiet said → (result : Result Reply Fail) → Follows (answer_in (world_of m)) result said → Answers said 0 (machine_state m) result (machine_state m)
-  shown sound said quiet (Ok reply) e =
-      let of_reply : IsQuiet (let o : Outcome Done = Ok (answer_in (world_of m) reply) in o) = subst IsQuiet e quiet in
-      (counts_stand said m m reply sound sound e of_reply.0 of_reply.1 refl refl).is
-  shown sound said quiet (Err (Refused refusal)) e = (e, refl)
-  shown sound said quiet (Err OutOfMemory) e = refl
+  shown : (said : Outcome Done) → IsQuiet said → (result : Result Reply Fail) → Follows (answer_in (world_of m)) result said → Does said 0 m result m
+  shown said quiet (Ok reply) e =
+      let of_reply : IsQuiet (let o : Outcome Done = Ok (answer_in (world_of m) reply) in o) = subst IsQuiet e quiet in counts_stand said m m reply sound sound e of_reply.0 of_reply.1 refl refl
+  shown said quiet (Err (Refused refusal)) e = (e, same_itself m)
+  shown said quiet (Err OutOfMemory) e = same_itself m
+
+  pub shows_tasks : (result : Result Reply Fail) → Follows (answer_in (world_of m)) result (next_tasks (world_of m)) → Does (next_tasks (world_of m)) 0 m result m
+  shows_tasks = shown (next_tasks (world_of m)) (refl, refl)
+
+  pub shows_find : (ns symbol : List ℕ) (result : Result Reply Fail) → Follows (answer_in (world_of m)) result (next_find (world_of m) ns symbol) → Does (next_find (world_of m) ns symbol) 0 m result m
+  shows_find ns symbol = shown (next_find (world_of m) ns symbol) (bind_quiet (space_of (world_of m) ns) _ (λ n. (refl, refl)))
+
+  pub shows_deps : (cell : ℕ) (result : Result Reply Fail) → Follows (answer_in (world_of m)) result (next_deps (world_of m) cell) → Does (next_deps (world_of m) cell) 0 m result m
+  shows_deps cell = shown (next_deps (world_of m) cell) (bind_quiet (present_cell (world_of m) cell) _ (λ c. (refl, refl)))
+
+  pub shows_users : (cell : ℕ) (result : Result Reply Fail) → Follows (answer_in (world_of m)) result (next_users (world_of m) cell) → Does (next_users (world_of m) cell) 0 m result m
+  shows_users cell = shown (next_users (world_of m) cell) (bind_quiet (present_cell (world_of m) cell) _ (λ c. (refl, refl)))
+
+  pub shows_map : (result : Result Reply Fail) → Follows (answer_in (world_of m)) result (next_map (world_of m)) → Does (next_map (world_of m)) 0 m result m
+  shows_map = shown (next_map (world_of m)) (refl, refl)
+
+  pub shows_dump : (cell section : ℕ) (result : Result Reply Fail) → Follows (answer_in (world_of m)) result (next_dump (world_of m) cell section) → Does (next_dump (world_of m) cell section) 0 m result m
+  shows_dump cell section = shown (next_dump (world_of m) cell section) (dump_quiet (world_of m) cell section)
 
 module _ (files : List File) (m : Machine) where
-  does : (command : Command) (result : Result Reply Fail) (n : Machine) → Does (outcome_of (map source_of files) (world_of m) command) (stacks_of command) m result n → IsStep (state_of files m) command result (state_of files n)
-  does command result n h = record { files = refl; answer = answers m (outcome_of (map source_of files) (world_of m) command) (stacks_of command) result n h }
-
-  pub does_ns : (name parent : List ℕ) (result : Result Reply Fail) (n : Machine) → Does (next_ns (world_of m) name parent) 0 m result n
-      → IsStep (state_of files m) (AddNs name parent) result (state_of files n)
-  does_ns name parent = does (AddNs name parent)
-
-  pub does_spawn : (ns symbol : List ℕ) (arg : ℕ) (result : Result Reply Fail) (n : Machine) → Does (next_spawn (world_of m) ns symbol arg) 1 m result n
-      → IsStep (state_of files m) (Spawn ns symbol arg) result (state_of files n)
-  does_spawn ns symbol arg = does (Spawn ns symbol arg)
-
-  pub does_step : (task turns : ℕ) (result : Result Reply Fail) (n : Machine) → Does (next_step (world_of m) task turns) 0 m result n
-      → IsStep (state_of files m) (Step task turns) result (state_of files n)
-  does_step task turns = does (Step task turns)
-
-  pub does_run : (turns : ℕ) (result : Result Reply Fail) (n : Machine) → Does (next_run (world_of m) turns) 0 m result n
-      → IsStep (state_of files m) (Run turns) result (state_of files n)
-  does_run turns = does (Run turns)
-
-  pub does_kill : (task : ℕ) (result : Result Reply Fail) (n : Machine) → Does (next_kill (world_of m) task) 0 m result n
-      → IsStep (state_of files m) (Kill task) result (state_of files n)
-  does_kill task = does (Kill task)
-
-  pub does_unload : (names : List CellName) (result : Result Reply Fail) (n : Machine) → Does (next_unload (world_of m) names) 0 m result n
-      → IsStep (state_of files m) (Unload names) result (state_of files n)
-  does_unload names = does (Unload names)
-
-  pub does_purge : (result : Result Reply Fail) (n : Machine) → Does (next_purge (world_of m)) 0 m result n → IsStep (state_of files m) Purge result (state_of files n)
-  does_purge = does Purge
-
-  module _ (sound : IsSound m) where
-    pub shows_tasks : (result : Result Reply Fail) → Follows (answer_in (world_of m)) result (next_tasks (world_of m)) → IsStep (state_of files m) Tasks result (state_of files m)
-    shows_tasks result h = record { files = refl; answer = shown m sound (next_tasks (world_of m)) (refl, refl) result h }
-
-    pub shows_find : (ns symbol : List ℕ) (result : Result Reply Fail) → Follows (answer_in (world_of m)) result (next_find (world_of m) ns symbol)
-        → IsStep (state_of files m) (Find ns symbol) result (state_of files m)
-    shows_find ns symbol result h = record {
-      files = refl;
-      answer = shown m sound (next_find (world_of m) ns symbol) (bind_quiet (space_of (world_of m) ns) _ (λ n. (refl, refl))) result h;
-    }
-
-    pub shows_deps : (cell : ℕ) (result : Result Reply Fail) → Follows (answer_in (world_of m)) result (next_deps (world_of m) cell) → IsStep (state_of files m) (Deps cell) result (state_of files m)
-    shows_deps cell result h = record {
-      files = refl;
-      answer = shown m sound (next_deps (world_of m) cell) (bind_quiet (present_cell (world_of m) cell) _ (λ c. (refl, refl))) result h;
-    }
-
-    pub shows_users : (cell : ℕ) (result : Result Reply Fail) → Follows (answer_in (world_of m)) result (next_users (world_of m) cell) → IsStep (state_of files m) (Users cell) result (state_of files m)
-    shows_users cell result h = record {
-      files = refl;
-      answer = shown m sound (next_users (world_of m) cell) (bind_quiet (present_cell (world_of m) cell) _ (λ c. (refl, refl))) result h;
-    }
-
-    pub shows_map : (result : Result Reply Fail) → Follows (answer_in (world_of m)) result (next_map (world_of m)) → IsStep (state_of files m) Map result (state_of files m)
-    shows_map result h = record { files = refl; answer = shown m sound (next_map (world_of m)) (refl, refl) result h }
-
-    pub shows_dump : (cell section : ℕ) (result : Result Reply Fail) → Follows (answer_in (world_of m)) result (next_dump (world_of m) cell section)
-        → IsStep (state_of files m) (Dump cell section) result (state_of files m)
-    shows_dump cell section result h = record {
-      files = refl;
-      answer = shown m sound (next_dump (world_of m) cell section) (dump_quiet (world_of m) cell section) result h;
-    }
-
   -- what staged cells come to where they are added
   pub load_done : (ns stem : List ℕ) (s : Staged) (n : Machine) → AreSound (map source_of files) → IsStaged (map source_of files) (world_of m) ns stem s → IsAdded m s n
       → (fresh : List CellId) → fresh ≡ map (λ (c : NewCell). c.id) s.cells.items → (patched : ℕ) → patched ≡ length s.fields.items
-      → IsStep (state_of files m) (LoadCrate ns stem) (Ok (Load fresh patched)) (state_of files n)
+      → Does (next_load (map source_of files) (world_of m) ns stem) 0 m (Ok (Load fresh patched)) n
   load_done ns stem s n are staged added fresh fresh_is patched patched_is =
-      subst (λ (k : ℕ). IsStep (state_of files m) (LoadCrate ns stem) (Ok (Load fresh k)) (state_of files n)) (sym patched_is)
-      (subst (λ (ids : List CellId). IsStep (state_of files m) (LoadCrate ns stem) (Ok (Load ids (length s.fields.items))) (state_of files n)) (sym fresh_is)
-      (record { files = refl; answer = added.loaded (map source_of files) ns stem are staged }))
+      subst (λ (k : ℕ). Does (next_load (map source_of files) (world_of m) ns stem) 0 m (Ok (Load fresh k)) n) (sym patched_is)
+      (subst (λ (ids : List CellId). Does (next_load (map source_of files) (world_of m) ns stem) 0 m (Ok (Load ids (length s.fields.items))) n) (sym fresh_is)
+      (record { sound = added.sound; is = added.loaded (map source_of files) ns stem are staged }))
 
-  pub load_refused : (ns stem : List ℕ) (refusal : Refusal) → next_load (map source_of files) (world_of m) ns stem ≡ Err refusal
-      → IsStep (state_of files m) (LoadCrate ns stem) (Err (Refused refusal)) (state_of files m)
-  load_refused ns stem refusal e = record { files = refl; answer = (e, refl) }
-
-  pub load_lacks : (ns stem : List ℕ) (n : Machine) → IsSame m n → IsStep (state_of files m) (LoadCrate ns stem) (Err OutOfMemory) (state_of files n)
-  load_lacks ns stem n same = record { files = refl; answer = state_same m n same }
+  pub load_failed : (ns stem : List ℕ) (fail : Fail) → Stages files m ns stem (Err fail) → Does (next_load (map source_of files) (world_of m) ns stem) 0 m (Err fail) m
+  load_failed ns stem (Refused refusal) e = (e, same_itself m)
+  load_failed ns stem OutOfMemory e = same_itself m

@@ -1,4 +1,5 @@
 pub mod Adding
 pub mod Namespaces
+pub mod Readings
 pub mod State
 pub mod Step

@@ -2,6 +2,8 @@
 #![tactic(auto)]
 
 mod add;
+mod answer;
+mod load;
 mod namespaces;
 mod prepared;
 mod room;

@@ -2,4 +2,3 @@ pub mod Lookups
 pub mod Tabled
 pub mod Seen
 pub mod HighEntries
-pub mod Pair

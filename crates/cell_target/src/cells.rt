@@ -12,7 +12,7 @@ use cell_world::NewCell;
 impl<'a> Scene<'a> {
     /// The present or new cell of that number.
     pub fn cell(&self, number: u32) -> Option<&'a NewCell>
-        ensures { option_map (λ c. c.now) result ≡ option_map placed_of (cell_of (seen self.now.layers.namespaces (self.now.present.now ++ self.now.fresh.now) self.now.layers.cells) number) }
+        ensures { option_map (λ c. c.now) result ≡ option_map placed_of (cell_of (seen self.now.ahead.now.namespaces (self.now.present.now ++ self.now.fresh.now) self.now.ahead.now.cells) number) }
     {
         if let Some(cell) = cell_numbered(self.present, number) {
             return Some(cell);

@@ -10,9 +10,5 @@ mod scene;
 mod symbols;
 mod targets;
 
-pub use cell_gather::Layers;
 pub use cell_world::{NewCell, Target};
 pub use scene::Scene;
-
-#[cfg(test)]
-mod tests;

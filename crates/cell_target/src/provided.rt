@@ -14,7 +14,7 @@ use cell_world::Target;
 impl<'a> Scene<'a> {
     /// The target that a provider's symbol is.
     fn provided_target(&self, provider: &Provider) -> Option<Target>
-        ensures { result ≡ provided_at (seen self.now.layers.namespaces (self.now.present.now ++ self.now.fresh.now) self.now.layers.cells) (provider_as provider.now) }
+        ensures { result ≡ provided_at (seen self.now.ahead.now.namespaces (self.now.present.now ++ self.now.fresh.now) self.now.ahead.now.cells) (provider_as provider.now) }
     {
         let cell = self.cell(provider.cell.0)?;
         target_in(cell, provider.symbol)
@@ -22,10 +22,10 @@ impl<'a> Scene<'a> {
 
     /// Where a name's provider for a namespace has it.
     pub fn provided(&self, ns: u16, name: &[u8]) -> Option<Target>
-        requires { ns < length self.now.layers.namespaces }
-        ensures { result ≡ option_and_then (provided_at (seen self.now.layers.namespaces (self.now.present.now ++ self.now.fresh.now) self.now.layers.cells)) (attached_provider (seen self.now.layers.namespaces (self.now.present.now ++ self.now.fresh.now) self.now.layers.cells) ns name.now) }
+        requires { ns < length self.now.ahead.now.namespaces }
+        ensures { result ≡ option_and_then (provided_at (seen self.now.ahead.now.namespaces (self.now.present.now ++ self.now.fresh.now) self.now.ahead.now.cells)) (attached_provider (seen self.now.ahead.now.namespaces (self.now.present.now ++ self.now.fresh.now) self.now.ahead.now.cells) ns name.now) }
     {
-        let provider = self.layers.provider(ns, name)?;
+        let provider = self.ahead.provider(ns, name)?;
         self.provided_target(&provider)
     }
 }

@@ -3,14 +3,14 @@
 ghost use Rattle.std.specs.Prelude.{◌++◌};
 ghost use Rattle.cell_target.specs.Scene.{AreCells};
 
-use cell_gather::Layers;
+use cell_space::Ahead;
 use cell_world::NewCell;
 
 /// The present cells and new ones in their places, and the spaces that names are looked up in.
 #[derive(Drop)]
 pub struct Scene<'a> {
-    pub layers: Layers<'a>,
+    pub ahead: &'a Ahead<'a>,
     pub present: &'a [NewCell],
     pub fresh: &'a [NewCell],
-    ghost cells: { AreCells layers.cells (present.now ++ fresh.now) },
+    ghost cells: { AreCells ahead.now.cells (present.now ++ fresh.now) },
 }

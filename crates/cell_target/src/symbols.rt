@@ -19,8 +19,8 @@ impl<'a> Scene<'a> {
     fn symbol_target(&self, cell: &NewCell, symbol: &Symbol) -> Option<Target>
         requires low { IsLow cell.now }
         requires there { In symbol.now cell.now.object.symbols }
-        requires ns { cell.now.ns < length self.now.layers.namespaces }
-        ensures { result ≡ target_with (seen self.now.layers.namespaces (self.now.present.now ++ self.now.fresh.now) self.now.layers.cells) (attached cell.now) symbol.now symbol.now.home }
+        requires ns { cell.now.ns < length self.now.ahead.now.namespaces }
+        ensures { result ≡ target_with (seen self.now.ahead.now.namespaces (self.now.present.now ++ self.now.fresh.now) self.now.ahead.now.cells) (attached cell.now) symbol.now symbol.now.home }
     {
         if symbol.home != Home::Undef {
             return own_target(cell, symbol);
@@ -38,8 +38,8 @@ impl<'a> Scene<'a> {
         cell: &NewCell,
     ) -> Result<Vec<Option<Target>>, AllocError>
         requires low { IsLow cell.now }
-        requires ns { cell.now.ns < length self.now.layers.namespaces }
-        ensures { IfOk result (λ targets. targets.items ≡ targets_with (seen self.now.layers.namespaces (self.now.present.now ++ self.now.fresh.now) self.now.layers.cells) (attached cell.now)) }
+        requires ns { cell.now.ns < length self.now.ahead.now.namespaces }
+        ensures { IfOk result (λ targets. targets.items ≡ targets_with (seen self.now.ahead.now.namespaces (self.now.present.now ++ self.now.fresh.now) self.now.ahead.now.cells) (attached cell.now)) }
     {
         let mut targets = Vec::new(alloc);
         let symbols = cell.object.symbols.as_slice();

@@ -17,8 +17,8 @@ impl<'a> Scene<'a> {
     #[tactic(auto, using(crate::proofs::Tabled::targets_tabled))]
     pub fn targets(&self, alloc: Global, cell: &NewCell) -> Result<Vec<Target>, AllocError>
         requires there { In cell.now (self.now.present.now ++ self.now.fresh.now) }
-        requires ns { cell.now.ns < length self.now.layers.namespaces }
-        ensures { IfOk result (λ targets. targets.items ≡ targets_of (seen self.now.layers.namespaces (self.now.present.now ++ self.now.fresh.now) self.now.layers.cells) (attached cell.now)) }
+        requires ns { cell.now.ns < length self.now.ahead.now.namespaces }
+        ensures { IfOk result (λ targets. targets.items ≡ targets_of (seen self.now.ahead.now.namespaces (self.now.present.now ++ self.now.fresh.now) self.now.ahead.now.cells) (attached cell.now)) }
     {
         let symbols = self.symbol_targets(alloc, cell)?;
         let highs = Highs::of(alloc, &cell.object)?;

@@ -14,6 +14,3 @@ pub use task::{Task, TaskFault};
 pub use tasks::{STACK_SIZE, Tasks};
 pub use turned::Turned;
 pub use words::stack_bytes;
-
-#[cfg(test)]
-mod tests;

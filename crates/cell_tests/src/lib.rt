@@ -12,6 +12,8 @@ mod faults;
 #[cfg(test)]
 mod folder;
 #[cfg(test)]
+mod gathering;
+#[cfg(test)]
 mod gnu;
 #[cfg(test)]
 mod holding;

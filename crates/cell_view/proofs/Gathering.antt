@@ -65,6 +65,19 @@ module _ {X : Type 0} (all : List X) where
   all_taken done left none moved =
       subst (λ (ys : List X). IsPermutation all ys) (append-nil done) (subst (λ (ys : List X). IsPermutation all (done ++ ys)) none moved)
 
+module _ {X Y : Type 0} (f : X → Option Y) (all : List Y) where
+  -- what one more comes to is taken over
+  pub line_over : (done new : List Y) (left next : List X) (x : X) → left ≡ x ∷ next → new ≡ done ++ filter_map f (x ∷ []) → all ≡ done ++ filter_map f left → all ≡ new ++ filter_map f next
+  line_over done new left next x is more so_far =
+      so_far
+      ∙ (ap (λ (xs : List X). done ++ filter_map f xs) is
+      ∙ (ap (λ (ys : List Y). done ++ ys) (filter_map-append f (x ∷ []) next)
+      ∙ (sym (append_assoc done (filter_map f (x ∷ [])) (filter_map f next)) ∙ ap (λ (ys : List Y). ys ++ filter_map f next) (sym more))))
+
+  -- none is left
+  pub lines_end : (done : List Y) (left : List X) → left ≡ [] → all ≡ done ++ filter_map f left → done ≡ all
+  lines_end done left none so_far = sym (so_far ∙ (ap (λ (xs : List X). done ++ filter_map f xs) none ∙ append-nil done))
+
 module _ {S K X : Type 0} (f : K → List X) (key : S → K) (ss read : List S) (same : read ≡ ss) (i : ℕ) where
   -- what one more key gives comes behind
   pub key_more : (s : S) (done new : List X) → i < length read → s ≡ get_or read i s

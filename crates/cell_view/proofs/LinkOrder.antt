@@ -1,4 +1,4 @@
--- The links of a coherent machine rise by user cell and entry, and those of a cell are those of its sections.
+-- The links of a coherent machine rise by user cell and entry, and those into a cell are those into its sections.
 use Rattle.std.proofs.Common.{◌≡◌, refl, sym, ◌∙◌, ap, subst, arith, ℕ, suc, ◌≤◌, ◌<◌, ◌⊎◌, inl, inr, Bool, true, false, not, ◌&&◌, ◌||◌, ◌==◌, List, [], ◌∷◌, ◌++◌}
 use Rattle.std.specs.Prelude.{Option, Some, None, filter, filter_map, flat_map, nat_lt}
 use Rattle.std.specs.List.{list_any, list_all, cons_option}
@@ -30,7 +30,7 @@ use Rattle.cell_graph.specs.Links.{is_same}
 use Rattle.cell_machine.specs.Machine.{section_keys}
 use Rattle.cell_machine.specs.LinkOrder.{is_before}
 use Rattle.cell_machine.proofs.LinksRise.{links_rise}
-use Rattle.cell_view.specs.Links.{AreInOrder, links_in, links_out}
+use Rattle.cell_view.specs.Links.{AreInOrder, links_in}
 use Rattle.cell_view.proofs.Gathering.{filter_same, gathered}
 use Rattle.cell_view.proofs.Sorting.{one_order}
 
@@ -97,15 +97,6 @@ module _ (w : World) (coherent : IsCoherent w) (number : ℕ) (c : Cell) (here :
 
   joins : (r : LinkRow) → In r w.links → JoinsPresent w r
   joins = All-In (JoinsPresent w) w.links (links_present w coherent)
-
-  -- the cell's links, in order
-  pub deps_are : (rows : List LinkRow) → IsPermutation (links_out w.links (section_keys c.placed)) rows → AreInOrder rows → rows ≡ filter (λ r. r.user.cell.0 == number) w.links
-  deps_are rows moved sorted =
-      one_order is_before before_is_order (filter (λ r. r.user.cell.0 == number) w.links) rows (pairs-filter is_before (λ r. r.user.cell.0 == number) w.links (links_rise w coherent))
-      (IsPermutation-trans _ _ _
-      (subst (λ (rs : List LinkRow). IsPermutation rs (links_out w.links (section_keys c.placed))) (sym (filter_same (λ (r : LinkRow). r.user.cell.0 == number) (λ r. list_any (λ k. is_same r.user k) (section_keys c.placed)) w.links (λ r i. of_cell r.user (joins r i).user)))
-      (gathered (λ (k : SecKey) (r : LinkRow). is_same r.user k) (section_keys c.placed) w.links (λ r. apart r.user)))
-      moved) sorted
 
   -- the links into the cell, in order
   pub users_are : (rows : List LinkRow) → IsPermutation (links_in w.links (section_keys c.placed)) rows → AreInOrder rows → rows ≡ filter (λ r. r.target.cell.0 == number) w.links

@@ -18,8 +18,8 @@ use Rattle.cell_machine.specs.declared.machine.Machine.{Machine}
 use Rattle.cell_machine.specs.Machine.{IsSound, keys_of, section_keys, world_of}
 use Rattle.cell_space.specs.Joined.{placed_of}
 use Rattle.cell_machine.proofs.Joined.{placed_in}
-use Rattle.cell_view.specs.Links.{AreInOrder, HasSections, links_in, links_out}
-use Rattle.cell_view.proofs.LinkOrder.{deps_are, users_are}
+use Rattle.cell_view.specs.Links.{AreInOrder, HasSections, links_in}
+use Rattle.cell_view.proofs.LinkOrder.{users_are}
 use Rattle.cell_view.proofs.Showing.{here_is, is_present, present}
 
 contains : {X : Type 0} (xs : List X) (x : X) → In x xs → Contains xs x
@@ -34,16 +34,15 @@ module _ (m : Machine) (sound : IsSound m) (cell : ℕ) (d : Cell) (here : cell_
       subst (λ (keys : List SecKey). Contains keys key) (sym sound.sections)
       (contains (keys_of m.cells.items) key (flat_map-In section_keys m.cells.items d.placed key (placed_in m sound d (is_present m cell d here)) i))
 
+  pub deps_shown : (lines : List LinkLine) → lines ≡ filter_map (link_line (world_of m)) (filter (λ r. r.user.cell.0 == cell) m.graph.rows)
+      → next_deps (world_of m) cell ≡ done (DepsDone (record { 0 = cell }) lines) (world_of m)
+  deps_shown lines are =
+      bind_is (present_cell (world_of m) cell) _ d _ (present m cell d here) (ap (λ (ls : List LinkLine). done (DepsDone (record { 0 = cell }) ls) (world_of m)) (sym are))
+
   module _ (rows : List LinkRow) (order : AreInOrder rows) (lines : List LinkLine) (are : lines ≡ filter_map (link_line (world_of m)) rows) where
     -- the lines are those of the machine's links
     lines_of : (links : List LinkRow) → rows ≡ links → filter_map (link_line (world_of m)) links ≡ lines
     lines_of links is = sym (are ∙ ap (filter_map (link_line (world_of m))) is)
-
-    pub deps_shown : IsPermutation (links_out m.graph.rows (section_keys d.placed)) rows → next_deps (world_of m) cell ≡ done (DepsDone (record { 0 = cell }) lines) (world_of m)
-    deps_shown moved =
-        bind_is (present_cell (world_of m) cell) _ d _ (present m cell d here)
-        (ap (λ (ls : List LinkLine). done (DepsDone (record { 0 = cell }) ls) (world_of m))
-        (lines_of (filter (λ r. r.user.cell.0 == cell) m.graph.rows) (deps_are (world_of m) sound.coherent cell d here rows moved order)))
 
     pub users_shown : IsPermutation (links_in m.graph.rows (section_keys d.placed)) rows → next_users (world_of m) cell ≡ done (UsersDone (record { 0 = cell }) lines) (world_of m)
     users_shown moved =

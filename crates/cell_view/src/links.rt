@@ -1,11 +1,11 @@
 //! The links of a cell, and those into it.
 
-ghost use Rattle.std.specs.Prelude.{◌≡◌, ◌++◌, ◌∷◌, [], Contains, IfOk, OnOk, filter_map, option_map};
+ghost use Rattle.std.specs.Prelude.{◌≡◌, ◌==◌, ◌++◌, ◌∷◌, [], Contains, IfOk, OnOk, filter, filter_map, option_map};
 ghost use Rattle.std.specs.List.Sorted.{IsPermutation};
 ghost use Rattle.cell_world.specs.LinkCommands.{link_line as line_of, next_deps, next_users};
-ghost use Rattle.cell_graph.specs.Links.{links_from, links_to};
+ghost use Rattle.cell_graph.specs.Links.{links_to};
 ghost use Rattle.cell_machine.specs.Machine.{IsSound, section_keys, world_of};
-ghost use Rattle.cell_view.specs.Links.{AreInOrder, HasSections, links_in, links_out};
+ghost use Rattle.cell_view.specs.Links.{AreInOrder, HasSections, links_in};
 ghost use Rattle.cell_world.specs.Following.{Follows};
 ghost use Rattle.cell_machine.specs.Does.{answer_in};
 
@@ -14,18 +14,6 @@ use cell_machine::{Machine, unknown_number};
 use cell_num::{CellId, Listed, SecKey};
 use cell_world::{Fail, LinkLine, LinkRow, NewCell, Reply};
 use std::alloc::{AllocError, Global};
-
-/// Adds the links of a section.
-fn add_links_from(graph: &Graph, section: SecKey, rows: &mut Vec<LinkRow>) -> Result<(), AllocError>
-    requires { Contains graph.now.sections section }
-    ensures { OnOk result (IsPermutation (rows.old.items ++ links_from section graph.now.rows) rows.new.items) }
-{
-    let links = graph.deps_of(section);
-    for link in links {
-        rows.push(link)?;
-    }
-    Ok(())
-}
 
 /// Adds the links into a section.
 fn add_links_to(graph: &Graph, section: SecKey, rows: &mut Vec<LinkRow>) -> Result<(), AllocError>
@@ -37,23 +25,6 @@ fn add_links_to(graph: &Graph, section: SecKey, rows: &mut Vec<LinkRow>) -> Resu
         rows.push(link)?;
     }
     Ok(())
-}
-
-/// The links of a cell, section by section.
-fn gather_deps(alloc: Global, graph: &Graph, cell: &NewCell) -> Result<Vec<LinkRow>, AllocError>
-    requires { HasSections graph.now cell.now }
-    ensures { IfOk result (λ rows. IsPermutation (links_out graph.now.rows (section_keys cell.now)) rows.items) }
-{
-    let sections = cell.object.sections.as_slice();
-    let mut rows = Vec::new(alloc);
-    for section in sections {
-        let key = SecKey {
-            cell: cell.id,
-            section: section.number,
-        };
-        add_links_from(graph, key, &mut rows)?;
-    }
-    Ok(rows)
 }
 
 /// The links into a cell, section by section.
@@ -80,16 +51,6 @@ fn in_order(mut rows: Vec<LinkRow>) -> Vec<LinkRow>
 {
     rows.sort_unstable_by_key(|row| (row.user.cell.0, row.entry));
     rows
-}
-
-/// The links of a cell, in the order of its entries.
-fn sorted_deps(alloc: Global, graph: &Graph, cell: &NewCell) -> Result<Vec<LinkRow>, AllocError>
-    requires { HasSections graph.now cell.now }
-    ensures links { IfOk result (λ rows. IsPermutation (links_out graph.now.rows (section_keys cell.now)) rows.items) }
-    ensures order { IfOk result (λ rows. AreInOrder rows.items) }
-{
-    let rows = gather_deps(alloc, graph, cell)?;
-    Ok(in_order(rows))
 }
 
 /// The links into a cell, by user cell and entry.
@@ -143,16 +104,28 @@ fn link_lines(
     Ok(lines)
 }
 
+/// The lines of a cell's links, in the order of its entries.
+fn deps_lines(alloc: Global, machine: &Machine, cell: CellId) -> Result<Vec<LinkLine>, AllocError>
+    requires { IsSound machine.now }
+    ensures { IfOk result (λ lines. lines.items ≡ filter_map (line_of (world_of machine.now)) (filter (λ r. r.user.cell.0 == cell.0) machine.now.graph.rows)) }
+{
+    let mut lines = Vec::new(alloc);
+    let links = machine.graph.deps_of_cell(cell);
+    for link in links {
+        add_line(machine, &link, &mut lines)?;
+    }
+    Ok(lines)
+}
+
 /// Shows the links of a cell, in the order of its entries.
 pub fn deps(alloc: Global, machine: &Machine, cell: u32) -> Result<Reply, Fail>
     requires { IsSound machine.now }
     ensures { Follows (answer_in (world_of machine.now)) result (next_deps (world_of machine.now) cell) }
 {
-    let Some(present) = machine.cell(cell) else {
+    let Some(_) = machine.cell(cell) else {
         return Err(unknown_number(alloc, cell));
     };
-    let rows = sorted_deps(alloc, &machine.graph, present)?;
-    let lines = link_lines(alloc, machine, &rows)?;
+    let lines = deps_lines(alloc, machine, CellId(cell))?;
     Ok(Reply::Deps {
         cell: CellId(cell),
         links: Listed::from_vec(lines),

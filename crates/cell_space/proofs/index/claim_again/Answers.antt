@@ -1,8 +1,8 @@
-use Rattle.std.proofs.Common.{◌≡◌, ◌∙◌, ◌<◌, ℕ, List, Some, length, inr, ap, sym, subst}
-use Rattle.std.specs.Prelude.{◌⊎◌, All, IsSome, option_map}
+use Rattle.std.proofs.Common.{◌≡◌, ◌∙◌, ◌<◌, ◌+◌, ◌*◌, ℕ, List, Some, length, inr, ap, sym, subst}
+use Rattle.std.specs.Prelude.{◌⊎◌, option_map}
 use Rattle.indexmap.specs.IndexMap.{spare}
 use Rattle.cell_space.specs.Named.{cell_numbered}
-use Rattle.cell_space.specs.Index.{held, hashes}
+use Rattle.cell_space.specs.Index.{AreHeld, held, hashes}
 use Rattle.cell_space.proofs.Holding.{again_ready, again_taken}
 use Rattle.cell_space.proofs.index.claim_again.Goals as goal
 
@@ -10,7 +10,7 @@ pub claim_reserved-requires-clause-ready : goal.claim_reserved-requires-clause-r
 claim_reserved-requires-clause-ready c =
     let cell = c.in-Some.cell.now in
     let found : cell_numbered c.args.cells.now c.args.number ≡ Some c.in-Some.cell.now = sym c.cell_numbered.ensures ∙ ap (option_map (λ r. r.now)) c.in-Some.is in
-    let IsReady : List ℕ → Type 0 = λ stem. (length cell.names < spare c.args.index.now.holders) ⊎ All (λ h. IsSome (held c.args.index.now cell.ns h)) (hashes stem cell.names) in
+    let IsReady : List ℕ → Type 0 = λ stem. (2 * length cell.names + 1 < spare c.args.index.now.holders) ⊎ AreHeld (held c.args.index.now) cell.ns (hashes stem cell.names) in
     subst IsReady (sym c.bytes-stem.ensures) (inr (again_ready (held c.args.index.now) c.args.cells.now c.args.number cell c.requires.whole found))
 
 pub returns-in-Some-clause-taken : goal.returns-in-Some-clause-taken

@@ -7,14 +7,14 @@ use Rattle.cell_space.proofs.lookup.holder.Goals as goal
 pub returns-in-None : goal.returns-in-None
 returns-in-None c =
     let f = held c.args.index.now in
-    let none : f c.args.ns (word_hash c.args.kind c.args.word.now) ≡ None = ap (f c.args.ns) (sym c.word_hash.ensures) ∙ sym c.get.ensures ∙ c.in-None.is in
-    held_none f c.args.ns c.args.kind c.args.word.now c.args.cells.now c.requires.whole none
+    let none : f c.args.ns (word_hash c.args.word.now.kind c.args.word.now.text.now) ≡ None = ap (f c.args.ns) (sym c.args.word.now.hashed) ∙ sym c.get.ensures ∙ c.in-None.is in
+    held_none f c.args.ns c.args.word.now.kind c.args.word.now.text.now c.args.cells.now c.requires.whole none
 
 pub returns-in-Some-One : goal.returns-in-Some-One
 returns-in-Some-One c =
     let f = held c.args.index.now in
     let is : c.get.result ≡ Some (One c.in-Some-One.number) = cc in
-    let one : f c.args.ns (word_hash c.args.kind c.args.word.now) ≡ Some (One c.in-Some-One.number) = ap (f c.args.ns) (sym c.word_hash.ensures) ∙ sym c.get.ensures ∙ is in
+    let one : f c.args.ns (word_hash c.args.word.now.kind c.args.word.now.text.now) ≡ Some (One c.in-Some-One.number) = ap (f c.args.ns) (sym c.args.word.now.hashed) ∙ sym c.get.ensures ∙ is in
     c.if_at.ensures
-    ∙ ap (kept_if (is_at c.args.ns c.args.kind c.args.word.now)) c.cell_numbered.ensures
-    ∙ held_one f c.args.ns c.args.kind c.args.word.now c.args.cells.now c.in-Some-One.number c.requires.rising c.requires.whole one
+    ∙ ap (kept_if (is_at c.args.ns c.args.word.now.kind c.args.word.now.text.now)) c.cell_numbered.ensures
+    ∙ held_one f c.args.ns c.args.word.now.kind c.args.word.now.text.now c.args.cells.now c.in-Some-One.number c.requires.rising c.requires.whole one

@@ -5,4 +5,4 @@ use Rattle.cell_space.proofs.lookup.holder_by_walk.Given as goal
 
 -- none so far
 abbrev pub invariant-loop-cell : goal.invariant-loop-cell
-invariant-loop-cell l = find (is_at l.ns l.kind l.word) (drop l.cell-index l.cells) ≡ find (is_at l.ns l.kind l.word) l.cells
+invariant-loop-cell l = find (is_at l.ns l.word.kind l.word.text.now) (drop l.cell-index l.cells) ≡ find (is_at l.ns l.word.kind l.word.text.now) l.cells

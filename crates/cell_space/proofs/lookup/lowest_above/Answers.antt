@@ -1,26 +1,30 @@
-use Rattle.std.proofs.Common.{◌∙◌, ◌++◌, ◌∷◌, [], ap, sym, append_assoc, rules}
-use Rattle.std.specs.Prelude.{◌&&◌, option_map}
+use Rattle.std.proofs.Common.{◌≡◌, ◌∙◌, Some, None, ap, sym}
+use Rattle.std.specs.Prelude.{◌&&◌}
+use Rattle.cell_world.specs.Names.{chain}
 use Rattle.cell_space.specs.declared.cell.CellState.TheVariants.{Attached}
+use Rattle.cell_space.specs.declared.cell.SpaceCell.{SpaceCell}
+use Rattle.cell_space.specs.declared.index.Holder.TheVariants.{One}
+use Rattle.cell_space.specs.Index.{anywhere, has_word, held, word_hash}
 use Rattle.cell_space.specs.Named.{is_holder}
-use Rattle.cell_space.specs.Index.{has_word, is_at}
-use Rattle.cell_space.proofs.Finding.{above_none, above_more, lowest_more}
+use Rattle.cell_space.proofs.Finding.{asks_above, none_anywhere, one_anywhere}
 use Rattle.cell_space.proofs.lookup.lowest_above.Goals as goal
 
-pub loop-other-init : goal.loop-other-init
-loop-other-init c = record {
-  passed = search rules;
-  lowest = above_none c.args.kind c.args.word.now c.args.cells.now;
-}
+pub returns-in-None : goal.returns-in-None
+returns-in-None c =
+    let f = held c.args.index.now in
+    let spaces = chain c.args.namespaces.now c.args.ns in
+    let kind = c.args.word.now.kind in
+    let word = c.args.word.now.text.now in
+    let none : f anywhere (word_hash kind word) ≡ None = ap (f anywhere) (sym c.args.word.now.hashed) ∙ sym c.get.ensures ∙ c.in-None.is in
+    none_anywhere f kind word (λ (d : SpaceCell). has_word kind word d && is_holder spaces Attached d) (asks_above spaces kind word) c.args.cells.now c.requires.whole none
 
-pub loop-other-preserved : goal.loop-other-preserved
-loop-other-preserved c =
-    let yielded = c.loop-other.yielded in
-    let other = c.in-Some.other in
-    record {
-      passed = append_assoc yielded (other ∷ []) c.next.new.self ∙ ap (λ xs. yielded ++ xs) (sym c.in-Some.ensures.steps) ∙ c.loop-other.invariant.passed;
-      lowest =
-          c.lower-lowest.ensures
-          ∙ lowest_more (λ d. has_word c.args.kind c.args.word.now d && is_holder yielded Attached d) (is_at other c.args.kind c.args.word.now) (λ d. has_word c.args.kind c.args.word.now d && is_holder (yielded ++ other ∷ []) Attached d)
-          c.args.cells.now (option_map (λ r. r.now) c.loop-other.lowest) (option_map (λ r. r.now) c.holder.result) c.requires.rising
-          c.loop-other.invariant.lowest c.holder.ensures (above_more c.args.kind c.args.word.now yielded other);
-    }
+pub returns-in-Some-One : goal.returns-in-Some-One
+returns-in-Some-One c =
+    let f = held c.args.index.now in
+    let spaces = chain c.args.namespaces.now c.args.ns in
+    let kind = c.args.word.now.kind in
+    let word = c.args.word.now.text.now in
+    let is : c.get.result ≡ Some (One c.in-Some-One.number) = cc in
+    let one : f anywhere (word_hash kind word) ≡ Some (One c.in-Some-One.number) = ap (f anywhere) (sym c.args.word.now.hashed) ∙ sym c.get.ensures ∙ is in
+    c.above_numbered.ensures
+    ∙ one_anywhere f kind word (λ (d : SpaceCell). has_word kind word d && is_holder spaces Attached d) (asks_above spaces kind word) c.args.cells.now c.in-Some-One.number c.requires.rising c.requires.whole one

@@ -1,26 +1,30 @@
-use Rattle.std.proofs.Common.{◌≡◌, ◌∙◌, ◌+◌, length, ap, arith}
-use Rattle.std.specs.Prelude.{◌&&◌, ◌==◌, find, option_map}
+use Rattle.std.proofs.Common.{◌≡◌, ◌∙◌, Some, None, ap, sym}
+use Rattle.std.specs.Prelude.{◌&&◌}
+use Rattle.cell_space.specs.declared.cell.SpaceCell.{SpaceCell}
+use Rattle.cell_space.specs.declared.index.Holder.TheVariants.{One}
+use Rattle.cell_space.specs.Index.{anywhere, has_word, held, word_hash}
 use Rattle.cell_space.specs.Named.{is_rival}
-use Rattle.cell_space.specs.Index.{has_word}
-use Rattle.cell_space.proofs.Finding.{rivals_none, rivals_more, rivals_all, rival_below, lowest_more}
+use Rattle.cell_space.proofs.Finding.{asks_rival, none_anywhere, one_anywhere}
 use Rattle.cell_space.proofs.lookup.lowest_rival.Goals as goal
 
-pub loop-other-init : goal.loop-other-init
-loop-other-init c = rivals_none c.args.namespaces.now c.args.ns c.args.kind c.args.word.now c.args.cells.now
-
-pub loop-other-preserved : goal.loop-other-preserved
-loop-other-preserved c =
+pub returns-in-None : goal.returns-in-None
+returns-in-None c =
+    let f = held c.args.index.now in
     let spaces = c.args.namespaces.now in
-    let other = c.loop-other.other in
-    c.lower-lowest.ensures
-    ∙ lowest_more (rival_below spaces c.args.ns c.args.kind c.args.word.now other) (λ d. has_word c.args.kind c.args.word.now d && is_rival spaces c.args.ns d && d.ns == other) (rival_below spaces c.args.ns c.args.kind c.args.word.now (other + 1))
-    c.args.cells.now (option_map (λ r. r.now) c.loop-other.lowest) (option_map (λ r. r.now) c.rival_in.result) c.requires.rising
-    c.loop-other.invariant c.rival_in.ensures (rivals_more spaces c.args.ns c.args.kind c.args.word.now other)
+    let ns = c.args.path.now.ns in
+    let kind = c.args.word.now.kind in
+    let word = c.args.word.now.text.now in
+    let none : f anywhere (word_hash kind word) ≡ None = ap (f anywhere) (sym c.args.word.now.hashed) ∙ sym c.get.ensures ∙ c.in-None.is in
+    none_anywhere f kind word (λ (d : SpaceCell). has_word kind word d && is_rival spaces ns d) (asks_rival spaces ns kind word) c.args.cells.now c.requires.whole none
 
-pub returns : goal.returns
-returns c =
+pub returns-in-Some-One : goal.returns-in-Some-One
+returns-in-Some-One c =
+    let f = held c.args.index.now in
     let spaces = c.args.namespaces.now in
-    let all : c.loop-other.other ≡ length spaces = omega arith in
-    c.loop-other.invariant
-    ∙ ap (λ m. find (rival_below spaces c.args.ns c.args.kind c.args.word.now m) c.args.cells.now) all
-    ∙ rivals_all spaces c.args.ns c.args.kind c.args.word.now (length spaces) c.args.cells.now c.requires.inside
+    let ns = c.args.path.now.ns in
+    let kind = c.args.word.now.kind in
+    let word = c.args.word.now.text.now in
+    let is : c.get.result ≡ Some (One c.in-Some-One.number) = cc in
+    let one : f anywhere (word_hash kind word) ≡ Some (One c.in-Some-One.number) = ap (f anywhere) (sym c.args.word.now.hashed) ∙ sym c.get.ensures ∙ is in
+    c.rival_numbered.ensures
+    ∙ one_anywhere f kind word (λ (d : SpaceCell). has_word kind word d && is_rival spaces ns d) (asks_rival spaces ns kind word) c.args.cells.now c.in-Some-One.number c.requires.rising c.requires.whole one

@@ -5,4 +5,4 @@ use Rattle.cell_stage.proofs.link.link_new.Given as goal
 
 -- the cells so far
 abbrev pub invariant-loop-place : goal.invariant-loop-place
-invariant-loop-place l = IsLinkedTo (seen l.scene.layers.namespaces (l.scene.present.now ++ l.scene.fresh.now) l.scene.layers.cells) l.scene.fresh.now l.place l.linked
+invariant-loop-place l = IsLinkedTo (seen l.scene.ahead.now.namespaces (l.scene.present.now ++ l.scene.fresh.now) l.scene.ahead.now.cells) l.scene.fresh.now l.place l.linked

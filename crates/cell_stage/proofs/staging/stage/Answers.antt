@@ -16,7 +16,7 @@ returns-in_err-space c =
 
 pub link_among-requires-clause-cells : goal.link_among-requires-clause-cells
 link_among-requires-clause-cells c =
-    subst (λ (cells : List NewCell). AreCells (c.args.machine.now.spaces.cells ++ c.in_ok-gathered.gathered.spaces.cells) (c.args.machine.now.cells.items ++ cells)) (sym c.deref.ensures.value)
+    subst (λ (cells : List NewCell). AreCells (c.in_ok-gathered.gathered.ahead.cells) (c.args.machine.now.cells.items ++ cells)) (sym c.deref.ensures.value)
     (are_cells c.args.depot.now c.requires.small c.args.machine.now c.requires.sound c.args.ns.now c.args.stem.now c.in_ok-gathered.gathered (c.in_ok-gathered.ensures {u = tt})
     c.in_ok-space.space c.in_ok-space.placed (c.in_ok-space.ensures {u = tt}))
 
@@ -29,13 +29,13 @@ link_among-requires-clause-can c =
 pub returns-in_err-linked : goal.returns-in_err-linked
 returns-in_err-linked c =
     let p = err_from_is_err_and c.from_residual-in_err-linked.result c.from_residual-in_err-linked.ensures.1 in
-    let links = subst (λ (cells : List NewCell). LinksAll (seen c.args.machine.now.spaces.namespaces (c.args.machine.now.cells.items ++ cells) (c.args.machine.now.spaces.cells ++ c.in_ok-gathered.gathered.spaces.cells)) cells (Err c.in_err-linked.field-0.0)) c.deref.ensures.value (c.in_err-linked.ensures {u = tt}) in
+    let links = subst (λ (cells : List NewCell). LinksAll (seen c.args.machine.now.spaces.namespaces (c.args.machine.now.cells.items ++ cells) (c.in_ok-gathered.gathered.ahead.cells)) cells (Err c.in_err-linked.field-0.0)) c.deref.ensures.value (c.in_err-linked.ensures {u = tt}) in
     rw (p.1, p.2)
     (link_failed c.args.depot.now c.requires.small c.args.machine.now c.requires.sound c.args.ns.now c.args.stem.now c.in_ok-gathered.gathered (c.in_ok-gathered.ensures {u = tt})
     c.in_ok-space.space c.in_ok-space.placed (c.in_ok-space.ensures {u = tt}) c.in_err-linked.field-0.0 links)
 
 pub returns : goal.returns
 returns c =
-    let links = subst (λ (cells : List NewCell). LinksAll (seen c.args.machine.now.spaces.namespaces (c.args.machine.now.cells.items ++ cells) (c.args.machine.now.spaces.cells ++ c.in_ok-gathered.gathered.spaces.cells)) cells (Ok c.in_ok-linked.linked)) c.deref.ensures.value (c.in_ok-linked.ensures {u = tt}) in
+    let links = subst (λ (cells : List NewCell). LinksAll (seen c.args.machine.now.spaces.namespaces (c.args.machine.now.cells.items ++ cells) (c.in_ok-gathered.gathered.ahead.cells)) cells (Ok c.in_ok-linked.linked)) c.deref.ensures.value (c.in_ok-linked.ensures {u = tt}) in
     staged c.args.depot.now c.requires.small c.args.machine.now c.requires.sound c.args.ns.now c.args.stem.now c.in_ok-gathered.gathered (c.in_ok-gathered.ensures {u = tt})
     c.in_ok-space.space c.in_ok-space.placed (c.in_ok-space.ensures {u = tt}) c.in_ok-linked.linked links _ refl refl refl refl refl refl

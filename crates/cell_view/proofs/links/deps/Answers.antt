@@ -1,24 +1,11 @@
-use Rattle.std.proofs.Common.{◌∙◌, ap, filter_map, subst, sym}
-use Rattle.cell_world.specs.declared.state.LinkRow.{LinkRow}
-use Rattle.cell_world.specs.declared.state.NewCell.{NewCell}
-use Rattle.cell_world.specs.LinkCommands.{link_line}
-use Rattle.cell_machine.specs.Machine.{section_keys, world_of}
-use Rattle.cell_view.specs.Links.{HasSections, links_out}
-use Rattle.std.specs.List.Sorted.{IsPermutation}
-use Rattle.cell_view.proofs.LinksShown.{deps_shown, has_sections}
+use Rattle.std.proofs.Common.{◌∙◌}
+use Rattle.cell_machine.specs.Machine.{world_of}
+use Rattle.cell_view.proofs.LinksShown.{deps_shown}
 use Rattle.cell_view.proofs.Showing.{here_is}
 use Rattle.cell_view.proofs.links.deps.Goals as goal
-
-pub sorted_deps-requires : goal.sorted_deps-requires
-sorted_deps-requires c =
-    let m = c.args.machine.now in
-    let d = here_is (world_of m) c.args.cell c.in-Some.present.now (c.in-Some.ensures {u = tt}) in
-    subst (λ (p : NewCell). HasSections m.graph p) (sym d.2) (has_sections m c.requires c.args.cell d.0 d.1)
 
 pub returns : goal.returns
 returns c =
     let m = c.args.machine.now in
-    let d = here_is (world_of m) c.args.cell c.in-Some.present.now (c.in-Some.ensures {u = tt}) in
-    deps_shown m c.requires c.args.cell d.0 d.1 c.in_ok-rows.rows.items c.in_ok-rows.ensures.order c.from_vec.result
-    (c.from_vec.ensures ∙ (c.in_ok-lines.ensures ∙ ap (filter_map (link_line (world_of m))) c.deref.ensures.value))
-    (subst (λ (p : NewCell). IsPermutation (links_out m.graph.rows (section_keys p)) c.in_ok-rows.rows.items) d.2 c.in_ok-rows.ensures.links)
+    let d = here_is (world_of m) c.args.cell c.in-Some.field-0.now (c.in-Some.ensures {u = tt}) in
+    deps_shown m c.requires c.args.cell d.0 d.1 c.from_vec.result (c.from_vec.ensures ∙ c.in_ok-lines.ensures)

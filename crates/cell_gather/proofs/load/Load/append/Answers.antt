@@ -21,11 +21,6 @@ add-requires-clause-room c =
     let cells = c.args.gathered.now.cells.items in
     (accepted (with_new c.args.self.now.spaces.now cells) (length c.args.self.now.spaces.now.cells + length cells) (c.args.self.now.next + length cells) c.args.ns c.args.file.now c.in_ok-fresh.fresh.cell c.in_ok-fresh.ensures).room
 
-pub add-requires-clause-free : goal.add-requires-clause-free
-add-requires-clause-free c =
-    let cells = c.args.gathered.now.cells.items in
-    (accepted (with_new c.args.self.now.spaces.now cells) (length c.args.self.now.spaces.now.cells + length cells) (c.args.self.now.next + length cells) c.args.ns c.args.file.now c.in_ok-fresh.fresh.cell c.in_ok-fresh.ensures).free
-
 pub returns-clause-one : goal.returns-clause-one
 returns-clause-one c = record { cell = c.in_ok-fresh.fresh.cell; is = c.in_ok-add.ensures.added }
 

@@ -4,7 +4,7 @@ use Rattle.std.proofs.lemmas.List.Elements.{All-rest}
 use Rattle.cell_world.specs.Names.{chain}
 use Rattle.cell_gather.specs.Choosing.{nearest_now, one_in, space_name}
 use Rattle.cell_world.specs.Gather.{source_of, depot_files}
-use Rattle.cell_gather.proofs.Chains.{chain_inside}
+use Rattle.cell_space.proofs.Chains.{chain_inside}
 use Rattle.cell_gather.proofs.Nearests.{nearest_on, nothing_there}
 use Rattle.cell_gather.proofs.load.Load.nearest.Goals as goal
 

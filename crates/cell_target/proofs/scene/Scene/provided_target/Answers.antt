@@ -11,17 +11,17 @@ returns-in_err-cell c =
     let s = c.args.self.now in
     c.from_residual.ensures
     ∙ (ap (option_and_then (at_place (provider_as c.args.provider.now))) (c.in_err-cell.ensures {u = tt})
-    ∙ sym (provided_by_places (seen s.layers.namespaces (s.present.now ++ s.fresh.now) s.layers.cells) (provider_as c.args.provider.now)))
+    ∙ sym (provided_by_places (seen s.ahead.now.namespaces (s.present.now ++ s.fresh.now) s.ahead.now.cells) (provider_as c.args.provider.now)))
 
 pub target_in-requires : goal.target_in-requires
 target_in-requires c =
     let s = c.args.self.now in
     s.cells.low c.in_ok-cell.cell.now
-    (found_there s.layers.namespaces (s.present.now ++ s.fresh.now) s.layers.cells s.cells.joined c.args.provider.now.cell.0 c.in_ok-cell.cell.now (sym (c.in_ok-cell.ensures {u = tt})))
+    (found_there s.ahead.now.namespaces (s.present.now ++ s.fresh.now) s.ahead.now.cells s.cells.joined c.args.provider.now.cell.0 c.in_ok-cell.cell.now (sym (c.in_ok-cell.ensures {u = tt})))
 
 pub returns : goal.returns
 returns c =
     let s = c.args.self.now in
     c.target_in.ensures
     ∙ (ap (option_and_then (at_place (provider_as c.args.provider.now))) (c.in_ok-cell.ensures {u = tt})
-    ∙ sym (provided_by_places (seen s.layers.namespaces (s.present.now ++ s.fresh.now) s.layers.cells) (provider_as c.args.provider.now)))
+    ∙ sym (provided_by_places (seen s.ahead.now.namespaces (s.present.now ++ s.fresh.now) s.ahead.now.cells) (provider_as c.args.provider.now)))

@@ -6,4 +6,4 @@ use Rattle.cell_target.proofs.scene.Scene.symbol_targets.Given as goal
 
 -- the targets of the symbols so far
 abbrev pub invariant-loop-index : goal.invariant-loop-index
-invariant-loop-index l = l.targets.items ≡ map (λ s. symbol_target (seen l.self.layers.namespaces (l.self.present.now ++ l.self.fresh.now) l.self.layers.cells) (attached l.cell) s s.home) (take l.index l.cell.object.symbols)
+invariant-loop-index l = l.targets.items ≡ map (λ s. symbol_target (seen l.self.ahead.now.namespaces (l.self.present.now ++ l.self.fresh.now) l.self.ahead.now.cells) (attached l.cell) s s.home) (take l.index l.cell.object.symbols)

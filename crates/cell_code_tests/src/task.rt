@@ -1,0 +1,242 @@
+ghost use Rattle.std.specs.Prelude.{◌≡◌, ◌+◌, ◌<◌, ◌≤◌, ◌^◌, IfOk, None, Some, true, is_some, length, vec_capacity, vec_len};
+ghost use Rattle.cell_mem.specs.State.{region_from};
+ghost use Rattle.cell_world.specs.World.{Task as WorldTask};
+ghost use Rattle.cell_task.specs.State.{live_in};
+
+use cell_mem::{Memory, Perm};
+use cell_num::{Cause, CellId};
+use cell_task::*;
+use std::alloc::Global;
+use std::test::*;
+
+const BASE: u64 = 0x1000_0000;
+
+const STACK: u64 = 0x1000_1000;
+
+/// Puts out `A`, 0, 2^64 - 1, yields, and ends with 7.
+const OUTPUT: [u32; 13] = [
+    0x1410_0513, // addi x10, x0, 0x141
+    0x0010_0893, // addi x17, x0, 1
+    0x0000_0073, // ecall
+    0x0000_0513, // addi x10, x0, 0
+    0x0020_0893, // addi x17, x0, 2
+    0x0000_0073, // ecall
+    0xfff0_0513, // addi x10, x0, -1
+    0x0000_0073, // ecall
+    0x0030_0893, // addi x17, x0, 3
+    0x0000_0073, // ecall
+    0x0070_0513, // addi x10, x0, 7
+    0x0000_0893, // addi x17, x0, 0
+    0x0000_0073, // ecall
+];
+
+/// A page that begins with these words.
+fn page(alloc: Global, words: &[u32]) -> Result<Vec<u8>, Fail>
+    ensures { IfOk result (λ bytes. length bytes.items ≡ 4096) }
+{
+    let mut bytes = Vec::new(alloc);
+    for word in words {
+        for byte in word.to_le_bytes() {
+            bytes.push(byte)?;
+        }
+    }
+    bytes.resize(4096, 0)?;
+    Ok(bytes)
+}
+
+/// Four pages of zeros.
+fn stack_bytes(alloc: Global) -> Result<Vec<u8>, Fail>
+    ensures { IfOk result (λ bytes. length bytes.items ≡ 16384) }
+{
+    let mut bytes = Vec::new(alloc);
+    bytes.resize(16384, 0)?;
+    Ok(bytes)
+}
+
+/// A memory of 16 pages: the first has the code, the next four are a stack.
+fn memory_with(alloc: Global, code: &[u32]) -> Result<Memory, Fail>
+    ensures undo { IfOk result (λ m. m.writes_left ≡ None) }
+    ensures stack { IfOk result (λ m. is_some (region_from m 268439552) ≡ true) }
+{
+    let mut memory = Memory::new(alloc, BASE, 16)?;
+    memory.reserve(2)?;
+    let code = page(alloc, code)?;
+    let stack = stack_bytes(alloc)?;
+    memory.map(BASE, Perm::READ | Perm::EXEC, code);
+    memory.map(STACK, Perm::READ | Perm::WRITE, stack);
+    Ok(memory)
+}
+
+/// A turn of task 1, where it is ready.
+fn one_turn(tasks: &mut Tasks, memory: &mut Memory, out: &mut Vec<u8>) -> Result<Turned, Fail>
+    requires undo { memory.old.writes_left ≡ None }
+    requires stack { (t : WorldTask) → live_in tasks.old 1 ≡ Some t → is_some (region_from memory.old t.stack) ≡ true }
+    requires room { vec_len out.old + 20 ≤ vec_capacity out.old }
+    ensures undo { memory.new.writes_left ≡ None }
+    ensures stack { (t : WorldTask) → live_in tasks.new 1 ≡ Some t → is_some (region_from memory.new t.stack) ≡ true }
+{
+    let Some(live) = tasks.get(1) else {
+        return Ok(Err("not live")?);
+    };
+    if live.fault.is_some() {
+        return Ok(Err("not ready")?);
+    }
+    memory.laid_out();
+    Ok(tasks.turn(1, memory, out))
+}
+
+/// What is there after some turns of a task, and how each ended.
+#[derive(Drop)]
+struct Run {
+    tasks: Tasks,
+    memory: Memory,
+    out: Vec<u8>,
+    answers: Vec<Turned>,
+}
+
+/// A task with 5 in x10 has at most so many turns.
+fn run_code(alloc: Global, code: &[u32], turns: u32) -> Result<Run, Fail> {
+    let mut memory = memory_with(alloc, code)?;
+    let mut tasks = Tasks::new(alloc);
+    tasks.spawn(BASE, 5, STACK, CellId(1))?;
+    let mut out = Vec::new(alloc);
+    let mut answers = Vec::new(alloc);
+    for _ in 0..turns {
+        out.reserve(20)?;
+        let answer = one_turn(&mut tasks, &mut memory, &mut out)?;
+        answers.push(answer)?;
+        if let Turned::Done(_) | Turned::Fault(..) = answer {
+            break;
+        }
+    }
+    Ok(Run {
+        tasks,
+        memory,
+        out,
+        answers,
+    })
+}
+
+/// Starts a task, where a number is left.
+fn start(tasks: &mut Tasks, arg: u64, stack: u64) -> Result<u32, Fail>
+    requires { stack < 2 ^ 63 }
+{
+    if tasks.next() > 65535 {
+        return Ok(Err("no number is left")?);
+    }
+    Ok(tasks.spawn(BASE, arg, stack, CellId(3))?)
+}
+
+/// Ends a task, where it is live.
+fn end(tasks: &mut Tasks, task: u32) -> Result<u64, Fail> {
+    if tasks.get(task).is_none() {
+        return Ok(Err("not live")?);
+    }
+    Ok(tasks.kill(task))
+}
+
+fn live_numbers(alloc: Global, tasks: &Tasks) -> Result<Vec<u32>, Fail> {
+    let mut live = Vec::new(alloc);
+    for number in tasks.live() {
+        live.push(number)?;
+    }
+    Ok(live)
+}
+
+/// The number of a task that was ended isn't used again.
+#[test]
+fn numbers(rt: HostRuntime) -> Result<(), Fail> {
+    let mut tasks = Tasks::new(rt.alloc());
+    assert_eq!(rt; start(&mut tasks, 5, STACK)?, 1);
+    assert_eq!(rt; start(&mut tasks, 6, STACK + 0x4000)?, 2);
+    assert_eq!(rt; end(&mut tasks, 1)?, STACK);
+    assert!(rt; tasks.get(1).is_none());
+    assert_eq!(rt; tasks.count(), 1);
+    assert_eq!(rt; start(&mut tasks, 7, STACK)?, 3);
+    let live = live_numbers(rt.alloc(), &tasks)?;
+    assert_eq!(rt; live.as_slice(), [2, 3].as_slice());
+    Ok(())
+}
+
+#[test]
+fn output(rt: HostRuntime) -> Result<(), Fail> {
+    let run = run_code(rt.alloc(), &OUTPUT, 100)?;
+    assert_eq!(rt; run.out.as_slice(), b"A018446744073709551615".as_slice());
+    assert_eq!(rt; run.answers.len(), 13);
+    assert_eq!(rt; run.answers[8], Turned::Ready);
+    assert_eq!(rt; run.answers[9], Turned::Yield);
+    assert_eq!(rt; run.answers[12], Turned::Done(7));
+    assert_eq!(rt; run.tasks.count(), 0);
+    assert!(rt; run.memory.bytes(STACK, 1).is_none());
+    Ok(())
+}
+
+#[test]
+fn returns(rt: HostRuntime) -> Result<(), Fail> {
+    // addi x10, x10, 1; jalr x0, 0(x1)
+    let run = run_code(rt.alloc(), &[0x0015_0513, 0x0000_8067], 100)?;
+    assert_eq!(rt;
+        run.answers.as_slice(),
+        [Turned::Ready, Turned::Done(6)].as_slice()
+    );
+    assert!(rt; run.tasks.get(1).is_none());
+    assert!(rt; run.memory.bytes(STACK, 1).is_none());
+    assert!(rt; run.memory.bytes(BASE, 1).is_some());
+    Ok(())
+}
+
+/// A call that no task has, and a fault, leave registers and stack.
+#[test]
+fn faults(rt: HostRuntime) -> Result<(), Fail> {
+    for (code, cause) in [
+        ([0x0040_0893, 0x0000_0073], Cause::Call), // addi x17, x0, 4; ecall
+        ([0x0050_0893, 0x0000_0073], Cause::Call), // addi x17, x0, 5; ecall
+        ([0x0060_0893, 0x0000_0073], Cause::Call), // addi x17, x0, 6; ecall
+        ([0xfff0_0893, 0x0000_0073], Cause::Call), // addi x17, x0, -1; ecall
+        ([0x0060_0893, 0x0010_0073], Cause::Break), // addi x17, x0, 6; ebreak
+    ] {
+        let run = run_code(rt.alloc(), &code, 100)?;
+        let fault = Turned::Fault(cause, BASE + 4);
+        assert_eq!(rt; run.answers.as_slice(), [Turned::Ready, fault].as_slice());
+        assert_eq!(rt; run.out.len(), 0);
+        let live = run.tasks.get(1).ok_or("not live")?;
+        assert_eq!(rt;
+            live.fault,
+            Some(TaskFault {
+                cause,
+                pc: BASE + 4
+            })
+        );
+        assert_eq!(rt; live.hart.pc, BASE + 4);
+        assert_eq!(rt; live.hart.x[10], 5);
+        assert!(rt; live.hart.x[17] != 0);
+        assert!(rt; run.memory.bytes(STACK, 16384).is_some());
+    }
+    Ok(())
+}
+
+/// x2 is set, and the words are the pc, 31 registers and those of the stack from x2 on.
+#[test]
+fn words(rt: HostRuntime) -> Result<(), Fail> {
+    for (set_x2, count) in [
+        (0x0000_0113, 2048), // addi x2, x0, 0: below
+        (0x0031_0113, 2), // addi x2, x2, 3
+        (0x0081_0113, 1), // addi x2, x2, 8
+        (0x0101_0113, 0), // addi x2, x2, 16: at the end
+        (0x0111_0113, 2048), // addi x2, x2, 17: above
+    ] {
+        // sd x10, 8(x2), and x2
+        let run = run_code(rt.alloc(), &[0x00a1_3423, set_x2], 2)?;
+        let mut words = Vec::new(rt.alloc());
+        words.push(1)?;
+        assert!(rt; run.tasks.get(1).is_some());
+        run.tasks.words_of(1, &run.memory, &mut words)?;
+        assert_eq!(rt; words.len(), 32 + count);
+        assert_eq!(rt; words[0], BASE + 8);
+        assert_eq!(rt; words[10], 5);
+        if count > 0 {
+            assert_eq!(rt; words[31 + count], 5);
+        }
+    }
+    Ok(())
+}

@@ -1,6 +1,0 @@
-use Rattle.std.proofs.Common.{◌≡◌, None}
-use Rattle.cell_hart.proofs.tests.runs.Given as goal
-
--- no undo is begun
-abbrev pub invariant-loop-want : goal.invariant-loop-want
-invariant-loop-want g l = l.memory.writes_left ≡ None

@@ -1,6 +1,0 @@
-use Rattle.std.proofs.Common.{◌≡◌, None}
-use Rattle.cell_hart.proofs.tests.traps.Given as goal
-
--- no undo is begun
-abbrev pub invariant-loop-pc : goal.invariant-loop-pc
-invariant-loop-pc g l = l.memory.writes_left ≡ None

@@ -1,6 +1,0 @@
-use Rattle.cell_place.specs.Runs.{IsFound}
-use Rattle.cell_place.proofs.search.find_runs.Given as goal
-
--- what the pages from there on have
-abbrev pub invariant-loop-page : goal.invariant-loop-page
-invariant-loop-page l = IsFound l.taken l.count l.page l.found

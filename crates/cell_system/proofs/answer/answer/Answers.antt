@@ -1,0 +1,56 @@
+use Rattle.std.proofs.Common.{sym, ◌∙◌, ap₂, subst, ℕ, List, map}
+use Rattle.cell_world.specs.declared.command.Command.{Command}
+use Rattle.cell_world.specs.declared.command.Command.TheVariants.{Deps, Dump, Find, Load, Map, Ns, Spawn, Tasks, Users}
+use Rattle.cell_world.specs.Gather.{source_of}
+use Rattle.cell_world.specs.Next.{outcome_of}
+use Rattle.cell_machine.specs.Does.{Does}
+use Rattle.cell_machine.specs.Machine.{world_of}
+use Rattle.cell_system.specs.Step.{stacks_of}
+use Rattle.cell_system.proofs.Steps.{shows_deps, shows_dump, shows_find, shows_map, shows_tasks, shows_users}
+use Rattle.cell_system.proofs.answer.answer.Goals as goal
+
+pub returns-in-Ns : goal.returns-in-Ns
+returns-in-Ns c =
+    subst (λ (k : Command). Does (outcome_of (map source_of c.args.depot.now) (world_of c.args.machine.now) k) (stacks_of k) c.args.machine.now c.add_namespace.result c.add_namespace.new.machine)
+    (ap₂ (λ (name parent : List ℕ). let k : Command = Ns name parent in k) c.bytes.ensures c.bytes-in-Ns.ensures ∙ sym c.in-Ns.is) c.add_namespace.ensures
+
+pub returns-in-Load : goal.returns-in-Load
+returns-in-Load c =
+    subst (λ (k : Command). Does (outcome_of (map source_of c.args.depot.now) (world_of c.args.machine.now) k) (stacks_of k) c.args.machine.now c.load.result c.load.new.machine)
+    (ap₂ (λ (ns stem : List ℕ). let k : Command = Load ns stem in k) c.bytes-in-Load.ensures c.bytes-in-Load-2.ensures ∙ sym c.in-Load.is) c.load.ensures
+
+pub returns-in-Spawn : goal.returns-in-Spawn
+returns-in-Spawn c =
+    subst (λ (k : Command). Does (outcome_of (map source_of c.args.depot.now) (world_of c.args.machine.now) k) (stacks_of k) c.args.machine.now c.spawn.result c.spawn.new.machine)
+    (ap₂ (λ (ns symbol : List ℕ). let k : Command = Spawn ns symbol c.in-Spawn.arg in k) c.bytes-in-Spawn.ensures c.bytes-in-Spawn-2.ensures ∙ sym c.in-Spawn.is) c.spawn.ensures
+
+pub returns-in-Find : goal.returns-in-Find
+returns-in-Find c =
+    subst (λ (k : Command). Does (outcome_of (map source_of c.args.depot.now) (world_of c.args.machine.now) k) (stacks_of k) c.args.machine.now c.find.result c.args.machine.now)
+    (ap₂ (λ (ns symbol : List ℕ). let k : Command = Find ns symbol in k) c.bytes-in-Find.ensures c.bytes-in-Find-2.ensures ∙ sym c.in-Find.is)
+    (shows_find c.args.machine.now c.requires.sound _ _ c.find.result c.find.ensures)
+
+pub returns-in-Tasks : goal.returns-in-Tasks
+returns-in-Tasks c =
+    subst (λ (k : Command). Does (outcome_of (map source_of c.args.depot.now) (world_of c.args.machine.now) k) (stacks_of k) c.args.machine.now c.tasks.result c.args.machine.now)
+    (sym c.in-Tasks.is) (shows_tasks c.args.machine.now c.requires.sound c.tasks.result c.tasks.ensures)
+
+pub returns-in-Deps : goal.returns-in-Deps
+returns-in-Deps c =
+    subst (λ (k : Command). Does (outcome_of (map source_of c.args.depot.now) (world_of c.args.machine.now) k) (stacks_of k) c.args.machine.now c.deps.result c.args.machine.now)
+    (sym c.in-Deps.is) (shows_deps c.args.machine.now c.requires.sound c.in-Deps.cell c.deps.result c.deps.ensures)
+
+pub returns-in-Users : goal.returns-in-Users
+returns-in-Users c =
+    subst (λ (k : Command). Does (outcome_of (map source_of c.args.depot.now) (world_of c.args.machine.now) k) (stacks_of k) c.args.machine.now c.users.result c.args.machine.now)
+    (sym c.in-Users.is) (shows_users c.args.machine.now c.requires.sound c.in-Users.cell c.users.result c.users.ensures)
+
+pub returns-in-Map : goal.returns-in-Map
+returns-in-Map c =
+    subst (λ (k : Command). Does (outcome_of (map source_of c.args.depot.now) (world_of c.args.machine.now) k) (stacks_of k) c.args.machine.now c.map.result c.args.machine.now)
+    (sym c.in-Map.is) (shows_map c.args.machine.now c.requires.sound c.map.result c.map.ensures)
+
+pub returns-in-Dump : goal.returns-in-Dump
+returns-in-Dump c =
+    subst (λ (k : Command). Does (outcome_of (map source_of c.args.depot.now) (world_of c.args.machine.now) k) (stacks_of k) c.args.machine.now c.dump.result c.args.machine.now)
+    (sym c.in-Dump.is) (shows_dump c.args.machine.now c.requires.sound c.in-Dump.cell c.in-Dump.section c.dump.result c.dump.ensures)
