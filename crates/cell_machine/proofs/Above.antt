@@ -9,13 +9,12 @@ use Rattle.cell_num.specs.declared.ids.SecKey.{SecKey}
 use Rattle.cell_num.specs.Lists.{each_pair}
 use Rattle.cell_object.specs.declared.object.Section.{Section as ObjectSection}
 use Rattle.cell_world.specs.declared.state.NewCell.{NewCell}
-use Rattle.cell_world.specs.World.{Cell, attached, key_of}
+use Rattle.cell_world.specs.World.{key_of}
 use Rattle.cell_coherent.specs.Grown.{In}
-use Rattle.cell_coherent.proofs.Elements.{all-In, In-All, In-append, map-In, In-map, pairs-map}
+use Rattle.cell_coherent.proofs.Elements.{all-In, In-All, In-append, In-map, pairs-map}
 use Rattle.cell_commit.specs.Cells.{AreAbove, keys_in}
 use Rattle.cell_commit.specs.declared.sections.CellSections.{CellSections}
 use Rattle.cell_machine.specs.Machine.{keys_of, section_keys}
-use Rattle.cell_machine.specs.Staged.{all_attached}
 
 rise : (ns : List ℕ) → each_pair nat_lt ns ≡ true → (k : ℕ) → suc k < length ns → slice_index ns k < slice_index ns (suc k)
 rise [] h k lt = absurd (omega (arith, lt))
@@ -74,7 +73,7 @@ all_keys_listed (s ∷ list) (c ∷ cells) e =
     (all_keys_listed list cells (tail_is (listed s) (numbers_in c) (map listed list) (map numbers_in cells) e))
 
 abbrev are_ordered : List NewCell → Type 0
-are_ordered cells = each_pair (λ (a b : Cell). nat_lt a.id.0 b.id.0) (all_attached cells) ≡ true
+are_ordered cells = each_pair (λ (a b : NewCell). nat_lt a.id.0 b.id.0) cells ≡ true
 
 -- each new cell's number is above all before it, and its sections rise
 pub are_above : (list : List CellSections) (cells : List NewCell) (keys : List SecKey) → map listed list ≡ map numbers_in cells → are_ordered cells
@@ -88,17 +87,17 @@ are_above (s ∷ list) (c ∷ cells) keys e order rising below =
     let rest : map listed list ≡ map numbers_in cells = tail_is (listed s) (numbers_in c) (map listed list) (map numbers_in cells) e in
     let id : s.cell ≡ c.id = ap (λ (p : Numbers). p.0) here in
     let secs : s.sections.items ≡ numbers c = ap (λ (p : Numbers). p.1) here in
-    let k = and_parts (list_all (λ (b : Cell). nat_lt c.id.0 b.id.0) (all_attached cells)) (each_pair (λ (a b : Cell). nat_lt a.id.0 b.id.0) (all_attached cells)) order in (
+    let k = and_parts (list_all (λ (b : NewCell). nat_lt c.id.0 b.id.0) cells) (each_pair (λ (a b : NewCell). nat_lt a.id.0 b.id.0) cells) order in (
       subst (λ (id : CellId). All (λ (k : SecKey). k.cell.0 < id.0) keys) (sym id) (In-All (λ (k : SecKey). k.cell.0 < c.id.0) keys (λ k i. below k i c (inl refl))),
       subst IsStrictlyIncreasing (sym secs) (numbers_rise c (rising c (inl refl))),
       are_above list cells (keys ++ keys_in s) rest k.1 (λ d j. rising d (inr j)) (λ x i d j. more here d j k.0 x (In-append keys (keys_in s) x i)),
     )
   where
-    more : listed s ≡ numbers_in c → (d : NewCell) → In d cells → list_all (λ (b : Cell). nat_lt c.id.0 b.id.0) (all_attached cells) ≡ true → (x : SecKey) → In x keys ⊎ In x (keys_in s) → x.cell.0 < d.id.0
+    more : listed s ≡ numbers_in c → (d : NewCell) → In d cells → list_all (λ (b : NewCell). nat_lt c.id.0 b.id.0) cells ≡ true → (x : SecKey) → In x keys ⊎ In x (keys_in s) → x.cell.0 < d.id.0
     more here d j all x (inl i) = below x i d (inr j)
     more here d j all x (inr i) =
         let own : In x (section_keys c) = subst (λ (ks : List SecKey). In x ks) (keys_listed s c here) i in
         let t : (t : ObjectSection) × In t c.object.sections × (x ≡ key_of c.id.0 t.number) = In-map (λ (t : ObjectSection). key_of c.id.0 t.number) c.object.sections x own in
         let same : x.cell.0 ≡ c.id.0 = ap (λ (k : SecKey). k.cell.0) t.2 in
-        let above = ltb-true c.id.0 d.id.0 (all-In (λ (b : Cell). nat_lt c.id.0 b.id.0) (all_attached cells) all (attached d) (map-In attached cells d j)) in
+        let above = ltb-true c.id.0 d.id.0 (all-In (λ (b : NewCell). nat_lt c.id.0 b.id.0) cells all d j) in
         omega (arith, same, above)

@@ -3,7 +3,7 @@ use Rattle.std.proofs.Common.{◌≡◌, refl, sym, ◌∙◌, ap, ap₂, subst,
 use Rattle.cell_num.specs.Lists.{from_on}
 use Rattle.cell_world.specs.Pages.{IsSpace}
 use Rattle.cell_world.specs.declared.state.LinkRow.{LinkRow}
-use Rattle.cell_world.specs.World.{World, empty_world}
+use Rattle.cell_world.specs.World.{empty_world}
 use Rattle.cell_world.specs.Coherent.{IsCoherent}
 use Rattle.cell_world.specs.Place.{is_taken, page_table}
 use Rattle.cell_coherent.proofs.NextCoherent.{empty_coherent}
@@ -45,16 +45,18 @@ module _ (base pages : ℕ) (space : IsSpace base pages) (m : Machine) (cells : 
   pub begins_sound : IsSound m
   begins_sound = record {
     coherent = subst IsCoherent (sym world_empty) (empty_coherent base pages space);
-    joined = joined_by [] m.cells.items m.spaces.cells cells none;
-    table = ap (λ (s : SpaceState). s.taken) free ∙ (sym (all_free base pages 0 pages) ∙ ap page_table (sym world_empty));
-    base = ap (λ (s : SpaceState). s.base) free ∙ ap (λ (x : MemoryState). x.base) (sym memory);
-    sections = sections ∙ ap keys_of (sym cells);
-    seals =
-        ap (λ (x : MemoryState). x.sealed) memory
-        ∙ (none_sealed base (4096 * pages)
-        ∙ (ap (λ (x : MemoryState). seal_table x.base (4096 * x.pages) []) (sym memory)
-        ∙ ap (λ (cs : List NewCell). seal_table m.memory.base (4096 * m.memory.pages) (field_bytes cs)) (sym cells)));
-    undo = ap (λ (x : MemoryState). x.writes_left) memory;
-    patches = subst (λ (x : MemoryState). x.patches ≤ 2 ^ 64 - 1) (sym memory) (omega arith);
-    maps = subst (λ (x : MemoryState). x.maps ≤ 2 ^ 64 - 1) (sym memory) (omega arith);
+    parts = record {
+      joined = joined_by [] m.cells.items m.spaces.cells cells none;
+      table = ap (λ (s : SpaceState). s.taken) free ∙ (sym (all_free base pages 0 pages) ∙ ap page_table (sym world_empty));
+      base = ap (λ (s : SpaceState). s.base) free ∙ ap (λ (x : MemoryState). x.base) (sym memory);
+      sections = sections ∙ ap keys_of (sym cells);
+      seals =
+          ap (λ (x : MemoryState). x.sealed) memory
+          ∙ (none_sealed base (4096 * pages)
+          ∙ (ap (λ (x : MemoryState). seal_table x.base (4096 * x.pages) []) (sym memory)
+          ∙ ap (λ (cs : List NewCell). seal_table m.memory.base (4096 * m.memory.pages) (field_bytes cs)) (sym cells)));
+      undo = ap (λ (x : MemoryState). x.writes_left) memory;
+      patches = subst (λ (x : MemoryState). x.patches ≤ 2 ^ 64 - 1) (sym memory) (omega arith);
+      maps = subst (λ (x : MemoryState). x.maps ≤ 2 ^ 64 - 1) (sym memory) (omega arith);
+    };
   }

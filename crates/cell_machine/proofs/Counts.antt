@@ -1,6 +1,6 @@
 -- The counts after a command that brings no cell.
-use Rattle.std.proofs.Common.{◌≡◌, refl, sym, ◌∙◌, ap, arith, ℕ, ◌+◌, ◌-◌, ◌≤◌, ◌^◌, List, [], ◌∷◌, map, length, min}
-use Rattle.std.specs.Prelude.{false, filter, flat_map}
+use Rattle.std.proofs.Common.{◌≡◌, refl, ◌∙◌, ap, arith, ◌+◌, ◌-◌, ◌^◌, List, [], ◌∷◌, map, length, min}
+use Rattle.std.specs.Prelude.{filter, flat_map}
 use Rattle.cell_num.specs.declared.ids.CellId.{CellId}
 use Rattle.cell_num.specs.Lists.{holds}
 use Rattle.cell_world.specs.declared.reply.Reply.{Reply}

@@ -7,9 +7,8 @@ use Rattle.cell_num.specs.declared.kinds.RelKind.TheVariants.{Abs32, Abs64, Bran
 use Rattle.cell_num.specs.Kinds.{width_of}
 use Rattle.cell_num.specs.Lists.{where_true}
 use Rattle.cell_object.specs.declared.object.Entry.{Entry}
-use Rattle.cell_world.specs.declared.state.NewCell.{NewCell}
 use Rattle.cell_world.specs.declared.state.Target.{Target}
-use Rattle.cell_world.specs.World.{World, Cell, Region, attached}
+use Rattle.cell_world.specs.World.{World, Cell, Region}
 use Rattle.cell_world.specs.Field.{fields_of, place_of}
 use Rattle.cell_world.specs.Memory.{end_of}
 use Rattle.cell_world.specs.Target.{targets_of}
@@ -62,15 +61,15 @@ found_with ms w addr n same is =
     ∙ ap (λ b. is_some (where_true b is.region)) (le-leb (addr + n) (end_of is.region) is.ends)
 
 module _ (ms : MemoryState) (w : World) (same : ms.regions ≡ w.regions) (linkable : IsLinkable w) where
-  entry_mapped : (p : NewCell) → In (attached p) w.cells → (targets : List Target) (e : Entry) → In e p.object.entries → IsMapped ms (value_at p targets e)
-  entry_mapped p there targets e k =
-      let all = All-In (λ (c : Cell). All (λ (e : Entry). IsInside w (place_of c.placed e) (width_of e.kind)) c.object.entries) w.cells (fields_lie w linkable) (attached p) there in
-      (known_width e.kind, found_with ms w (place_of p e) (width_of e.kind) same (All-In (λ (e : Entry). IsInside w (place_of p e) (width_of e.kind)) p.object.entries all e k))
+  entry_mapped : (c : Cell) → In c w.cells → (targets : List Target) (e : Entry) → In e c.object.entries → IsMapped ms (value_at c.placed targets e)
+  entry_mapped c there targets e k =
+      let all = All-In (λ (c : Cell). All (λ (e : Entry). IsInside w (place_of c.placed e) (width_of e.kind)) c.object.entries) w.cells (fields_lie w linkable) c there in
+      (known_width e.kind, found_with ms w (place_of c.placed e) (width_of e.kind) same (All-In (λ (e : Entry). IsInside w (place_of c.placed e) (width_of e.kind)) c.object.entries all e k))
 
   -- each field of the cells is mapped
-  pub fields_mapped : (cells : List NewCell) → ((p : NewCell) → In p cells → In (attached p) w.cells) → All (IsMapped ms) (all_fields w cells)
+  pub fields_mapped : (cells : List Cell) → ((c : Cell) → In c cells → In c w.cells) → All (IsMapped ms) (all_fields w cells)
   fields_mapped cells there =
       In-All (IsMapped ms) (all_fields w cells) (λ f k.
-      let p : (p : NewCell) × In p cells × In f (field_values p (targets_of w (attached p))) = In-flat_map (λ (p : NewCell). field_values p (targets_of w (attached p))) cells f k in
-      let e : (e : Entry) × In e (fields_of p.0.object) × (f ≡ value_at p.0 (targets_of w (attached p.0)) e) = In-map (value_at p.0 (targets_of w (attached p.0))) (fields_of p.0.object) f p.2 in
-      subst (IsMapped ms) (sym e.2) (entry_mapped p.0 (there p.0 p.1) (targets_of w (attached p.0)) e.0 (among-In p.0.object.entries [] e.0 e.1)))
+      let c : (c : Cell) × In c cells × In f (field_values c.placed (targets_of w c)) = In-flat_map (λ (c : Cell). field_values c.placed (targets_of w c)) cells f k in
+      let e : (e : Entry) × In e (fields_of c.0.object) × (f ≡ value_at c.0.placed (targets_of w c.0) e) = In-map (value_at c.0.placed (targets_of w c.0)) (fields_of c.0.object) f c.2 in
+      subst (IsMapped ms) (sym e.2) (entry_mapped c.0 (there c.0 c.1) (targets_of w c.0) e.0 (among-In c.0.object.entries [] e.0 e.1)))

@@ -6,7 +6,7 @@ use Rattle.cell_world.specs.declared.state.NewCell.{NewCell}
 use Rattle.cell_world.specs.declared.state.Target.{Target}
 use Rattle.cell_world.specs.Names.{Provider, attached_provider, chain}
 use Rattle.cell_world.specs.Target.{provided_target}
-use Rattle.cell_world.specs.World.{World, Cell, cell_of}
+use Rattle.cell_world.specs.World.{World, cell_of}
 use Rattle.cell_coherent.specs.Grown.{In}
 use Rattle.cell_coherent.specs.Linkable.{IsLinkable}
 use Rattle.cell_coherent.proofs.Elements.{found-In}

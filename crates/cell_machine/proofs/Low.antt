@@ -2,7 +2,7 @@
 use Rattle.std.proofs.Common.{◌≡◌, refl, sym, ◌∙◌, ap, arith, ℕ, ◌+◌, ◌*◌, ◌%◌, ◌≤◌, ◌<◌, ◌^◌, Bool, true, false, ◌&&◌, List, [], ◌∷◌, map, length, true≢false}
 use Rattle.std.specs.Prelude.{Option, Some, None, All, find, option_map, unwrap_or, nat_le, nat_lt, ◌==◌}
 use Rattle.std.specs.List.{list_all}
-use Rattle.std.proofs.lemmas.Bool.{and_parts, leb-true, ltb-true}
+use Rattle.std.proofs.lemmas.Bool.{and_parts, leb-true}
 use Rattle.std.proofs.lemmas.Bool.Decides.{nat_tests}
 use Rattle.cell_num.specs.Lists.{each_pair, equals}
 use Rattle.cell_object.specs.declared.object.Home.{Home}
@@ -14,14 +14,13 @@ use Rattle.cell_object.specs.Parts.{is_defined, section_of}
 use Rattle.cell_object.specs.Sound.{IsSoundObject, is_known_bind, is_sound_home, is_sound_section, is_sound_symbol}
 use Rattle.cell_world.specs.declared.state.SecPlace.{SecPlace}
 use Rattle.cell_world.specs.World.{World, Cell}
-use Rattle.cell_world.specs.Coherent.{IsLoadable, are_limits_kept, is_known_cell, is_placed, stands_by_rule}
+use Rattle.cell_world.specs.Coherent.{IsLoadable, are_limits_kept, is_placed, stands_by_rule}
 use Rattle.cell_world.specs.declared.layout.Class.TheVariants.{Text, ReadOnly, Writable}
 use Rattle.cell_world.specs.Target.{start_of}
 use Rattle.cell_coherent.specs.Grown.{In}
 use Rattle.cell_coherent.specs.Linkable.{IsLinkable}
-use Rattle.cell_coherent.proofs.Elements.{All-In, In-All, all-In, found-In}
+use Rattle.cell_coherent.proofs.Elements.{All-In, all-In, found-In}
 use Rattle.cell_coherent.proofs.Inside.{places_lie}
-use Rattle.cell_coherent.proofs.Known.{known_parts}
 use Rattle.cell_placed.specs.Low.{IsLow}
 use Rattle.cell_machine.proofs.Lists.{pairs-map, same_names}
 

@@ -1,5 +1,5 @@
 -- A machine with other room is the same machine.
-use Rattle.std.proofs.Common.{◌≡◌, sym, ◌∙◌, ap, ap₂, subst, ◌≤◌, ◌-◌, ◌*◌, ◌^◌, ℕ, List, length, map}
+use Rattle.std.proofs.Common.{◌≡◌, sym, ◌∙◌, ap, ap₂, subst, ◌≤◌, ◌-◌, ◌*◌, ◌^◌, List, length}
 use Rattle.cell_world.specs.declared.state.LinkRow.{LinkRow}
 use Rattle.cell_world.specs.declared.state.Namespace.{Namespace}
 use Rattle.cell_world.specs.declared.state.NewCell.{NewCell}
@@ -13,7 +13,7 @@ use Rattle.cell_space.specs.declared.cell.SpaceCell.{SpaceCell}
 use Rattle.cell_task.specs.State.{TasksState}
 use Rattle.cell_commit.specs.Seals.{seal_table}
 use Rattle.cell_machine.specs.declared.machine.Machine.{Machine}
-use Rattle.cell_machine.specs.Machine.{IsSound, field_bytes, keys_of, world_by, world_of}
+use Rattle.cell_machine.specs.Machine.{AreParts, IsSound, field_bytes, keys_of, world_by, world_of}
 use Rattle.cell_machine.specs.Same.{IsSame}
 
 module _ (old new : Machine) (same : IsSame old new) where
@@ -38,9 +38,8 @@ module _ (old new : Machine) (same : IsSame old new) where
   pub maps_same : new.memory.maps ≡ old.memory.maps
   maps_same = ap (λ (m : MemoryState). m.maps) same.memory
 
-  pub sound_same : IsSound old → IsSound new
-  sound_same s = record {
-    coherent = subst IsCoherent (sym world_same) s.coherent;
+  pub parts_same : AreParts old → AreParts new
+  parts_same s = record {
     joined = subst (λ (cells : List NewCell). AreJoined cells new.spaces.cells) (sym same.cells)
         (subst (λ (known : List SpaceCell). AreJoined old.cells.items known) (sym same.known) s.joined);
     table = ap (λ (x : SpaceState). x.taken) same.space ∙ (s.table ∙ ap page_table (sym world_same));
@@ -55,3 +54,6 @@ module _ (old new : Machine) (same : IsSame old new) where
     patches = subst (λ (m : MemoryState). m.patches ≤ 2 ^ 64 - 1) (sym same.memory) s.patches;
     maps = subst (λ (m : MemoryState). m.maps ≤ 2 ^ 64 - 1) (sym same.memory) s.maps;
   }
+
+  pub sound_same : IsSound old → IsSound new
+  sound_same s = record { coherent = subst IsCoherent (sym world_same) s.coherent; parts = parts_same s.parts }

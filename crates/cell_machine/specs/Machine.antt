@@ -2,8 +2,9 @@
 --     world_of m              the machine that m is
 --     keys_of cells           the sections of the cells, by their keys
 --     field_bytes cells       where the fields of the cells begin, and how many bytes each of them has
---     IsSound m               the machine is coherent; its parts have its cells, its page table and its sections; and the sealed bytes
---                             are those of the fields
+--     AreParts m              the parts are those of one machine, also while it isn't coherent: they have its cells, its page table and
+--                             its sections, and the sealed bytes are those of the fields
+--     IsSound m               and the machine is coherent
 use Rattle.std.specs.Prelude.{ℕ, ◌≡◌, ◌≤◌, ◌-◌, ◌*◌, ◌^◌, List, None, flat_map, map}
 use Rattle.cell_num.specs.Kinds.{width_of}
 use Rattle.cell_num.specs.declared.ids.SecKey.{SecKey}
@@ -52,8 +53,8 @@ own_field_bytes c = map (λ f. (place_of c f, width_of f.kind)) (fields_of c.obj
 abbrev pub field_bytes : List NewCell → List (ℕ × ℕ)
 field_bytes cells = flat_map own_field_bytes cells
 
-pub record IsSound (m : Machine) : Type 0 where
-  pub coherent : IsCoherent (world_of m)
+-- the parts have the same cells, pages, sections and fields
+pub record AreParts (m : Machine) : Type 0 where
   pub joined : AreJoined m.cells.items m.spaces.cells
   pub table : m.space.taken ≡ page_table (world_of m)
   pub base : m.space.base ≡ m.memory.base
@@ -62,3 +63,8 @@ pub record IsSound (m : Machine) : Type 0 where
   pub undo : m.memory.writes_left ≡ None
   pub patches : m.memory.patches ≤ 2 ^ 64 - 1
   pub maps : m.memory.maps ≤ 2 ^ 64 - 1
+
+pub record IsSound (m : Machine) : Type 0 where
+  pub coherent : IsCoherent (world_of m)
+  pub parts : AreParts m
+  pub open parts use *

@@ -1,44 +1,94 @@
--- What a load has staged for a machine.
---     all_attached cells            the cells, which take part in names under their own
---     staged_in starts w new        w with the new cells in their places, which are not linked yet
---     IsStaged sources w ns stem s  the cells that the load brings, in their places with their fields and links
-use Rattle.std.specs.Prelude.{ℕ, ◌≡◌, List, None, Ok, flat_map, map, length}
-use Rattle.cell_world.specs.declared.state.NewCell.{NewCell}
-use Rattle.cell_world.specs.World.{World, Cell, attached}
-use Rattle.cell_world.specs.Fit.{first_misfit}
-use Rattle.cell_world.specs.Gather.{Source}
-use Rattle.cell_world.specs.Names.{definitions_of}
-use Rattle.cell_world.specs.Place.{page_table}
+-- What has been staged for a machine: new cells in their places, not linked yet, and what linking gives them.
+--     all_attached cells          the cells, which take part in names under their own
+--     all_fields w cells          what the fields of the cells hold, cell by cell
+--     arrivals cells names        what the new cells are called, by their names
+--     IsStaged u new s            the new cells in their places in u, with their fields and links
+--     AreNewIn u w cells          in w the cells stand behind those of u, and all can be linked
+--     ComesTo w cells changed rows next   linking w writes what changes and the fields of the new cells
+--     IsLike v m                  m is v, where cells may stand aside
+--     IsCommitted m mid links newcomers s n  n has the cells of m and those that are staged
+use Rattle.std.specs.Prelude.{◌≡◌, ◌+◌, List, [], ◌∷◌, ◌++◌, All, None, Ok, flat_map, fold, length, map}
 use Rattle.cell_world.specs.declared.layout.Starts.{Starts}
+use Rattle.cell_world.specs.declared.state.LinkRow.{LinkRow}
+use Rattle.cell_world.specs.declared.state.NewCell.{NewCell}
+use Rattle.cell_world.specs.World.{Alias, World, Cell, Attached, attached}
+use Rattle.cell_world.specs.Coherent.{IsCoherent, IsReady}
+use Rattle.cell_world.specs.Fit.{first_misfit}
+use Rattle.cell_world.specs.Gather.{fresh_cells}
+use Rattle.cell_world.specs.Names.{names_of}
+use Rattle.cell_world.specs.Place.{page_table}
+use Rattle.cell_world.specs.Relink.{Patch, patched, patches_of}
 use Rattle.cell_world.specs.Target.{targets_of}
 use Rattle.cell_coherent.specs.Grown.{links_from}
-use Rattle.cell_law.specs.Loading.{all_regions, gathered_by, grown, objects_of, placed_after, placed_cells, take_all}
+use Rattle.cell_coherent.specs.Linkable.{IsLinkable}
+use Rattle.cell_law.specs.Loading.{all_regions, objects_of, placed_after, placed_cells, take_all}
 use Rattle.cell_link.specs.declared.value.FieldValue.{FieldValue}
 use Rattle.cell_link.specs.Linked.{field_values}
+use Rattle.cell_mem.specs.State.{MemoryState}
+use Rattle.cell_commit.specs.Commit.{fields_written}
+use Rattle.cell_space.specs.declared.cell.CellState.TheVariants.{Attached as IsAttached}
+use Rattle.cell_space.specs.declared.cell.SpaceCell.{SpaceCell}
+use Rattle.cell_space.specs.Joined.{placed_of}
+use Rattle.cell_machine.specs.declared.machine.Machine.{Machine}
 use Rattle.cell_machine.specs.declared.staged.Staged.{Staged}
+use Rattle.cell_machine.specs.Machine.{keys_of}
 
--- new cells, under their own names
+-- cells under their own names
 abbrev pub all_attached : List NewCell → List Cell
 all_attached cells = map attached cells
 
--- what the fields of the cells hold, cell by cell
-abbrev pub all_fields : World → List NewCell → List FieldValue
-all_fields w cells = flat_map (λ c. field_values c (targets_of w (attached c))) cells
+abbrev pub all_fields : World → List Cell → List FieldValue
+all_fields w cells = flat_map (λ c. field_values c.placed (targets_of w c)) cells
 
-abbrev pub staged_in : List Starts → World → List NewCell → World
-staged_in starts w new = placed_after starts w (all_attached new)
+abbrev pub arrival : NewCell → List Alias → SpaceCell
+arrival c names = record { cell = c.id; ns = c.ns; stem = c.stem; state = IsAttached; names = names }
+
+abbrev pub arrivals : List NewCell → List (List Alias) → List SpaceCell
+arrivals [] names = []
+arrivals (c ∷ cells) [] = []
+arrivals (c ∷ cells) (names ∷ rest) = arrival c names ∷ arrivals cells rest
 
 -- the new cells as they were gathered have no places yet
-pub record IsStaged (sources : List Source) (w : World) (ns stem : List ℕ) (s : Staged) : Type 0 where
-  pub new : List NewCell
-  pub gathered : gathered_by sources w ns stem ≡ Ok (grown w (all_attached new))
+pub record IsStaged (u : World) (new : List Cell) (s : Staged) : Type 0 where
   pub starts : List Starts
   pub each : length starts ≡ length new
-  pub runs : take_all w.base (page_table w) (objects_of (all_attached new)) ≡ Ok (record { starts = starts; table = s.space.taken })
-  pub base : s.space.base ≡ w.base
-  pub cells : all_attached s.cells.items ≡ placed_cells starts (all_attached new)
-  pub names : s.names.items ≡ map (λ c. definitions_of c.object) s.cells.items
-  pub regions : s.regions.items ≡ all_regions starts (objects_of (all_attached new))
-  pub fit : first_misfit (staged_in starts w new) (all_attached s.cells.items) ≡ None
-  pub fields : s.fields.items ≡ all_fields (staged_in starts w new) s.cells.items
-  pub rows : s.rows.items ≡ links_from (staged_in starts w new) (all_attached s.cells.items)
+  pub attached : All (λ c. c.standing ≡ Attached) new
+  pub runs : take_all u.base (page_table u) (objects_of new) ≡ Ok (record { starts = starts; table = s.space.taken })
+  pub base : s.space.base ≡ u.base
+  pub cells : s.cells.items ≡ map placed_of (placed_cells starts new)
+  pub names : s.names.items ≡ map names_of new
+  pub regions : s.regions.items ≡ all_regions starts (objects_of new)
+  pub fit : first_misfit (placed_after starts u new) (placed_cells starts new) ≡ None
+  pub fields : s.fields.items ≡ all_fields (placed_after starts u new) (placed_cells starts new)
+  pub rows : s.rows.items ≡ links_from (placed_after starts u new) (placed_cells starts new)
+
+pub record AreNewIn (u w : World) (cells : List Cell) : Type 0 where
+  pub linkable : IsLinkable w
+  pub fresh : fresh_cells u.next_cell w ≡ cells
+
+-- the links are those that others have by then, and those of the new cells
+pub record ComesTo (w : World) (cells : List Cell) (changed : List Patch) (rows : List LinkRow) (next : World) : Type 0 where
+  pub ready : IsReady w
+  pub coherent : IsCoherent next
+  pub is : next ≡ record w { regions = map (λ r. fold patched r (changed ++ flat_map (patches_of w) cells)) w.regions; links = rows ++ links_from w cells }
+
+-- m has the regions, the places and the numbers of v, where cells may have other standings
+pub record IsLike (v : World) (m : Machine) : Type 0 where
+  pub base : m.memory.base ≡ v.base
+  pub pages : m.memory.pages ≡ v.pages
+  pub regions : m.memory.regions ≡ v.regions
+  pub cells : m.cells.items ≡ map placed_of v.cells
+  pub next : m.next ≡ v.next_cell
+
+-- mid is the memory with the new regions before the fields of the new cells are written
+pub record IsCommitted (m : Machine) (mid : MemoryState) (links : List LinkRow) (newcomers : List SpaceCell) (s : Staged) (n : Machine) : Type 0 where
+  pub cells : n.cells.items ≡ m.cells.items ++ s.cells.items
+  pub next : n.next ≡ m.next + length s.cells.items
+  pub swaps : n.swaps ≡ m.swaps
+  pub namespaces : n.spaces.namespaces ≡ m.spaces.namespaces
+  pub known : n.spaces.cells ≡ m.spaces.cells ++ newcomers
+  pub space : n.space ≡ s.space
+  pub memory : n.memory ≡ fields_written mid s.fields.items
+  pub sections : n.graph.sections ≡ m.graph.sections ++ keys_of s.cells.items
+  pub rows : n.graph.rows ≡ links ++ s.rows.items
+  pub tasks : n.tasks ≡ m.tasks

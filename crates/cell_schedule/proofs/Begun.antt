@@ -132,14 +132,16 @@ module _ (m : Machine) (sound : IsSound m) where
       begun_sound : IsSound new
       begun_sound = record {
         coherent = spawn_coherent w sound.coherent stack starts entry.0 entry.1 arg present few low;
-        joined = sound.joined;
-        table = table_begun;
-        base = sound.base;
-        sections = sound.sections;
-        seals = sound.seals;
-        undo = sound.undo;
-        patches = sound.patches;
-        maps = one_low m.memory.maps;
+        parts = record {
+          joined = sound.joined;
+          table = table_begun;
+          base = sound.base;
+          sections = sound.sections;
+          seals = sound.seals;
+          undo = sound.undo;
+          patches = sound.patches;
+          maps = one_low m.memory.maps;
+        };
       }
 
       begun : HasDone (started w entry arg) 1 m (SpawnDone m.tasks.next entry.1) new

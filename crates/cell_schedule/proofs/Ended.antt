@@ -104,12 +104,14 @@ module _ (old : Machine) (sound : IsSound old) (t : Task) (live : task_of (world
     pub ended_sound : IsSound new
     ended_sound = record {
       coherent = subst IsCoherent (sym world_ended) (kill_coherent (world_of old) sound.coherent t there);
-      joined = subst (λ (cells : List NewCell). AreJoined cells new.spaces.cells) (sym is.cells) (subst (λ (known : List SpaceCell). AreJoined old.cells.items known) (sym is.known) sound.joined);
-      table = table_ended;
-      base = ap (λ (s : SpaceState). s.base) is.space ∙ (sound.base ∙ ap (λ (m : MemoryState). m.base) (sym is.memory));
-      sections = is.sections ∙ (sound.sections ∙ ap keys_of (sym is.cells));
-      seals = seals_ended;
-      undo = ap (λ (m : MemoryState). m.writes_left) is.memory ∙ sound.undo;
-      patches = subst (λ (n : ℕ). n ≤ 2 ^ 64 - 1) (sym patches_ended) sound.patches;
-      maps = subst (λ (n : ℕ). n ≤ 2 ^ 64 - 1) (sym maps_ended) sound.maps;
+      parts = record {
+        joined = subst (λ (cells : List NewCell). AreJoined cells new.spaces.cells) (sym is.cells) (subst (λ (known : List SpaceCell). AreJoined old.cells.items known) (sym is.known) sound.joined);
+        table = table_ended;
+        base = ap (λ (s : SpaceState). s.base) is.space ∙ (sound.base ∙ ap (λ (m : MemoryState). m.base) (sym is.memory));
+        sections = is.sections ∙ (sound.sections ∙ ap keys_of (sym is.cells));
+        seals = seals_ended;
+        undo = ap (λ (m : MemoryState). m.writes_left) is.memory ∙ sound.undo;
+        patches = subst (λ (n : ℕ). n ≤ 2 ^ 64 - 1) (sym patches_ended) sound.patches;
+        maps = subst (λ (n : ℕ). n ≤ 2 ^ 64 - 1) (sym maps_ended) sound.maps;
+      };
     }

@@ -66,14 +66,16 @@ module _ (old : Machine) (sound : IsSound old) where
   sound_with : (regions : List Region) (tasks : List Task) → Stored (seen_in w) regions → IsCoherent (record w { regions = regions; tasks = tasks }) → IsSound (with_tasks regions tasks)
   sound_with regions tasks s c = record {
     coherent = c;
-    joined = sound.joined;
-    table = sound.table ∙ sym (table_stored w coherent regions s);
-    base = sound.base;
-    sections = sound.sections;
-    seals = sound.seals;
-    undo = sound.undo;
-    patches = sound.patches;
-    maps = sound.maps;
+    parts = record {
+      joined = sound.joined;
+      table = sound.table ∙ sym (table_stored w coherent regions s);
+      base = sound.base;
+      sections = sound.sections;
+      seals = sound.seals;
+      undo = sound.undo;
+      patches = sound.patches;
+      maps = sound.maps;
+    };
   }
 
   module _ (t : Task) (number : ℕ) (live : live_in old.tasks number ≡ Some t) where

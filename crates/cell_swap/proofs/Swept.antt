@@ -55,14 +55,16 @@ module _ (old : Machine) (sound : IsSound old) (cells removed : List CellId) (ne
   sound_left : IsSound new
   sound_left = record {
     coherent = coherent_left;
-    joined = swept.left.joined;
-    table = swept.left.table;
-    base = swept.left.base;
-    sections = swept.left.sections;
-    seals = swept.left.seals;
-    undo = swept.left.undo;
-    patches = subst (λ (n : ℕ). n ≤ 2 ^ 64 - 1) (sym swept.left.patches) sound.patches;
-    maps = subst (λ (n : ℕ). n ≤ 2 ^ 64 - 1) (sym swept.left.maps) sound.maps;
+    parts = record {
+      joined = swept.left.joined;
+      table = swept.left.table;
+      base = swept.left.base;
+      sections = swept.left.sections;
+      seals = swept.left.seals;
+      undo = swept.left.undo;
+      patches = subst (λ (n : ℕ). n ≤ 2 ^ 64 - 1) (sym swept.left.patches) sound.patches;
+      maps = subst (λ (n : ℕ). n ≤ 2 ^ 64 - 1) (sym swept.left.maps) sound.maps;
+    };
   }
 
   replied : ids (garbage_of aside) ≡ removed

@@ -1,5 +1,5 @@
 -- The machine with one more namespace is what the command comes to, and sound.
-use Rattle.std.proofs.Common.{◌≡◌, refl, sym, ◌∙◌, ap, ap₂, subst, ℕ, ◌-◌, ◌*◌, ◌^◌, ◌≤◌, List, [], ◌∷◌, ◌++◌, map, Some, Ok, Err}
+use Rattle.std.proofs.Common.{◌≡◌, refl, sym, ◌∙◌, ap, ap₂, subst, ℕ, ◌-◌, ◌*◌, ◌^◌, ◌≤◌, List, [], ◌∷◌, ◌++◌, Some, Ok, Err}
 use Rattle.cell_world.specs.declared.refusal.Refusal.{Refusal}
 use Rattle.cell_world.specs.declared.refusal.Refusal.TheVariants.{Unknown}
 use Rattle.cell_world.specs.declared.reply.Reply.TheVariants.{Ns}
@@ -87,18 +87,20 @@ module _ (old new : Machine) (sound : IsSound old) (name parent : List ℕ) (up 
   is_sound : IsSound new
   is_sound = record {
     coherent = subst IsCoherent (sym world_is) coherent;
-    joined =
-        subst (λ (cells : List NewCell). AreJoined cells new.spaces.cells) (sym (ap (λ (m : Machine). m.cells.items) others))
-        (subst (λ (names : List SpaceCell). AreJoined old.cells.items names) (sym known) sound.joined);
-    table = ap (λ (m : Machine). m.space.taken) others ∙ (sound.table ∙ ap page_table (sym world_is));
-    base = ap (λ (m : Machine). m.space.base) others ∙ (sound.base ∙ ap (λ (m : Machine). m.memory.base) (sym others));
-    sections = ap (λ (m : Machine). m.graph.sections) others ∙ (sound.sections ∙ ap (λ (m : Machine). keys_of m.cells.items) (sym others));
-    seals =
-        ap (λ (m : Machine). m.memory.sealed) others
-        ∙ (sound.seals ∙ ap (λ (m : Machine). seal_table m.memory.base (4096 * m.memory.pages) (field_bytes m.cells.items)) (sym others));
-    undo = ap (λ (m : Machine). m.memory.writes_left) others ∙ sound.undo;
-    patches = subst (λ (m : Machine). m.memory.patches ≤ 2 ^ 64 - 1) (sym others) sound.patches;
-    maps = subst (λ (m : Machine). m.memory.maps ≤ 2 ^ 64 - 1) (sym others) sound.maps;
+    parts = record {
+      joined =
+          subst (λ (cells : List NewCell). AreJoined cells new.spaces.cells) (sym (ap (λ (m : Machine). m.cells.items) others))
+          (subst (λ (names : List SpaceCell). AreJoined old.cells.items names) (sym known) sound.joined);
+      table = ap (λ (m : Machine). m.space.taken) others ∙ (sound.table ∙ ap page_table (sym world_is));
+      base = ap (λ (m : Machine). m.space.base) others ∙ (sound.base ∙ ap (λ (m : Machine). m.memory.base) (sym others));
+      sections = ap (λ (m : Machine). m.graph.sections) others ∙ (sound.sections ∙ ap (λ (m : Machine). keys_of m.cells.items) (sym others));
+      seals =
+          ap (λ (m : Machine). m.memory.sealed) others
+          ∙ (sound.seals ∙ ap (λ (m : Machine). seal_table m.memory.base (4096 * m.memory.pages) (field_bytes m.cells.items)) (sym others));
+      undo = ap (λ (m : Machine). m.memory.writes_left) others ∙ sound.undo;
+      patches = subst (λ (m : Machine). m.memory.patches ≤ 2 ^ 64 - 1) (sym others) sound.patches;
+      maps = subst (λ (m : Machine). m.memory.maps ≤ 2 ^ 64 - 1) (sym others) sound.maps;
+    };
   }
 
   pub has_namespace : HasDone (next_ns (world_of old) name parent) 0 old (Ns name) new

@@ -1,6 +1,6 @@
 -- The object of each present cell goes on to be the reading of its file: a load brings cells of files alone, and nothing else brings any.
-use Rattle.std.proofs.Common.{◌≡◌, refl, sym, ◌∙◌, ap, subst, arith, ℕ, ◌+◌, ◌≤◌, inl, inr, ◌⊎◌, Bool, true, false, cond, not, List, [], ◌∷◌, ◌++◌, map, length, length-append, Some, Ok}
-use Rattle.std.specs.Prelude.{All, ◌==◌, is_some, nat_le, nat_lt, option_map, slice_get}
+use Rattle.std.proofs.Common.{◌≡◌, refl, sym, ◌∙◌, ap, subst, arith, ℕ, ◌≤◌, inl, inr, ◌⊎◌, Bool, true, false, cond, not, List, [], ◌∷◌, ◌++◌, length, length-append, Some, Ok}
+use Rattle.std.specs.Prelude.{All, ◌==◌, nat_le, nat_lt, option_map}
 use Rattle.std.proofs.lemmas.Bool.{and_parts, ltb-true, not-true}
 use Rattle.std.proofs.lemmas.List.Elements.{All-map, All-weaker}
 use Rattle.std.proofs.lemmas.Slice.Eq.{bytes_eq-Decides}
@@ -10,7 +10,7 @@ use Rattle.cell_world.specs.declared.command.Command.{Command}
 use Rattle.cell_world.specs.declared.command.Command.TheVariants.{Deps, Dump, Find, Kill, Load, Map, Ns, Purge, Run, Spawn, Step, Swap, Tasks, Unload, Users}
 use Rattle.cell_world.specs.declared.layout.Starts.{Starts}
 use Rattle.cell_world.specs.declared.refusal.Many.TheVariants.{Tasks as ManyTasks, TaskNumbers}
-use Rattle.cell_world.specs.declared.refusal.Refusal.TheVariants.{NoEntry, NoObject, TooMany, Unknown}
+use Rattle.cell_world.specs.declared.refusal.Refusal.TheVariants.{NoEntry, NoObject, TooMany}
 use Rattle.cell_world.specs.Answer.{Done, present_cell, space_of}
 use Rattle.cell_world.specs.Coherent.{IsCoherent}
 use Rattle.cell_world.specs.Fit.{first_misfit}
@@ -18,7 +18,6 @@ use Rattle.cell_world.specs.Gather.{Source, append_cell, bring, depot_files, fil
 use Rattle.cell_world.specs.Layout.{places_in}
 use Rattle.cell_world.specs.LinkCommands.{next_deps, next_users}
 use Rattle.cell_world.specs.LoadCommand.{append_named, next_load}
-use Rattle.cell_world.specs.Names.{namespace_named}
 use Rattle.cell_world.specs.Next.{outcome_of}
 use Rattle.cell_world.specs.NsCommand.{next_ns}
 use Rattle.cell_world.specs.Outcome.{found, need, refused_by}

@@ -1,7 +1,6 @@
 -- A command's answer, as the machine's parts give it, is the plain machine's.
-use Rattle.std.proofs.Common.{◌≡◌, refl, sym, ◌∙◌, ap, ap₂, subst, ℕ, List, [], length, map}
+use Rattle.std.proofs.Common.{◌≡◌, refl, sym, ◌∙◌, ap, ap₂, subst, ℕ, List, [], map}
 use Rattle.std.specs.Prelude.{Result, Ok, Err, decimal, not, true, unwrap_or}
-use Rattle.cell_num.specs.declared.ids.CellId.{CellId}
 use Rattle.cell_num.specs.Lists.{equals}
 use Rattle.cell_coherent.proofs.Elements.{pairs-map}
 use Rattle.cell_depot.specs.Files.{are_apart}
@@ -10,19 +9,15 @@ use Rattle.cell_world.specs.declared.command.Command.{Command}
 use Rattle.cell_world.specs.declared.fail.Fail.{Fail}
 use Rattle.cell_world.specs.declared.fail.Fail.TheVariants.{Refused, OutOfMemory}
 use Rattle.cell_world.specs.declared.file.File.{File}
-use Rattle.cell_world.specs.declared.refusal.Refusal.{Refusal}
 use Rattle.cell_world.specs.declared.refusal.Refusal.TheVariants.{Unknown}
 use Rattle.cell_world.specs.declared.reply.Reply.{Reply}
-use Rattle.cell_world.specs.declared.reply.Reply.TheVariants.{Dump as DumpDone, Load}
-use Rattle.cell_world.specs.declared.state.NewCell.{NewCell}
+use Rattle.cell_world.specs.declared.reply.Reply.TheVariants.{Dump as DumpDone}
 use Rattle.cell_world.specs.Answer.{Done, done, present_cell, space_of}
-use Rattle.cell_world.specs.Coherent.{AreSound}
 use Rattle.cell_world.specs.DumpCommand.{next_dump}
 use Rattle.cell_world.specs.FindCommand.{next_find}
 use Rattle.cell_world.specs.Following.{Follows}
 use Rattle.cell_world.specs.Gather.{Source, source_of}
 use Rattle.cell_world.specs.LinkCommands.{next_deps, next_users}
-use Rattle.cell_world.specs.LoadCommand.{next_load}
 use Rattle.cell_world.specs.MapCommand.{next_map}
 use Rattle.cell_world.specs.Next.{outcome_of}
 use Rattle.cell_world.specs.Memory.{read}
@@ -32,16 +27,12 @@ use Rattle.cell_object.specs.Parts.{section_of}
 use Rattle.cell_world.specs.Target.{start_of}
 use Rattle.cell_world.specs.World.{World, Cell, key_of}
 use Rattle.cell_machine.specs.declared.machine.Machine.{Machine}
-use Rattle.cell_machine.specs.declared.staged.Staged.{Staged}
 use Rattle.cell_machine.specs.Does.{Answers, Does, State as MachineState, answer_in, fresh_by, patched_by, state_of as machine_state}
 use Rattle.cell_machine.specs.Machine.{IsSound, world_of}
 use Rattle.cell_machine.specs.Same.{IsSame}
-use Rattle.cell_machine.specs.Staged.{IsStaged}
-use Rattle.cell_stage.specs.Stages.{Stages}
 use Rattle.cell_machine.proofs.Counts.{counts_stand}
 use Rattle.cell_machine.proofs.Same.{maps_same, patches_same, sound_same, world_same}
 use Rattle.cell_machine.proofs.Unchanged.{same_itself}
-use Rattle.cell_system.specs.Adding.{IsAdded}
 use Rattle.cell_system.specs.Readings.{AreRead}
 use Rattle.cell_system.proofs.Readings.{outcome_read}
 use Rattle.cell_system.specs.Step.{IsStep, stacks_of, state_of}
@@ -121,17 +112,3 @@ module _ (m : Machine) (sound : IsSound m) where
 
   pub shows_dump : (cell section : ℕ) (result : Result Reply Fail) → Follows (answer_in (world_of m)) result (next_dump (world_of m) cell section) → Does (next_dump (world_of m) cell section) 0 m result m
   shows_dump cell section = shown (next_dump (world_of m) cell section) (dump_quiet (world_of m) cell section)
-
-module _ (files : List File) (m : Machine) where
-  -- what staged cells come to where they are added
-  pub load_done : (ns stem : List ℕ) (s : Staged) (n : Machine) → AreSound (map source_of files) → IsStaged (map source_of files) (world_of m) ns stem s → IsAdded m s n
-      → (fresh : List CellId) → fresh ≡ map (λ (c : NewCell). c.id) s.cells.items → (patched : ℕ) → patched ≡ length s.fields.items
-      → Does (next_load (map source_of files) (world_of m) ns stem) 0 m (Ok (Load fresh patched)) n
-  load_done ns stem s n are staged added fresh fresh_is patched patched_is =
-      subst (λ (k : ℕ). Does (next_load (map source_of files) (world_of m) ns stem) 0 m (Ok (Load fresh k)) n) (sym patched_is)
-      (subst (λ (ids : List CellId). Does (next_load (map source_of files) (world_of m) ns stem) 0 m (Ok (Load ids (length s.fields.items))) n) (sym fresh_is)
-      (record { sound = added.sound; is = added.loaded (map source_of files) ns stem are staged }))
-
-  pub load_failed : (ns stem : List ℕ) (fail : Fail) → Stages files m ns stem (Err fail) → Does (next_load (map source_of files) (world_of m) ns stem) 0 m (Err fail) m
-  load_failed ns stem (Refused refusal) e = (e, same_itself m)
-  load_failed ns stem OutOfMemory e = same_itself m

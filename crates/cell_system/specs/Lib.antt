@@ -1,4 +1,3 @@
-pub mod Adding
 pub mod Namespaces
 pub mod Readings
 pub mod State

@@ -10,9 +10,9 @@ ghost use Rattle.cell_machine.specs.Machine.{IsSound, world_of};
 ghost use Rattle.cell_system.specs.Step.{stacks_of};
 
 use crate::Fail;
-use crate::load::load;
 use crate::namespaces::add_namespace;
 use cell_depot::Depot;
+use cell_load::load;
 use cell_machine::Machine;
 use cell_schedule::{kill, run, spawn, step, tasks};
 use cell_swap::{purge, unload};

@@ -1,6 +1,6 @@
 use Rattle.std.proofs.Common.{sym, ◌∙◌, ap₂, subst, ℕ, List, map}
 use Rattle.cell_world.specs.declared.command.Command.{Command}
-use Rattle.cell_world.specs.declared.command.Command.TheVariants.{Deps, Dump, Find, Load, Map, Ns, Spawn, Tasks, Users}
+use Rattle.cell_world.specs.declared.command.Command.TheVariants.{Find, Load, Ns, Spawn}
 use Rattle.cell_world.specs.Gather.{source_of}
 use Rattle.cell_world.specs.Next.{outcome_of}
 use Rattle.cell_machine.specs.Does.{Does}

@@ -1,4 +1,3 @@
-use Rattle.std.proofs.Common.{◌∙◌, refl, sym}
 use Rattle.std.specs.Prelude.{None, Some}
 use Rattle.cell_space.specs.Named.{provider_as}
 use Rattle.cell_machine.proofs.Looked.{found_low, nobody, somebody}

@@ -1,5 +1,4 @@
 use Rattle.std.proofs.Common.{subst}
-use Rattle.cell_world.specs.Gather.{source_of}
 use Rattle.cell_system.specs.State.{State}
 use Rattle.cell_system.specs.Step.{IsStep, said_to, stacks_of, state_of}
 use Rattle.cell_system.proofs.Steps.{does, still_read, still_sound}

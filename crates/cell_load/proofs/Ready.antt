@@ -1,0 +1,57 @@
+-- What is staged for a machine is staged for the same machine with other room, and what is added there is added.
+use Rattle.std.proofs.Common.{◌≡◌, sym, ◌∙◌, ap, ap₂, subst, ℕ, ◌+◌, List, ◌++◌, length, Vec, Global}
+use Rattle.std.proofs.lemmas.List.{length-map}
+use Rattle.cell_num.specs.declared.ids.SecKey.{SecKey}
+use Rattle.cell_mem.specs.State.{MemoryState}
+use Rattle.cell_commit.specs.Commit.{all_mapped, fields_written}
+use Rattle.cell_space.specs.declared.cell.SpaceCell.{SpaceCell}
+use Rattle.cell_world.specs.declared.state.LinkRow.{LinkRow}
+use Rattle.cell_world.specs.declared.state.NewCell.{NewCell}
+use Rattle.cell_world.specs.Names.{names_of}
+use Rattle.cell_world.specs.Relink.{Patch}
+use Rattle.cell_world.specs.World.{Alias, World}
+use Rattle.cell_machine.specs.declared.machine.Machine.{Machine}
+use Rattle.cell_machine.specs.declared.staged.Staged.{Staged}
+use Rattle.cell_machine.specs.Machine.{keys_of, world_of}
+use Rattle.cell_machine.specs.Same.{IsSame}
+use Rattle.cell_machine.specs.Staged.{IsCommitted}
+use Rattle.cell_machine.proofs.Same.{parts_same, world_same}
+use Rattle.cell_machine.proofs.StagedWorld.{new_count}
+use Rattle.cell_load.specs.Adding.{IsAdded, IsPlanned, IsReadyToAdd}
+
+pub ready_same : (old new : Machine) → IsSame old new → (changed : List Patch) (rows : List LinkRow) (s : Staged) → IsReadyToAdd old changed rows s → IsReadyToAdd new changed rows s
+ready_same old new same changed rows s r = record {
+  before = r.before;
+  coherent = r.coherent;
+  like = record {
+    base = ap (λ (m : MemoryState). m.base) same.memory ∙ r.like.base;
+    pages = ap (λ (m : MemoryState). m.pages) same.memory ∙ r.like.pages;
+    regions = ap (λ (m : MemoryState). m.regions) same.memory ∙ r.like.regions;
+    cells = same.cells ∙ r.like.cells;
+    next = same.next ∙ r.like.next;
+  };
+  parts = parts_same old new same r.parts;
+  planned = subst (λ (w : World). IsPlanned w changed rows s) (sym (world_same old new same)) r.planned;
+}
+
+-- each staged cell has its names
+pub as_many : (m : Machine) (changed : List Patch) (rows : List LinkRow) (s : Staged) → IsReadyToAdd m changed rows s → length s.names.items ≡ length s.cells.items
+as_many m changed rows s r = ap length r.staged.names ∙ (length-map r.new names_of ∙ new_count (world_of m) r.new s r.staged)
+
+pub added_same : (old new n : Machine) → IsSame old new → (s : Staged) (names : Vec (List Alias) Global) (newcomers all : List SpaceCell) → newcomers ≡ all
+    → IsCommitted new (all_mapped new.memory s.regions.items) new.graph.rows newcomers (record s { names = names }) n → IsAdded old s all n
+added_same old new n same s names newcomers all e c = record {
+  spare = same.spare;
+  is = record {
+    cells = c.cells ∙ ap (λ (cs : List NewCell). cs ++ s.cells.items) same.cells;
+    next = c.next ∙ ap (λ (k : ℕ). k + length s.cells.items) same.next;
+    swaps = c.swaps ∙ same.swaps;
+    namespaces = c.namespaces ∙ same.namespaces;
+    known = c.known ∙ ap₂ (λ (xs ys : List SpaceCell). xs ++ ys) same.known e;
+    space = c.space;
+    memory = c.memory ∙ ap (λ (m : MemoryState). fields_written (all_mapped m s.regions.items) s.fields.items) same.memory;
+    sections = c.sections ∙ ap (λ (ks : List SecKey). ks ++ keys_of s.cells.items) same.sections;
+    rows = c.rows ∙ ap (λ (ls : List LinkRow). ls ++ s.rows.items) same.rows;
+    tasks = c.tasks ∙ same.tasks;
+  };
+}

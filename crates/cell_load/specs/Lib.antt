@@ -1,0 +1,5 @@
+pub mod Linking
+pub mod Stages
+pub mod Loads
+pub mod Places
+pub mod Adding

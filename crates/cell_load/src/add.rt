@@ -1,0 +1,65 @@
+//! Adding what a load has staged: all room is made first, and then nothing can fail.
+
+ghost use Rattle.std.specs.Prelude.{◌≡◌, ◌+◌, ◌≤◌, ◌++◌, [], OnErr, OnOk, map, vec_capacity, vec_len};
+ghost use Rattle.cell_commit.specs.Cells.{arrived};
+ghost use Rattle.cell_commit.specs.Commit.{all_mapped};
+ghost use Rattle.cell_load.specs.Adding.{IsAdded, IsCommittable, IsReadyToAdd};
+ghost use Rattle.cell_machine.specs.Same.{IsSame};
+ghost use Rattle.cell_machine.specs.Staged.{IsCommitted, arrivals};
+
+use crate::prepared::Prepared;
+use crate::room::reserve;
+use cell_commit::{add_sections, attach_cells, bind_rows, map_regions, write_fields};
+use cell_machine::{Machine, Staged};
+use cell_world::NewCell;
+use std::alloc::{AllocError, Global};
+use std::mem::replace;
+
+/// Adds the staged cells, for which there is room. This takes no memory.
+fn commit(machine: &mut Machine, staged: Staged, prepared: Prepared)
+    requires { IsCommittable machine.old staged prepared }
+    ensures { IsCommitted machine.old (all_mapped machine.old.memory staged.regions.items) machine.old.graph.rows (map arrived prepared.newcomers.items) staged machine.new }
+{
+    let Staged {
+        cells,
+        names: _,
+        space,
+        regions,
+        fields,
+        rows,
+    } = staged;
+    let Prepared {
+        newcomers,
+        sections,
+    } = prepared;
+    map_regions(&mut machine.memory, regions);
+    write_fields(&mut machine.memory, &fields);
+    add_sections(&mut machine.graph, &sections);
+    bind_rows(&mut machine.graph, &rows);
+    attach_cells(&mut machine.spaces, newcomers);
+    machine.space = space;
+    machine.next += cells.len() as u32;
+    append(&mut machine.cells, cells);
+}
+
+/// Appends to a vector that has room.
+fn append(into: &mut Vec<NewCell>, mut cells: Vec<NewCell>)
+    requires { vec_len into.old + vec_len cells ≤ vec_capacity into.old }
+    ensures { into.new.items ≡ into.old.items ++ cells.items }
+{
+    let _ = into.append(&mut cells);
+}
+
+/// Adds the staged cells, or leaves the machine as it is where memory is lacking.
+#[tactic(auto, using(cell_machine::proofs::Unchanged::same_itself))]
+pub fn add(alloc: Global, machine: &mut Machine, mut staged: Staged) -> Result<(), AllocError>
+    requires { IsReadyToAdd machine.old [] machine.old.graph.rows staged }
+    ensures added { OnOk result (IsAdded machine.old staged (arrivals staged.cells.items staged.names.items) machine.new) }
+    ensures kept { OnErr result (IsSame machine.old machine.new) }
+{
+    let names = replace(&mut staged.names, Vec::new(alloc));
+    let prepared = Prepared::of(alloc, &staged.cells, names)?;
+    reserve(machine, &staged, &prepared)?;
+    commit(machine, staged, prepared);
+    Ok(())
+}

@@ -1,0 +1,19 @@
+//! Loading: new cells are gathered, placed and linked beside the machine, and then added to it by a
+//! commit that takes no memory and can't fail.
+#![tactic(auto)]
+
+mod add;
+mod command;
+mod link;
+mod misfit;
+mod placing;
+mod prepared;
+mod room;
+mod rows;
+mod staging;
+mod wanted;
+
+pub use cell_gather::{Gathered, Want, gather};
+pub use command::load;
+pub use placing::place;
+pub use staging::stage;

@@ -1,0 +1,90 @@
+//! What the parts of the machine take over from staged cells.
+
+ghost use Rattle.std.specs.Prelude.{◌≡◌, IfOk, length, map};
+ghost use Rattle.cell_commit.specs.Cells.{arrived};
+ghost use Rattle.cell_machine.specs.Staged.{arrival, arrivals};
+ghost use Rattle.cell_load.specs.Adding.{listed, numbers_in};
+
+use cell_commit::{CellSections, Newcomer};
+use cell_space::NameRows;
+use cell_world::NewCell;
+use std::alloc::{AllocError, Global};
+
+/// What the staged cells are called, and their sections.
+#[derive(Drop)]
+pub struct Prepared {
+    pub newcomers: Vec<Newcomer>,
+    pub sections: Vec<CellSections>,
+}
+
+impl Prepared {
+    /// By the cells, and the names of each.
+    pub fn of(
+        alloc: Global,
+        cells: &[NewCell],
+        names: Vec<NameRows>,
+    ) -> Result<Prepared, AllocError>
+        requires { length names.items ≡ length cells.now }
+        ensures newcomers { IfOk result (λ p. map arrived p.newcomers.items ≡ arrivals cells.now names.items) }
+        ensures sections { IfOk result (λ p. map listed p.sections.items ≡ map numbers_in cells.now) }
+    {
+        Ok(Prepared {
+            newcomers: newcomers(alloc, cells, names)?,
+            sections: all_sections(alloc, cells)?,
+        })
+    }
+}
+
+/// What each of the cells is called.
+fn newcomers(
+    alloc: Global,
+    cells: &[NewCell],
+    names: Vec<NameRows>,
+) -> Result<Vec<Newcomer>, AllocError>
+    requires { length names.items ≡ length cells.now }
+    ensures { IfOk result (λ new. map arrived new.items ≡ arrivals cells.now names.items) }
+{
+    let mut newcomers = Vec::new(alloc);
+    for names in names {
+        let cell = &cells[newcomers.len()];
+        newcomers.push(newcomer(alloc, cell, names)?)?;
+    }
+    Ok(newcomers)
+}
+
+/// What the cell is called.
+fn newcomer(alloc: Global, cell: &NewCell, names: NameRows) -> Result<Newcomer, AllocError>
+    ensures { IfOk result (λ new. arrived new ≡ arrival cell.now names) }
+{
+    Ok(Newcomer {
+        cell: cell.id,
+        ns: cell.ns,
+        stem: cell.stem.copy(alloc)?,
+        names,
+    })
+}
+
+/// The numbers of each cell's sections.
+fn all_sections(alloc: Global, cells: &[NewCell]) -> Result<Vec<CellSections>, AllocError>
+    ensures { IfOk result (λ list. map listed list.items ≡ map numbers_in cells.now) }
+{
+    let mut sections = Vec::new(alloc);
+    for cell in cells {
+        sections.push(sections_of(alloc, cell)?)?;
+    }
+    Ok(sections)
+}
+
+/// The numbers of the cell's sections.
+fn sections_of(alloc: Global, cell: &NewCell) -> Result<CellSections, AllocError>
+    ensures { IfOk result (λ s. listed s ≡ numbers_in cell.now) }
+{
+    let mut sections = Vec::new(alloc);
+    for section in cell.object.sections.as_slice() {
+        sections.push(section.number)?;
+    }
+    Ok(CellSections {
+        cell: cell.id,
+        sections,
+    })
+}

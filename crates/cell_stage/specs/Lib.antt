@@ -1,4 +1,0 @@
-pub mod Linking
-pub mod Loads
-pub mod Places
-pub mod Stages
