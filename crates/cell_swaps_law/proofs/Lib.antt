@@ -20,6 +20,4 @@ pub mod Steps
 pub mod Left
 pub mod Settled
 pub mod MovedLinks
-pub mod NextCoherent
-pub mod Others
 pub mod Begins

@@ -1,6 +1,5 @@
 pub mod Regrown
 pub mod Targets
 pub mod Swapping
-pub mod Commands
 pub mod Moved
 pub mod Begins

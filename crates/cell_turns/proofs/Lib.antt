@@ -16,5 +16,5 @@ pub mod Commands
 pub mod Spawned
 pub mod Kept
 pub mod TurnKept
-mod OtherTasks
+pub mod OtherTasks
 pub mod Memory

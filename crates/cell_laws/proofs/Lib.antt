@@ -1,0 +1,4 @@
+mod NextCoherent
+mod Others
+mod NextTurn
+mod Worked
