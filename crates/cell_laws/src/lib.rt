@@ -3,6 +3,7 @@
 //!
 //! - `coherence`: the machine begins coherent, and each command and each turn of a task keeps it so
 //! - `presence`: what entries and links of a machine name, and where its cells lie
+//! - `contents`: what the sections of a machine hold: their fresh bytes, and in each field its value
 //! - `room`: which pages are free, and where a new cell comes to stand
 //! - `relinking`: what linking writes after new cells have come and others have changed
 //! - `targets`: which targets each command may change
@@ -14,6 +15,7 @@
 #![tactic(auto)]
 
 pub mod coherence;
+pub mod contents;
 pub mod presence;
 pub mod relinking;
 pub mod removal;

@@ -28,7 +28,7 @@ pub record Within (c : Cell) (e : Entry) : Type 0 where
   pub number : section.number ≡ e.section
   pub ends : e.offset + width_of e.kind ≤ section.size
 
-within : (c : Cell) → IsSoundObject c.object → (e : Entry) → In e c.object.entries → Within c e
+pub within : (c : Cell) → IsSoundObject c.object → (e : Entry) → In e c.object.entries → Within c e
 within c sound e m = go (section_of c.object e.section) refl (entry_parts c.object sound e m).0
   where
     fits : (s : ObjectSection) → is_sound_entry_in e s ≡ true → e.offset + width_of e.kind ≤ s.size
@@ -41,7 +41,7 @@ within c sound e m = go (section_of c.object e.section) refl (entry_parts c.obje
         record { section = s; there = i.0; number = eqb-true s.number e.section i.1; ends = fits s h }
 
 -- section numbers rise, so none stands twice
-unique : (c : Cell) → IsSoundObject c.object → (class : Class) (s : ObjectSection) → In s c.object.sections → IsUnique (sections_in class c.object) s
+pub unique : (c : Cell) → IsSoundObject c.object → (class : Class) (s : ObjectSection) → In s c.object.sections → IsUnique (sections_in class c.object) s
 unique c sound class s m t i e = pick (pairs-In (λ a b. nat_lt a.number b.number) c.object.sections sound.numbers t s (In-filtered (is_in_class class) c.object.sections t i) m)
   where
     pick : (t ≡ s) ⊎ ((nat_lt t.number s.number ≡ true) ⊎ (nat_lt s.number t.number ≡ true)) → t ≡ s
@@ -72,7 +72,7 @@ shared e f s h =
     other true k n = true≢false (sym n)
     other false k n = true≢false (sym (eq-eqb e.section f.section s) ∙ k)
 
-abbrev AreSectionsApart : Cell → Cell → ObjectSection → ObjectSection → Type 0
+abbrev pub AreSectionsApart : Cell → Cell → ObjectSection → ObjectSection → Type 0
 AreSectionsApart c d s t = ((c ≡ d) × (s.number ≡ t.number)) ⊎ Apart (start_of c.placed s.number) s.size (start_of d.placed t.number) t.size
 
 -- the second is at the place of the first, in the same cell
@@ -81,7 +81,7 @@ AreFieldsApart c d e f = ((c ≡ d) × (is_at f e ≡ true)) ⊎ Apart (place_of
 
 module _ (w : World) (ready : IsReady w) where
   -- sections of two cells, or two of one, don't meet
-  sections_apart : (c d : Cell) → In c w.cells → In d w.cells → (s t : ObjectSection) → In s c.object.sections → In t d.object.sections
+  pub sections_apart : (c d : Cell) → In c w.cells → In d w.cells → (s t : ObjectSection) → In s c.object.sections → In t d.object.sections
       → AreSectionsApart c d s t
   sections_apart c d i j s t m n =
       let p = section_class w ready.regions ready.apart ready.placed ready.objects c i s m in

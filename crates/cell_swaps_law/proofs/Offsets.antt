@@ -14,7 +14,7 @@ Apart x m y n = (x + m ≤ y) ⊎ (y + n ≤ x)
 abbrev pub IsUnique : List ObjectSection → ObjectSection → Type 0
 IsUnique sections s = (t : ObjectSection) → In t sections → t.number ≡ s.number → t ≡ s
 
-elsewhere : (h : ObjectSection) (sections : List ObjectSection) (s : ObjectSection) → (h.number == s.number) ≡ false → (s ≡ h) ⊎ In s sections → In s sections
+pub elsewhere : (h : ObjectSection) (sections : List ObjectSection) (s : ObjectSection) → (h.number == s.number) ≡ false → (s ≡ h) ⊎ In s sections → In s sections
 elsewhere h sections s f (inl e) = absurd (true≢false (sym (eq-eqb h.number s.number (ap (λ (x : ObjectSection). x.number) (sym e))) ∙ f))
 elsewhere h sections s f (inr m) = m
 

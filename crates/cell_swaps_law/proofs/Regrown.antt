@@ -44,7 +44,7 @@ map_flat : {X Y Z : Type 0} (g : Y → Z) (f : X → List Y) (xs : List X) → m
 map_flat g f [] = refl
 map_flat g f (x ∷ xs) = map-append g (f x) (flat_map f xs) ∙ ap (λ ys. map g (f x) ++ ys) (map_flat g f xs)
 
-filter_flat : {X Y : Type 0} (p : Y → Bool) (f : X → List Y) (xs : List X) → filter p (flat_map f xs) ≡ flat_map (λ x. filter p (f x)) xs
+pub filter_flat : {X Y : Type 0} (p : Y → Bool) (f : X → List Y) (xs : List X) → filter p (flat_map f xs) ≡ flat_map (λ x. filter p (f x)) xs
 filter_flat p f [] = refl
 filter_flat p f (x ∷ xs) = filter-append p (f x) (flat_map f xs) ∙ ap (λ ys. filter p (f x) ++ ys) (filter_flat p f xs)
 
@@ -84,10 +84,10 @@ among_new (e ∷ entries) before f m = go (list_any (is_at e) before) refl m (am
         later true y h = absurd (true≢false h)
         later false y h = h
 
-abbrev is_elsewhere : Entry → Entry → Bool
+abbrev pub is_elsewhere : Entry → Entry → Bool
 is_elsewhere e f = not (is_at f e)
 
-among_apart : (entries before : List Entry) → each_pair is_elsewhere (fields_among before entries) ≡ true
+pub among_apart : (entries before : List Entry) → each_pair is_elsewhere (fields_among before entries) ≡ true
 among_apart [] before = refl
 among_apart (e ∷ entries) before = go (list_any (is_at e) before) (among_apart entries before) (among_apart entries (e ∷ before))
   where
