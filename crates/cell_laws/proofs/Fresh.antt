@@ -23,11 +23,11 @@ use Rattle.cell_coherent.proofs.FieldsInside.{Sized, among-In, class_In, field_i
 use Rattle.cell_coherent.proofs.Inside.{wide}
 use Rattle.cell_coherent.proofs.Known.{object_sound}
 use Rattle.cell_coherent.proofs.Relinked.{patches, restore, restored_is}
-use Rattle.cell_turns.proofs.Lists.{filter_same, map_filter}
+use Rattle.cell_coherent.proofs.Lists.{filter_same, map_filter}
 use Rattle.cell_turns.proofs.Slices.{slice, slice_length}
-use Rattle.cell_swaps_law.proofs.Offsets.{Apart}
-use Rattle.cell_swaps_law.proofs.FieldsApart.{AreFieldsApart, AreSectionsApart, Within, fields_apart, sections_apart, unique, within}
-use Rattle.cell_swaps_law.proofs.Regrown.{among_apart, filter_flat, is_elsewhere}
+use Rattle.cell_coherent.proofs.Offsets.{Apart}
+use Rattle.cell_coherent.proofs.FieldsApart.{AreFieldsApart, AreSectionsApart, Within, fields_apart, sections_apart, unique, within}
+use Rattle.cell_coherent.proofs.Regrown.{among_apart, filter_flat, is_elsewhere}
 use Rattle.cell_laws.proofs.Laid.{image_slice}
 use Rattle.cell_laws.proofs.Windows.{window, begins_in, IsIn, IsOut, pasted_here}
 use Rattle.cell_laws.proofs.Parts.{patch, one_left, paste_whole, read_window, image_there, restored_shape, out, inside, window_is, only_own}

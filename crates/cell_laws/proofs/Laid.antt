@@ -9,7 +9,7 @@ use Rattle.cell_world.specs.Layout.{gap, offset_from, offset_in, own_bytes, laid
 use Rattle.cell_coherent.proofs.Elements.{In}
 use Rattle.cell_coherent.proofs.FieldsInside.{Sized, After, ends_laid}
 use Rattle.cell_turns.proofs.Slices.{slice}
-use Rattle.cell_swaps_law.proofs.Offsets.{IsUnique, elsewhere}
+use Rattle.cell_coherent.proofs.Offsets.{IsUnique, elsewhere}
 
 slice_front : (xs ys : List ℕ) (i n : ℕ) → i + n ≤ length xs → slice (xs ++ ys) i n ≡ slice xs i n
 slice_front xs ys i n h =

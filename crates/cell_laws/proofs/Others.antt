@@ -22,11 +22,11 @@ use Rattle.cell_world.specs.Answer.{Done, numbers_of, space_of}
 use Rattle.cell_world.specs.Next.{outcome_of}
 use Rattle.cell_world.specs.Coherent.{AreSound, IsCoherent}
 use Rattle.std.specs.Prelude.{length, nat_le, nat_lt}
-use Rattle.cell_coherent.specs.Grown.{IsGrown}
+use Rattle.cell_coherent.specs.Grown.{HasAttached}
 use Rattle.cell_coherent.proofs.Appended.{ok_same}
 use Rattle.cell_coherent.proofs.Elements.{In, In-All, All-In, In-left, In-map, In-filtered}
 use Rattle.cell_coherent.proofs.Inside.{ready_linkable}
-use Rattle.cell_coherent.proofs.LoadGrown.{load_grown}
+use Rattle.cell_coherent.proofs.LoadGrown.{load_attached}
 use Rattle.cell_coherent.proofs.NamespaceAdded.{Added, ns_ok}
 use Rattle.cell_coherent.proofs.NextCoherent.{dump_same, find_same, map_same}
 use Rattle.cell_coherent.proofs.Outcomes.{bind_ok, then_ok}
@@ -88,9 +88,9 @@ module _ (sources : List Source) (w : World) (h : IsCoherent w) (d : Done) (k : 
       let p = bind_ok (place_all b.0 (fresh_cells w.next_cell b.0)) _ d b.2 in
       let f = then_ok (refused_by (first_misfit p.0 (fresh_cells w.next_cell p.0))) _ d p.2 in
       let is = ap (λ (x : Done). x.world) (ok_same _ d f.2) in
-      let g : IsGrown w p.0 (fresh_cells w.next_cell p.0) = load_grown sources w name stem a.0 b.0 sound h.ready a.1 b.1 p.0 p.1 in
-      let targets = attached_targets w p.0 (fresh_cells w.next_cell p.0) (ready_linkable w h.ready) g.spaces g.cells g.attached in
-      kept_by w d.world h k (λ c i s. subst (λ (v : World). In c v.cells) is (subst (λ (cs : List Cell). In c cs) (sym g.cells) (In-left w.cells (fresh_cells w.next_cell p.0) c i)))
+      let a : HasAttached w p.0 (fresh_cells w.next_cell p.0) = load_attached sources w name stem a.0 b.0 sound h.ready a.1 b.1 p.0 p.1 in
+      let targets = attached_targets w p.0 (fresh_cells w.next_cell p.0) (ready_linkable w h.ready) a in
+      kept_by w d.world h k (λ c i s. subst (λ (v : World). In c v.cells) is (subst (λ (cs : List Cell). In c cs) (sym a.cells) (In-left w.cells (fresh_cells w.next_cell p.0) c i)))
       (λ c i j x m. subst (λ (v : World). target_of v c x ≡ target_of w c x) is
       (All-In (λ (y : Entry). target_of p.0 c y ≡ target_of w c y) c.object.entries (All-In (λ (c : Cell). All (λ (y : Entry). target_of p.0 c y ≡ target_of w c y) c.object.entries) w.cells targets c i) x m))
 

@@ -20,16 +20,16 @@ use Rattle.cell_coherent.proofs.Distinct.{one_class}
 use Rattle.cell_coherent.proofs.FieldsInside.{fields_end_in, length-bytes_of}
 use Rattle.cell_coherent.proofs.ImagesInside.{images_fit}
 use Rattle.cell_coherent.proofs.Inside.{wide}
-use Rattle.cell_coherent.proofs.OwnRegions.{starts_at}
+use Rattle.cell_coherent.proofs.Regions.{starts_at}
 use Rattle.cell_coherent.proofs.Patches.{HasShape}
 use Rattle.cell_coherent.proofs.Relinked.{patches, own_image, restore, restored_is}
 use Rattle.cell_turns.proofs.Bare.{covers_once}
 use Rattle.cell_turns.proofs.Fixed.{remade_fixed}
-use Rattle.cell_turns.proofs.Lists.{map_filter}
-use Rattle.cell_turns.proofs.Pastes.{over}
+use Rattle.cell_coherent.proofs.Lists.{map_filter}
+use Rattle.cell_coherent.proofs.Pastes.{over}
 use Rattle.cell_turns.proofs.Slices.{slice}
-use Rattle.cell_swaps_law.proofs.Offsets.{Apart}
-use Rattle.cell_swaps_law.proofs.Regrown.{filter_flat}
+use Rattle.cell_coherent.proofs.Offsets.{Apart}
+use Rattle.cell_coherent.proofs.Regrown.{filter_flat}
 use Rattle.cell_laws.proofs.Windows.{window, begins_in, IsIn, IsOut, pasted_here, window_by}
 
 -- where all other elements give nothing, only the one's list is left

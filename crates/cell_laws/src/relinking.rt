@@ -12,11 +12,10 @@ ghost use Rattle.cell_world.specs.Relink.{relink, link_of};
 ghost use Rattle.cell_world.specs.World.{Cell, World};
 ghost use Rattle.cell_world.specs.declared.refusal.Refusal.{Refusal};
 ghost use Rattle.cell_world.specs.declared.reply.Reply.TheVariants.{Load as LoadDone};
-ghost use Rattle.cell_coherent.specs.Grown.{IsGrown, with_fields, links_from};
+ghost use Rattle.cell_coherent.specs.Grown.{HasAttached, IsRegrown, links_from, with_changes, with_fields};
 ghost use Rattle.cell_coherent.specs.Linkable.{IsLinkable};
 ghost use Rattle.cell_coherent.specs.Loading.{HasPlaced};
 ghost use Rattle.cell_swaps_law.specs.Moved.{moved};
-ghost use Rattle.cell_swaps_law.specs.Regrown.{IsRegrown, with_changes};
 ghost use Rattle.cell_swaps_law.specs.Targets.{FollowsTargets};
 
 /// Linking makes a ready machine coherent.
@@ -41,17 +40,18 @@ pub fn relinked_writes_changes()
     ensures moves { (v : World) (w : World) (new : List Cell) → IsCoherent v → IsReady w → IsRegrown v w new → links_from w (map (now_in w) v.cells) ≡ map (moved w) v.links }
 {}
 
-/// A machine that has only grown, as by a load, is a case of that: none of the fields that were there changes.
-pub fn growth_changes_none()
-    ensures regrown { (v : World) (w : World) (new : List Cell) → IsCoherent v → IsReady w → IsGrown v w new → IsRegrown v w new }
-    ensures none { (v : World) (w : World) (new : List Cell) → IsCoherent v → IsReady w → IsGrown v w new → changed_fields v w ≡ [] }
-    ensures writes { (v : World) (w : World) (new : List Cell) → IsCoherent v → IsReady w → IsGrown v w new →
+/// Where the cells that were there are as they were and the new ones are attached, as after a load, none of the fields that were there changes:
+/// linking writes the new cells' fields, adds their links, and changes nothing else.
+pub fn attaching_changes_no_field()
+    ensures none { (v : World) (w : World) (new : List Cell) → IsCoherent v → IsReady w → HasAttached v w new → IsRegrown v w new → changed_fields v w ≡ [] }
+    ensures writes { (v : World) (w : World) (new : List Cell) → IsCoherent v → IsReady w → HasAttached v w new → IsRegrown v w new →
         relink w ≡ record w { regions = map (with_fields w new) w.regions; links = v.links ++ links_from w new } }
 {}
 
-/// Once the cells of a load have their places, the machine has grown by them and can be linked; where each entry fits, it is ready for it.
-pub fn load_grows()
-    ensures grown { (sources : List Source) (v : World) (ns : List ℕ) (stem : List ℕ) (w : World) → AreSound sources → IsCoherent v → HasPlaced sources v ns stem w → IsGrown v w (fresh_cells v.next_cell w) }
+/// Once the cells of a load have their places, they stand attached behind those that were there, in regions of their own, and the machine can be linked; where each entry fits, it is ready for it.
+pub fn load_regrows()
+    ensures attached { (sources : List Source) (v : World) (ns : List ℕ) (stem : List ℕ) (w : World) → AreSound sources → IsCoherent v → HasPlaced sources v ns stem w → HasAttached v w (fresh_cells v.next_cell w) }
+    ensures regrown { (sources : List Source) (v : World) (ns : List ℕ) (stem : List ℕ) (w : World) → AreSound sources → IsCoherent v → HasPlaced sources v ns stem w → IsRegrown v w (fresh_cells v.next_cell w) }
     ensures linkable { (sources : List Source) (v : World) (ns : List ℕ) (stem : List ℕ) (w : World) → AreSound sources → IsCoherent v → HasPlaced sources v ns stem w → IsLinkable w }
     ensures ready { (sources : List Source) (v : World) (ns : List ℕ) (stem : List ℕ) (w : World) → AreSound sources → IsCoherent v → HasPlaced sources v ns stem w →
         first_misfit w (fresh_cells v.next_cell w) ≡ None → IsReady w }

@@ -20,7 +20,7 @@ ghost use Rattle.cell_coherent.specs.Grown.{In};
 ghost use Rattle.cell_coherent.specs.Linkable.{IsLinkable};
 ghost use Rattle.cell_turns.specs.Kept.{KeepsFields, KeepsReadOnly, KeepsSealed, KeepsShapes};
 ghost use Rattle.cell_swaps_law.specs.Begins.{BeginsIn};
-ghost use Rattle.cell_swaps_law.specs.Regrown.{IsRegrown};
+ghost use Rattle.cell_coherent.specs.Grown.{IsRegrown};
 ghost use Rattle.cell_swaps_law.specs.Swapping.{HasSwapPlaced};
 
 /// Once the new cells of a swap have their places, the machine has grown by them, the old ones stand aside, and it can be

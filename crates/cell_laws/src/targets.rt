@@ -1,7 +1,6 @@
 //! Which targets change: what attaching, detaching and removing cells does to them, and what each command may.
 
-ghost use Rattle.std.specs.List.{list_all};
-ghost use Rattle.std.specs.Prelude.{ℕ, ◌≡◌, ◌<◌, IsTrue, List, ◌++◌, All, Ok, length, suc, false, Bool};
+ghost use Rattle.std.specs.Prelude.{ℕ, ◌≡◌, ◌<◌, IsTrue, List, All, Ok, length, suc, false, Bool};
 ghost use Rattle.cell_num.specs.Lists.{holds};
 ghost use Rattle.cell_object.specs.declared.object.Entry.{Entry};
 ghost use Rattle.cell_world.specs.Answer.{Done, numbers_of};
@@ -18,6 +17,7 @@ ghost use Rattle.cell_world.specs.World.{Cell, World, is_attached};
 ghost use Rattle.cell_world.specs.declared.command.CellName.{CellName};
 ghost use Rattle.cell_world.specs.declared.command.Command.{Command};
 ghost use Rattle.cell_world.specs.declared.command.SwapItem.{SwapItem};
+ghost use Rattle.cell_coherent.specs.Grown.{HasAttached};
 ghost use Rattle.cell_coherent.specs.Linkable.{IsLinkable};
 ghost use Rattle.cell_removal.specs.Left.{LeavesTargets};
 ghost use Rattle.cell_swaps_law.specs.Swapping.{HasSwapped};
@@ -33,7 +33,7 @@ pub fn namespaces_only_add()
 
 /// Cells that are attached behind the others change no target that an entry has.
 pub fn attaching_keeps_targets()
-    ensures { (v : World) (w : World) (new : List Cell) → IsLinkable v → w.namespaces ≡ v.namespaces → w.cells ≡ v.cells ++ new → IsTrue (list_all (λ c. is_attached c.standing) new) →
+    ensures { (v : World) (w : World) (new : List Cell) → IsLinkable v → HasAttached v w new →
         All (λ c. All (λ e. target_of w c e ≡ target_of v c e) c.object.entries) v.cells }
 {}
 

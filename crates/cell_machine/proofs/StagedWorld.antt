@@ -13,11 +13,10 @@ use Rattle.cell_world.specs.Gather.{Source, fresh_cells}
 use Rattle.cell_world.specs.LoadCommand.{field_count, next_load}
 use Rattle.cell_world.specs.declared.layout.Starts.{Starts}
 use Rattle.cell_world.specs.Relink.{relink}
-use Rattle.cell_coherent.specs.Grown.{In, IsGrown, links_from, with_fields}
+use Rattle.cell_coherent.specs.Grown.{In, links_from, with_fields}
 use Rattle.cell_coherent.specs.Linkable.{IsLinkable}
 use Rattle.cell_coherent.specs.Loading.{HasPlaced}
-use Rattle.cell_coherent.proofs.After.{relinked_after}
-use Rattle.cell_coherent.proofs.LoadLinks.{has_grown, is_linkable, is_ready, links}
+use Rattle.cell_coherent.proofs.LoadLinks.{is_linkable, is_ready, links, relinks}
 use Rattle.cell_coherent.proofs.Relinks.{coherent_relinked}
 use Rattle.cell_law.specs.Loading.{ManyTaken, placed_cells}
 use Rattle.cell_law.proofs.Elements.{In-append, In-map, filter-Passes, pairs-filter}
@@ -51,9 +50,6 @@ module _ (sources : List Source) (w : World) (ns stem : List ℕ) (s : Staged) (
   none_unfit : first_misfit W (fresh_cells w.next_cell W) ≡ None
   none_unfit = ap (first_misfit W) fresh ∙ st.fit
 
-  pub grown : IsGrown w W F
-  grown = subst (IsGrown w W) fresh (has_grown sources w ns stem W sound coherent has_placed)
-
   pub linkable : IsLinkable W
   linkable = is_linkable sources w ns stem W sound coherent has_placed
 
@@ -70,7 +66,9 @@ module _ (sources : List Source) (w : World) (ns stem : List ℕ) (s : Staged) (
       ∙ ap (λ (cs : List Cell). done (LoadDone (ids (numbers_of cs)) (field_count cs)) (record W { regions = map (with_fields W cs) W.regions; links = w.links ++ links_from W cs })) fresh
 
   pub relinked : relink W ≡ next_world
-  relinked = relinked_after w W F coherent ready grown
+  relinked =
+      relinks sources w ns stem W sound coherent has_placed none_unfit
+      ∙ ap (λ (cs : List Cell). record W { regions = map (with_fields W cs) W.regions; links = w.links ++ links_from W cs }) fresh
 
   pub next_coherent : IsCoherent next_world
   next_coherent = subst IsCoherent relinked (coherent_relinked W ready)

@@ -1,9 +1,3 @@
-pub mod Offsets
-pub mod FieldsApart
-pub mod Values
-pub mod Overwritten
-pub mod Unchanged
-pub mod Regrown
 pub mod Paths
 pub mod Unique
 pub mod Detached

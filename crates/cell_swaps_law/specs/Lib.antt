@@ -1,4 +1,3 @@
-pub mod Regrown
 pub mod Targets
 pub mod Swapping
 pub mod Moved

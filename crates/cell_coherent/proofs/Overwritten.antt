@@ -10,9 +10,9 @@ use Rattle.cell_world.specs.Memory.{covers, pasted, written}
 use Rattle.cell_world.specs.Relink.{Patch, patched}
 use Rattle.cell_coherent.proofs.Elements.{In, In-map, all-In}
 use Rattle.cell_coherent.proofs.Patches.{AllEndIn, EndsIn, length-pasted, pasted_before, pasted_in, pasted_after, shape_by, HasShape}
-use Rattle.cell_turns.proofs.Lists.{fold_commutes}
-use Rattle.cell_turns.proofs.Writes.{Holds, covered, begins_below, ends_above, written_exchanged, written_in, written_out}
-use Rattle.cell_swaps_law.proofs.Offsets.{Apart}
+use Rattle.cell_coherent.proofs.Lists.{fold_commutes}
+use Rattle.cell_coherent.proofs.Writes.{Holds, covered, begins_below, ends_above, written_exchanged, written_in, written_out}
+use Rattle.cell_coherent.proofs.Offsets.{Apart}
 
 -- as long a write at one place, twice
 paste_twice : (b u v : List ℕ) (i : ℕ) → i + length u ≤ length b → length u ≡ length v → pasted (pasted b i u) i v ≡ pasted b i v

@@ -22,8 +22,8 @@ use Rattle.cell_world.specs.Coherent.{IsReady}
 use Rattle.cell_coherent.specs.Present.{IsThere}
 use Rattle.cell_coherent.proofs.Elements.{In, All-In, In-left, map-In, found-In, none-In}
 use Rattle.cell_coherent.proofs.Present.{target_there}
-use Rattle.cell_swaps_law.specs.Regrown.{IsRegrown}
-use Rattle.cell_swaps_law.proofs.Values.{bind, bound_map, HasSame, same_fits, same_value}
+use Rattle.cell_coherent.specs.Grown.{IsRegrown}
+use Rattle.cell_coherent.proofs.Values.{bind, bound_map, HasSame, same_fits, same_value}
 use Rattle.cell_coherent.specs.Linkable.{IsLinkable}
 
 high_not_low : (kind : RelKind) → is_pcrel_hi20 kind ≡ true → is_pcrel_lo12 kind ≡ false

@@ -19,7 +19,7 @@ use Rattle.cell_coherent.proofs.Known.{object_sound}
 use Rattle.cell_coherent.proofs.Targets.{entry_parts}
 use Rattle.cell_coherent.proofs.FieldsInside.{class_In, stands, section_class}
 use Rattle.cell_coherent.proofs.Distinct.{one_class}
-use Rattle.cell_swaps_law.proofs.Offsets.{Apart, IsUnique, two_offsets}
+use Rattle.cell_coherent.proofs.Offsets.{Apart, IsUnique, two_offsets}
 
 -- the section that the field of the entry is in
 pub record Within (c : Cell) (e : Entry) : Type 0 where

@@ -29,16 +29,15 @@ use Rattle.cell_coherent.proofs.Distinct.{one_class}
 use Rattle.cell_coherent.proofs.Patches.{AllEndIn}
 use Rattle.cell_coherent.proofs.Relinked.{patches, own_image, restore, restored_is, map_twice}
 use Rattle.cell_coherent.proofs.ImagesInside.{images_fit}
-use Rattle.cell_coherent.proofs.OldRegions.{none_there, fixed-In}
-use Rattle.cell_coherent.proofs.OwnRegions.{passed_by, starts_at, restore_same, uncovered, wide}
-use Rattle.cell_turns.proofs.Lists.{map_filter, filter_same}
-use Rattle.cell_swaps_law.specs.Regrown.{IsRegrown, patch_at, with_changes}
-use Rattle.cell_swaps_law.proofs.Offsets.{Apart}
-use Rattle.cell_swaps_law.proofs.FieldsApart.{AreFieldsApart, fields_apart}
-use Rattle.cell_swaps_law.proofs.Overwritten.{IsUpdate, overwritten}
-use Rattle.cell_swaps_law.proofs.Unchanged.{placed_same, patch_same}
+use Rattle.cell_coherent.proofs.Regions.{none_there, passed_by, starts_at, restore_same, uncovered}
+use Rattle.cell_coherent.proofs.Lists.{fixed-In, map_filter, filter_same}
+use Rattle.cell_coherent.specs.Grown.{IsRegrown, patch_at, with_changes}
+use Rattle.cell_coherent.proofs.Offsets.{Apart}
+use Rattle.cell_coherent.proofs.FieldsApart.{AreFieldsApart, fields_apart}
+use Rattle.cell_coherent.proofs.Overwritten.{IsUpdate, overwritten}
+use Rattle.cell_coherent.proofs.Unchanged.{placed_same, patch_same}
 use Rattle.cell_coherent.specs.Linkable.{IsLinkable}
-use Rattle.cell_coherent.proofs.Inside.{ready_linkable}
+use Rattle.cell_coherent.proofs.Inside.{ready_linkable, wide}
 
 map_flat : {X Y Z : Type 0} (g : Y → Z) (f : X → List Y) (xs : List X) → map g (flat_map f xs) ≡ flat_map (λ x. map g (f x)) xs
 map_flat g f [] = refl

@@ -78,3 +78,9 @@ module _ {X A : Type 0} where
       let s : (g (f x) a ≡ f (g x a)) × P (g x a) = e a (inl refl) x p in
       let r : (fold g (f (g x a)) items ≡ f (fold g (g x a) items)) × P (fold g (g x a) items) = fold_commutes g f P items (λ b i. e b (inr i)) (g x a) s.1 in
       (ap (λ v. fold g v items) s.0 ∙ r.0, r.1)
+
+-- a map that leaves a list leaves each element
+pub fixed-In : {X : Type 0} (f : X → X) (xs : List X) → map f xs ≡ xs → (x : X) → In x xs → f x ≡ x
+fixed-In f [] h x k = absurd k
+fixed-In f (y ∷ xs) h x (inl e) = let k : f y ≡ y = cc in subst (λ v. f v ≡ v) (sym e) k
+fixed-In f (y ∷ xs) h x (inr k) = let t : map f xs ≡ xs = cc in fixed-In f xs t x k
