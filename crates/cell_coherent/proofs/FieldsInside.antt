@@ -63,19 +63,19 @@ longer (s ∷ sections) bytes =
     let e : length next ≡ length (bytes ++ replicate (gap (length bytes) s.align) 0) + length (own_bytes s s.fill) = length-append (bytes ++ replicate (gap (length bytes) s.align) 0) (own_bytes s s.fill) in
     omega (arith, e, length-append bytes (replicate (gap (length bytes) s.align) 0), longer sections next)
 
-own_length : (s : ObjectSection) (fill : Fill) → (is_zero fill || length s.bytes == s.size) ≡ true → length (own_bytes s fill) ≡ s.size
+pub own_length : (s : ObjectSection) (fill : Fill) → (is_zero fill || length s.bytes == s.size) ≡ true → length (own_bytes s fill) ≡ s.size
 own_length s Prog h = eqb-true _ _ h
 own_length s Note h = eqb-true _ _ h
 own_length s Zero h = length-replicate s.size 0
 
-abbrev Sized : List ObjectSection → Type 0
+abbrev pub Sized : List ObjectSection → Type 0
 Sized sections = (s : ObjectSection) → In s sections → length (own_bytes s s.fill) ≡ s.size
 
-abbrev After : List ℕ → ObjectSection → List ℕ
+abbrev pub After : List ℕ → ObjectSection → List ℕ
 After bytes t = bytes ++ replicate (gap (length bytes) t.align) 0 ++ own_bytes t t.fill
 
 -- a section ends in the bytes that are laid out
-ends_laid : (sections : List ObjectSection) (bytes : List ℕ) (n : ℕ) → n ≡ length bytes → Sized sections → (s : ObjectSection) → In s sections → ((t : ObjectSection) → In t sections → t.number ≡ s.number → t ≡ s)
+pub ends_laid : (sections : List ObjectSection) (bytes : List ℕ) (n : ℕ) → n ≡ length bytes → Sized sections → (s : ObjectSection) → In s sections → ((t : ObjectSection) → In t sections → t.number ≡ s.number → t ≡ s)
     → offset_from n sections s.number + s.size ≤ length (laid_out bytes sections)
 ends_laid [] bytes n e z s k u = absurd k
 ends_laid (t ∷ sections) bytes n e z s k u = go (t.number == s.number) refl (ends_laid sections (After bytes t) (n + gap n t.align + t.size) l (λ v m. z v (inr m)) s)

@@ -1,9 +1,9 @@
 -- While a load goes on, the machine with the new cells in their places has grown by them, and is ready where they fit.
 use Rattle.std.proofs.Common.{◌≡◌, refl, sym, ◌∙◌, ap, subst, ℕ, ◌⊎◌, true, List, ◌++◌, map, None, Ok}
-use Rattle.std.specs.Prelude.{filter, flat_map, nat_le, length, Some}
+use Rattle.std.specs.Prelude.{filter, flat_map, nat_le, nat_lt, length, Option, Some, unwrap_or}
 use Rattle.std.specs.List.{list_all}
 use Rattle.std.proofs.lemmas.List.{map-append}
-use Rattle.cell_num.specs.Lists.{equals}
+use Rattle.cell_num.specs.Lists.{each_pair, equals}
 use Rattle.cell_world.specs.declared.refusal.Refusal.TheVariants.{Unknown, NoObject}
 use Rattle.cell_world.specs.World.{World, Cell, is_attached}
 use Rattle.cell_world.specs.Names.{namespace_named}
@@ -17,15 +17,18 @@ use Rattle.cell_world.specs.Answer.{space_of}
 use Rattle.cell_world.specs.LoadCommand.{append_named}
 use Rattle.cell_world.specs.Coherent.{AreSound, IsReady, Shape, class_shape}
 use Rattle.cell_coherent.specs.Linkable.{IsLinkable}
-use Rattle.cell_coherent.specs.Grown.{IsOwn, IsGrown}
-use Rattle.cell_coherent.proofs.Elements.{In, In-right, flat_map-In, below_there, position_below}
+use Rattle.cell_coherent.specs.Grown.{HasAttached, IsOwn, IsRegrown}
+use Rattle.cell_coherent.proofs.Elements.{In, In-All, In-left, In-right, flat_map-In, below_there, position_below}
 use Rattle.cell_coherent.proofs.Known.{object_sound}
 use Rattle.cell_coherent.proofs.Outcomes.{bind_ok, found_ok}
 use Rattle.cell_coherent.proofs.Brought.{In-depot, one_file-In}
 use Rattle.cell_coherent.proofs.Gathered.{Ranks, Extends, gathered}
 use Rattle.cell_coherent.proofs.Places.{Spaced}
 use Rattle.cell_coherent.proofs.FieldsInside.{classes, class-In}
-use Rattle.cell_coherent.proofs.Renamed.{bare, all_bare}
+use Rattle.cell_coherent.proofs.Renamed.{bare, all_bare, pairs_bare}
+use Rattle.cell_coherent.proofs.Lists.{In-fixed}
+use Rattle.cell_coherent.proofs.Targets.{In-find}
+use Rattle.cell_world.specs.Changed.{now_in}
 use Rattle.cell_coherent.proofs.PlacedAll.{Placed, all_placed}
 use Rattle.cell_coherent.proofs.NewPlaced.{AllPlaced, new_placed, shapes_of}
 use Rattle.cell_coherent.proofs.NewRegions.{AllOwn, all_own}
@@ -67,11 +70,25 @@ module _ (v : World) (base : IsBase v) (new : List Cell) (next : ℕ) where
         let s : Shape = record { start = start; permission = permission_of class; size = length (image_of (sections_in class c.object)) } in
         flat_map-In shapes_of all.new c s k (flat_map-In (class_shape c) classes class s (class-In class) (shape_there c class start e))
 
-    pub placed_grown : IsGrown v w (fresh_cells v.next_cell w)
-    placed_grown = subst (IsGrown v w) (sym fresh_new) (record {
+    -- those that are there since v stand behind them, attached
+    pub placed_attached : HasAttached v w (fresh_cells v.next_cell w)
+    placed_attached = subst (HasAttached v w) (sym fresh_new) (record {
       cells = all.cells;
       attached = all_bare (λ c. is_attached c.standing) (λ c. refl) all.new new new_same attached;
       spaces = ap (λ (u : World). u.namespaces) rest.rest;
+    })
+
+    order : each_pair (λ (a b : Cell). nat_lt a.id.0 b.id.0) w.cells ≡ true
+    order = pairs_bare (λ a b. nat_lt a.id.0 b.id.0) (λ a b. refl) w.cells bare_world.cells rest.cells ranks.order
+
+    -- and those of v are as they were
+    still : (c : Cell) → In c v.cells → now_in w c ≡ c
+    still c k = ap (λ (o : Option Cell). unwrap_or o c) (In-find w.cells order c (subst (λ (cs : List Cell). In c cs) (sym all.cells) (In-left v.cells all.new c k)))
+
+    pub placed_regrown : IsRegrown v w (fresh_cells v.next_cell w)
+    placed_regrown = subst (IsRegrown v w) (sym fresh_new) (record {
+      cells = all.cells ∙ ap (λ (cs : List Cell). cs ++ all.new) (sym (In-fixed (now_in w) v.cells still));
+      same = In-All (λ (c : Cell). (now_in w c).placed ≡ c.placed) v.cells (λ c k. ap (λ (x : Cell). x.placed) (still c k));
       old = λ r k. all.adds.stay r k;
       regions = λ r k. subst (λ (cs : List Cell). In r v.regions ⊎ IsOwn cs r) (append_same v.cells own.new all.new (sym own.cells ∙ all.cells)) (own.regions r k);
       starts = λ c k class start e r i. all.adds.apart _ (shape_new c k class start e) r i;
@@ -106,8 +123,11 @@ module _ (sources : List Source) (v : World) (name stem : List ℕ) (a g : World
         subst (λ (cs : List Cell). place_all (grown v (v.cells ++ extends.new) extends.next v.regions) cs ≡ Ok w) same
         (subst (λ (u : World). place_all u (fresh_cells v.next_cell u) ≡ Ok w) back placed)
 
-    pub load_grown : IsGrown v w (fresh_cells v.next_cell w)
-    load_grown = placed_grown v (ready_base v ready) extends.new extends.next w ranks extends.attached extends.fresh places
+    pub load_attached : HasAttached v w (fresh_cells v.next_cell w)
+    load_attached = placed_attached v (ready_base v ready) extends.new extends.next w ranks extends.attached extends.fresh places
+
+    pub load_regrown : IsRegrown v w (fresh_cells v.next_cell w)
+    load_regrown = placed_regrown v (ready_base v ready) extends.new extends.next w ranks extends.attached extends.fresh places
 
     lacks : first_lack (grown v (v.cells ++ extends.new) extends.next v.regions) extends.new ≡ None
     lacks =

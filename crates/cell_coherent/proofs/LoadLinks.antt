@@ -11,18 +11,21 @@ use Rattle.cell_world.specs.Answer.{Done, done, ids, numbers_of}
 use Rattle.cell_world.specs.LoadCommand.{field_count, link_fresh, next_load}
 use Rattle.cell_world.specs.Coherent.{AreSound, IsReady, IsCoherent}
 use Rattle.cell_coherent.specs.Linkable.{IsLinkable}
-use Rattle.cell_coherent.specs.Grown.{IsGrown, with_fields, links_from}
+use Rattle.cell_coherent.specs.Grown.{HasAttached, IsRegrown, with_fields, links_from}
 use Rattle.cell_coherent.specs.Loading.{HasPlaced}
-use Rattle.cell_coherent.proofs.LoadGrown.{load_placed_linkable, load_grown, load_placed_ready}
-use Rattle.cell_coherent.proofs.After.{relinked_after}
+use Rattle.cell_coherent.proofs.LoadGrown.{load_attached, load_placed_linkable, load_placed_ready, load_regrown}
+use Rattle.cell_coherent.proofs.Attaching.{relinked_attached}
 
 -- a test and what follows, where the cells have their places
 abbrev linked_now : ℕ → World → Option Refusal → Outcome Done
 linked_now from w misfit = refused_by misfit >> done (LoadDone (ids (numbers_of (fresh_cells from w))) (field_count (fresh_cells from w))) (relink w)
 
 module _ (sources : List Source) (v : World) (ns stem : List ℕ) (w : World) (sound : AreSound sources) (coherent : IsCoherent v) (h : HasPlaced sources v ns stem w) where
-  pub has_grown : IsGrown v w (fresh_cells v.next_cell w)
-  has_grown = load_grown sources v ns stem h.appended h.gathered sound coherent.ready h.append h.bring_all w h.place
+  pub has_attached : HasAttached v w (fresh_cells v.next_cell w)
+  has_attached = load_attached sources v ns stem h.appended h.gathered sound coherent.ready h.append h.bring_all w h.place
+
+  pub has_regrown : IsRegrown v w (fresh_cells v.next_cell w)
+  has_regrown = load_regrown sources v ns stem h.appended h.gathered sound coherent.ready h.append h.bring_all w h.place
 
   pub is_linkable : IsLinkable w
   is_linkable = load_placed_linkable sources v ns stem h.appended h.gathered sound coherent.ready h.append h.bring_all w h.place
@@ -36,10 +39,15 @@ module _ (sources : List Source) (v : World) (ns stem : List ℕ) (w : World) (s
       ∙ (ap (λ o. o >>= (λ gathered. link_fresh v.next_cell gathered)) h.bring_all
       ∙ ap (λ o. o >>= (λ placed. linked_now v.next_cell placed (first_misfit placed (fresh_cells v.next_cell placed)))) h.place)
 
+  -- linking writes the new cells' fields and adds their links
+  pub relinks : first_misfit w (fresh_cells v.next_cell w) ≡ None
+      → relink w ≡ record w { regions = map (with_fields w (fresh_cells v.next_cell w)) w.regions; links = v.links ++ links_from w (fresh_cells v.next_cell w) }
+  relinks fit = relinked_attached v w (fresh_cells v.next_cell w) coherent (is_ready fit) has_attached has_regrown
+
   pub links : first_misfit w (fresh_cells v.next_cell w) ≡ None → next_load sources v ns stem
       ≡ done (LoadDone (ids (numbers_of (fresh_cells v.next_cell w))) (field_count (fresh_cells v.next_cell w)))
       (record w { regions = map (with_fields w (fresh_cells v.next_cell w)) w.regions; links = v.links ++ links_from w (fresh_cells v.next_cell w) })
   links fit =
       goes_on
       ∙ (ap (linked_now v.next_cell w) fit
-      ∙ ap (done (LoadDone (ids (numbers_of (fresh_cells v.next_cell w))) (field_count (fresh_cells v.next_cell w)))) (relinked_after v w (fresh_cells v.next_cell w) coherent (is_ready fit) has_grown))
+      ∙ ap (done (LoadDone (ids (numbers_of (fresh_cells v.next_cell w))) (field_count (fresh_cells v.next_cell w)))) (relinks fit))

@@ -1,17 +1,21 @@
--- What it is for a machine to have grown by new cells.
---     In x xs              the element is in the list
---     IsOwn new r          the region is that of a class of one of the new cells, with the class's own bytes
---     IsGrown v w new      w is v with the new cells after its own, in regions of their own
---     with_fields w new r  the region with what linking writes for the new cells
---     links_from w new     one link for each entry of the new cells whose target is a section
-use Rattle.std.specs.Prelude.{ℕ, ◌≡◌, ◌⊎◌, IsTrue, List, [], ◌∷◌, ◌++◌, Some, filter_map, flat_map, fold}
+-- What it is for a machine to have new cells behind its own, and what linking writes then.
+--     In x xs                    the element is in the list
+--     IsOwn new r                the region is that of a class of one of the new cells, with the class's own bytes
+--     IsRegrown v w new          w has the cells of v as they are by now, and then the new ones, in regions of their own
+--     HasAttached v w new        w has the cells of v as they were, and then the new ones, which are attached
+--     patch_at w f               what linking writes at the field
+--     with_changes v w new r     the region with the fields that change and those of the new cells written
+--     with_fields w new r        the region with the fields of the new cells written
+--     links_from w new           one link for each entry of the new cells whose target is a section
+use Rattle.std.specs.Prelude.{ℕ, ◌≡◌, ◌⊎◌, IsTrue, List, [], ◌∷◌, ◌++◌, Some, All, filter_map, flat_map, fold, map}
 use Rattle.std.specs.List.{list_all}
 use Rattle.cell_num.specs.Lists.{numbered}
 use Rattle.cell_world.specs.declared.state.LinkRow.{LinkRow}
 use Rattle.cell_world.specs.World.{World, Cell, Region, is_attached}
-use Rattle.cell_world.specs.Relink.{class_start, patched, patches_of, link_of}
+use Rattle.cell_world.specs.Relink.{Patch, bound_entries, class_start, patch_of, patched, patches_of, link_of}
 use Rattle.cell_world.specs.Layout.{permission_of, sections_in, image_of}
 use Rattle.cell_world.specs.declared.layout.Class.{Class}
+use Rattle.cell_world.specs.Changed.{FieldAt, changed_fields, now_in}
 
 -- x is an element of the list
 abbrev pub In : {X : Type 0} → X → List X → Type 0
@@ -26,14 +30,26 @@ pub record IsOwn (new : List Cell) (r : Region) : Type 0 where
   pub permission : r.permission ≡ permission_of class
   pub bytes : r.bytes ≡ image_of (sections_in class cell.object)
 
-pub record IsGrown (v w : World) (new : List Cell) : Type 0 where
-  pub cells : w.cells ≡ v.cells ++ new
-  pub attached : IsTrue (list_all (λ c. is_attached c.standing) new)
-  pub spaces : w.namespaces ≡ v.namespaces
+-- the cells of v may have other standings or aliases in w
+pub record IsRegrown (v w : World) (new : List Cell) : Type 0 where
+  pub cells : w.cells ≡ map (now_in w) v.cells ++ new
+  -- number, namespace, stem, file, object and places are as they were
+  pub same : All (λ c. (now_in w c).placed ≡ c.placed) v.cells
   -- the regions of v, and those of the new cells, which start where none of v does
   pub old : (r : Region) → In r v.regions → In r w.regions
   pub regions : (r : Region) → In r w.regions → In r v.regions ⊎ IsOwn new r
   pub starts : (c : Cell) → In c new → (class : Class) (start : ℕ) → class_start c class ≡ Some start → (r : Region) → In r v.regions → start ≡ r.start → ⊥
+
+pub record HasAttached (v w : World) (new : List Cell) : Type 0 where
+  pub cells : w.cells ≡ v.cells ++ new
+  pub attached : IsTrue (list_all (λ c. is_attached c.standing) new)
+  pub spaces : w.namespaces ≡ v.namespaces
+
+abbrev pub patch_at : World → FieldAt → Patch
+patch_at w f = patch_of f.cell (bound_entries w f.cell) f.field
+
+abbrev pub with_changes : World → World → List Cell → Region → Region
+with_changes v w new r = fold patched r (map (patch_at w) (changed_fields v w) ++ flat_map (patches_of w) new)
 
 abbrev pub with_fields : World → List Cell → Region → Region
 with_fields w new r = fold patched r (flat_map (patches_of w) new)

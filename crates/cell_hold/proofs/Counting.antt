@@ -8,7 +8,7 @@ use Rattle.std.proofs.lemmas.List.Sums.{sum_by-cons}
 use Rattle.cell_num.specs.declared.ids.CellId.{CellId}
 use Rattle.cell_num.specs.Lists.{each_pair, holds}
 use Rattle.cell_coherent.proofs.Elements.{In, In-all, all-In, All-In, any-In, filter-In, In-map}
-use Rattle.cell_turns.proofs.Lists.{length-filter_le}
+use Rattle.cell_coherent.proofs.Lists.{length-filter_le}
 use Rattle.cell_removal.proofs.KeptPaths.{In-holds, holds-In}
 use Rattle.cell_hold.specs.Adds.{IsOnceEach, has_cell}
 use Rattle.cell_hold.proofs.Adding.{none_counted}

@@ -12,10 +12,9 @@ use Rattle.cell_world.specs.LoadCommand.{field_count, next_load}
 use Rattle.cell_world.specs.Outcome.{Outcome, ◌>>=◌, refused_by}
 use Rattle.cell_world.specs.Place.{page_table}
 use Rattle.cell_world.specs.Relink.{relink}
-use Rattle.cell_coherent.specs.Grown.{IsGrown, links_from, with_fields}
+use Rattle.cell_coherent.specs.Grown.{links_from, with_fields}
 use Rattle.cell_coherent.specs.Loading.{HasPlaced}
-use Rattle.cell_coherent.proofs.After.{relinked_after}
-use Rattle.cell_coherent.proofs.LoadLinks.{has_grown, is_linkable, is_ready, links}
+use Rattle.cell_coherent.proofs.LoadLinks.{is_linkable, is_ready, links, relinks}
 use Rattle.cell_coherent.proofs.Relinks.{coherent_relinked}
 use Rattle.cell_law.specs.Loading.{ManyTaken, gathered_by, grown, objects_of, placed_after, placed_cells, take_all}
 use Rattle.cell_law.proofs.Loads.{fresh_placed, has_placed as placed_of, load_full}
@@ -56,11 +55,10 @@ module _ (sources : List Source) (w : World) (ns stem : List ℕ) (coherent : Is
       abbrev next_world : World
       next_world = record W { regions = map (with_fields W F) W.regions; links = w.links ++ links_from W F }
 
-      has_all : IsGrown w W F
-      has_all = subst (IsGrown w W) fresh (has_grown sources w ns stem W sound coherent placed)
-
       relinked : relink W ≡ next_world
-      relinked = relinked_after w W F coherent ready has_all
+      relinked =
+          relinks sources w ns stem W sound coherent placed none_unfit
+          ∙ ap (λ (cs : List Cell). record W { regions = map (with_fields W cs) W.regions; links = w.links ++ links_from W cs }) fresh
 
       pub comes : ComesTo W F [] w.links next_world
       comes = record { ready = ready; coherent = subst IsCoherent relinked (coherent_relinked W ready); is = refl }

@@ -18,7 +18,7 @@ use Rattle.cell_coherent.proofs.Elements.{In, In-map, In-left, In-right, In-filt
 use Rattle.cell_coherent.proofs.FieldsInside.{among-In, field_region, fields_end_in}
 use Rattle.cell_coherent.proofs.ImagesInside.{images_fit}
 use Rattle.cell_coherent.proofs.Inside.{wide}
-use Rattle.cell_coherent.proofs.OwnRegions.{passed_by, starts_at, uncovered}
+use Rattle.cell_coherent.proofs.Regions.{passed_by, starts_at, uncovered}
 use Rattle.cell_coherent.proofs.Patches.{HasShape, AllEndIn, shape_by}
 use Rattle.cell_coherent.proofs.Relinked.{patches, own_image, restore, remade_is}
 use Rattle.cell_turns.proofs.Fixed.{remade_fixed}

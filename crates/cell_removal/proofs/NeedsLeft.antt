@@ -21,7 +21,7 @@ use Rattle.cell_world.specs.Coherent.{IsCoherent, is_supplied, is_fitting}
 use Rattle.cell_coherent.proofs.Elements.{In, all-In, In-all, In-map, In-numbered, In-filtered, filter-Passes, any-Has}
 use Rattle.cell_coherent.proofs.Known.{object_sound}
 use Rattle.cell_coherent.proofs.Targets.{entry_parts}
-use Rattle.cell_turns.proofs.Lists.{and_left, and_right}
+use Rattle.cell_coherent.proofs.Lists.{and_left, and_right}
 use Rattle.cell_removal.proofs.TargetsLeft.{Closed, IsFree, provider_free, provider_same, target_free}
 use Rattle.cell_removal.proofs.LinksLeft.{bound_same}
 

@@ -10,7 +10,7 @@ use Rattle.cell_world.specs.Coherent.{IsCoherent}
 use Rattle.cell_coherent.proofs.Elements.{In, In-map, map-In, In-filtered, filter-Passes, map_same, some_has}
 use Rattle.cell_coherent.proofs.Relinked.{map_twice}
 use Rattle.cell_turns.proofs.Changed.{live_parts}
-use Rattle.cell_turns.proofs.Lists.{filter_same, map_filter, pairs_kept}
+use Rattle.cell_coherent.proofs.Lists.{filter_same, map_filter, pairs_kept}
 use Rattle.cell_removal.proofs.KeptPaths.{In-holds, holds-In, kept_complete}
 use Rattle.cell_removal.proofs.Holders.{none_kept}
 use Rattle.cell_removal.proofs.TargetsLeft.{Closed}

@@ -11,7 +11,7 @@ use Rattle.cell_coherent.proofs.Elements.{In, In-all, All-In, In-All, In-filtere
 use Rattle.cell_coherent.proofs.Ready.{LimitParts, limit_parts, limits_from}
 use Rattle.cell_turns.proofs.Changed.{TaskParts, live_parts, task_from}
 use Rattle.cell_turns.proofs.Fixed.{relinked}
-use Rattle.cell_turns.proofs.Lists.{all-filter, pairs-filter, length-filter_le}
+use Rattle.cell_coherent.proofs.Lists.{all-filter, pairs-filter, length-filter_le}
 use Rattle.cell_removal.proofs.Lookups.{unnot}
 use Rattle.cell_removal.proofs.TargetsLeft.{Closed, cell_same}
 use Rattle.cell_removal.proofs.LinksLeft.{links_left}

@@ -14,7 +14,7 @@ use Rattle.cell_coherent.proofs.Distinct.{cell_shapes, one_class, shape_there}
 use Rattle.cell_coherent.proofs.FieldsInside.{classes, class-In}
 use Rattle.cell_coherent.proofs.PlacedAll.{Put}
 use Rattle.cell_coherent.proofs.Present.{In-filter_map}
-use Rattle.cell_turns.proofs.Lists.{map_filter}
+use Rattle.cell_coherent.proofs.Lists.{map_filter}
 use Rattle.cell_turns.proofs.Shapes.{filter_put}
 use Rattle.cell_turns.proofs.Stacks.{cells_elsewhere}
 use Rattle.cell_removal.proofs.KeptPaths.{In-holds, holds-In}

@@ -19,7 +19,7 @@ use Rattle.cell_coherent.proofs.Elements.{In, All-In, In-map, map-In, In-right, 
 use Rattle.cell_coherent.proofs.FieldsInside.{In-fold_shape}
 use Rattle.cell_coherent.proofs.Inside.{sections_lie, ready_linkable}
 use Rattle.cell_turns.proofs.Bare.{covers_once}
-use Rattle.cell_turns.proofs.Lists.{and_left}
+use Rattle.cell_coherent.proofs.Lists.{and_left}
 use Rattle.cell_removal.proofs.Lookups.{flat_kept, unnot_false}
 use Rattle.cell_removal.proofs.TargetsLeft.{Closed}
 use Rattle.cell_removal.proofs.RemoveCoherent.{remove_coherent}

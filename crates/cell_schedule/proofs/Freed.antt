@@ -17,7 +17,7 @@ use Rattle.cell_coherent.proofs.FieldsInside.{In-fold_shape}
 use Rattle.cell_coherent.proofs.Places.{table_length, taken_at, whole_region}
 use Rattle.cell_mem.proofs.Filling.{filled_above, filled_below, filled_inside, length-filled}
 use Rattle.cell_turns.proofs.Bare.{covers_once, region_once}
-use Rattle.cell_turns.proofs.Writes.{begins_below, covered, ends_above}
+use Rattle.cell_coherent.proofs.Writes.{begins_below, covered, ends_above}
 
 not_equal : (a b : ℕ) → not (a == b) ≡ true → a ≡ b → ⊥
 not_equal a b h e = true≢false (sym h ∙ ap not (eq-eqb a b e))

@@ -13,9 +13,9 @@ use Rattle.cell_world.specs.Place.{is_taken, page_table}
 use Rattle.cell_mem.specs.State.{size_of}
 use Rattle.cell_coherent.proofs.Elements.{In, all-In, found-In, map_same}
 use Rattle.cell_turns.proofs.Executed.{Stored}
-use Rattle.cell_turns.proofs.Lists.{and_left, and_right}
+use Rattle.cell_coherent.proofs.Lists.{and_left, and_right}
 use Rattle.cell_turns.proofs.Stored.{stored_shape}
-use Rattle.cell_turns.proofs.Writes.{begins_below}
+use Rattle.cell_coherent.proofs.Writes.{begins_below}
 use Rattle.cell_schedule.proofs.Marks.{any_map}
 
 -- the shapes are the same, one by one

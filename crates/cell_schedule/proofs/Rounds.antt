@@ -14,7 +14,7 @@ use Rattle.cell_world.specs.Answer.{done}
 use Rattle.cell_world.specs.TaskCommands.{Round, next_run, run_task}
 use Rattle.cell_world.specs.Turn.{Ran, ran, slice_of, turn, turns_from}
 use Rattle.cell_coherent.proofs.Elements.{In, all-In, filter-Passes, found-In, pairs-map}
-use Rattle.cell_turns.proofs.Lists.{and_left, and_right, filter_same, map_filter, pairs-filter}
+use Rattle.cell_coherent.proofs.Lists.{and_left, and_right, filter_same, map_filter, pairs-filter}
 use Rattle.cell_task.specs.State.{IsReady, TasksState, live_in}
 use Rattle.cell_machine.specs.declared.machine.Machine.{Machine}
 use Rattle.cell_machine.specs.Machine.{IsSound, world_of}

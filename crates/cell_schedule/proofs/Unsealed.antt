@@ -22,7 +22,7 @@ use Rattle.cell_coherent.proofs.Places.{length-from}
 use Rattle.cell_commit.specs.Seals.{is_in_span, seal_table}
 use Rattle.cell_mem.proofs.Filling.{filled_above, filled_below, filled_inside, length-filled}
 use Rattle.cell_turns.proofs.Killed.{kill_coherent}
-use Rattle.cell_turns.proofs.Writes.{begins_below, covered}
+use Rattle.cell_coherent.proofs.Writes.{begins_below, covered}
 use Rattle.cell_space.specs.Joined.{placed_of}
 use Rattle.cell_machine.specs.Machine.{field_bytes, own_field_bytes}
 use Rattle.cell_schedule.proofs.Freed.{left_clear, stack_of}

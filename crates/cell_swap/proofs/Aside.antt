@@ -15,7 +15,7 @@ use Rattle.cell_world.specs.UnloadCommand.{detach, garbage_of, put_aside}
 use Rattle.cell_world.specs.World.{World, Cell, Detached, is_attached}
 use Rattle.cell_coherent.proofs.Elements.{In, In-All, In-none, In-filtered, filter-In, map-In, map_same, pairs-map}
 use Rattle.cell_coherent.proofs.Relinked.{map_twice}
-use Rattle.cell_turns.proofs.Lists.{pairs-filter}
+use Rattle.cell_coherent.proofs.Lists.{pairs-filter}
 use Rattle.cell_graph.specs.Removal.{is_listed, is_outside_use}
 use Rattle.cell_removal.proofs.Freed.{number_holds}
 use Rattle.cell_removal.proofs.KeptPaths.{In-holds, directly_kept, kept_complete}

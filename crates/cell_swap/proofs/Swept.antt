@@ -15,7 +15,7 @@ use Rattle.cell_coherent.proofs.Appended.{ok_same}
 use Rattle.cell_coherent.proofs.Elements.{In, In-map}
 use Rattle.cell_coherent.proofs.Relinked.{map_twice}
 use Rattle.cell_machine.proofs.Counts.{counts_stand}
-use Rattle.cell_turns.proofs.Lists.{In-fixed, length-filter_le}
+use Rattle.cell_coherent.proofs.Lists.{In-fixed, length-filter_le}
 use Rattle.cell_world.specs.Following.{FailsAs}
 use Rattle.cell_world.specs.declared.fail.Fail.{Fail}
 use Rattle.cell_world.specs.declared.fail.Fail.TheVariants.{Refused, OutOfMemory}

@@ -22,7 +22,7 @@ use Rattle.cell_coherent.proofs.Present.{In-filter_map}
 use Rattle.cell_removal.proofs.Lookups.{filter_map-In}
 use Rattle.cell_removal.proofs.TargetsLeft.{IsInProvider, provided}
 use Rattle.cell_swaps_law.specs.Targets.{is_target_in, without_in}
-use Rattle.cell_swaps_law.proofs.Values.{find_map}
+use Rattle.cell_coherent.proofs.Values.{find_map}
 use Rattle.cell_swaps_law.proofs.Unique.{offered, first_only, first_none, Candidate, one_candidate}
 
 pub find_equal : {X : Type 0} (p q : X → Bool) (xs : List X) → ((x : X) → p x ≡ q x) → find p xs ≡ find q xs

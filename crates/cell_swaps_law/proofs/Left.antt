@@ -1,32 +1,27 @@
 -- What an accepted swap leaves: its last step is a purge of the machine after the routines.
-use Rattle.std.proofs.Common.{◌≡◌, refl, sym, ◌∙◌, subst, ℕ, ◌<◌, Bool, false, List, map, ◌++◌, length, None, Ok, ◌↔◌}
+use Rattle.std.proofs.Common.{◌≡◌, refl, sym, ◌∙◌, subst, ℕ, ◌<◌, Bool, false, List, length, Ok, ◌↔◌}
 use Rattle.std.specs.Prelude.{All}
 use Rattle.cell_num.specs.Lists.{holds}
 use Rattle.cell_object.specs.declared.object.Entry.{Entry}
 use Rattle.cell_world.specs.declared.command.SwapItem.{SwapItem}
 use Rattle.cell_world.specs.declared.reply.Reply.TheVariants.{Purge as PurgeDone}
 use Rattle.cell_world.specs.World.{World, Cell}
-use Rattle.cell_world.specs.Relink.{relink}
 use Rattle.cell_world.specs.Gather.{Source, fresh_cells}
-use Rattle.cell_world.specs.Fit.{first_misfit}
-use Rattle.cell_world.specs.Changed.{now_in, differs, changed_fields, first_changed_misfit}
+use Rattle.cell_world.specs.Changed.{differs, changed_fields}
 use Rattle.cell_world.specs.UnloadCommand.{garbage_of, purged}
 use Rattle.cell_world.specs.SwapCommand.{Plan, Wanted, all_wanted, old_numbers, plan_swap, next_swap}
 use Rattle.cell_world.specs.Kept.{IsKept, holding_of}
 use Rattle.cell_world.specs.Answer.{Done, ids, numbers_of}
 use Rattle.cell_world.specs.Coherent.{AreSound, IsCoherent}
-use Rattle.cell_coherent.specs.Grown.{links_from}
 use Rattle.cell_coherent.proofs.Elements.{In, In-All}
 use Rattle.cell_coherent.proofs.Appended.{ok_same}
 use Rattle.cell_removal.specs.Left.{IsFree, IsUnreached, LeavesTargets, LeavesFields}
 use Rattle.cell_removal.proofs.AllKept.{purge_keeps, purge_unreached}
 use Rattle.cell_removal.proofs.Removals.{removed_coherent, removed_targets, removed_fields, purge_removed, purge_leaves}
-use Rattle.cell_swaps_law.specs.Regrown.{with_changes}
 use Rattle.cell_swaps_law.specs.Targets.{loses, replaced_fields, FollowsTargets}
-use Rattle.cell_swaps_law.specs.Swapping.{HasSwapPlaced, HasSwapped}
+use Rattle.cell_swaps_law.specs.Swapping.{HasSwapped}
 use Rattle.cell_swaps_law.proofs.Growths.{targets_follow}
-use Rattle.cell_swaps_law.proofs.Regrown.{relinked_writes}
-use Rattle.cell_swaps_law.proofs.SwapReady.{swap_regrown, swap_ready}
+use Rattle.cell_swaps_law.proofs.SwapReady.{swap_regrown}
 use Rattle.cell_swaps_law.proofs.SwapTargets.{differs_where_lost, changed_where_lost}
 use Rattle.cell_swaps_law.proofs.SwapSteps.{Planned, planned, Swapped, swapped, ends, plan_ready}
 use Rattle.cell_swaps_law.proofs.Second.{second_coherent}
@@ -91,11 +86,6 @@ module _ (sources : List Source) (v : World) (items : List SwapItem) (reexport s
     swap_all_kept = swap_kept t.swap
 
 module _ (sources : List Source) (v : World) (items : List SwapItem) (reexport : Bool) (sound : AreSound sources) (h : IsCoherent v) (some : 0 < length items) where
-  -- what linking writes for a swap
-  pub swap_writes : (w : World) → HasSwapPlaced sources v items reexport w → first_misfit w (fresh_cells v.next_cell w) ≡ None → first_changed_misfit v w v.cells ≡ None
-      → relink w ≡ record w { regions = map (with_changes v w (fresh_cells v.next_cell w)) w.regions; links = links_from w (map (now_in w) v.cells) ++ links_from w (fresh_cells v.next_cell w) }
-  swap_writes w p a b = relinked_writes v w (fresh_cells v.next_cell w) h (swap_ready sources sound v h items reexport w p b some a) (swap_regrown sources sound v h items reexport w p)
-
   pub swap_follows : (words : List (List ℕ)) (plan : Plan) → plan_swap sources v items reexport words ≡ Ok plan → FollowsTargets v plan.linked
   swap_follows words plan e =
       let x : Planned sources v items reexport words plan = planned sources v items reexport words plan e in

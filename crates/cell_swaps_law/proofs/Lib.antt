@@ -1,9 +1,3 @@
-pub mod Offsets
-pub mod FieldsApart
-pub mod Values
-pub mod Overwritten
-pub mod Unchanged
-pub mod Regrown
 pub mod Paths
 pub mod Unique
 pub mod Detached
@@ -20,6 +14,4 @@ pub mod Steps
 pub mod Left
 pub mod Settled
 pub mod MovedLinks
-pub mod NextCoherent
-pub mod Others
 pub mod Begins

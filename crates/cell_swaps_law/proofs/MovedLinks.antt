@@ -29,9 +29,9 @@ use Rattle.cell_coherent.proofs.Inside.{ready_linkable}
 use Rattle.cell_coherent.proofs.Relinks.{coherent_relinked}
 use Rattle.cell_turns.proofs.Fixed.{links_fixed}
 use Rattle.cell_removal.proofs.TargetsLeft.{provided}
-use Rattle.cell_swaps_law.specs.Regrown.{IsRegrown}
+use Rattle.cell_coherent.specs.Grown.{IsRegrown}
 use Rattle.cell_swaps_law.specs.Moved.{entry_at, led_to, moved}
-use Rattle.cell_swaps_law.proofs.Unchanged.{placed_same, now_There}
+use Rattle.cell_coherent.proofs.Unchanged.{placed_same, now_There}
 use Rattle.std.proofs.lemmas.List.{map-append}
 
 abbrev is_section : Option Target → Bool

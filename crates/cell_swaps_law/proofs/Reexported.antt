@@ -17,7 +17,7 @@ use Rattle.cell_coherent.proofs.Chains.{Lower}
 use Rattle.cell_coherent.proofs.Gathered.{Ranks}
 use Rattle.cell_coherent.proofs.Present.{some_same}
 use Rattle.cell_coherent.proofs.Targets.{In-find}
-use Rattle.cell_turns.proofs.Lists.{pairs_kept}
+use Rattle.cell_coherent.proofs.Lists.{pairs_kept}
 use Rattle.cell_swaps_law.proofs.Paths.{in_own_chain}
 
 -- the test of two cells goes on to hold where stems and names stay apart

@@ -17,7 +17,7 @@ use Rattle.cell_coherent.proofs.Ready.{IsBase, ready_base}
 use Rattle.cell_coherent.proofs.LoadCoherent.{ready_ranks}
 use Rattle.cell_coherent.proofs.Distinct.{cell_shapes}
 use Rattle.cell_removal.proofs.PutAside.{order_aside}
-use Rattle.cell_swaps_law.proofs.Values.{find_map}
+use Rattle.cell_coherent.proofs.Values.{find_map}
 use Rattle.cell_swaps_law.proofs.Detached.{put, put_same, put_in, put_out, find_equal}
 
 never : (a p z : Bool) → (not (a && false && p) || z) ≡ true

@@ -1,31 +1,25 @@
 -- Attaching, detaching and removing, one by one.
-use Rattle.std.proofs.Common.{◌≡◌, sym, ◌∙◌, ap, ℕ, suc, true, false, List, ◌++◌}
+use Rattle.std.proofs.Common.{◌≡◌, sym, ◌∙◌, ap, ℕ, suc, true, false, List}
 use Rattle.std.specs.Prelude.{All, IsTrue}
-use Rattle.std.specs.List.{list_all}
 use Rattle.cell_num.specs.Lists.{holds}
 use Rattle.cell_object.specs.declared.object.Entry.{Entry}
 use Rattle.cell_world.specs.World.{World, Cell, is_attached}
-use Rattle.cell_world.specs.Names.{chain}
 use Rattle.cell_world.specs.Target.{target_of}
 use Rattle.cell_world.specs.UnloadCommand.{put_aside, detach}
 use Rattle.cell_world.specs.Coherent.{IsCoherent}
 use Rattle.cell_coherent.specs.Linkable.{IsLinkable}
 use Rattle.cell_coherent.proofs.Elements.{In, All-In, In-All}
-use Rattle.cell_coherent.proofs.Attach.{Grows}
 use Rattle.cell_coherent.proofs.Supplied.{same_target}
 use Rattle.cell_swaps_law.specs.Targets.{without_in}
 use Rattle.cell_swaps_law.proofs.Detached.{put_out, own_same, others_lose}
 use Rattle.cell_swaps_law.proofs.SwapReady.{new_group}
-use Rattle.cell_world.specs.declared.state.Namespace.{Namespace}
+use Rattle.cell_coherent.specs.Grown.{HasAttached}
+use Rattle.cell_coherent.proofs.FreshLinks.{grows}
 
-pub attached_targets : (v w : World) (new : List Cell) → IsLinkable v → w.namespaces ≡ v.namespaces → w.cells ≡ v.cells ++ new → IsTrue (list_all (λ c. is_attached c.standing) new)
-    → All (λ c. All (λ e. target_of w c e ≡ target_of v c e) c.object.entries) v.cells
-attached_targets v w new link spaces cells attached =
+pub attached_targets : (v w : World) (new : List Cell) → IsLinkable v → HasAttached v w new → All (λ c. All (λ e. target_of w c e ≡ target_of v c e) c.object.entries) v.cells
+attached_targets v w new link a =
     In-All (λ (c : Cell). All (λ (e : Entry). target_of w c e ≡ target_of v c e) c.object.entries) v.cells
-    (λ c i. In-All (λ (e : Entry). target_of w c e ≡ target_of v c e) c.object.entries (λ e j. same_target v w grown link.cell_order link.cells link.objects link.supplied c i e j))
-  where
-    grown : Grows v w
-    grown = record { spaces = λ ns k. ap (λ (s : List Namespace). chain s ns) spaces; new = new; cells = cells; attached = attached }
+    (λ c i. In-All (λ (e : Entry). target_of w c e ≡ target_of v c e) c.object.entries (λ e j. same_target v w (grows v w new a) link.cell_order link.cells link.objects link.supplied c i e j))
 
 module _ (w : World) (h : IsCoherent w) (ns : List ℕ) (attached : All (λ c. IsTrue (holds ns c.id.0) → IsTrue (is_attached c.standing)) w.cells) where
   each_attached : (c : Cell) → In c w.cells → holds ns c.id.0 ≡ true → is_attached c.standing ≡ true

@@ -21,7 +21,7 @@ use Rattle.cell_removal.proofs.Holders.{first_held_exact}
 use Rattle.cell_removal.proofs.PutAside.{put_number, put_detached}
 use Rattle.cell_swaps_law.specs.Swapping.{HasSwapPlaced}
 use Rattle.cell_swaps_law.proofs.SwapGathered.{IsWanted}
-use Rattle.cell_swaps_law.proofs.SwapReady.{all_wants, is_grown}
+use Rattle.cell_swaps_law.proofs.SwapReady.{all_wants, behind}
 use Rattle.cell_swaps_law.proofs.SwapSteps.{Planned, planned, Swapped, swapped}
 use Rattle.cell_swaps_law.proofs.Second.{second_parts}
 
@@ -42,7 +42,7 @@ module _ (sources : List Source) (sound : AreSound sources) (v : World) (h : IsC
         omega (arith, ltb-true x.0.old.id.0 v.next_cell (known_parts v x.0.old (all-In (is_known_cell v) v.cells h.ready.cells x.0.old y.present)).number, x.2)
 
     old_apart : (n : ℕ) → In n ns → (c : Cell) → In c w.cells → n ≡ c.id.0 → is_attached c.standing ≡ false
-    old_apart n i c j e = go (In-append _ _ c (subst (λ (cs : List Cell). In c cs) (is_grown sources sound v h items reexport w p).cells j))
+    old_apart n i c j e = go (In-append _ _ c (subst (λ (cs : List Cell). In c cs) (behind sources sound v h items reexport w p).cells j))
       where
         go : In c (map (put_aside (suc v.swaps) ns) v.cells) ⊎ In c (fresh_cells v.next_cell w) → is_attached c.standing ≡ false
         go (inl k) =

@@ -23,7 +23,7 @@ use Rattle.cell_coherent.proofs.Brought.{brought}
 use Rattle.cell_coherent.proofs.Chains.{Lower, lower_parents}
 use Rattle.cell_coherent.proofs.Gathered.{Ranks, Extends, extends_none, good_append}
 use Rattle.cell_coherent.proofs.Present.{and_then_ok}
-use Rattle.cell_turns.proofs.Lists.{In-fixed}
+use Rattle.cell_coherent.proofs.Lists.{In-fixed}
 use Rattle.cell_swaps_law.proofs.SetAside.{aside, aside_ranks, aside_base}
 use Rattle.cell_swaps_law.proofs.Reexported.{renamed, renamed_same, renamed_out, renamed_ranks}
 

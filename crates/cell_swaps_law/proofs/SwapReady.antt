@@ -16,7 +16,6 @@ use Rattle.cell_world.specs.Fit.{first_misfit, overflow_at}
 use Rattle.cell_world.specs.Changed.{now_in, differs, is_changed, changed_misfit, first_changed_misfit}
 use Rattle.cell_world.specs.SwapCommand.{Wanted, old_numbers, is_bystander}
 use Rattle.cell_world.specs.Coherent.{AreSound, IsReady, IsCoherent, is_known_cell, is_sound_standing, is_supplied, is_fitting}
-use Rattle.cell_coherent.specs.Grown.{IsGrown}
 use Rattle.cell_coherent.specs.Linkable.{IsLinkable}
 use Rattle.cell_coherent.proofs.Elements.{In, all-In, In-all, In-All, In-left, In-map, map-In, filter-In, none-In, unfound-In, map_same, some_has, none_is, or_else_parts}
 use Rattle.cell_coherent.proofs.Known.{known_parts}
@@ -29,14 +28,14 @@ use Rattle.cell_coherent.proofs.PlacedAll.{Placed, all_placed}
 use Rattle.cell_coherent.proofs.Renamed.{provider_bare}
 use Rattle.cell_coherent.proofs.Ready.{IsBase, grown, limit_parts}
 use Rattle.cell_coherent.proofs.LoadCoherent.{fresh_is, placed_grows, placed_linkable, placed_ready}
-use Rattle.cell_coherent.proofs.LoadGrown.{placed_grown}
+use Rattle.cell_coherent.proofs.LoadGrown.{placed_attached, placed_regrown}
 use Rattle.cell_coherent.proofs.Present.{some_same}
 use Rattle.cell_coherent.proofs.Targets.{In-find}
 use Rattle.cell_removal.proofs.KeptPaths.{holds-In}
-use Rattle.cell_swaps_law.specs.Regrown.{IsRegrown}
+use Rattle.cell_coherent.specs.Grown.{HasAttached, IsRegrown}
 use Rattle.cell_swaps_law.specs.Swapping.{HasSwapPlaced}
-use Rattle.cell_swaps_law.proofs.Values.{bind}
-use Rattle.cell_swaps_law.proofs.Unchanged.{named_in, bound_is, bound_now, fits_same}
+use Rattle.cell_coherent.proofs.Values.{bind}
+use Rattle.cell_coherent.proofs.Unchanged.{named_in, bound_is, bound_now, fits_same}
 use Rattle.cell_swaps_law.proofs.Detached.{put, put_same, put_out, own_needs}
 use Rattle.cell_swaps_law.proofs.SetAside.{aside, aside_base}
 use Rattle.cell_swaps_law.proofs.SwapGathered.{IsWanted, wanted_all, swap_gathered}
@@ -127,8 +126,11 @@ module _ (sources : List Source) (sound : AreSound sources) (v : World) (h : IsC
   pub grows : Grows base w
   grows = placed_grows base b extends.new extends.next w ranks extends.attached extends.fresh lacks places
 
-  pub is_grown : IsGrown base w (fresh_cells v.next_cell w)
-  is_grown = placed_grown base b extends.new extends.next w ranks extends.attached extends.fresh places
+  pub behind : HasAttached base w (fresh_cells v.next_cell w)
+  behind = placed_attached base b extends.new extends.next w ranks extends.attached extends.fresh places
+
+  base_regrown : IsRegrown base w (fresh_cells v.next_cell w)
+  base_regrown = placed_regrown base b extends.new extends.next w ranks extends.attached extends.fresh places
 
   pub placed : Placed p.gathered w
   placed = all_placed p.gathered (fresh_cells v.next_cell p.gathered) w (subst Spaced extends.is (record { in_space = b.in_space; apart = b.apart })) p.place
@@ -177,17 +179,17 @@ module _ (sources : List Source) (sound : AreSound sources) (v : World) (h : IsC
   -- each cell of v is in w with another standing
   pub now_is : (c : Cell) → In c v.cells → now_in w c ≡ moved c
   now_is c i =
-      let there : In (moved c) w.cells = subst (In (moved c)) (sym is_grown.cells) (In-left base.cells (fresh_cells v.next_cell w) (moved c) (map-In moved v.cells c i)) in
+      let there : In (moved c) w.cells = subst (In (moved c)) (sym behind.cells) (In-left base.cells (fresh_cells v.next_cell w) (moved c) (map-In moved v.cells c i)) in
       ap (λ (o : Option Cell). unwrap_or o c)
       (ap (cell_of w) (sym (put_same (suc v.swaps) ns (λ x. x.id.0) c refl)) ∙ In-find w.cells swap_linkable.cell_order (moved c) there)
 
   pub swap_regrown : IsRegrown v w (fresh_cells v.next_cell w)
   swap_regrown = record {
-    cells = is_grown.cells ∙ ap (λ (cs : List Cell). cs ++ fresh_cells v.next_cell w) (map_same moved (now_in w) v.cells (λ c i. sym (now_is c i)));
+    cells = behind.cells ∙ ap (λ (cs : List Cell). cs ++ fresh_cells v.next_cell w) (map_same moved (now_in w) v.cells (λ c i. sym (now_is c i)));
     same = In-All (λ (c : Cell). (now_in w c).placed ≡ c.placed) v.cells (λ c i. ap (λ (x : Cell). x.placed) (now_is c i) ∙ put_same (suc v.swaps) ns (λ x. x.placed) c refl);
-    old = is_grown.old;
-    regions = is_grown.regions;
-    starts = is_grown.starts;
+    old = base_regrown.old;
+    regions = base_regrown.regions;
+    starts = base_regrown.starts;
   }
 
   -- what changes fits, and so does what doesn't

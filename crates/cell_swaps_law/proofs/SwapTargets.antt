@@ -2,7 +2,7 @@
 use Rattle.std.proofs.Common.{◌≡◌, refl, sym, ◌∙◌, ap, subst, arith, ℕ, zero, suc, ◌<◌, ◌⊎◌, inl, inr, Bool, true, false, cond, not, ◌&&◌, ◌||◌, List, [], ◌∷◌, map, length, true≢false, Option, Some, None}
 use Rattle.std.specs.Prelude.{filter, option_and_then, slice_get, nat_lt, nat_le, ◌==◌}
 use Rattle.std.specs.List.{list_any}
-use Rattle.std.proofs.lemmas.Bool.{and_parts, and_from, eqb-true, eq-eqb, leb-true, ltb-true}
+use Rattle.std.proofs.lemmas.Bool.{and_parts, eqb-true, eq-eqb, leb-true, ltb-true}
 use Rattle.cell_num.specs.Lists.{holds, or_else}
 use Rattle.cell_object.specs.declared.object.Symbol.{Symbol}
 use Rattle.cell_object.specs.declared.object.Entry.{Entry}
@@ -26,19 +26,15 @@ use Rattle.cell_coherent.proofs.Known.{known_parts, object_sound}
 use Rattle.cell_coherent.proofs.Attach.{target_grown}
 use Rattle.cell_coherent.proofs.Targets.{target_has}
 use Rattle.cell_coherent.proofs.Present.{In-filter_map}
-use Rattle.cell_turns.proofs.Lists.{filter_same}
+use Rattle.cell_coherent.proofs.Lists.{filter_same}
 use Rattle.cell_removal.proofs.KeptPaths.{holds-In}
 use Rattle.cell_swaps_law.specs.Targets.{is_target_in, loses, is_replaced, replaced_in, replaced_fields}
 use Rattle.cell_swaps_law.specs.Swapping.{HasSwapPlaced}
 use Rattle.cell_swaps_law.proofs.Unique.{offered}
-use Rattle.cell_swaps_law.proofs.Unchanged.{now_There}
+use Rattle.cell_coherent.proofs.Unchanged.{now_There}
 use Rattle.cell_swaps_law.proofs.Detached.{put, put_same, put_in, put_out, offered_parts, own_same, others_lose}
-use Rattle.cell_swaps_law.proofs.SwapReady.{all_wants, new_group, set_attached, grows, is_grown, swap_linkable, now_is, base, swap_regrown}
-
-pub same_self : (t : Target) → is_same_target t t ≡ true
-same_self (Section key offset addr) =
-    and_from (is_same_key key key) (offset == offset) (and_from (key.cell.0 == key.cell.0) (key.section == key.section) (eq-eqb key.cell.0 key.cell.0 refl) (eq-eqb key.section key.section refl)) (eq-eqb offset offset refl)
-same_self (Number value) = eq-eqb value value refl
+use Rattle.cell_coherent.proofs.Attaching.{same_self}
+use Rattle.cell_swaps_law.proofs.SwapReady.{all_wants, new_group, set_attached, grows, behind, swap_linkable, now_is, base, swap_regrown}
 
 -- the same target is in the same cells
 same_in : (numbers : List ℕ) (t u : Target) → is_same_target t u ≡ true → is_target_in numbers (Some t) ≡ is_target_in numbers (Some u)
@@ -76,7 +72,7 @@ module _ (sources : List Source) (sound : AreSound sources) (v : World) (h : IsC
 
   -- an old cell is of the new group
   old_standing : (z : Cell) → In z w.cells → holds old z.id.0 ≡ true → z.standing ≡ Detached k
-  old_standing z i e = go (In-append (map (put k old) v.cells) (fresh_cells v.next_cell w) z (subst (λ (cs : List Cell). In z cs) (is_grown sources sound v h items reexport w p).cells i))
+  old_standing z i e = go (In-append (map (put k old) v.cells) (fresh_cells v.next_cell w) z (subst (λ (cs : List Cell). In z cs) (behind sources sound v h items reexport w p).cells i))
     where
       was : (c : Cell) × In c v.cells × (z ≡ put k old c) → z.standing ≡ Detached k
       was c =

@@ -4,8 +4,7 @@
 --     loses before after old c e               the entry named one of the old cells, and names none any more
 --     replaced_fields before after old         the fields that were there of which an entry does
 --     FollowsTargets before after              each entry that doesn't differ names what it named
---     KeepsTargets before after                each cell that is still present is as it was, and each entry of it names what it named
-use Rattle.std.specs.Prelude.{ℕ, ◌≡◌, IsTrue, Bool, false, not, ◌&&◌, List, Option, Some, None, All, map, filter, flat_map, if◌then◌else◌}
+use Rattle.std.specs.Prelude.{ℕ, ◌≡◌, Bool, false, not, ◌&&◌, List, Option, Some, None, All, map, filter, flat_map, if◌then◌else◌}
 use Rattle.std.specs.List.{list_any}
 use Rattle.cell_num.specs.Lists.{holds}
 use Rattle.cell_object.specs.declared.object.Entry.{Entry}
@@ -15,7 +14,6 @@ use Rattle.cell_world.specs.World.{World, Cell}
 use Rattle.cell_world.specs.Target.{target_of}
 use Rattle.cell_world.specs.Field.{is_at, fields_of}
 use Rattle.cell_world.specs.Changed.{FieldAt, now_in, differs}
-use Rattle.cell_world.specs.Answer.{numbers_of}
 
 abbrev pub is_target_in : List ℕ → Option Target → Bool
 is_target_in numbers None = false
@@ -40,7 +38,3 @@ replaced_fields before after old = flat_map (replaced_in before after old) befor
 abbrev pub FollowsTargets : World → World → Type 0
 FollowsTargets before after =
     All (λ c. All (λ e. differs before after c e ≡ false → target_of after (now_in after c) e ≡ target_of before c e) c.object.entries) before.cells
-
-abbrev pub KeepsTargets : World → World → Type 0
-KeepsTargets before after =
-    All (λ c. IsTrue (holds (numbers_of after.cells) c.id.0) → (now_in after c ≡ c) × All (λ e. target_of after c e ≡ target_of before c e) c.object.entries) before.cells

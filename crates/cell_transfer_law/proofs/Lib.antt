@@ -2,5 +2,3 @@ pub mod Runs
 pub mod Under
 pub mod Turns
 pub mod Undone
-pub mod Worked
-pub mod Each

@@ -12,12 +12,12 @@ use Rattle.cell_coherent.proofs.Elements.{In, found-In, In-filtered, filter-Pass
 use Rattle.cell_turns.proofs.Executed.{Stored}
 use Rattle.cell_turns.specs.Kept.{KeepsSealed}
 use Rattle.cell_turns.proofs.Kept.{Kept, kept_then}
-use Rattle.cell_turns.proofs.Lists.{In-fixed, filter_same, map_filter}
+use Rattle.cell_coherent.proofs.Lists.{In-fixed, filter_same, map_filter}
 use Rattle.cell_turns.proofs.Memory.{seen_memory, stored_sealed}
 use Rattle.cell_turns.proofs.Stores.{keeps_apart, one_covers}
 use Rattle.cell_turns.proofs.TurnKept.{kept_by}
 use Rattle.cell_turns.proofs.Turned.{stored_coherent}
-use Rattle.cell_turns.proofs.Writes.{written_in, written_out}
+use Rattle.cell_coherent.proofs.Writes.{written_in, written_out}
 use Rattle.cell_transfer_law.proofs.Runs.{seen_with}
 
 -- what is found in the whole list and passes another test is found among those that pass it

@@ -20,10 +20,10 @@ use Rattle.cell_coherent.proofs.Patches.{length-pasted}
 use Rattle.cell_coherent.proofs.Relinked.{map_twice}
 use Rattle.cell_turns.specs.Kept.{KeepsShapes}
 use Rattle.cell_transfer_law.specs.Undo.{GivesBack}
-use Rattle.cell_turns.proofs.Lists.{In-fixed, and_left, and_right, filter_same, map_filter, pairs_kept}
-use Rattle.cell_turns.proofs.Pastes.{over}
+use Rattle.cell_coherent.proofs.Lists.{In-fixed, and_left, and_right, filter_same, map_filter, pairs_kept}
+use Rattle.cell_coherent.proofs.Pastes.{over}
 use Rattle.cell_turns.proofs.Stores.{one_covers, shape_apart}
-use Rattle.cell_turns.proofs.Writes.{begins_below, written_in, written_out}
+use Rattle.cell_coherent.proofs.Writes.{begins_below, written_in, written_out}
 
 -- what stood there, put over what was put there
 paste_back : (b u : List ℕ) (i : ℕ) → i + length u ≤ length b → pasted (pasted b i u) i (slice_range b i (i + length u)) ≡ b

@@ -1,3 +1,1 @@
-pub mod Worked
-pub mod Turns
 pub mod Undo

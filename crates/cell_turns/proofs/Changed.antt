@@ -10,7 +10,7 @@ use Rattle.cell_coherent.proofs.Elements.{In, all-In, In-all, In-map, map_same}
 use Rattle.cell_coherent.proofs.Distinct.{cell_shapes}
 use Rattle.cell_coherent.proofs.PlacedAll.{Put}
 use Rattle.cell_coherent.proofs.Relinked.{map_twice}
-use Rattle.cell_turns.proofs.Lists.{pairs_kept}
+use Rattle.cell_coherent.proofs.Lists.{pairs_kept}
 use Rattle.cell_turns.proofs.Stacks.{same_task, task_limit, number_limit, limits_with}
 use Rattle.cell_turns.proofs.Fixed.{remade_fixed, links_fixed, relinked}
 

@@ -9,7 +9,7 @@ use Rattle.cell_world.specs.Turn.{without_task, without_region}
 use Rattle.cell_coherent.proofs.Elements.{In, In-filtered, filter_all}
 use Rattle.cell_coherent.proofs.Distinct.{cell_shapes}
 use Rattle.cell_coherent.proofs.PlacedAll.{Put}
-use Rattle.cell_turns.proofs.Lists.{all-filter, pairs-filter, filter_same, length-filter_le, map_filter}
+use Rattle.cell_coherent.proofs.Lists.{all-filter, pairs-filter, filter_same, length-filter_le, map_filter}
 use Rattle.cell_turns.proofs.Shapes.{filter_put}
 use Rattle.cell_turns.proofs.Stacks.{cells_elsewhere, same_test, task_limit, number_limit, limits_with}
 use Rattle.cell_turns.proofs.Fixed.{remade_fixed, links_fixed, relinked}

@@ -1,11 +1,8 @@
-pub mod Lists
 pub mod Fixed
 pub mod Shapes
 pub mod Stacks
 pub mod Killed
 pub mod Changed
-pub mod Pastes
-pub mod Writes
 pub mod Slices
 pub mod Stores
 pub mod Bare
@@ -16,5 +13,5 @@ pub mod Commands
 pub mod Spawned
 pub mod Kept
 pub mod TurnKept
-mod OtherTasks
+pub mod OtherTasks
 pub mod Memory

@@ -13,7 +13,7 @@ use Rattle.cell_world.specs.Execute.{Seen, is_field_at, seen_in}
 use Rattle.cell_world.specs.Move.{Hart, Column, move}
 use Rattle.cell_coherent.proofs.Elements.{In, In-All, any-In, any-Has}
 use Rattle.cell_turns.specs.Kept.{IsMemory, KeepsReadOnly, KeepsSealed, KeepsShapes}
-use Rattle.cell_turns.proofs.Lists.{and_left, and_right}
+use Rattle.cell_coherent.proofs.Lists.{and_left, and_right}
 use Rattle.cell_turns.proofs.Executed.{Stored, good_move}
 use Rattle.cell_turns.proofs.Stores.{keeps_apart, keeps_bytes, keeps_read_only, keeps_shapes}
 

@@ -1,6 +1,6 @@
 -- A turn of a task leaves the other tasks.
 use Rattle.std.proofs.Common.{◌≡◌, refl, sym, ◌∙◌, ap, ℕ, Bool, true, false, not, List, [], ◌∷◌, cond}
-use Rattle.std.specs.Prelude.{◌==◌, Some, filter, map, if◌then◌else◌}
+use Rattle.std.specs.Prelude.{◌==◌, Some, map, if◌then◌else◌}
 use Rattle.cell_world.specs.declared.reply.TaskState.{TaskState}
 use Rattle.cell_world.specs.declared.reply.TaskState.TheVariants.{Ready, Done, Fault as Faulted}
 use Rattle.cell_world.specs.World.{World, Task}

@@ -6,19 +6,19 @@ use Rattle.cell_world.specs.Memory.{pasted}
 use Rattle.cell_coherent.proofs.Patches.{length-pasted, pasted_before, pasted_after}
 
 -- n bytes from place i on
-abbrev slice : List ℕ → ℕ → ℕ → List ℕ
+abbrev pub slice : List ℕ → ℕ → ℕ → List ℕ
 slice xs i n = take n (drop i xs)
 
-slice_length : (xs : List ℕ) (i n : ℕ) → length (slice xs i n) ≡ min n (length xs - i)
+pub slice_length : (xs : List ℕ) (i n : ℕ) → length (slice xs i n) ≡ min n (length xs - i)
 slice_length xs i n = length-take n (drop i xs) ∙ ap (min n) (length-drop i xs)
 
 in_slice : (xs : List ℕ) (i n k : ℕ) → k < length (slice xs i n) → k < n
 in_slice xs i n k h = let e : length (slice xs i n) ≡ min n (length xs - i) = slice_length xs i n in omega (arith, h, e)
 
-slice_at : (xs : List ℕ) (i n k : ℕ) → k < n → get_or (slice xs i n) k 0 ≡ get_or xs (i + k) 0
+pub slice_at : (xs : List ℕ) (i n k : ℕ) → k < n → get_or (slice xs i n) k 0 ≡ get_or xs (i + k) 0
 slice_at xs i n k h = get_or-take n (drop i xs) k 0 h ∙ get_or-drop i xs k 0
 
-untouched : (bytes new : List ℕ) (j i n : ℕ) → j + length new ≤ length bytes → (i + n ≤ j) ⊎ (j + length new ≤ i) → slice (pasted bytes j new) i n ≡ slice bytes i n
+pub untouched : (bytes new : List ℕ) (j i n : ℕ) → j + length new ≤ length bytes → (i + n ≤ j) ⊎ (j + length new ≤ i) → slice (pasted bytes j new) i n ≡ slice bytes i n
 untouched bytes new j i n h apart =
     ext_get_or 0 (slice (pasted bytes j new) i n) (slice bytes i n)
     (slice_length (pasted bytes j new) i n ∙ (ap (λ (m : ℕ). min n (m - i)) (length-pasted bytes new j h) ∙ sym (slice_length bytes i n)))

@@ -25,7 +25,7 @@ use Rattle.cell_coherent.proofs.Outcomes.{bind_ok, then_ok, need_ok, found_ok}
 use Rattle.cell_coherent.proofs.Appended.{ok_same}
 use Rattle.cell_coherent.proofs.Relinked.{patches, own_image}
 use Rattle.cell_coherent.proofs.FieldsInside.{among-In, field_inside, region_There}
-use Rattle.cell_coherent.proofs.OwnRegions.{passed_by, uncovered}
+use Rattle.cell_coherent.proofs.Regions.{passed_by, uncovered}
 use Rattle.cell_coherent.proofs.Inside.{wide}
 use Rattle.cell_coherent.proofs.Places.{Disjoint, Spaced, shape_inserted, In-inserted, run_ok, run_disjoint, whole_region, spaced_more}
 use Rattle.cell_coherent.proofs.LoadCoherent.{ready_spaced}

@@ -14,9 +14,9 @@ use Rattle.cell_world.specs.Execute.{allows, is_field_at, seen_in}
 use Rattle.cell_coherent.proofs.Elements.{In, all-In, In-all, none-In, In-map, In-flat_map}
 use Rattle.cell_coherent.proofs.FieldsInside.{length-bytes_of}
 use Rattle.cell_coherent.proofs.Relinked.{patches, own_image}
-use Rattle.cell_turns.proofs.Lists.{fold_commutes}
+use Rattle.cell_coherent.proofs.Lists.{fold_commutes}
 use Rattle.cell_turns.proofs.Fixed.{remade_fixed, links_fixed, relinked}
-use Rattle.cell_turns.proofs.Writes.{Holds, written_in, written_out, written_exchanged}
+use Rattle.cell_coherent.proofs.Writes.{Holds, written_in, written_out, written_exchanged}
 use Rattle.cell_turns.proofs.Bare.{writable_bare, restored_bare}
 use Rattle.cell_turns.proofs.Stores.{holds_store, keeps_apart, keeps_shape, keeps_shapes}
 

@@ -9,9 +9,9 @@ use Rattle.cell_world.specs.Coherent.{Shape, shape_of, ends_before}
 use Rattle.cell_world.specs.Execute.{allows}
 use Rattle.cell_coherent.proofs.Elements.{In, found-In, map-In, map_same, pairs-In}
 use Rattle.cell_coherent.proofs.Relinked.{map_twice}
-use Rattle.cell_turns.proofs.Lists.{and_left, and_right, pairs_kept}
+use Rattle.cell_coherent.proofs.Lists.{and_left, and_right, pairs_kept}
 use Rattle.cell_turns.proofs.Slices.{range_untouched}
-use Rattle.cell_turns.proofs.Writes.{Holds, begins_below, ends_above, written_in, written_out, same_length}
+use Rattle.cell_coherent.proofs.Writes.{Holds, begins_below, ends_above, written_in, written_out, same_length}
 
 pub shape_apart : (r r' s s' : Region) → shape_of r ≡ shape_of r' → shape_of s ≡ shape_of s' → ends_before r s ≡ ends_before r' s'
 shape_apart r r' s s' e f =

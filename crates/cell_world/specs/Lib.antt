@@ -7,6 +7,7 @@ pub mod Words
 pub mod Field
 pub mod Layout
 pub mod Relink
+pub mod Fresh
 pub mod Outcome
 pub mod Following
 pub mod Pages

@@ -1,5 +1,0 @@
-use Rattle.cell_coherent.proofs.NextCoherent.{empty_coherent}
-use Rattle.cell_coherent.proofs.empty_is_coherent.Goals as goal
-
-pub returns : goal.returns
-returns c = empty_coherent

@@ -1,5 +1,0 @@
-use Rattle.cell_coherent.proofs.Present.{links_present}
-use Rattle.cell_coherent.proofs.links_join_present.Goals as goal
-
-pub returns : goal.returns
-returns c = links_present

@@ -1,5 +1,0 @@
-use Rattle.cell_coherent.proofs.LoadLinks.{links}
-use Rattle.cell_coherent.proofs.load_links.Goals as goal
-
-pub returns-clause-links : goal.returns-clause-links
-returns-clause-links c = λ sources v ns stem w sound coherent h fit. links sources v ns stem w sound coherent h fit

@@ -1,5 +1,0 @@
-use Rattle.cell_coherent.proofs.Inside.{ready_linkable}
-use Rattle.cell_coherent.proofs.ready_is_linkable.Goals as goal
-
-pub returns : goal.returns
-returns c = ready_linkable

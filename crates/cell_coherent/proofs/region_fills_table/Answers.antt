@@ -1,5 +1,0 @@
-use Rattle.cell_coherent.proofs.Tables.{table_filled}
-use Rattle.cell_coherent.proofs.region_fills_table.Goals as goal
-
-pub returns : goal.returns
-returns c = table_filled

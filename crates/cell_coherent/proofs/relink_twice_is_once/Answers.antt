@@ -1,5 +1,0 @@
-use Rattle.cell_coherent.proofs.Relinks.{relinked_again}
-use Rattle.cell_coherent.proofs.relink_twice_is_once.Goals as goal
-
-pub returns : goal.returns
-returns c = relinked_again

@@ -1,5 +1,0 @@
-use Rattle.cell_coherent.proofs.Relinks.{coherent_relinked}
-use Rattle.cell_coherent.proofs.relinked_is_coherent.Goals as goal
-
-pub returns : goal.returns
-returns c = coherent_relinked

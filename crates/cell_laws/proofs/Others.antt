@@ -1,0 +1,145 @@
+-- A command that is no swap changes no target of a cell that stays.
+use Rattle.std.proofs.Common.{◌≡◌, refl, sym, ◌∙◌, ap, subst, ℕ, List, map, Ok}
+use Rattle.std.specs.Prelude.{All, IsTrue}
+use Rattle.cell_num.specs.Lists.{holds}
+use Rattle.cell_object.specs.declared.object.Entry.{Entry}
+use Rattle.cell_world.specs.declared.command.Command.{Command}
+use Rattle.cell_world.specs.declared.command.Command.TheVariants.{Ns, Load, Spawn, Step, Run, Kill, Swap, Unload, Purge, Tasks, Find, Deps, Users, Map, Dump}
+use Rattle.cell_world.specs.declared.refusal.Many.TheVariants.{Tasks as ManyTasks, TaskNumbers}
+use Rattle.cell_world.specs.declared.refusal.Refusal.TheVariants.{NoEntry, TooMany}
+use Rattle.cell_world.specs.declared.state.Namespace.{Namespace}
+use Rattle.cell_world.specs.World.{World, Cell}
+use Rattle.cell_world.specs.Gather.{Source, bring, fresh_cells}
+use Rattle.cell_world.specs.Fit.{first_misfit}
+use Rattle.cell_world.specs.LoadCommand.{append_named, next_load}
+use Rattle.cell_world.specs.NsCommand.{next_ns}
+use Rattle.cell_world.specs.Place.{place_all, start_of_run}
+use Rattle.cell_world.specs.SpawnCommand.{entry_named, next_spawn}
+use Rattle.cell_world.specs.Target.{target_of}
+use Rattle.cell_world.specs.Changed.{now_in}
+use Rattle.cell_world.specs.Outcome.{found, need, refused_by}
+use Rattle.cell_world.specs.Answer.{Done, numbers_of, space_of}
+use Rattle.cell_world.specs.Next.{outcome_of}
+use Rattle.cell_world.specs.Coherent.{AreSound, IsCoherent}
+use Rattle.std.specs.Prelude.{length, nat_le, nat_lt}
+use Rattle.cell_coherent.specs.Grown.{HasAttached}
+use Rattle.cell_coherent.proofs.Appended.{ok_same}
+use Rattle.cell_coherent.proofs.Elements.{In, In-All, All-In, In-left, In-map, In-filtered}
+use Rattle.cell_coherent.proofs.Inside.{ready_linkable}
+use Rattle.cell_coherent.proofs.LoadGrown.{load_attached}
+use Rattle.cell_coherent.proofs.NamespaceAdded.{Added, ns_ok}
+use Rattle.cell_coherent.proofs.NextCoherent.{dump_same, find_same, map_same}
+use Rattle.cell_coherent.proofs.Outcomes.{bind_ok, then_ok}
+use Rattle.cell_coherent.proofs.Spaces.{space_grows}
+use Rattle.cell_coherent.proofs.Supplied.{same_target}
+use Rattle.cell_turns.specs.Kept.{KeepsCells}
+use Rattle.cell_turns.proofs.Commands.{step_cells, run_cells, kill_cells, tasks_same}
+use Rattle.cell_removal.proofs.KeptPaths.{holds-In}
+use Rattle.cell_removal.proofs.Removals.{Removed, removed_targets, purge_removed, unload_removed}
+use Rattle.cell_laws.specs.Commands.{HasItems, IsNoSwap}
+use Rattle.cell_laws.specs.KeepsTargets.{KeepsTargets}
+use Rattle.cell_laws.proofs.NextCoherent.{deps_same, users_same, outcome_coherent}
+use Rattle.cell_swaps_law.proofs.Settled.{found_now, mapped_same}
+use Rattle.cell_swaps_law.proofs.Steps.{attached_targets}
+use Rattle.cell_swaps_law.proofs.SwapReady.{one_number}
+
+module _ (w u : World) (h : IsCoherent w) (k : IsCoherent u) where
+  -- where a cell is still present it is the one that it was
+  kept_by : ((c : Cell) → In c w.cells → IsTrue (holds (numbers_of u.cells) c.id.0) → In c u.cells) → ((c : Cell) → In c w.cells → In c u.cells → (e : Entry) → In e c.object.entries → target_of u c e ≡ target_of w c e) → KeepsTargets w u
+  kept_by there targets = In-All (λ (c : Cell). IsTrue (holds (numbers_of u.cells) c.id.0) → (now_in u c ≡ c) × All (λ (e : Entry). target_of u c e ≡ target_of w c e) c.object.entries) w.cells
+      (λ c i s. (found_now u k c c (there c i s) refl, In-All (λ (e : Entry). target_of u c e ≡ target_of w c e) c.object.entries (targets c i (there c i s))))
+
+  -- the same cells in the same namespaces
+  same_kept : u.cells ≡ w.cells → u.namespaces ≡ w.namespaces → KeepsTargets w u
+  same_kept cells spaces = kept_by (λ c i s. subst (λ (cs : List Cell). In c cs) (sym cells) i) (λ c i j e m.
+      ap (λ (cs : List Cell). target_of (record w { cells = cs; namespaces = u.namespaces }) c e) cells
+      ∙ ap (λ (ns : List Namespace). target_of (record w { namespaces = ns }) c e) spaces)
+
+  removed_kept : Removed w u → KeepsTargets w u
+  removed_kept r = kept_by there (λ c i j e m. mapped_same (target_of u c) (target_of w c) c.object.entries
+      (All-In (λ (x : Cell). map (target_of u x) x.object.entries ≡ map (target_of w x) x.object.entries) u.cells (removed_targets w u h r) c j) e m)
+    where
+      back : (x : Cell) → In x u.cells → In x w.cells
+      back x i = In-filtered _ w.cells x (subst (λ (v : World). In x v.cells) (sym r.is) i)
+
+      there : (c : Cell) → In c w.cells → IsTrue (holds (numbers_of u.cells) c.id.0) → In c u.cells
+      there c i s =
+          let x = In-map (λ (y : Cell). y.id.0) u.cells c.id.0 (holds-In (numbers_of u.cells) c.id.0 s) in
+          subst (λ (y : Cell). In y u.cells) (sym (one_number w h c x.0 i (back x.0 x.1) x.2)) x.1
+
+module _ (sources : List Source) (w : World) (h : IsCoherent w) (d : Done) (k : IsCoherent d.world) where
+  unchanged : w ≡ d.world → KeepsTargets w d.world
+  unchanged e = same_kept w d.world h k (ap (λ (v : World). v.cells) (sym e)) (ap (λ (v : World). v.namespaces) (sym e))
+
+  by_tasks : KeepsCells w d.world → KeepsTargets w d.world
+  by_tasks e = same_kept w d.world h k (ap (λ (v : World). v.cells) e) (ap (λ (v : World). v.namespaces) e)
+
+  by_ns : (name parent : List ℕ) → next_ns w name parent ≡ Ok d → KeepsTargets w d.world
+  by_ns name parent e =
+      let a : Added w name d.world = ns_ok w name parent d e in
+      kept_by w d.world h k (λ c i s. subst (λ (v : World). In c v.cells) a.is i) (λ c i j x m.
+      subst (λ (v : World). target_of v c x ≡ target_of w c x) a.is
+      (same_target w _ (space_grows w h.ready.spaces name a.parent) h.ready.cell_order h.ready.cells h.ready.objects h.ready.supplied c i x m))
+
+  by_load : AreSound sources → (name stem : List ℕ) → next_load sources w name stem ≡ Ok d → KeepsTargets w d.world
+  by_load sound name stem e =
+      let a = bind_ok (append_named sources w name stem) _ d e in
+      let b = bind_ok (bring sources w.next_cell a.0) _ d a.2 in
+      let p = bind_ok (place_all b.0 (fresh_cells w.next_cell b.0)) _ d b.2 in
+      let f = then_ok (refused_by (first_misfit p.0 (fresh_cells w.next_cell p.0))) _ d p.2 in
+      let is = ap (λ (x : Done). x.world) (ok_same _ d f.2) in
+      let a : HasAttached w p.0 (fresh_cells w.next_cell p.0) = load_attached sources w name stem a.0 b.0 sound h.ready a.1 b.1 p.0 p.1 in
+      let targets = attached_targets w p.0 (fresh_cells w.next_cell p.0) (ready_linkable w h.ready) a in
+      kept_by w d.world h k (λ c i s. subst (λ (v : World). In c v.cells) is (subst (λ (cs : List Cell). In c cs) (sym a.cells) (In-left w.cells (fresh_cells w.next_cell p.0) c i)))
+      (λ c i j x m. subst (λ (v : World). target_of v c x ≡ target_of w c x) is
+      (All-In (λ (y : Entry). target_of p.0 c y ≡ target_of w c y) c.object.entries (All-In (λ (c : Cell). All (λ (y : Entry). target_of p.0 c y ≡ target_of w c y) c.object.entries) w.cells targets c i) x m))
+
+  by_spawn : (name symbol : List ℕ) (arg : ℕ) → next_spawn w name symbol arg ≡ Ok d → KeepsTargets w d.world
+  by_spawn name symbol arg e =
+      let ns = bind_ok (space_of w name) _ d e in
+      let few = then_ok (need (nat_lt (length w.tasks) 64) (TooMany ManyTasks 64)) _ d ns.2 in
+      let free = then_ok (need (nat_le w.next_task 65535) (TooMany TaskNumbers 65535)) _ d few.2 in
+      let entry = bind_ok (found (entry_named w ns.0 symbol) (NoEntry symbol)) _ d free.2 in
+      let stack = bind_ok (start_of_run w 4) _ d entry.2 in
+      let is = ap (λ (x : Done). x.world) (ok_same _ d stack.2) in
+      same_kept w d.world h k (ap (λ (v : World). v.cells) (sym is)) (ap (λ (v : World). v.namespaces) (sym is))
+
+pub others_keep : (sources : List Source) (w : World) (command : Command) (d : Done) → IsNoSwap command → AreSound sources → (h : IsCoherent w) → outcome_of sources w command ≡ Ok d → KeepsTargets w d.world
+others_keep sources w command d other sound h e = go command other e
+  where
+    some_items : (command : Command) → IsNoSwap command → HasItems command
+    some_items (Ns name parent) o = tt
+    some_items (Load name stem) o = tt
+    some_items (Find name symbol) o = tt
+    some_items (Spawn name symbol arg) o = tt
+    some_items (Step task n) o = tt
+    some_items (Run n) o = tt
+    some_items (Kill task) o = tt
+    some_items (Swap items reexport strict routines budget) o = absurd o
+    some_items (Unload cells) o = tt
+    some_items Purge o = tt
+    some_items Tasks o = tt
+    some_items (Deps cell) o = tt
+    some_items (Users cell) o = tt
+    some_items Map o = tt
+    some_items (Dump cell section) o = tt
+
+    k : IsCoherent d.world
+    k = outcome_coherent sources w command (some_items command other) sound h d e
+
+    go : (command : Command) → IsNoSwap command → outcome_of sources w command ≡ Ok d → KeepsTargets w d.world
+    go (Ns name parent) o e = by_ns sources w h d k name parent e
+    go (Load name stem) o e = by_load sources w h d k sound name stem e
+    go (Find name symbol) o e = unchanged sources w h d k (find_same w name symbol d e)
+    go (Spawn name symbol arg) o e = by_spawn sources w h d k name symbol arg e
+    go (Step task n) o e = by_tasks sources w h d k (step_cells w task n d e)
+    go (Run n) o e = by_tasks sources w h d k (run_cells w n d e)
+    go (Kill task) o e = by_tasks sources w h d k (kill_cells w task d e)
+    go (Swap items reexport strict routines budget) o e = absurd o
+    go (Unload cells) o e = removed_kept w d.world h k (unload_removed w cells d h e)
+    go Purge o e = removed_kept w d.world h k (purge_removed w d h e)
+    go Tasks o e = unchanged sources w h d k (tasks_same w d e)
+    go (Deps cell) o e = unchanged sources w h d k (deps_same w cell d e)
+    go (Users cell) o e = unchanged sources w h d k (users_same w cell d e)
+    go Map o e = unchanged sources w h d k (map_same w d e)
+    go (Dump cell section) o e = unchanged sources w h d k (dump_same w cell section d e)

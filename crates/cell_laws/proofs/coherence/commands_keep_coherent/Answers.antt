@@ -1,0 +1,34 @@
+use Rattle.cell_coherent.proofs.LoadCoherent.{load_coherent}
+use Rattle.cell_coherent.proofs.NamespaceAdded.{ns_coherent}
+use Rattle.cell_turns.proofs.Spawned.{spawn_keeps}
+use Rattle.cell_turns.proofs.Commands.{step_keeps, run_keeps, kill_keeps}
+use Rattle.cell_removal.proofs.Removals.{purge_removed, removed_coherent, unload_removed}
+use Rattle.cell_swaps_law.proofs.Left.{swap_coherent}
+use Rattle.cell_laws.proofs.coherence.commands_keep_coherent.Goals as goal
+
+pub returns-clause-ns : goal.returns-clause-ns
+returns-clause-ns c = ns_coherent
+
+pub returns-clause-load : goal.returns-clause-load
+returns-clause-load c = load_coherent
+
+pub returns-clause-spawn : goal.returns-clause-spawn
+returns-clause-spawn c = spawn_keeps
+
+pub returns-clause-step : goal.returns-clause-step
+returns-clause-step c = step_keeps
+
+pub returns-clause-run : goal.returns-clause-run
+returns-clause-run c = run_keeps
+
+pub returns-clause-kill : goal.returns-clause-kill
+returns-clause-kill c = kill_keeps
+
+pub returns-clause-unload : goal.returns-clause-unload
+returns-clause-unload c w names d h e = removed_coherent w d.world h (unload_removed w names d h e)
+
+pub returns-clause-purge : goal.returns-clause-purge
+returns-clause-purge c w d h e = removed_coherent w d.world h (purge_removed w d h e)
+
+pub returns-clause-swap : goal.returns-clause-swap
+returns-clause-swap c sources w items reexport strict words budget d sound h some e = swap_coherent sources w items reexport strict words budget d sound h some e

@@ -1,0 +1,5 @@
+use Rattle.cell_coherent.proofs.NextCoherent.{empty_coherent}
+use Rattle.cell_laws.proofs.coherence.empty_is_coherent.Goals as goal
+
+pub returns : goal.returns
+returns c = empty_coherent

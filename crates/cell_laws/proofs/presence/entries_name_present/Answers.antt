@@ -1,0 +1,5 @@
+use Rattle.cell_coherent.proofs.Present.{targets_present}
+use Rattle.cell_laws.proofs.presence.entries_name_present.Goals as goal
+
+pub returns : goal.returns
+returns c = targets_present

@@ -1,0 +1,16 @@
+use Rattle.cell_coherent.proofs.Regrown.{relinked_writes}
+use Rattle.cell_swaps_law.proofs.Growths.{targets_follow, links_follow}
+use Rattle.cell_swaps_law.proofs.MovedLinks.{links_move}
+use Rattle.cell_laws.proofs.relinking.relinked_writes_changes.Goals as goal
+
+pub returns-clause-writes : goal.returns-clause-writes
+returns-clause-writes c = relinked_writes
+
+pub returns-clause-targets : goal.returns-clause-targets
+returns-clause-targets c = targets_follow
+
+pub returns-clause-links : goal.returns-clause-links
+returns-clause-links c = links_follow
+
+pub returns-clause-moves : goal.returns-clause-moves
+returns-clause-moves c = links_move

@@ -1,0 +1,5 @@
+use Rattle.cell_coherent.proofs.Tables.{table_filled}
+use Rattle.cell_laws.proofs.room.region_fills_table.Goals as goal
+
+pub returns : goal.returns
+returns c = table_filled

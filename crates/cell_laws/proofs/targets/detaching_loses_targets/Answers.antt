@@ -1,0 +1,8 @@
+use Rattle.cell_swaps_law.proofs.Steps.{detached_own, detached_others}
+use Rattle.cell_laws.proofs.targets.detaching_loses_targets.Goals as goal
+
+pub returns-clause-own : goal.returns-clause-own
+returns-clause-own c w ns h a = detached_own w h ns a
+
+pub returns-clause-others : goal.returns-clause-others
+returns-clause-others c w ns h a = detached_others w h ns a

@@ -1,0 +1,4 @@
+pub mod Commands
+pub mod KeepsTargets
+pub mod NextTurn
+pub mod Worked

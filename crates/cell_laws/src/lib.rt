@@ -1,0 +1,27 @@
+//! The laws over the definitions that the contracts of all other crates cite, in one place. Each is the contract of a
+//! public function with an empty body. Their lemmas are in the crates below, and no code stands on this crate.
+//!
+//! - `coherence`: the machine begins coherent, and each command and each turn of a task keeps it so
+//! - `presence`: what entries and links of a machine name, and where its cells lie
+//! - `contents`: what the sections of a machine hold: their fresh bytes, and in each field its value
+//! - `room`: which pages are free, and where a new cell comes to stand
+//! - `relinking`: what linking writes after new cells have come and others have changed
+//! - `targets`: which targets each command may change
+//! - `turns`: what a turn of a task, and each command on tasks, may touch
+//! - `transfer`: what the routines of a swap may touch
+//! - `undo`: what going back by the records of all writes gives back
+//! - `removal`: which cells are kept, who holds them, which are left, and that nothing leads into one that went
+//! - `swaps`: what a swap plans, and when it is accepted
+#![tactic(auto)]
+
+pub mod coherence;
+pub mod contents;
+pub mod presence;
+pub mod relinking;
+pub mod removal;
+pub mod room;
+pub mod swaps;
+pub mod targets;
+pub mod transfer;
+pub mod turns;
+pub mod undo;

@@ -1,0 +1,78 @@
+//! Which targets change: what attaching, detaching and removing cells does to them, and what each command may.
+
+ghost use Rattle.std.specs.Prelude.{ℕ, ◌≡◌, ◌<◌, IsTrue, List, All, Ok, length, suc, false, Bool};
+ghost use Rattle.cell_num.specs.Lists.{holds};
+ghost use Rattle.cell_object.specs.declared.object.Entry.{Entry};
+ghost use Rattle.cell_world.specs.Answer.{Done, numbers_of};
+ghost use Rattle.cell_world.specs.Changed.{differs, now_in};
+ghost use Rattle.cell_world.specs.Coherent.{AreSound, IsCoherent};
+ghost use Rattle.cell_world.specs.Gather.{Source};
+ghost use Rattle.cell_world.specs.Names.{chain, provider_of};
+ghost use Rattle.cell_world.specs.Next.{outcome_of};
+ghost use Rattle.cell_world.specs.NsCommand.{next_ns};
+ghost use Rattle.cell_world.specs.SwapCommand.{Plan, Wanted, all_wanted, old_numbers, plan_swap};
+ghost use Rattle.cell_world.specs.Target.{target_of};
+ghost use Rattle.cell_world.specs.UnloadCommand.{next_purge, next_unload, put_aside, detach};
+ghost use Rattle.cell_world.specs.World.{Cell, World, is_attached};
+ghost use Rattle.cell_world.specs.declared.command.CellName.{CellName};
+ghost use Rattle.cell_world.specs.declared.command.Command.{Command};
+ghost use Rattle.cell_world.specs.declared.command.SwapItem.{SwapItem};
+ghost use Rattle.cell_coherent.specs.Grown.{HasAttached};
+ghost use Rattle.cell_coherent.specs.Linkable.{IsLinkable};
+ghost use Rattle.cell_removal.specs.Left.{LeavesTargets};
+ghost use Rattle.cell_swaps_law.specs.Swapping.{HasSwapped};
+ghost use Rattle.cell_swaps_law.specs.Targets.{FollowsTargets, loses, replaced_fields, without_in};
+ghost use Rattle.cell_laws.specs.Commands.{IsNoSwap};
+ghost use Rattle.cell_laws.specs.KeepsTargets.{KeepsTargets};
+
+/// A namespace that is added changes the chain of no other, and present cells keep the provider of each name.
+pub fn namespaces_only_add()
+    ensures chains { (w : World) (name : List ℕ) (parent : List ℕ) (d : Done) → IsCoherent w → next_ns w name parent ≡ Ok d → (ns : ℕ) → ns < length w.namespaces → chain d.world.namespaces ns ≡ chain w.namespaces ns }
+    ensures providers { (w : World) (name : List ℕ) (parent : List ℕ) (d : Done) → IsCoherent w → next_ns w name parent ≡ Ok d → All (λ c. (symbol : List ℕ) → provider_of d.world c symbol ≡ provider_of w c symbol) w.cells }
+{}
+
+/// Cells that are attached behind the others change no target that an entry has.
+pub fn attaching_keeps_targets()
+    ensures { (v : World) (w : World) (new : List Cell) → IsLinkable v → HasAttached v w new →
+        All (λ c. All (λ e. target_of w c e ≡ target_of v c e) c.object.entries) v.cells }
+{}
+
+/// Attached cells that are put aside as a new group keep their own targets, and all other entries lose exactly those that are in them.
+pub fn detaching_loses_targets()
+    ensures own { (w : World) (ns : List ℕ) → IsCoherent w → All (λ c. IsTrue (holds ns c.id.0) → IsTrue (is_attached c.standing)) w.cells →
+        All (λ c. IsTrue (holds ns c.id.0) → (e : Entry) → target_of (detach (suc w.swaps) ns w) (put_aside (suc w.swaps) ns c) e ≡ target_of w c e) w.cells }
+    ensures others { (w : World) (ns : List ℕ) → IsCoherent w → All (λ c. IsTrue (holds ns c.id.0) → IsTrue (is_attached c.standing)) w.cells →
+        All (λ c. holds ns c.id.0 ≡ false → (e : Entry) → target_of (detach (suc w.swaps) ns w) c e ≡ without_in ns (target_of w c e)) w.cells }
+{}
+
+/// Removing cells changes no target of a cell that stays: neither `unload` and `purge`, nor the end of a swap, after its routines.
+pub fn removing_keeps_targets()
+    ensures unload { (w : World) (names : List CellName) (d : Done) → IsCoherent w → next_unload w names ≡ Ok d → LeavesTargets w d.world }
+    ensures purge { (w : World) (d : Done) → IsCoherent w → next_purge w ≡ Ok d → LeavesTargets w d.world }
+    ensures swap { (sources : List Source) (w : World) (items : List SwapItem) (reexport strict : Bool) (words : List (List ℕ)) (budget : ℕ) (d : Done) → AreSound sources → IsCoherent w → 0 < length items →
+        (s : HasSwapped sources w items reexport strict words budget d) → LeavesTargets s.second d.world }
+{}
+
+/// An accepted command that isn't a swap changes no target of a cell that stays.
+pub fn other_commands_keep_targets()
+    ensures { (sources : List Source) (w : World) (command : Command) (d : Done) → IsNoSwap command → AreSound sources → IsCoherent w → outcome_of sources w command ≡ Ok d → KeepsTargets w d.world }
+{}
+
+/// A swap changes exactly the targets that were in an old cell and aren't any more: of these an entry names something
+/// else by then, and each other one names what it named. The fields that change are those of such entries.
+pub fn swap_changes_lost_targets()
+    ensures entries { (sources : List Source) (w : World) (items : List SwapItem) (reexport : Bool) (words : List (List ℕ)) (wants : List Wanted) (plan : Plan) → AreSound sources → IsCoherent w →
+        all_wanted sources w items ≡ Ok wants → plan_swap sources w items reexport words ≡ Ok plan →
+        All (λ c. All (λ e. differs w plan.linked c e ≡ loses w plan.linked (old_numbers wants) c e) c.object.entries) w.cells }
+    ensures fields { (sources : List Source) (w : World) (items : List SwapItem) (reexport : Bool) (words : List (List ℕ)) (wants : List Wanted) (plan : Plan) → AreSound sources → IsCoherent w →
+        all_wanted sources w items ≡ Ok wants → plan_swap sources w items reexport words ≡ Ok plan → plan.changed ≡ replaced_fields w plan.linked (old_numbers wants) }
+    ensures others { (sources : List Source) (w : World) (items : List SwapItem) (reexport : Bool) (words : List (List ℕ)) (plan : Plan) → AreSound sources → IsCoherent w → 0 < length items →
+        plan_swap sources w items reexport words ≡ Ok plan → FollowsTargets w plan.linked }
+{}
+
+/// After the whole swap, routines and removal included, each entry of a cell that stays names what it named when all was linked.
+pub fn swap_settles_targets()
+    ensures { (sources : List Source) (w : World) (items : List SwapItem) (reexport strict : Bool) (words : List (List ℕ)) (budget : ℕ) (d : Done) → AreSound sources → IsCoherent w → 0 < length items →
+        (s : HasSwapped sources w items reexport strict words budget d) →
+        All (λ c. IsTrue (holds (numbers_of d.world.cells) c.id.0) → All (λ e. target_of d.world (now_in d.world c) e ≡ target_of s.plan.linked (now_in s.plan.linked c) e) c.object.entries) w.cells }
+{}

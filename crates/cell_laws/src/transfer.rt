@@ -1,0 +1,46 @@
+//! What the routines of a swap may touch, after each of their turns.
+
+ghost use Rattle.std.specs.Prelude.{ℕ, ◌≡◌, List, None, Ok, suc, [], ◌∷◌};
+ghost use Rattle.cell_num.specs.declared.ids.Cause.TheVariants.{Call};
+ghost use Rattle.cell_num.specs.declared.ids.Why.TheVariants.{Budget, Returned, Trap};
+ghost use Rattle.cell_world.specs.Coherent.{IsCoherent};
+ghost use Rattle.cell_world.specs.Execute.{Seen, seen_in};
+ghost use Rattle.cell_world.specs.Place.{start_of_run};
+ghost use Rattle.cell_world.specs.Transfer.{Addresses, Routine, after_turns, transfer, transferred};
+ghost use Rattle.cell_world.specs.Undo.{undone};
+ghost use Rattle.cell_world.specs.World.{World};
+ghost use Rattle.cell_turns.specs.Kept.{KeepsFields, KeepsReadOnly, KeepsSealed, KeepsShapes};
+ghost use Rattle.cell_laws.specs.NextTurn.{IsNextTurn};
+ghost use Rattle.cell_laws.specs.Worked.{asking, displaced, failed, holding, stores, storing};
+
+/// A transfer with one turn more in its budget is the same, or makes one turn more over the memory at which the other ran out of turns. So the budgets 1, 2, 3 and so on go through its turns.
+pub fn transfer_turn_by_turn()
+    ensures { (n : ℕ) (addresses : Addresses) (m : Seen) (stack : ℕ) (routines : List Routine) → IsNextTurn addresses m (transferred n addresses m stack routines) (transferred (suc n) addresses m stack routines) }
+{}
+
+/// After each turn of a transfer the machine is coherent, where the region of the transfer's stack is left out. The first n turns of a transfer are those of one with the budget n (`transfer_turn_by_turn`).
+pub fn transfer_keeps_coherent()
+    ensures turns { (n : ℕ) (w : World) (stack : ℕ) (addresses : Addresses) (routines : List Routine) → IsCoherent w → start_of_run w 4 ≡ Ok stack → IsCoherent (after_turns n w stack addresses routines) }
+    ensures end { (n : ℕ) (w v : World) (stack : ℕ) (addresses : Addresses) (routines : List Routine) → IsCoherent w → start_of_run w 4 ≡ Ok stack → transfer w stack addresses routines n ≡ Ok v → IsCoherent v }
+{}
+
+/// After each turn, and so after a transfer, only bytes of writable regions that are sealed by no field may differ: cells, links, tasks, namespaces, the space and all numbers are as they were, and so are starts, lengths and permissions of regions, those that aren't writable, and each field.
+pub fn transfer_changes_no_cell()
+    ensures parts { (n : ℕ) (w : World) (stack : ℕ) (addresses : Addresses) (routines : List Routine) → record (after_turns n w stack addresses routines) { regions = w.regions } ≡ w }
+    ensures shapes { (n : ℕ) (w : World) (stack : ℕ) (addresses : Addresses) (routines : List Routine) → IsCoherent w → start_of_run w 4 ≡ Ok stack → KeepsShapes w.regions (after_turns n w stack addresses routines).regions }
+    ensures read_only { (n : ℕ) (w : World) (stack : ℕ) (addresses : Addresses) (routines : List Routine) → IsCoherent w → start_of_run w 4 ≡ Ok stack → KeepsReadOnly w.regions (after_turns n w stack addresses routines).regions }
+    ensures sealed { (n : ℕ) (w : World) (stack : ℕ) (addresses : Addresses) (routines : List Routine) → IsCoherent w → start_of_run w 4 ≡ Ok stack → KeepsSealed (seen_in w) (after_turns n w stack addresses routines).regions }
+    ensures fields { (n : ℕ) (w : World) (stack : ℕ) (addresses : Addresses) (routines : List Routine) → IsCoherent w → start_of_run w 4 ≡ Ok stack → KeepsFields w (after_turns n w stack addresses routines) }
+    ensures end { (n : ℕ) (w v : World) (stack : ℕ) (addresses : Addresses) (routines : List Routine) → transfer w stack addresses routines n ≡ Ok v → v ≡ after_turns n w stack addresses routines }
+{}
+
+/// By hand: a routine of six turns that stores 9. A code other than 0, or a budget of five turns, is a failure, which comes after the store; one record goes back behind it. With the code 0 and six turns it succeeds. A routine that asks for a name returns its address in the old or in the new cells, and any call but 0 to 5 traps.
+pub fn transfers_by_hand()
+    ensures returns { storing 7 10 ≡ record { regions = stores 7 ∷ holding 9 ∷ []; failure = failed (Returned 7) } }
+    ensures runs_out { storing 0 5 ≡ record { regions = stores 0 ∷ holding 9 ∷ []; failure = failed Budget } }
+    ensures succeeds { storing 0 6 ≡ record { regions = stores 0 ∷ holding 9 ∷ []; failure = None } }
+    ensures goes_back { undone (stores 7 ∷ holding 9 ∷ []) displaced ≡ stores 7 ∷ holding 0 ∷ [] }
+    ensures old { (asking 4).failure ≡ failed (Returned 0x4000) }
+    ensures new { (asking 5).failure ≡ failed (Returned 0x5000) }
+    ensures other { (asking 6).failure ≡ failed (Trap Call 0x1000c) }
+{}

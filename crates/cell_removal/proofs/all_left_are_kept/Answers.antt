@@ -1,8 +1,0 @@
-use Rattle.cell_removal.proofs.AllKept.{purge_keeps, unload_keeps}
-use Rattle.cell_removal.proofs.all_left_are_kept.Goals as goal
-
-pub returns-clause-purge : goal.returns-clause-purge
-returns-clause-purge c = purge_keeps
-
-pub returns-clause-unload : goal.returns-clause-unload
-returns-clause-unload c = unload_keeps

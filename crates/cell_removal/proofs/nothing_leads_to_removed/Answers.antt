@@ -1,8 +1,0 @@
-use Rattle.cell_removal.proofs.AllKept.{purge_unreached, unload_unreached}
-use Rattle.cell_removal.proofs.nothing_leads_to_removed.Goals as goal
-
-pub returns-clause-purge : goal.returns-clause-purge
-returns-clause-purge c = purge_unreached
-
-pub returns-clause-unload : goal.returns-clause-unload
-returns-clause-unload c = unload_unreached

@@ -1,5 +1,0 @@
-use Rattle.cell_removal.proofs.Removals.{unload_accepted}
-use Rattle.cell_removal.proofs.unload_is_exact.Goals as goal
-
-pub returns : goal.returns
-returns c = λ w names cells h n. unload_accepted w h cells names n

@@ -1,6 +1,0 @@
-use Rattle.std.proofs.Common.{sym}
-use Rattle.cell_removal.proofs.Removals.{cells_left, unloaded_by}
-use Rattle.cell_removal.proofs.unload_is_removal.Goals as goal
-
-pub returns : goal.returns
-returns c = λ w names cells d h n e. sym (cells_left w h cells d (unloaded_by w names cells d n e))

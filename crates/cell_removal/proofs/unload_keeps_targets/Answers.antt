@@ -1,8 +1,0 @@
-use Rattle.cell_removal.proofs.Removals.{unload_removed, removed_targets, removed_fields}
-use Rattle.cell_removal.proofs.unload_keeps_targets.Goals as goal
-
-pub returns-clause-targets : goal.returns-clause-targets
-returns-clause-targets c = λ w names d h e. removed_targets w d.world h (unload_removed w names d h e)
-
-pub returns-clause-fields : goal.returns-clause-fields
-returns-clause-fields c = λ w names d h e. removed_fields w d.world h (unload_removed w names d h e)

@@ -1,5 +1,0 @@
-use Rattle.cell_swaps_law.proofs.Settled.{swap_settles}
-use Rattle.cell_swaps_law.proofs.swap_settles_targets.Goals as goal
-
-pub returns : goal.returns
-returns c = λ sources w items reexport strict words budget d sound h some s. swap_settles sources w items reexport strict words budget d sound h some s

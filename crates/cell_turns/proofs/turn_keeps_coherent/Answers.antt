@@ -1,5 +1,0 @@
-use Rattle.cell_turns.proofs.Turned.{turn_keeps}
-use Rattle.cell_turns.proofs.turn_keeps_coherent.Goals as goal
-
-pub returns : goal.returns
-returns c = turn_keeps
