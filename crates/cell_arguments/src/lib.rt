@@ -5,6 +5,3 @@ mod arguments;
 mod command;
 
 pub use arguments::{Arguments, ArgumentsFault, read_arguments};
-
-#[cfg(test)]
-mod tests;

@@ -12,8 +12,3 @@ mod word;
 pub use line::put_line;
 pub use refusal::put_refusal;
 pub use reply::put_reply;
-
-#[cfg(test)]
-mod link_tests;
-#[cfg(test)]
-mod tests;

@@ -11,6 +11,3 @@ pub use cell_world::Command;
 pub use line::{Line, Script};
 pub use read::{ScriptFail, read_script};
 pub use words::is_name;
-
-#[cfg(test)]
-mod tests;

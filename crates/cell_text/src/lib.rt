@@ -6,6 +6,3 @@ mod pieces;
 
 pub use number::{put_dec, put_hex, put_hex_byte, read_dec, read_hex};
 pub use pieces::{Span, lines, words};
-
-#[cfg(test)]
-mod tests;

@@ -1,0 +1,145 @@
+//! The lines of refusals.
+
+use crate::lines::{name, refuses};
+use cell_num::{Cause, CellId, Holder, RelKind};
+use cell_world::{Many, Refusal};
+use std::test::*;
+
+#[test]
+fn of_words(rt: HostRuntime) -> Result<(), Fail> {
+    let word = name(rt.alloc(), "a")?;
+    refuses(rt.alloc(), Refusal::Unknown { word }, "7 E1 unknown a\n")?;
+    let word = name(rt.alloc(), "a")?;
+    refuses(rt.alloc(), Refusal::NameTaken { word }, "7 E2 taken a\n")?;
+    let stem = name(rt.alloc(), "a")?;
+    refuses(rt.alloc(), Refusal::NoObject { stem }, "7 E5 no-object a\n")?;
+    let name = name(rt.alloc(), "a")?;
+    refuses(rt.alloc(), Refusal::NoEntry { name }, "7 E10 no-entry a\n")
+}
+
+#[test]
+fn of_words_and_cells(rt: HostRuntime) -> Result<(), Fail> {
+    let ambiguous = Refusal::Ambiguous {
+        one: name(rt.alloc(), "a")?,
+        two: name(rt.alloc(), "b")?,
+    };
+    refuses(rt.alloc(), ambiguous, "7 E6 ambiguous a b\n")?;
+    let duplicate = Refusal::Duplicate {
+        name: name(rt.alloc(), "a")?,
+        holder: CellId(3),
+    };
+    refuses(rt.alloc(), duplicate, "7 E8 duplicate a #3\n")?;
+    let missing = Refusal::Missing {
+        name: name(rt.alloc(), "a")?,
+        needed_by: CellId(4),
+    };
+    refuses(rt.alloc(), missing, "7 E9 missing a #4\n")
+}
+
+#[test]
+fn of_numbers(rt: HostRuntime) -> Result<(), Fail> {
+    let bad_object = Refusal::BadObject {
+        file: name(rt.alloc(), "a")?,
+        rule: 20,
+        at: 64,
+    };
+    refuses(rt.alloc(), bad_object, "7 E7 object a rule 20 at 64\n")?;
+    let exhausted = Refusal::Exhausted {
+        wanted: 2,
+        largest: 1,
+    };
+    refuses(rt.alloc(), exhausted, "7 E11 exhausted 2 1\n")?;
+    let overflow = Refusal::Overflow {
+        cell: CellId(3),
+        section: 1,
+        offset: 0x1c,
+        kind: RelKind::CallPlt,
+    };
+    refuses(rt.alloc(), overflow, "7 E12 overflow #3.1+1c CALL_PLT\n")
+}
+
+/// What there are too many of, their limit, and the line.
+struct TooMany {
+    kind: Many,
+    limit: u32,
+    text: &'static str,
+}
+
+const TOO_MANY: [TooMany; 5] = [
+    TooMany {
+        kind: Many::Namespaces,
+        limit: 256,
+        text: "7 E4 too-many namespaces 256\n",
+    },
+    TooMany {
+        kind: Many::Cells,
+        limit: 1024,
+        text: "7 E4 too-many cells 1024\n",
+    },
+    TooMany {
+        kind: Many::CellNumbers,
+        limit: 65535,
+        text: "7 E4 too-many cell-numbers 65535\n",
+    },
+    TooMany {
+        kind: Many::Tasks,
+        limit: 64,
+        text: "7 E4 too-many tasks 64\n",
+    },
+    TooMany {
+        kind: Many::TaskNumbers,
+        limit: 65535,
+        text: "7 E4 too-many task-numbers 65535\n",
+    },
+];
+
+#[test]
+fn of_too_many(rt: HostRuntime) -> Result<(), Fail> {
+    for case in &TOO_MANY {
+        let (kind, limit) = (case.kind, case.limit);
+        refuses(rt.alloc(), Refusal::TooMany { kind, limit }, case.text)?;
+    }
+    Ok(())
+}
+
+/// The trap of task 12 at 0x10000a1c, and the line.
+struct Faulted(Cause, &'static str);
+
+const FAULTED: [Faulted; 9] = [
+    Faulted(Cause::Fetch, "7 E3 faulted t12 fetch 10000a1c\n"),
+    Faulted(Cause::Jump, "7 E3 faulted t12 jump 10000a1c\n"),
+    Faulted(Cause::Illegal, "7 E3 faulted t12 illegal 10000a1c\n"),
+    Faulted(Cause::Break, "7 E3 faulted t12 break 10000a1c\n"),
+    Faulted(Cause::LoadAlign, "7 E3 faulted t12 load-align 10000a1c\n"),
+    Faulted(Cause::Load, "7 E3 faulted t12 load 10000a1c\n"),
+    Faulted(Cause::StoreAlign, "7 E3 faulted t12 store-align 10000a1c\n"),
+    Faulted(Cause::Store, "7 E3 faulted t12 store 10000a1c\n"),
+    Faulted(Cause::Call, "7 E3 faulted t12 call 10000a1c\n"),
+];
+
+#[test]
+fn of_faulted_tasks(rt: HostRuntime) -> Result<(), Fail> {
+    for case in &FAULTED {
+        let refusal = Refusal::NotRunnable {
+            task: 12,
+            cause: case.0,
+            pc: 0x1000_0a1c,
+        };
+        refuses(rt.alloc(), refusal, case.1)?;
+    }
+    Ok(())
+}
+
+#[test]
+fn of_held_cells(rt: HostRuntime) -> Result<(), Fail> {
+    let by_task = Refusal::Held {
+        cell: CellId(3),
+        holder: Holder::Task(12),
+    };
+    refuses(rt.alloc(), by_task, "7 E15 held #3 t12\n")?;
+    let by_cell = Refusal::Held {
+        cell: CellId(3),
+        holder: Holder::Cell(CellId(12)),
+    };
+    refuses(rt.alloc(), by_cell, "7 E15 held #3 #12\n")
+}

@@ -1,0 +1,173 @@
+//! What the lines of a script say.
+
+use cell_num::Name;
+use cell_script::*;
+use std::alloc::{AllocError, Global};
+use std::test::*;
+
+/// The reading of a text, which is short.
+pub fn read(alloc: Global, text: &[u8]) -> Result<Script, ScriptFail> {
+    if text.len() > 2000 {
+        return Err(ScriptFail::OutOfMemory);
+    }
+    read_script(alloc, text)
+}
+
+/// The number of a line, the first word of its command, and what the command has: names, and then numbers.
+struct Said(u32, &'static str, &'static [&'static str], &'static [u64]);
+
+impl Said {
+    fn is(&self, word: &str, names: &[&Name], numbers: &[u64]) -> bool {
+        self.1 == word && are_named(names, self.2) && self.3 == numbers
+    }
+}
+
+fn are_named(names: &[&Name], wanted: &[&str]) -> bool {
+    names.len() == wanted.len()
+        && names
+            .iter()
+            .zip(wanted.iter())
+            .all(|(name, want)| name.bytes() == want.as_bytes())
+}
+
+/// Whether the command is what is said of it.
+fn is_said(alloc: Global, command: &Command, said: &Said) -> Result<bool, AllocError> {
+    Ok(match command {
+        Command::Ns { name, parent } => said.is("ns", &[name, parent], &[]),
+        Command::Load { ns, stem } => said.is("load", &[ns, stem], &[]),
+        Command::Spawn { ns, symbol, arg } => said.is("spawn", &[ns, symbol], &[*arg]),
+        Command::Step { task, turns } => {
+            said.is("step", &[], &[u64::from(*task), u64::from(*turns)])
+        }
+        Command::Run { turns } => said.is("run", &[], &[u64::from(*turns)]),
+        Command::Kill { task } => said.is("kill", &[], &[u64::from(*task)]),
+        Command::Unload { cells } => {
+            let mut names = Vec::new(alloc);
+            for cell in cells.as_slice() {
+                names.push(&cell.ns)?;
+                names.push(&cell.stem)?;
+            }
+            said.is("unload", names.as_slice(), &[])
+        }
+        Command::Purge => said.is("purge", &[], &[]),
+        Command::Tasks => said.is("tasks", &[], &[]),
+        Command::Find { ns, symbol } => said.is("find", &[ns, symbol], &[]),
+        Command::Deps { cell } => said.is("deps", &[], &[u64::from(*cell)]),
+        Command::Users { cell } => said.is("users", &[], &[u64::from(*cell)]),
+        Command::Map => said.is("map", &[], &[]),
+        Command::Dump { cell, section } => {
+            said.is("dump", &[], &[u64::from(*cell), u64::from(*section)])
+        }
+        Command::Swap { .. } => false,
+    })
+}
+
+/// A script, and what its lines say.
+struct Case {
+    text: &'static [u8],
+    lines: &'static [Said],
+}
+
+const CASES: [Case; 4] = [
+    Case {
+        text: b"load k a\n\n # load\n#load\n\tdump 4294967295  0",
+        lines: &[
+            Said(1, "load", &["k", "a"], &[]),
+            Said(5, "dump", &[], &[4294967295, 0]),
+        ],
+    },
+    Case {
+        text: b"ns a under k\nfind a b::c~!\nmap\n map\t\nns under under under\n",
+        lines: &[
+            Said(1, "ns", &["a", "k"], &[]),
+            Said(2, "find", &["a", "b::c~!"], &[]),
+            Said(3, "map", &[], &[]),
+            Said(4, "map", &[], &[]),
+            Said(5, "ns", &["under", "under"], &[]),
+        ],
+    },
+    Case {
+        text: b"spawn k a::b 18446744073709551615\nstep 4294967295 100000\nrun 10000\nkill 0\ntasks\nstep 0 0\nrun 0\n",
+        lines: &[
+            Said(1, "spawn", &["k", "a::b"], &[u64::MAX]),
+            Said(2, "step", &[], &[4294967295, 100000]),
+            Said(3, "run", &[], &[10000]),
+            Said(4, "kill", &[], &[0]),
+            Said(5, "tasks", &[], &[]),
+            Said(6, "step", &[], &[0, 0]),
+            Said(7, "run", &[], &[0]),
+        ],
+    },
+    Case {
+        text: b"unload k/a\nunload k/b\tn/b  k/a_0\npurge\ndeps 4294967295\nusers 0\n",
+        lines: &[
+            Said(1, "unload", &["k", "a"], &[]),
+            Said(2, "unload", &["k", "b", "n", "b", "k", "a_0"], &[]),
+            Said(3, "purge", &[], &[]),
+            Said(4, "deps", &[], &[4294967295]),
+            Said(5, "users", &[], &[0]),
+        ],
+    },
+];
+
+/// Whether the lines of a script are what is said of them.
+fn are_said(alloc: Global, lines: &[Line], said: &[Said]) -> Result<bool, AllocError> {
+    if lines.len() != said.len() {
+        return Ok(false);
+    }
+    for (line, said) in lines.iter().zip(said.iter()) {
+        if line.number != said.0 || !is_said(alloc, &line.command, said)? {
+            return Ok(false);
+        }
+    }
+    Ok(true)
+}
+
+#[test]
+fn commands(rt: HostRuntime) -> Result<(), Fail> {
+    for (number, case) in CASES.iter().enumerate() {
+        let script = read(rt.alloc(), case.text).ok().ok_or("a reading")?;
+        let said = are_said(rt.alloc(), script.as_slice(), case.lines)?;
+        assert!(rt; said, "script {number}");
+    }
+    Ok(())
+}
+
+/// The line of a command to spawn, and its argument, where it has a reading.
+struct Argument(&'static [u8], Option<u64>);
+
+const ARGUMENTS: [Argument; 17] = [
+    Argument(b"spawn k a::b 0", Some(0)),
+    Argument(b"spawn k a::b 18446744073709551615", Some(u64::MAX)),
+    Argument(b"spawn k a::b 18446744073709551616", None),
+    Argument(b"spawn k a::b 0x0", Some(0)),
+    Argument(b"spawn k a::b 0x1f", Some(31)),
+    Argument(b"spawn k a::b 0xffffffffffffffff", Some(u64::MAX)),
+    Argument(b"spawn k a::b 0x10000000000000000", None),
+    Argument(b"spawn k a::b 0x", None),
+    Argument(b"spawn k a::b 0x00", None),
+    Argument(b"spawn k a::b 0x01", None),
+    Argument(b"spawn k a::b 0X1", None),
+    Argument(b"spawn k a::b 0xA", None),
+    Argument(b"spawn k a::b 0x0x1", None),
+    Argument(b"spawn k a::b 00", None),
+    Argument(b"spawn k a::b 1f", None),
+    Argument(b"spawn k a::b x1", None),
+    Argument(b"spawn k a::b -1", None),
+];
+
+/// The argument of the task that the text spawns.
+fn argument_in(alloc: Global, text: &[u8]) -> Option<u64> {
+    let script = read(alloc, text).ok()?;
+    match &script.as_slice().first()?.command {
+        Command::Spawn { arg, .. } => Some(*arg),
+        _ => None,
+    }
+}
+
+#[test]
+fn arguments_of_tasks(rt: HostRuntime) {
+    for (number, case) in ARGUMENTS.iter().enumerate() {
+        assert_eq!(rt; argument_in(rt.alloc(), case.0), case.1, "case {number}");
+    }
+}
