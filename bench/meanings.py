@@ -1,7 +1,7 @@
 #!/usr/bin/env python3
-"""Asks qemu what instructions do, and prints its answers as the tables of crates/cell_alu/src/cases.rt.
+"""Asks qemu what instructions do, and prints its answers as the tables of crates/cell_object_tests/src/meanings.rt.
 
-    meanings.py > ../crates/cell_alu/src/cases.rt     and then rt fmt in crates/cell_alu
+    meanings.py > ../crates/cell_object_tests/src/meanings.rt     and then rt fmt in crates/cell_object_tests
 
 One program has every case. GNU as and ld make it, and qemu-riscv64 runs it once. It needs Debian's packages
 binutils-riscv64-unknown-elf and qemu-user.
@@ -243,10 +243,11 @@ def unsigned(number):
     return shown(number % 2**64)
 
 
-def table(name, kind, about, rows):
-    print("\n/// %s\npub static %s: [%s; %d] = [" % (about, name, kind, len(rows)))
+def table(name, kind, fields, about, rows):
+    print("\n/// %s\npub struct %s(%s);" % (about, kind, ", ".join("pub " + field for field in fields)))
+    print("\npub const %s: [%s; %d] = [" % (name, kind, len(rows)))
     for op, *words in rows:
-        print("    (%s, %s)," % (op.capitalize(), ", ".join(words)))
+        print("    %s(%s, %s)," % (kind, op.capitalize(), ", ".join(words)))
     print("];")
 
 
@@ -266,11 +267,11 @@ def main():
     print("//! What qemu-riscv64 does at instructions. `bench/meanings.py` writes this file.\n")
     print("use cell_isa::Op;\nuse cell_isa::Op::*;")
     about = "Operation, pc, rs1, rs2, immediate, and what is written to rd."
-    table("RESULTS", "(Op, u64, i64, i64, i32, i64)", about, results)
+    table("RESULTS", "Computed", ["Op", "u64", "i64", "i64", "i32", "i64"], about, results)
     about = "The same, and where it leads where that isn't the next instruction."
-    table("TURNS", "(Op, u64, i64, i64, i32, Option<u64>)", about, turns)
+    table("TURNS", "Led", ["Op", "u64", "i64", "i64", "i32", "Option<u64>"], about, turns)
     about = "Operation, the doubleword in memory, rs2, and what is loaded, or the doubleword after the store."
-    table("ACCESSES", "(Op, i64, i64, i64)", about, accesses)
+    table("ACCESSES", "Accessed", ["Op", "i64", "i64", "i64"], about, accesses)
 
 
 if __name__ == "__main__":

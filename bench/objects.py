@@ -403,12 +403,9 @@ def byte_table(name, comment, data):
 def images(folder):
     """The files of byte tables, into the folder `crates`."""
     for path, head, tables in [
-        ("cell_elfw/src/images.rt", "Two objects whose layout was worked out by hand, as bench/objects.py writes them.", [
+        ("cell_object_tests/src/images.rt", "Two objects whose layout was worked out by hand, as bench/objects.py writes them.", [
             ("SEVEN", "`.data`: `a::n` is 7.", seven()),
             ("POINTER", "`.rodata`: `b::p` is the address of `a::n` and 4, then 1.", pointer()),
-        ]),
-        ("cell_assemble/src/object.rt", "An object whose layout was worked out by hand, as bench/objects.py writes it.", [
-            ("OBJECT", "`.data`: `a::n` is 7.", seven()),
         ]),
         ("cell_tests/src/broken.rt", "A broken object, as bench/objects.py writes it.", [
             ("LONE_LOW", "`.text` with a PCREL_LO12_I whose label has no PCREL_HI20.", lone_low()),

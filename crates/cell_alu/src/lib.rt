@@ -7,8 +7,3 @@ mod memory;
 
 pub use meaning::{access, address, aim, is_taken, result};
 pub use memory::Access;
-
-#[cfg(test)]
-mod cases;
-#[cfg(test)]
-mod tests;

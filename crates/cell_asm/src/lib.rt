@@ -32,10 +32,3 @@ pub use laid::{Key, Label, Laid};
 pub use mnemonic::{Directive, Mnemonic, Shape, Width};
 pub use operand::{Expression, Immediate, Modifier, Operand};
 pub use statement::{Content, Field, Fix, Line, Part, Piece, Pieces, Reference, Statement, Target};
-
-#[cfg(test)]
-mod encodings;
-#[cfg(test)]
-mod refused;
-#[cfg(test)]
-mod tests;

@@ -8,8 +8,3 @@ mod top;
 
 pub use status::AsStatus;
 pub use top::cellas;
-
-#[cfg(test)]
-mod object;
-#[cfg(test)]
-mod tests;

@@ -6,6 +6,3 @@ mod shared;
 
 pub use bytes::Bytes;
 pub use shared::Shared;
-
-#[cfg(test)]
-mod tests;

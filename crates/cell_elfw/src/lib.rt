@@ -15,12 +15,3 @@ mod writing;
 
 pub use fail::WriteFail;
 pub use writing::write_object;
-
-#[cfg(test)]
-mod images;
-#[cfg(test)]
-mod plain;
-#[cfg(test)]
-mod unwritable;
-#[cfg(test)]
-mod writable;

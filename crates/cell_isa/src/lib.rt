@@ -12,6 +12,3 @@ pub use agreement::decode_and_encode_agree;
 pub use decoding::decode;
 pub use encoding::encode;
 pub use insn::{Insn, Op};
-
-#[cfg(test)]
-mod tests;

@@ -92,6 +92,52 @@ pub fn object(alloc: Global, plain: &Plain) -> Result<Object, Fail> {
     })
 }
 
+fn is_section(section: &Section, plain: &PlainSection) -> bool {
+    section.number == plain.0
+        && section.name.as_slice() == plain.1
+        && section.write == plain.2
+        && section.exec == plain.3
+        && section.fill == plain.4
+        && section.align == plain.5
+        && section.size == plain.6
+        && section.bytes.as_slice() == plain.7
+}
+
+fn is_symbol(symbol: &Symbol, plain: &PlainSymbol) -> bool {
+    symbol.name.as_slice() == plain.0
+        && symbol.bind == plain.1
+        && symbol.sort == plain.2
+        && symbol.home == plain.3
+        && symbol.value == plain.4
+        && symbol.size == 0
+}
+
+fn is_entry(found: &Entry, plain: &PlainEntry) -> bool {
+    *found == entry(plain)
+}
+
+fn are_sections(found: &[Section], wanted: &[PlainSection]) -> bool {
+    let mut pairs = found.iter().zip(wanted.iter());
+    found.len() == wanted.len() && pairs.all(|(one, want)| is_section(one, want))
+}
+
+fn are_symbols(found: &[Symbol], wanted: &[PlainSymbol]) -> bool {
+    let mut pairs = found.iter().zip(wanted.iter());
+    found.len() == wanted.len() && pairs.all(|(one, want)| is_symbol(one, want))
+}
+
+fn are_entries(found: &[Entry], wanted: &[PlainEntry]) -> bool {
+    let mut pairs = found.iter().zip(wanted.iter());
+    found.len() == wanted.len() && pairs.all(|(one, want)| is_entry(one, want))
+}
+
+/// Whether the object is made of this.
+pub fn is_plain(object: &Object, plain: &Plain) -> bool {
+    are_sections(object.sections.as_slice(), plain.sections)
+        && are_symbols(object.symbols.as_slice(), plain.symbols)
+        && are_entries(object.entries.as_slice(), plain.entries)
+}
+
 /// A section with eight bytes of data at number 1.
 pub const DATA: PlainSection = PlainSection(
     1,

@@ -1,7 +1,7 @@
 ghost use Rattle.std.specs.Prelude.{◌<◌};
 
-use super::*;
-use crate::cases::{ACCESSES, RESULTS, TURNS};
+use crate::meanings::{ACCESSES, Computed, Led, RESULTS, TURNS};
+use cell_alu::*;
 use cell_isa::Op;
 use std::process::Abort;
 use std::test::*;
@@ -30,15 +30,18 @@ const NOTHING: [Op; 20] = [
     Op::Ebreak,
 ];
 
+fn computed(case: &Computed) -> i64 {
+    let (a, b) = (case.2.cast_unsigned(), case.3.cast_unsigned());
+    result(case.0, case.1, a, b, case.4).cast_signed()
+}
+
 #[test]
 fn results(rt: HostRuntime) {
-    for &(op, pc, a, b, imm, written) in &RESULTS {
-        let found = result(op, pc, a.cast_unsigned(), b.cast_unsigned(), imm);
-        assert_eq!(rt;
-            found.cast_signed(),
-            written,
-            "{op:?} {pc:#x} {a:#x} {b:#x} {imm}"
-        );
+    for (number, case) in RESULTS.iter().enumerate() {
+        assert_eq!(rt; computed(case), case.5, "case {number}");
+        assert_eq!(rt; access(case.0), Access::Untouched, "case {number}");
+        let is_jump = matches!(case.0, Op::Jal | Op::Jalr);
+        assert_eq!(rt; is_taken(case.0, 7, 7), is_jump, "case {number}");
     }
     for op in NOTHING {
         assert_eq!(rt; result(op, 1, 2, 3, 4), 0, "{op:?}");
@@ -46,22 +49,20 @@ fn results(rt: HostRuntime) {
 }
 
 /// Where the next instruction stands, if not behind this one.
+fn led(case: &Led) -> Option<u64> {
+    let (a, b) = (case.2.cast_unsigned(), case.3.cast_unsigned());
+    if is_taken(case.0, a, b) {
+        Some(aim(case.0, case.1, a, case.4))
+    } else {
+        None
+    }
+}
+
 #[test]
 fn turns(rt: HostRuntime) {
-    for &(op, pc, a, b, imm, next) in &TURNS {
-        let (a, b) = (a.cast_unsigned(), b.cast_unsigned());
-        let found = if is_taken(op, a, b) {
-            Some(aim(op, pc, a, imm))
-        } else {
-            None
-        };
-        assert_eq!(rt; found, next, "{op:?} {pc:#x} {a:#x} {b:#x} {imm}");
-        assert_eq!(rt; access(op), Access::Untouched, "{op:?}");
-    }
-    for &(op, _, _, _, _, _) in &RESULTS {
-        let is_jump = matches!(op, Op::Jal | Op::Jalr);
-        assert_eq!(rt; is_taken(op, 7, 7), is_jump, "{op:?}");
-        assert_eq!(rt; access(op), Access::Untouched, "{op:?}");
+    for (number, case) in TURNS.iter().enumerate() {
+        assert_eq!(rt; led(case), case.5, "case {number}");
+        assert_eq!(rt; access(case.0), Access::Untouched, "case {number}");
     }
 }
 
@@ -94,11 +95,12 @@ fn touched(rt: &impl Abort, access: Access, held: u64, number: u64) -> u64 {
 
 #[test]
 fn accesses(rt: HostRuntime) {
-    for &(op, held, number, after) in &ACCESSES {
-        let access = access(op);
-        let found = touched(&rt, access, held.cast_unsigned(), number.cast_unsigned());
-        assert_ne!(rt; access, Access::Untouched, "{op:?}");
-        assert_eq!(rt; found.cast_signed(), after, "{op:?} {held:#x} {number:#x}");
+    for (number, case) in ACCESSES.iter().enumerate() {
+        let access = access(case.0);
+        let (held, value) = (case.1.cast_unsigned(), case.2.cast_unsigned());
+        let found = touched(&rt, access, held, value);
+        assert_ne!(rt; access, Access::Untouched, "case {number}");
+        assert_eq!(rt; found.cast_signed(), case.3, "case {number}");
     }
     for op in [Op::Fence, Op::Ecall, Op::Ebreak] {
         assert_eq!(rt; access(op), Access::Untouched, "{op:?}");

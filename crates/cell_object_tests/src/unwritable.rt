@@ -4,16 +4,18 @@ use crate::plain::{
     CODE, CONSTANTS, DATA, LABEL, MORE_CODE, N, Plain, PlainEntry, PlainSection, PlainSymbol,
     WANTED, ZEROS, object,
 };
-use crate::{WriteFail, write_object};
+use cell_elfw::{WriteFail, write_object};
 use cell_num::RelKind;
 use cell_object::{Bind, Fill, Home, Sort};
 use std::test::*;
 
 const TOO_LONG: [u8; 1025] = [b'x'; 1025];
 
-/// Objects that can't be written, and the rule, or 0 where another object would be read.
-const UNWRITABLE: [(&str, Plain, u8); 30] = [
-    (
+/// What is wrong with an object, its parts, and the rule, or 0 where another object would be read.
+struct Unwritable(&'static str, Plain, u8);
+
+const UNWRITABLE: [Unwritable; 30] = [
+    Unwritable(
         "fields that share bytes",
         Plain {
             sections: &[CONSTANTS],
@@ -25,7 +27,7 @@ const UNWRITABLE: [(&str, Plain, u8); 30] = [
         },
         23,
     ),
-    (
+    Unwritable(
         "a GLOBAL in no loaded section",
         Plain {
             sections: &[DATA],
@@ -34,7 +36,7 @@ const UNWRITABLE: [(&str, Plain, u8); 30] = [
         },
         16,
     ),
-    (
+    Unwritable(
         "an absolute GLOBAL",
         Plain {
             sections: &[DATA],
@@ -43,7 +45,7 @@ const UNWRITABLE: [(&str, Plain, u8); 30] = [
         },
         16,
     ),
-    (
+    Unwritable(
         "a section that the file hasn't",
         Plain {
             sections: &[DATA],
@@ -52,7 +54,7 @@ const UNWRITABLE: [(&str, Plain, u8); 30] = [
         },
         16,
     ),
-    (
+    Unwritable(
         "a GLOBAL before a LOCAL",
         Plain {
             sections: &[DATA],
@@ -61,7 +63,7 @@ const UNWRITABLE: [(&str, Plain, u8); 30] = [
         },
         15,
     ),
-    (
+    Unwritable(
         "a WEAK",
         Plain {
             sections: &[DATA],
@@ -70,7 +72,7 @@ const UNWRITABLE: [(&str, Plain, u8); 30] = [
         },
         15,
     ),
-    (
+    Unwritable(
         "a GLOBAL of type FILE",
         Plain {
             sections: &[DATA],
@@ -79,7 +81,7 @@ const UNWRITABLE: [(&str, Plain, u8); 30] = [
         },
         15,
     ),
-    (
+    Unwritable(
         "two of one name",
         Plain {
             sections: &[DATA],
@@ -88,7 +90,7 @@ const UNWRITABLE: [(&str, Plain, u8); 30] = [
         },
         18,
     ),
-    (
+    Unwritable(
         "a GLOBAL without a name",
         Plain {
             sections: &[DATA],
@@ -97,7 +99,7 @@ const UNWRITABLE: [(&str, Plain, u8); 30] = [
         },
         18,
     ),
-    (
+    Unwritable(
         "too long a name",
         Plain {
             sections: &[DATA],
@@ -106,7 +108,7 @@ const UNWRITABLE: [(&str, Plain, u8); 30] = [
         },
         18,
     ),
-    (
+    Unwritable(
         "past the section's end",
         Plain {
             sections: &[DATA],
@@ -115,7 +117,7 @@ const UNWRITABLE: [(&str, Plain, u8); 30] = [
         },
         17,
     ),
-    (
+    Unwritable(
         "writable and executable",
         Plain {
             sections: &[PlainSection(
@@ -133,7 +135,7 @@ const UNWRITABLE: [(&str, Plain, u8); 30] = [
         },
         11,
     ),
-    (
+    Unwritable(
         "no power of two",
         Plain {
             sections: &[PlainSection(
@@ -151,7 +153,7 @@ const UNWRITABLE: [(&str, Plain, u8); 30] = [
         },
         12,
     ),
-    (
+    Unwritable(
         "too large",
         Plain {
             sections: &[PlainSection(1, b".data", true, false, Fill::Zero, 8, 16777217, &[])],
@@ -160,7 +162,7 @@ const UNWRITABLE: [(&str, Plain, u8); 30] = [
         },
         12,
     ),
-    (
+    Unwritable(
         "more bytes than there are",
         Plain {
             sections: &[PlainSection(
@@ -178,7 +180,7 @@ const UNWRITABLE: [(&str, Plain, u8); 30] = [
         },
         8,
     ),
-    (
+    Unwritable(
         "entries of a section of zeros",
         Plain {
             sections: &[DATA, ZEROS],
@@ -187,7 +189,7 @@ const UNWRITABLE: [(&str, Plain, u8); 30] = [
         },
         19,
     ),
-    (
+    Unwritable(
         "no row for the kind",
         Plain {
             sections: &[CODE],
@@ -196,7 +198,7 @@ const UNWRITABLE: [(&str, Plain, u8); 30] = [
         },
         20,
     ),
-    (
+    Unwritable(
         "no such symbol",
         Plain {
             sections: &[DATA],
@@ -205,7 +207,7 @@ const UNWRITABLE: [(&str, Plain, u8); 30] = [
         },
         21,
     ),
-    (
+    Unwritable(
         "past the end",
         Plain {
             sections: &[DATA],
@@ -214,7 +216,7 @@ const UNWRITABLE: [(&str, Plain, u8); 30] = [
         },
         22,
     ),
-    (
+    Unwritable(
         "an instruction in data",
         Plain {
             sections: &[DATA],
@@ -223,7 +225,7 @@ const UNWRITABLE: [(&str, Plain, u8); 30] = [
         },
         22,
     ),
-    (
+    Unwritable(
         "a low half without its high half",
         Plain {
             sections: &[CODE],
@@ -232,7 +234,7 @@ const UNWRITABLE: [(&str, Plain, u8); 30] = [
         },
         24,
     ),
-    (
+    Unwritable(
         "a section number that isn't its place",
         Plain {
             sections: &[PlainSection(
@@ -250,7 +252,7 @@ const UNWRITABLE: [(&str, Plain, u8); 30] = [
         },
         0,
     ),
-    (
+    Unwritable(
         "entries of a later section first",
         Plain {
             sections: &[CODE, MORE_CODE],
@@ -262,7 +264,7 @@ const UNWRITABLE: [(&str, Plain, u8); 30] = [
         },
         0,
     ),
-    (
+    Unwritable(
         "an entry of no section",
         Plain {
             sections: &[DATA],
@@ -271,7 +273,7 @@ const UNWRITABLE: [(&str, Plain, u8); 30] = [
         },
         0,
     ),
-    (
+    Unwritable(
         "zeros with bytes",
         Plain {
             sections: &[PlainSection(
@@ -289,7 +291,7 @@ const UNWRITABLE: [(&str, Plain, u8); 30] = [
         },
         0,
     ),
-    (
+    Unwritable(
         "fewer bytes than there are",
         Plain {
             sections: &[PlainSection(
@@ -307,7 +309,7 @@ const UNWRITABLE: [(&str, Plain, u8); 30] = [
         },
         0,
     ),
-    (
+    Unwritable(
         "a LOCAL of section 0",
         Plain {
             sections: &[DATA],
@@ -316,7 +318,7 @@ const UNWRITABLE: [(&str, Plain, u8); 30] = [
         },
         0,
     ),
-    (
+    Unwritable(
         "a zero byte in a name",
         Plain {
             sections: &[DATA],
@@ -325,7 +327,7 @@ const UNWRITABLE: [(&str, Plain, u8); 30] = [
         },
         0,
     ),
-    (
+    Unwritable(
         "a file in a section",
         Plain {
             sections: &[DATA],
@@ -334,7 +336,7 @@ const UNWRITABLE: [(&str, Plain, u8); 30] = [
         },
         0,
     ),
-    (
+    Unwritable(
         "no alignment",
         Plain {
             sections: &[PlainSection(

@@ -5,7 +5,15 @@ use cell_num::RelKind::*;
 
 /// Kind, S, A, P, what the field holds, the number modulo 2^64 where it fits, and what the field
 /// holds after it. A word with an immediate is what GNU as 2.40 makes of the instruction.
-type Edge = (RelKind, u64, i64, u64, u64, Option<u64>, u64);
+pub struct Edge(
+    pub RelKind,
+    pub u64,
+    pub i64,
+    pub u64,
+    pub u64,
+    pub Option<u64>,
+    pub u64,
+);
 
 const PLACE: u64 = 0x2_0000_2000;
 
@@ -13,7 +21,7 @@ const PLACE: u64 = 0x2_0000_2000;
 const PAIR: u64 = 0x80e7_0000_0097;
 
 pub const EDGES: [Edge; 85] = [
-    (
+    Edge(
         Abs32,
         0xffff_f000,
         0xfff,
@@ -22,8 +30,8 @@ pub const EDGES: [Edge; 85] = [
         Some(0xffff_ffff),
         0xffff_ffff,
     ),
-    (Abs32, 0xffff_f000, 0x1000, 0, 7, None, 7),
-    (
+    Edge(Abs32, 0xffff_f000, 0x1000, 0, 7, None, 7),
+    Edge(
         Abs32,
         0x1000,
         -0x8000_1000,
@@ -32,10 +40,10 @@ pub const EDGES: [Edge; 85] = [
         Some(0xffff_ffff_8000_0000),
         0x8000_0000,
     ),
-    (Abs32, 0x1000, -0x8000_1001, 0, 7, None, 7),
-    (Abs64, u64::MAX, 1, 0, 7, Some(0), 0),
-    (Abs64, 0, -1, 0, 7, Some(u64::MAX), u64::MAX),
-    (
+    Edge(Abs32, 0x1000, -0x8000_1001, 0, 7, None, 7),
+    Edge(Abs64, u64::MAX, 1, 0, 7, Some(0), 0),
+    Edge(Abs64, 0, -1, 0, 7, Some(u64::MAX), u64::MAX),
+    Edge(
         Branch,
         0x3000,
         -2,
@@ -44,8 +52,8 @@ pub const EDGES: [Edge; 85] = [
         Some(0xffe),
         0x7eb5_0fe3,
     ),
-    (Branch, 0x3000, 0, 0x2000, 0xb5_0063, None, 0xb5_0063),
-    (
+    Edge(Branch, 0x3000, 0, 0x2000, 0xb5_0063, None, 0xb5_0063),
+    Edge(
         Branch,
         0x1000,
         0,
@@ -54,9 +62,9 @@ pub const EDGES: [Edge; 85] = [
         Some(0xffff_ffff_ffff_f000),
         0x80b5_0063,
     ),
-    (Branch, 0x1000, -2, 0x2000, 0xb5_0063, None, 0xb5_0063),
-    (Branch, 0x2000, 3, 0x2000, 0xb5_0063, None, 0xb5_0063),
-    (
+    Edge(Branch, 0x1000, -2, 0x2000, 0xb5_0063, None, 0xb5_0063),
+    Edge(Branch, 0x2000, 3, 0x2000, 0xb5_0063, None, 0xb5_0063),
+    Edge(
         Branch,
         0x2000,
         0x800,
@@ -65,7 +73,7 @@ pub const EDGES: [Edge; 85] = [
         Some(0x800),
         0xb5_00e3,
     ),
-    (
+    Edge(
         Jal,
         0x30_0000,
         -2,
@@ -74,8 +82,8 @@ pub const EDGES: [Edge; 85] = [
         Some(0xf_fffe),
         0x7fff_f0ef,
     ),
-    (Jal, 0x30_0000, 0, 0x20_0000, 0xef, None, 0xef),
-    (
+    Edge(Jal, 0x30_0000, 0, 0x20_0000, 0xef, None, 0xef),
+    Edge(
         Jal,
         0x10_0000,
         0,
@@ -84,9 +92,9 @@ pub const EDGES: [Edge; 85] = [
         Some(0xffff_ffff_fff0_0000),
         0x8000_00ef,
     ),
-    (Jal, 0x10_0000, -2, 0x20_0000, 0xef, None, 0xef),
-    (Jal, 0x20_0000, 1, 0x20_0000, 0xef, None, 0xef),
-    (
+    Edge(Jal, 0x10_0000, -2, 0x20_0000, 0xef, None, 0xef),
+    Edge(Jal, 0x20_0000, 1, 0x20_0000, 0xef, None, 0xef),
+    Edge(
         Jal,
         0x20_0000,
         0x800,
@@ -95,7 +103,7 @@ pub const EDGES: [Edge; 85] = [
         Some(0x800),
         0x10_00ef,
     ),
-    (
+    Edge(
         Call,
         PLACE,
         0x7fff_f7ff,
@@ -104,8 +112,8 @@ pub const EDGES: [Edge; 85] = [
         Some(0x7fff_f7ff),
         0x7ff0_80e7_7fff_f097,
     ),
-    (Call, PLACE, 0x7fff_f800, PLACE, PAIR, None, PAIR),
-    (
+    Edge(Call, PLACE, 0x7fff_f800, PLACE, PAIR, None, PAIR),
+    Edge(
         Call,
         0x1_8000_1800,
         0,
@@ -114,8 +122,8 @@ pub const EDGES: [Edge; 85] = [
         Some(0xffff_ffff_7fff_f800),
         0x8000_80e7_8000_0097,
     ),
-    (Call, 0x1_8000_1800, -1, PLACE, PAIR, None, PAIR),
-    (
+    Edge(Call, 0x1_8000_1800, -1, PLACE, PAIR, None, PAIR),
+    Edge(
         CallPlt,
         PLACE,
         0x7fff_f7ff,
@@ -124,8 +132,8 @@ pub const EDGES: [Edge; 85] = [
         Some(0x7fff_f7ff),
         0x7ff0_80e7_7fff_f097,
     ),
-    (CallPlt, PLACE, 0x7fff_f800, PLACE, PAIR, None, PAIR),
-    (
+    Edge(CallPlt, PLACE, 0x7fff_f800, PLACE, PAIR, None, PAIR),
+    Edge(
         CallPlt,
         0x1_8000_1800,
         0,
@@ -134,8 +142,8 @@ pub const EDGES: [Edge; 85] = [
         Some(0xffff_ffff_7fff_f800),
         0x8000_80e7_8000_0097,
     ),
-    (CallPlt, 0x1_8000_1800, -1, PLACE, PAIR, None, PAIR),
-    (
+    Edge(CallPlt, 0x1_8000_1800, -1, PLACE, PAIR, None, PAIR),
+    Edge(
         PcrelHi20,
         PLACE,
         0x7fff_f7ff,
@@ -144,8 +152,8 @@ pub const EDGES: [Edge; 85] = [
         Some(0x7fff_f7ff),
         0x7fff_f517,
     ),
-    (PcrelHi20, PLACE, 0x7fff_f800, PLACE, 0x517, None, 0x517),
-    (
+    Edge(PcrelHi20, PLACE, 0x7fff_f800, PLACE, 0x517, None, 0x517),
+    Edge(
         PcrelHi20,
         0x1_8000_1800,
         0,
@@ -154,8 +162,8 @@ pub const EDGES: [Edge; 85] = [
         Some(0xffff_ffff_7fff_f800),
         0x8000_0517,
     ),
-    (PcrelHi20, 0x1_8000_1800, -1, PLACE, 0x517, None, 0x517),
-    (
+    Edge(PcrelHi20, 0x1_8000_1800, -1, PLACE, 0x517, None, 0x517),
+    Edge(
         PcrelLo12I,
         PLACE,
         0x7ff,
@@ -164,7 +172,7 @@ pub const EDGES: [Edge; 85] = [
         Some(0x7ff),
         0x7ff5_0513,
     ),
-    (
+    Edge(
         PcrelLo12I,
         PLACE,
         0x800,
@@ -173,7 +181,7 @@ pub const EDGES: [Edge; 85] = [
         Some(0x800),
         0x8005_0513,
     ),
-    (
+    Edge(
         PcrelLo12I,
         PLACE,
         -0x801,
@@ -182,7 +190,7 @@ pub const EDGES: [Edge; 85] = [
         Some(0xffff_ffff_ffff_f7ff),
         0x7ff5_0513,
     ),
-    (
+    Edge(
         PcrelLo12S,
         PLACE,
         0x7ff,
@@ -191,7 +199,7 @@ pub const EDGES: [Edge; 85] = [
         Some(0x7ff),
         0x7eb5_3fa3,
     ),
-    (
+    Edge(
         PcrelLo12S,
         PLACE,
         0x800,
@@ -200,7 +208,7 @@ pub const EDGES: [Edge; 85] = [
         Some(0x800),
         0x80b5_3023,
     ),
-    (
+    Edge(
         PcrelLo12S,
         PLACE,
         -0x801,
@@ -209,7 +217,7 @@ pub const EDGES: [Edge; 85] = [
         Some(0xffff_ffff_ffff_f7ff),
         0x7eb5_3fa3,
     ),
-    (
+    Edge(
         Hi20,
         0x7fff_ffff,
         -0x800,
@@ -218,8 +226,8 @@ pub const EDGES: [Edge; 85] = [
         Some(0x7fff_f7ff),
         0x7fff_f537,
     ),
-    (Hi20, 0x8000_0000, -0x800, 0, 0x537, None, 0x537),
-    (
+    Edge(Hi20, 0x8000_0000, -0x800, 0, 0x537, None, 0x537),
+    Edge(
         Hi20,
         0,
         -0x8000_0800,
@@ -228,8 +236,8 @@ pub const EDGES: [Edge; 85] = [
         Some(0xffff_ffff_7fff_f800),
         0x8000_0537,
     ),
-    (Hi20, 0, -0x8000_0801, 0, 0x537, None, 0x537),
-    (
+    Edge(Hi20, 0, -0x8000_0801, 0, 0x537, None, 0x537),
+    Edge(
         Lo12I,
         0x1000_07ff,
         0,
@@ -238,7 +246,7 @@ pub const EDGES: [Edge; 85] = [
         Some(0x1000_07ff),
         0x7ff5_0513,
     ),
-    (
+    Edge(
         Lo12I,
         0x1000_07ff,
         1,
@@ -247,8 +255,8 @@ pub const EDGES: [Edge; 85] = [
         Some(0x1000_0800),
         0x8005_0513,
     ),
-    (Lo12I, u64::MAX, 0, 0, 0x5_0513, Some(u64::MAX), 0xfff5_0513),
-    (
+    Edge(Lo12I, u64::MAX, 0, 0, 0x5_0513, Some(u64::MAX), 0xfff5_0513),
+    Edge(
         Lo12S,
         0x1000_07ff,
         0,
@@ -257,7 +265,7 @@ pub const EDGES: [Edge; 85] = [
         Some(0x1000_07ff),
         0x7eb5_3fa3,
     ),
-    (
+    Edge(
         Lo12S,
         0x1000_07ff,
         1,
@@ -266,7 +274,7 @@ pub const EDGES: [Edge; 85] = [
         Some(0x1000_0800),
         0x80b5_3023,
     ),
-    (
+    Edge(
         Lo12S,
         u64::MAX,
         0,
@@ -275,42 +283,42 @@ pub const EDGES: [Edge; 85] = [
         Some(u64::MAX),
         0xfeb5_3fa3,
     ),
-    (Add8, 1, 0, 0, 0xff, Some(0x100), 0),
-    (Add8, 0, -1, 0, 0, Some(u64::MAX), 0xff),
-    (Add8, u64::MAX, 2, 0, 5, Some(6), 6),
-    (Add16, 1, 0, 0, 0xffff, Some(0x1_0000), 0),
-    (Add16, 0, -1, 0, 0, Some(u64::MAX), 0xffff),
-    (Add16, u64::MAX, 2, 0, 5, Some(6), 6),
-    (Add32, 1, 0, 0, 0xffff_ffff, Some(0x1_0000_0000), 0),
-    (Add32, 0, -1, 0, 0, Some(u64::MAX), 0xffff_ffff),
-    (Add32, u64::MAX, 2, 0, 5, Some(6), 6),
-    (Add64, 1, 0, 0, u64::MAX, Some(0), 0),
-    (Add64, 0, -1, 0, 0, Some(u64::MAX), u64::MAX),
-    (Add64, u64::MAX, 2, 0, 5, Some(6), 6),
-    (Sub8, 1, 0, 0, 0, Some(u64::MAX), 0xff),
-    (Sub8, 0xff, 0, 0, 0xff, Some(0), 0),
-    (Sub8, 0, -1, 0, 0xff, Some(0x100), 0),
-    (Sub16, 1, 0, 0, 0, Some(u64::MAX), 0xffff),
-    (Sub16, 0xffff, 0, 0, 0xffff, Some(0), 0),
-    (Sub16, 0, -1, 0, 0xffff, Some(0x1_0000), 0),
-    (Sub32, 1, 0, 0, 0, Some(u64::MAX), 0xffff_ffff),
-    (Sub32, 0xffff_ffff, 0, 0, 0xffff_ffff, Some(0), 0),
-    (Sub32, 0, -1, 0, 0xffff_ffff, Some(0x1_0000_0000), 0),
-    (Sub64, 1, 0, 0, 0, Some(u64::MAX), u64::MAX),
-    (Sub64, u64::MAX, 0, 0, u64::MAX, Some(0), 0),
-    (Sub64, 0, -1, 0, u64::MAX, Some(0), 0),
-    (Sub6, 1, 0, 0, 0xc0, Some(u64::MAX), 0xff),
-    (Sub6, 0x3f, 0, 0, 0xbf, Some(0), 0x80),
-    (Sub6, 0x40, -1, 0, 0xff, Some(0), 0xc0),
-    (Set6, 0x3f, 0, 0, 0x80, Some(0x3f), 0xbf),
-    (Set6, 0x3f, 1, 0, 0xff, Some(0x40), 0xc0),
-    (Set8, 0xff, 0, 0, 7, Some(0xff), 0xff),
-    (Set8, 0xff, 1, 0, 7, Some(0x100), 0),
-    (Set16, 0xffff, 0, 0, 7, Some(0xffff), 0xffff),
-    (Set16, 0xffff, 1, 0, 7, Some(0x1_0000), 0),
-    (Set32, 0xffff_ffff, 0, 0, 7, Some(0xffff_ffff), 0xffff_ffff),
-    (Set32, 0xffff_ffff, 1, 0, 7, Some(0x1_0000_0000), 0),
-    (
+    Edge(Add8, 1, 0, 0, 0xff, Some(0x100), 0),
+    Edge(Add8, 0, -1, 0, 0, Some(u64::MAX), 0xff),
+    Edge(Add8, u64::MAX, 2, 0, 5, Some(6), 6),
+    Edge(Add16, 1, 0, 0, 0xffff, Some(0x1_0000), 0),
+    Edge(Add16, 0, -1, 0, 0, Some(u64::MAX), 0xffff),
+    Edge(Add16, u64::MAX, 2, 0, 5, Some(6), 6),
+    Edge(Add32, 1, 0, 0, 0xffff_ffff, Some(0x1_0000_0000), 0),
+    Edge(Add32, 0, -1, 0, 0, Some(u64::MAX), 0xffff_ffff),
+    Edge(Add32, u64::MAX, 2, 0, 5, Some(6), 6),
+    Edge(Add64, 1, 0, 0, u64::MAX, Some(0), 0),
+    Edge(Add64, 0, -1, 0, 0, Some(u64::MAX), u64::MAX),
+    Edge(Add64, u64::MAX, 2, 0, 5, Some(6), 6),
+    Edge(Sub8, 1, 0, 0, 0, Some(u64::MAX), 0xff),
+    Edge(Sub8, 0xff, 0, 0, 0xff, Some(0), 0),
+    Edge(Sub8, 0, -1, 0, 0xff, Some(0x100), 0),
+    Edge(Sub16, 1, 0, 0, 0, Some(u64::MAX), 0xffff),
+    Edge(Sub16, 0xffff, 0, 0, 0xffff, Some(0), 0),
+    Edge(Sub16, 0, -1, 0, 0xffff, Some(0x1_0000), 0),
+    Edge(Sub32, 1, 0, 0, 0, Some(u64::MAX), 0xffff_ffff),
+    Edge(Sub32, 0xffff_ffff, 0, 0, 0xffff_ffff, Some(0), 0),
+    Edge(Sub32, 0, -1, 0, 0xffff_ffff, Some(0x1_0000_0000), 0),
+    Edge(Sub64, 1, 0, 0, 0, Some(u64::MAX), u64::MAX),
+    Edge(Sub64, u64::MAX, 0, 0, u64::MAX, Some(0), 0),
+    Edge(Sub64, 0, -1, 0, u64::MAX, Some(0), 0),
+    Edge(Sub6, 1, 0, 0, 0xc0, Some(u64::MAX), 0xff),
+    Edge(Sub6, 0x3f, 0, 0, 0xbf, Some(0), 0x80),
+    Edge(Sub6, 0x40, -1, 0, 0xff, Some(0), 0xc0),
+    Edge(Set6, 0x3f, 0, 0, 0x80, Some(0x3f), 0xbf),
+    Edge(Set6, 0x3f, 1, 0, 0xff, Some(0x40), 0xc0),
+    Edge(Set8, 0xff, 0, 0, 7, Some(0xff), 0xff),
+    Edge(Set8, 0xff, 1, 0, 7, Some(0x100), 0),
+    Edge(Set16, 0xffff, 0, 0, 7, Some(0xffff), 0xffff),
+    Edge(Set16, 0xffff, 1, 0, 7, Some(0x1_0000), 0),
+    Edge(Set32, 0xffff_ffff, 0, 0, 7, Some(0xffff_ffff), 0xffff_ffff),
+    Edge(Set32, 0xffff_ffff, 1, 0, 7, Some(0x1_0000_0000), 0),
+    Edge(
         Pcrel32,
         PLACE,
         0x7fff_ffff,
@@ -319,8 +327,8 @@ pub const EDGES: [Edge; 85] = [
         Some(0x7fff_ffff),
         0x7fff_ffff,
     ),
-    (Pcrel32, PLACE, 0x8000_0000, PLACE, 7, None, 7),
-    (
+    Edge(Pcrel32, PLACE, 0x8000_0000, PLACE, 7, None, 7),
+    Edge(
         Pcrel32,
         0x1_8000_2000,
         0,
@@ -329,5 +337,5 @@ pub const EDGES: [Edge; 85] = [
         Some(0xffff_ffff_8000_0000),
         0x8000_0000,
     ),
-    (Pcrel32, 0x1_8000_2000, -1, PLACE, 7, None, 7),
+    Edge(Pcrel32, 0x1_8000_2000, -1, PLACE, 7, None, 7),
 ];

@@ -5,10 +5,11 @@ use crate::plain::{
     CODE, CONSTANTS, DATA, LABEL, MORE_CODE, N, OUTSIDE, Plain, PlainEntry, PlainSection,
     PlainSymbol, WANTED, ZEROS, object,
 };
-use crate::write_object;
 use cell_elf::{ReadFail, read_object};
-use cell_num::RelKind;
+use cell_elfw::write_object;
+use cell_num::{RelKind, Shared};
 use cell_object::{Bind, Fill, Home, Sort};
+use std::alloc::Global;
 use std::test::*;
 
 const LONG_NAME: [u8; 1024] = [b'x'; 1024];
@@ -28,32 +29,69 @@ const POINTER_PARTS: Plain = Plain {
     entries: &[PlainEntry(1, 0, RelKind::Abs64, 2, 4)],
 };
 
+/// Bytes at a place.
+struct Field(usize, [u8; 8]);
+
+/// What an object is made of, its image, and fields that the image has by hand.
+struct Image {
+    parts: Plain,
+    bytes: &'static [u8],
+    fields: [Field; 2],
+}
+
+const IMAGES: [Image; 2] = [
+    // e_shoff; then e_phentsize, e_phnum, e_shentsize of 64, e_shnum and e_shstrndx
+    Image {
+        parts: SEVEN_PARTS,
+        bytes: &SEVEN,
+        fields: [
+            Field(40, [168, 0, 0, 0, 0, 0, 0, 0]),
+            Field(56, [0, 0, 64, 0, 5, 0, 4, 0]),
+        ],
+    },
+    Image {
+        parts: POINTER_PARTS,
+        bytes: &POINTER,
+        fields: [
+            Field(40, [240, 0, 0, 0, 0, 0, 0, 0]),
+            Field(56, [0, 0, 64, 0, 6, 0, 4, 0]),
+        ],
+    },
+];
+
+fn has_fields(bytes: &[u8], fields: &[Field]) -> bool {
+    fields.iter().all(|field| has_field(bytes, field))
+}
+
+fn has_field(bytes: &[u8], field: &Field) -> bool {
+    field.0 <= bytes.len() && bytes[field.0..].starts_with(&field.1)
+}
+
+/// The image of an object that can be written.
+fn written(alloc: Global, plain: &Plain) -> Result<Shared, Fail> {
+    let object = object(alloc, plain)?;
+    let image = write_object(alloc, &object).ok().ok_or("an image")?;
+    Ok(image)
+}
+
 #[test]
 fn images_by_hand(rt: HostRuntime) -> Result<(), Fail> {
-    let alloc = rt.alloc();
-    let seven = write_object(alloc, &object(alloc, &SEVEN_PARTS)?)
-        .ok()
-        .ok_or("the first can be written")?;
-    assert!(rt; seven.as_slice() == SEVEN.as_slice());
-    assert!(rt;
-        &seven.as_slice()[40..48] == [168, 0, 0, 0, 0, 0, 0, 0].as_slice(),
-        "e_shoff"
-    );
-    assert!(rt;
-        &seven.as_slice()[60..64] == [5, 0, 4, 0].as_slice(),
-        "e_shnum, e_shstrndx"
-    );
-    let cut = ReadFail::BadObject { rule: 6, at: 40 };
-    assert_eq!(rt; seven.len(), 488);
-    assert!(rt; read_object(alloc, &seven.part(0, 487)?).err() == Some(cut));
-    let pointer = write_object(alloc, &object(alloc, &POINTER_PARTS)?)
-        .ok()
-        .ok_or("the second can be written")?;
-    assert!(rt; pointer.as_slice() == POINTER.as_slice());
-    assert!(rt;
-        &pointer.as_slice()[40..48] == [240, 0, 0, 0, 0, 0, 0, 0].as_slice(),
-        "e_shoff"
-    );
+    for (number, case) in IMAGES.iter().enumerate() {
+        let image = written(rt.alloc(), &case.parts)?;
+        assert!(rt; image.as_slice() == case.bytes, "image {number}");
+        assert!(rt; has_fields(image.as_slice(), &case.fields), "image {number}");
+    }
+    Ok(())
+}
+
+/// The first image has 488 bytes. Without the last, it is refused.
+#[test]
+fn an_image_cut_short(rt: HostRuntime) -> Result<(), Fail> {
+    let image = written(rt.alloc(), &SEVEN_PARTS)?;
+    assert_eq!(rt; image.len(), 488);
+    let cut = image.part(0, 487)?;
+    let refused = ReadFail::BadObject { rule: 6, at: 40 };
+    assert!(rt; read_object(rt.alloc(), &cut).err() == Some(refused));
     Ok(())
 }
 

@@ -1,6 +1,8 @@
-use super::*;
-use crate::object::OBJECT;
+//! Calls of the assembler.
+
+use crate::images::SEVEN;
 use cell_asm::AsmKind;
+use cell_assemble::*;
 use cell_io::{MemFile, MemHost, MemSink};
 use std::alloc::{AllocError, Global};
 use std::test::*;
@@ -19,7 +21,7 @@ const CASES: [Case; 5] = [
         words: "d s",
         source: ".data\n.globl a::n\na::n: .quad 7\n",
         status: AsStatus::Done,
-        text: &OBJECT,
+        text: &SEVEN,
     },
     Case {
         words: "d",
