@@ -1,10 +1,10 @@
 -- In a world whose cells are placed, an image has the size of its region.
-use Rattle.std.proofs.Common.{◌≡◌, sym, ◌∙◌, ap, arith, ℕ, ◌+◌, ◌<◌, ◌⊎◌, inl, inr, Bool, true, false, List, map, length, true≢false, Option, Some, None}
-use Rattle.std.specs.Prelude.{All, filter, ◌==◌}
+use Rattle.std.proofs.Common.{◌≡◌, sym, ◌∙◌, ap, arith, ℕ, ◌+◌, ◌<◌, ◌⊎◌, inl, inr, true, List, map, length, Some}
+use Rattle.std.specs.Prelude.{All, filter}
 use Rattle.std.specs.List.{list_all}
-use Rattle.std.proofs.lemmas.Bool.{leb-true, eqb-true}
+use Rattle.std.proofs.lemmas.Bool.{leb-true}
 use Rattle.cell_num.specs.Lists.{each_pair}
-use Rattle.cell_world.specs.World.{World, Cell, Region}
+use Rattle.cell_world.specs.World.{World, Region}
 use Rattle.cell_world.specs.Relink.{class_start, is_region_of, images_for, relink}
 use Rattle.cell_world.specs.Layout.{sections_in, image_of}
 use Rattle.cell_world.specs.declared.layout.Class.TheVariants.{Text, ReadOnly}
@@ -12,17 +12,11 @@ use Rattle.cell_world.specs.declared.layout.Class.{Class}
 use Rattle.cell_world.specs.Coherent.{shape_of, wanted_shapes, is_placed, is_in_space, ends_before, IsLoadable}
 use Rattle.cell_coherent.proofs.Elements.{In, all-In, In-map, In-append, In-filtered, filter-Passes, first-In, pairs-In}
 use Rattle.cell_coherent.proofs.Places.{whole_region}
+use Rattle.cell_coherent.proofs.Regions.{starts_at}
 use Rattle.cell_coherent.proofs.Reshaped.{ImagesFit, shapes_relinked}
 use Rattle.cell_coherent.proofs.FieldsInside.{region_There, fields_end_in}
 
 module _ (w : World) (regions : map shape_of w.regions ≡ wanted_shapes w) (in_space : list_all (is_in_space w) w.regions ≡ true) (apart : each_pair ends_before w.regions ≡ true) (placed : list_all is_placed w.cells ≡ true) (objects : All (λ c. IsLoadable c.object) w.cells) where
-  starts_at : (class : Class) (c : Cell) (r : Region) → is_region_of class r c ≡ true → class_start c class ≡ Some r.start
-  starts_at class c r h = go (class_start c class) h
-    where
-      go : (o : Option ℕ) → elim o as (λ _. Bool) [ None ↦ false | Some start ↦ start == r.start ] ≡ true → o ≡ Some r.start
-      go None k = absurd (true≢false (sym k))
-      go (Some m) k = ap (λ (x : ℕ). Some x) (eqb-true m r.start k)
-
   of_class : (r : Region) → In r w.regions → (class : Class) (bytes : List ℕ) → In bytes (images_for w.cells r class) → length bytes ≡ length r.bytes
   of_class r k class bytes m =
       let c = In-map (λ c. image_of (sections_in class c.object)) (filter (is_region_of class r) w.cells) bytes m in

@@ -8,7 +8,6 @@ use Rattle.cell_world.specs.World.{Cell, Region}
 use Rattle.cell_world.specs.declared.layout.Class.{Class}
 use Rattle.cell_coherent.proofs.Elements.{In}
 use Rattle.cell_coherent.proofs.Relinked.{restore}
-use Rattle.cell_coherent.proofs.Elements.{In}
 
 -- no class of the cells starts at the region
 pub none_there : (class : Class) (r : Region) (cells : List Cell) → ((c : Cell) → In c cells → (start : ℕ) → class_start c class ≡ Some start → start ≡ r.start → ⊥) → filter (is_region_of class r) cells ≡ []

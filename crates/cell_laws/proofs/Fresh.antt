@@ -118,7 +118,7 @@ module _ (w : World) (h : IsCoherent w) (c : Cell) (i : In c w.cells) where
     sound = object_sound w h.ready.objects c i
 
     -- a field that is known to be in the section ends in it
-    ends_here : (g : Entry) → In g (fields_of c.object) → g.section ≡ s.number → g.offset + width_of g.kind ≤ s.size
+    pub ends_here : (g : Entry) → In g (fields_of c.object) → g.section ≡ s.number → g.offset + width_of g.kind ≤ s.size
     ends_here g k e =
         let t : Within c g = within c sound g (among-In c.object.entries [] g k) in
         let u : t.section ≡ s = unique c sound (class_of t.section) s m t.section (filter-In (is_in_class (class_of t.section)) c.object.sections t.section t.there (class_In t.section)) (t.number ∙ e) in

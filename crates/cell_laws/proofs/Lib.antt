@@ -6,3 +6,4 @@ mod Windows
 mod Laid
 mod Parts
 mod Fresh
+mod FreshSaid

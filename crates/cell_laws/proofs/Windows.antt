@@ -13,7 +13,7 @@ use Rattle.cell_coherent.proofs.Writes.{written_in}
 use Rattle.cell_coherent.proofs.Offsets.{Apart}
 
 -- a write that lies in the slice is the same write in it
-paste_inside : (bytes new : List ℕ) (j i n : ℕ) → i ≤ j → j + length new ≤ i + n → i + n ≤ length bytes → slice (pasted bytes j new) i n ≡ pasted (slice bytes i n) (j - i) new
+pub paste_inside : (bytes new : List ℕ) (j i n : ℕ) → i ≤ j → j + length new ≤ i + n → i + n ≤ length bytes → slice (pasted bytes j new) i n ≡ pasted (slice bytes i n) (j - i) new
 paste_inside bytes new j i n a b h =
     ext_get_or 0 (slice (pasted bytes j new) i n) (pasted (slice bytes i n) (j - i) new)
     (size (pasted bytes j new) (omega (arith, long, h)) ∙ sym (length-pasted (slice bytes i n) new (j - i) inside ∙ size bytes h))
