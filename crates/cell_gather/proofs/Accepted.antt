@@ -1,27 +1,18 @@
 -- A cell that may be appended.
-use Rattle.std.proofs.Common.{◌≡◌, refl, sym, ◌∙◌, ap, arith, ℕ, ◌<◌, ◌≤◌, true, false, cond, List, [], ◌∷◌, ◌++◌, map}
-use Rattle.std.specs.Prelude.{Option, Some, None, Ok, Err, All, find, option_map, nat_lt, nat_le, ◌==◌}
+use Rattle.std.proofs.Common.{◌≡◌, refl, sym, ◌∙◌, ap, arith, ℕ, ◌<◌, ◌≤◌, true}
+use Rattle.std.specs.Prelude.{Ok, Err, nat_lt, nat_le}
 use Rattle.std.proofs.lemmas.Bool.Decides.{nat_tests}
-use Rattle.std.proofs.lemmas.List.Elements.{All-nil, All-cons, All-head, All-tail}
-use Rattle.cell_num.specs.Lists.{or_else}
 use Rattle.cell_object.specs.declared.object.Object.{Object}
 use Rattle.cell_world.specs.declared.file.File.{File}
 use Rattle.cell_world.specs.declared.refusal.Refusal.TheVariants.{TooMany}
 use Rattle.cell_world.specs.declared.refusal.Many.TheVariants.{Cells, CellNumbers}
 use Rattle.cell_world.specs.declared.state.NewCell.{NewCell}
-use Rattle.cell_world.specs.World.{Alias}
 use Rattle.cell_world.specs.Names.{definitions_of}
-use Rattle.cell_world.specs.Gather.{source_of, stem_of_file, object_in, duplicate}
-use Rattle.cell_world.specs.Outcome.{Outcome, ◌>>=◌, ◌>>◌, need, refused_by}
-use Rattle.cell_space.specs.declared.cell.SpaceCell.{SpaceCell}
-use Rattle.cell_space.specs.Named.{clash_stem, clash_name, is_numbered, with_cell, is_rival}
-use Rattle.cell_space.specs.Rows.{has_name}
+use Rattle.cell_world.specs.Gather.{source_of, stem_of_file, object_in}
+use Rattle.cell_world.specs.Outcome.{Outcome, ◌>>=◌, ◌>>◌, need}
 use Rattle.cell_space.specs.Spaces.{SpacesState}
-use Rattle.cell_num.specs.Lists.{equals}
-use Rattle.cell_gather.specs.Appending.{clash_among_now, stem_free, names_free, room_now, cell_from, append_now}
-use Rattle.cell_gather.specs.Growing.{called_new}
-use Rattle.cell_space.proofs.Layered.{rival-append}
-use Rattle.cell_gather.proofs.Outcomes.{then_ok, bind_ok, need_ok, refused_ok, ok_same}
+use Rattle.cell_gather.specs.Appending.{names_free, room_now, cell_from, append_now}
+use Rattle.cell_gather.proofs.Outcomes.{then_ok, bind_ok, need_ok, ok_same}
 
 pub record IsAccepted (s : SpacesState) (total next ns : ℕ) (c : NewCell) : Type 0 where
   pub number : c.id.0 ≡ next

@@ -8,7 +8,7 @@ use Rattle.cell_world.specs.declared.file.File.{File}
 use Rattle.cell_world.specs.declared.refusal.Refusal.{Refusal}
 use Rattle.cell_world.specs.declared.refusal.Refusal.TheVariants.{Unknown}
 use Rattle.cell_world.specs.declared.state.NewCell.{NewCell}
-use Rattle.cell_world.specs.World.{World, attached}
+use Rattle.cell_world.specs.World.{World, Cell, attached}
 use Rattle.cell_world.specs.Gather.{Source, Need, source_of, file_named, append_cell, bring_one, bring}
 use Rattle.cell_world.specs.Outcome.{Outcome, ◌>>=◌, found, each}
 use Rattle.cell_depot.specs.Files.{has_name}
@@ -19,7 +19,7 @@ use Rattle.cell_gather.specs.declared.want.Want.{Want}
 use Rattle.cell_gather.specs.Appending.{append_now}
 use Rattle.cell_gather.specs.Choosing.{choose_now}
 use Rattle.cell_world.specs.Following.{FailsAs}
-use Rattle.cell_gather.specs.Gathering.{IsOf, append_wanted, gather, grown}
+use Rattle.cell_gather.specs.Gathering.{IsOf, append_wanted, gather, grown, renamed}
 use Rattle.cell_gather.specs.Growing.{Ends, with_new}
 use Rattle.cell_gather.proofs.Brings.{bring_is}
 use Rattle.cell_gather.proofs.Worlds.{append_grown, grown_is, grown_none}
@@ -30,33 +30,33 @@ named_by files word name o same e = sym (e ∙ ap (λ (n : List ℕ). find (has_
 
 module _ (spaces : SpacesState) (next : ℕ) where
   -- what is said otherwise comes to the same
-  pub ends_same : (said other : World → Outcome World) (r : Result (Unit {0}) Fail) (new : List NewCell) → ((w : World) → IsOf spaces next w → other w ≡ said w)
+  pub ends_same : (said other : World → Outcome World) (r : Result (Unit {0}) Fail) (new : List Cell) → ((w : World) → IsOf spaces next w → other w ≡ said w)
       → Ends spaces next said r new → Ends spaces next other r new
   ends_same said other (Ok x) new same ends = λ w is. same w is ∙ ends w is
   ends_same said other (Err (Refused refusal)) new same ends = λ w is. same w is ∙ ends w is
   ends_same said other (Err OutOfMemory) new same ends = tt
 
   -- a first step that is refused
-  pub ends_refused : {X : Type 0} (said : World → Outcome World) (step : Outcome X) (go : World → X → Outcome World) (fail : Fail) (new : List NewCell)
+  pub ends_refused : {X : Type 0} (said : World → Outcome World) (step : Outcome X) (go : World → X → Outcome World) (fail : Fail) (new : List Cell)
       → ((w : World) → IsOf spaces next w → said w ≡ (step >>= go w)) → FailsAs fail step → Ends spaces next said (Err fail) new
   ends_refused said step go (Refused refusal) new same e = λ w is. same w is ∙ ap (λ o. o >>= go w) e
   ends_refused said step go OutOfMemory new same e = tt
 
-  module _ (cells : List NewCell) (f : File) (ns : ℕ) where
+  module _ (cells : List Cell) (f : File) (ns : ℕ) where
     abbrev appended : Outcome NewCell
     appended = append_now (with_new spaces cells) (length spaces.cells + length cells) (next + length cells) f ns
 
     abbrev said : World → Outcome World
     said w = append_cell (grown w cells) (source_of f) ns
 
-    pub append_refused : (fail : Fail) (new : List NewCell) → FailsAs fail appended → Ends spaces next said (Err fail) new
+    pub append_refused : (fail : Fail) (new : List Cell) → FailsAs fail appended → Ends spaces next said (Err fail) new
     append_refused fail new e =
-        ends_refused said appended (λ w c. Ok (grown w (cells ++ c ∷ []))) fail new (λ w is. append_grown spaces next w is cells f ns) e
+        ends_refused said appended (λ w c. Ok (grown w (cells ++ attached c ∷ []))) fail new (λ w is. append_grown spaces next w is cells f ns) e
 
-    pub append_done : (c : NewCell) (new : List NewCell) → appended ≡ Ok c → new ≡ cells ++ c ∷ [] → (w : World) → IsOf spaces next w → said w ≡ Ok (grown w new)
+    pub append_done : (c : NewCell) (new : List Cell) → appended ≡ Ok c → new ≡ cells ++ attached c ∷ [] → (w : World) → IsOf spaces next w → said w ≡ Ok (grown w new)
     append_done c new e are w is =
         append_grown spaces next w is cells f ns
-        ∙ ap (λ (o : Outcome NewCell). o >>= (λ d. Ok (grown w (cells ++ d ∷ [])))) e
+        ∙ ap (λ (o : Outcome NewCell). o >>= (λ d. Ok (grown w (cells ++ attached d ∷ [])))) e
         ∙ ap (λ cs. Ok (grown w cs)) (sym are)
 
   one_named : (b : Bool) (f : File) (o : Option Source) (rest : Option File) → o ≡ option_map source_of rest → cond b (Some (source_of f)) o ≡ option_map source_of (cond b (Some f) rest)
@@ -67,11 +67,11 @@ module _ (spaces : SpacesState) (next : ℕ) where
   named_is name [] = refl
   named_is name (f ∷ files) = one_named (equals f.name name) f (file_named (map source_of files) name) (find (has_name name) files) (named_is name files)
 
-  module _ (files : List File) (cells : List NewCell) (want : Want) where
+  module _ (files : List File) (cells : List Cell) (want : Want) where
     abbrev with_file : World → Option Source → Outcome World
     with_file w o = found o (Unknown want.file) >>= (λ f. append_cell (grown w cells) f want.ns)
 
-    pub wanted_found : (f : File) (r : Result (Unit {0}) Fail) (new : List NewCell) → find (has_name want.file) files ≡ Some f
+    pub wanted_found : (f : File) (r : Result (Unit {0}) Fail) (new : List Cell) → find (has_name want.file) files ≡ Some f
         → Ends spaces next (λ w. append_cell (grown w cells) (source_of f) want.ns) r new
         → Ends spaces next (λ w. append_wanted (map source_of files) (grown w cells) want) r new
     wanted_found f r new e =
@@ -82,42 +82,42 @@ module _ (spaces : SpacesState) (next : ℕ) where
         → append_wanted (map source_of files) (grown w cells) want ≡ Err (Unknown word)
     wanted_unknown word is e w = ap (with_file w) (named_is want.file files ∙ ap (option_map source_of) e) ∙ ap (λ (x : List ℕ). Err (Unknown x)) (sym is)
 
-  module _ (files : List File) (cells : List NewCell) (ns : ℕ) (id : CellId) (name : List ℕ) where
+  module _ (files : List File) (cells : List Cell) (ns : ℕ) (id : CellId) (name : List ℕ) where
     abbrev chosen : Outcome (ℕ × Source)
     chosen = choose_now (map source_of files) (with_new spaces cells) ns id name
 
-    abbrev brings : NewCell → World → Outcome World
-    brings c w = bring_one (map source_of files) (grown w cells) (let lack : Need = record { cell = attached c; name = name } in lack)
+    abbrev brings : Cell → World → Outcome World
+    brings c w = bring_one (map source_of files) (grown w cells) (let lack : Need = record { cell = c; name = name } in lack)
 
     abbrev goes_on : World → ℕ × Source → Outcome World
     goes_on w p = append_cell (grown w cells) p.1 p.0
 
-    brings_is : (c : NewCell) → c.ns ≡ ns → c.id ≡ id → (w : World) → IsOf spaces next w → brings c w ≡ (chosen >>= goes_on w)
+    brings_is : (c : Cell) → c.ns ≡ ns → c.id ≡ id → (w : World) → IsOf spaces next w → brings c w ≡ (chosen >>= goes_on w)
     brings_is c at numbered w is =
         bring_is (map source_of files) (with_new spaces cells) (next + length cells) (grown w cells) (grown_is spaces next w is cells) c name
         ∙ ap (λ (m : ℕ). choose_now (map source_of files) (with_new spaces cells) m c.id name >>= goes_on w) at
         ∙ ap (λ (i : CellId). choose_now (map source_of files) (with_new spaces cells) ns i name >>= goes_on w) numbered
 
-    pub bring_refused : (fail : Fail) (new : List NewCell) → FailsAs fail chosen → (c : NewCell) → c.ns ≡ ns → c.id ≡ id → Ends spaces next (brings c) (Err fail) new
+    pub bring_refused : (fail : Fail) (new : List Cell) → FailsAs fail chosen → (c : Cell) → c.ns ≡ ns → c.id ≡ id → Ends spaces next (brings c) (Err fail) new
     bring_refused fail new e c at numbered = ends_refused (brings c) chosen goes_on fail new (brings_is c at numbered) e
 
-    pub bring_chosen : (space : ℕ) (f : File) (r : Result (Unit {0}) Fail) (new : List NewCell) → (let p : ℕ × Source = (space, source_of f) in chosen ≡ Ok p)
+    pub bring_chosen : (space : ℕ) (f : File) (r : Result (Unit {0}) Fail) (new : List Cell) → (let p : ℕ × Source = (space, source_of f) in chosen ≡ Ok p)
         → Ends spaces next (λ w. append_cell (grown w cells) (source_of f) space) r new
-        → (c : NewCell) → c.ns ≡ ns → c.id ≡ id → Ends spaces next (brings c) r new
+        → (c : Cell) → c.ns ≡ ns → c.id ≡ id → Ends spaces next (brings c) r new
     bring_chosen space f r new e ends c at numbered =
         ends_same (λ w. append_cell (grown w cells) (source_of f) space) (brings c) r new
         (λ w is. brings_is c at numbered w is ∙ ap (λ (o : Outcome (ℕ × Source)). o >>= goes_on w) e) ends
 
   -- the wanted cells, one after another
   module _ (files : List File) where
-    abbrev all_from : World → List NewCell → List Want → Outcome World
+    abbrev all_from : World → List Cell → List Want → Outcome World
     all_from w cells wants = each (append_wanted (map source_of files)) (grown w cells) wants
 
     -- those that are left lead to what all lead to
-    abbrev pub AreLeft : List NewCell → List Want → List NewCell → List Want → Type 0
+    abbrev pub AreLeft : List Cell → List Want → List Cell → List Want → Type 0
     AreLeft old wants cells left = (w : World) → IsOf spaces next w → all_from w cells left ≡ all_from w old wants
 
-    pub one_appended : (old cells new : List NewCell) (wants : List Want) (i : ℕ) (want : Want) → i < length wants → want ≡ get_or wants i want
+    pub one_appended : (old cells new : List Cell) (wants : List Want) (i : ℕ) (want : Want) → i < length wants → want ≡ get_or wants i want
         → AreLeft old wants cells (drop i wants) → ((w : World) → IsOf spaces next w → append_wanted (map source_of files) (grown w cells) want ≡ Ok (grown w new))
         → AreLeft old wants new (drop (i + 1) wants)
     one_appended old cells new wants i want lt item far done w is =
@@ -125,7 +125,7 @@ module _ (spaces : SpacesState) (next : ℕ) where
         ∙ ap (all_from w cells) (sym (drop_more wants i want lt ∙ ap (λ x. x ∷ drop (i + 1) wants) (sym item)))
         ∙ far w is
 
-    pub one_refused : (old cells new : List NewCell) (wants : List Want) (i : ℕ) (want : Want) (fail : Fail) → i < length wants → want ≡ get_or wants i want
+    pub one_refused : (old cells new : List Cell) (wants : List Want) (i : ℕ) (want : Want) (fail : Fail) → i < length wants → want ≡ get_or wants i want
         → AreLeft old wants cells (drop i wants) → Ends spaces next (λ w. append_wanted (map source_of files) (grown w cells) want) (Err fail) new
         → Ends spaces next (λ w. all_from w old wants) (Err fail) new
     one_refused old cells new wants i want OutOfMemory lt item far ends = tt
@@ -134,24 +134,24 @@ module _ (spaces : SpacesState) (next : ℕ) where
         ∙ ap (all_from w cells) (drop_more wants i want lt ∙ ap (λ x. x ∷ drop (i + 1) wants) (sym item))
         ∙ ap (λ o. o >>= (λ u. each (append_wanted (map source_of files)) u (drop (i + 1) wants))) (ends w is)
 
-    pub all_appended : (old cells : List NewCell) (wants : List Want) (i : ℕ) → length wants ≤ i → AreLeft old wants cells (drop i wants)
+    pub all_appended : (old cells : List Cell) (wants : List Want) (i : ℕ) → length wants ≤ i → AreLeft old wants cells (drop i wants)
         → (w : World) → IsOf spaces next w → all_from w old wants ≡ Ok (grown w cells)
     all_appended old cells wants i le far w is = sym (far w is) ∙ ap (all_from w cells) (drop_all i wants le)
 
-    -- the whole load
-    module _ (wants : List Want) (w : World) (is : IsOf spaces next w) where
+    -- the whole gathering
+    module _ (wants : List Want) (reexport : Bool) (w : World) (is : IsOf spaces next w) where
       abbrev then_brings : Outcome World → ℕ → Outcome World
-      then_brings o from = o >>= bring (map source_of files) from
+      then_brings o from = o >>= (λ appended. bring (map source_of files) from (renamed w wants reexport appended))
 
-      begins : (said : Outcome World) → all_from w [] wants ≡ said → gather (map source_of files) w wants ≡ then_brings said next
+      begins : (said : Outcome World) → all_from w [] wants ≡ said → gather (map source_of files) w wants reexport ≡ then_brings said next
       begins said e =
           ap (λ (u : World). then_brings (each (append_wanted (map source_of files)) u wants) w.next_cell) (sym (grown_none spaces next w is))
           ∙ ap (λ (o : Outcome World). then_brings o w.next_cell) e
           ∙ ap (then_brings said) is.number
 
-      pub gather_refused : (refusal : Refusal) → all_from w [] wants ≡ Err refusal → gather (map source_of files) w wants ≡ Err refusal
+      pub gather_refused : (refusal : Refusal) → all_from w [] wants ≡ Err refusal → gather (map source_of files) w wants reexport ≡ Err refusal
       gather_refused refusal e = begins (Err refusal) e
 
-      pub gather_brings : (mid : List NewCell) (said : Outcome World) → all_from w [] wants ≡ Ok (grown w mid) → bring (map source_of files) next (grown w mid) ≡ said
-          → gather (map source_of files) w wants ≡ said
-      gather_brings mid said e brought = begins (Ok (grown w mid)) e ∙ brought
+      pub gather_brings : (mid named : List Cell) (said : Outcome World) → all_from w [] wants ≡ Ok (grown w mid) → renamed w wants reexport (grown w mid) ≡ grown w named
+          → bring (map source_of files) next (grown w named) ≡ said → gather (map source_of files) w wants reexport ≡ said
+      gather_brings mid named said e names brought = begins (Ok (grown w mid)) e ∙ ap (bring (map source_of files) next) names ∙ brought

@@ -5,8 +5,7 @@ use Rattle.std.specs.List.{list_any}
 use Rattle.cell_num.specs.Lists.{holds, equals}
 use Rattle.cell_world.specs.declared.refusal.Refusal.{Refusal}
 use Rattle.cell_world.specs.declared.state.Namespace.{Namespace}
-use Rattle.cell_world.specs.declared.state.NewCell.{NewCell}
-use Rattle.cell_world.specs.World.{World, Cell, is_attached, attached}
+use Rattle.cell_world.specs.World.{World, Cell, is_attached}
 use Rattle.cell_world.specs.Names.{chain, crate_of}
 use Rattle.cell_world.specs.Gather as gather
 use Rattle.cell_world.specs.Gather.{Source, Need, depot_files, name_of_ns, one_file, nearest_file, bring_one, append_cell, missing}
@@ -52,9 +51,9 @@ module _ (sources : List Source) (s : SpacesState) (next : ℕ) (u : World) (is 
       (ap (λ name. depot_files sources name stem) (name_is ns))
       ∙ here lack ns (depot_files sources (space_name s.namespaces ns) stem) (nearest_file u sources spaces stem lack) (nearest_now sources s.namespaces spaces stem) (nearest_is spaces stem lack)
 
-  module _ (c : NewCell) (name : List ℕ) where
+  module _ (c : Cell) (name : List ℕ) where
     abbrev lack : Need
-    lack = record { cell = attached c; name = name }
+    lack = record { cell = c; name = name }
 
     abbrev brought : ℕ × Source → Outcome World
     brought p = append_cell u p.1 p.0

@@ -17,3 +17,7 @@ pub mod Failing
 pub mod NewSteps
 pub mod Attaching
 pub mod Nearests
+pub mod HeirTables
+pub mod Renames
+pub mod Handing
+pub mod Reexports

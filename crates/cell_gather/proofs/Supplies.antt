@@ -6,13 +6,14 @@ use Rattle.std.proofs.lemmas.List.Elements.{All-weaker, All-more, All-same}
 use Rattle.std.proofs.lemmas.Bool.{cases_lt}
 use Rattle.cell_num.specs.declared.ids.CellId.{CellId}
 use Rattle.cell_num.specs.Lists.{or_else}
-use Rattle.cell_world.specs.declared.state.NewCell.{NewCell}
+use Rattle.cell_world.specs.World.{Cell}
 use Rattle.cell_world.specs.Names.{Provider, chain, needs_of}
 use Rattle.cell_space.specs.declared.cell.CellState.TheVariants.{Attached}
 use Rattle.cell_space.specs.declared.cell.SpaceCell.{SpaceCell}
+use Rattle.cell_space.specs.Machine.{called}
 use Rattle.cell_space.specs.Named.{first_provider}
 use Rattle.cell_space.specs.Spaces.{SpacesState}
-use Rattle.cell_gather.specs.Growing.{called_new, IsProvided, IsSupplied, AreSupplied, IsTurnOf, IsNext}
+use Rattle.cell_gather.specs.Growing.{IsProvided, IsSupplied, AreSupplied, IsTurnOf, IsNext}
 use Rattle.cell_space.proofs.Layered.{first_provider-append}
 
 still_some : (a b : Option Provider) → is_some a ≡ true → is_some (or_else a b) ≡ true
@@ -45,16 +46,16 @@ below_or_at k place lt = go (cases_lt k place)
     go (inl less) = inl less
     go (inr le) = inr (omega (arith, le, lt))
 
-module _ (spaces : SpacesState) (cells added : List NewCell) where
-  more_are : spaces.cells ++ map called_new (cells ++ added) ≡ (spaces.cells ++ map called_new cells) ++ map called_new added
-  more_are = ap (λ cs. spaces.cells ++ cs) (map-append called_new cells added) ∙ sym (append_assoc spaces.cells (map called_new cells) (map called_new added))
+module _ (spaces : SpacesState) (cells added : List Cell) where
+  more_are : spaces.cells ++ map called (cells ++ added) ≡ (spaces.cells ++ map called cells) ++ map called added
+  more_are = ap (λ cs. spaces.cells ++ cs) (map-append called cells added) ∙ sym (append_assoc spaces.cells (map called cells) (map called added))
 
   pub more_provided : (ns : ℕ) (name : List ℕ) → IsProvided spaces cells ns name → IsProvided spaces (cells ++ added) ns name
   more_provided ns name e =
       let way : List ℕ = chain spaces.namespaces ns in
       ap (λ (cs : List SpaceCell). is_some (first_provider way Attached name cs)) more_are
-      ∙ ap (λ (o : Option Provider). is_some o) (first_provider-append way Attached name (spaces.cells ++ map called_new cells) (map called_new added))
-      ∙ still_some (first_provider way Attached name (spaces.cells ++ map called_new cells)) (first_provider way Attached name (map called_new added)) e
+      ∙ ap (λ (o : Option Provider). is_some o) (first_provider-append way Attached name (spaces.cells ++ map called cells) (map called added))
+      ∙ still_some (first_provider way Attached name (spaces.cells ++ map called cells)) (first_provider way Attached name (map called added)) e
 
   more_names : (ns : ℕ) (names : List (List ℕ)) → All (IsProvided spaces cells ns) names → All (IsProvided spaces (cells ++ added) ns) names
   more_names ns names all = All-weaker (IsProvided spaces cells ns) (IsProvided spaces (cells ++ added) ns) (λ name e. more_provided ns name e) names all
@@ -69,6 +70,7 @@ module _ (spaces : SpacesState) (cells added : List NewCell) where
         record {
           cell = t.cell;
           at = front_get cells added place lt ∙ t.at;
+          on = t.on;
           ns_is = t.ns_is;
           id_is = t.id_is;
           needs_are = t.needs_are;
@@ -84,7 +86,7 @@ module _ (spaces : SpacesState) (cells added : List NewCell) where
     }
 
 -- the same for the cells as they are then
-module _ (spaces : SpacesState) (cells added new : List NewCell) (are : new ≡ cells ++ added) where
+module _ (spaces : SpacesState) (cells added new : List Cell) (are : new ≡ cells ++ added) where
   pub turn_stays : (place ns : ℕ) (id : CellId) (needs : List (List ℕ)) → IsTurnOf spaces cells place ns id needs → IsTurnOf spaces new place ns id needs
   turn_stays place ns id needs t = subst (λ cs. IsTurnOf spaces cs place ns id needs) (sym are) (more_turn spaces cells added place ns id needs t)
 
@@ -94,7 +96,7 @@ module _ (spaces : SpacesState) (cells added new : List NewCell) (are : new ≡ 
   pub names_stay : (ns : ℕ) (names : List (List ℕ)) → All (IsProvided spaces cells ns) names → All (IsProvided spaces new ns) names
   names_stay ns names all = subst (λ cs. All (IsProvided spaces cs ns) names) (sym are) (more_names spaces cells added ns names all)
 
-module _ (spaces : SpacesState) (cells : List NewCell) (place ns : ℕ) (id : CellId) (needs : List (List ℕ)) where
+module _ (spaces : SpacesState) (cells : List Cell) (place ns : ℕ) (id : CellId) (needs : List (List ℕ)) where
   -- the need at an index is next
   pub need_is_next : (i : ℕ) (name : List ℕ) → i < length needs → name ≡ get_or needs i name → IsTurnOf spaces cells place ns id needs → All (IsProvided spaces cells ns) (take i needs)
       → IsNext spaces cells place ns id name
@@ -113,11 +115,11 @@ module _ (spaces : SpacesState) (cells : List NewCell) (place ns : ℕ) (id : Ce
   one_more_provided i name lt item all here =
       All-more (IsProvided spaces cells ns) needs i name lt all (subst (IsProvided spaces cells ns) item here)
 
-  supplied_at : (t : IsTurnOf spaces cells place ns id needs) → IsSupplied spaces cells t.cell → (k : ℕ) (d : NewCell) → (k < place) ⊎ (k ≡ place) → slice_get cells k ≡ Some d → IsSupplied spaces cells d
+  supplied_at : (t : IsTurnOf spaces cells place ns id needs) → IsSupplied spaces cells t.cell → (k : ℕ) (d : Cell) → (k < place) ⊎ (k ≡ place) → slice_get cells k ≡ Some d → IsSupplied spaces cells d
   supplied_at t whole k d (inl lt) at = t.supplied k d lt at
   supplied_at t whole k d (inr is) at =
       let same : t.cell ≡ d = same_some t.cell d (sym t.at ∙ ap (slice_get cells) (sym is) ∙ at) in
-      subst (λ (c : NewCell). IsSupplied spaces cells c) same whole
+      subst (λ (c : Cell). IsSupplied spaces cells c) same whole
 
   -- all its needs are provided
   pub place_supplied : (i : ℕ) → length needs ≤ i → IsTurnOf spaces cells place ns id needs → All (IsProvided spaces cells ns) (take i needs) → AreSupplied spaces cells (place + 1)

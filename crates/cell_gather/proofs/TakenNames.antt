@@ -13,7 +13,7 @@ use Rattle.cell_world.specs.declared.fail.Fail.TheVariants.{Refused, OutOfMemory
 use Rattle.cell_gather.specs.Appending.{clash_among_now}
 use Rattle.cell_world.specs.Following.{FailsAs}
 
-drop_at : {X : Type 0} (xs : List X) (i : ℕ) (x : X) → slice_get xs i ≡ Some x → drop i xs ≡ x ∷ drop (i + 1) xs
+pub drop_at : {X : Type 0} (xs : List X) (i : ℕ) (x : X) → slice_get xs i ≡ Some x → drop i xs ≡ x ∷ drop (i + 1) xs
 drop_at [] i x e = absurd (cc e)
 drop_at (y ∷ xs) zero x e = let same : y ≡ x = cc in ap (λ z. z ∷ xs) same
 drop_at (y ∷ xs) (suc i) x e = drop_at xs i x e ∙ ap (λ n. x ∷ drop n (y ∷ xs)) (let more : suc (i + 1) ≡ suc i + 1 = omega arith in more)

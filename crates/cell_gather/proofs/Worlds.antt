@@ -36,7 +36,7 @@ module _ (s : SpacesState) (next : ℕ) (u : World) (is : IsOf s next u) where
       ∙ ap (λ spaces. clash_stem spaces ns stem (map called u.cells)) is.namespaces
       ∙ ap (λ cells. clash_stem s.namespaces ns stem cells) is.cells
 
-  clash_name_is : (ns : ℕ) (name : List ℕ) → names.clash_name u ns name ≡ clash_name s.namespaces ns name s.cells
+  pub clash_name_is : (ns : ℕ) (name : List ℕ) → names.clash_name u ns name ≡ clash_name s.namespaces ns name s.cells
   clash_name_is ns name =
       clash_name-called u ns name
       ∙ ap (λ spaces. clash_name spaces ns name (map called u.cells)) is.namespaces
@@ -65,47 +65,40 @@ module _ (s : SpacesState) (next : ℕ) (u : World) (is : IsOf s next u) where
       ∙ sym (ap (λ o. o >>= k) (then_assoc (stem_free s ns stem) (refused_by (clash_among_now s ns (definitions_of object))) (Ok (cell_from next ns f object)))))))
       ∙ sym (ap (λ o. o >>= k) (then_assoc (need (nat_lt total 1024) (TooMany Cells 1024)) (need (nat_le next 65535) (TooMany CellNumbers 65535)) (object_in (source_of f) >>= object_cell)))
 
-map_map : {X Y Z : Type 0} (g : Y → Z) (f : X → Y) (xs : List X) → map g (map f xs) ≡ map (λ x. g (f x)) xs
-map_map g f [] = refl
-map_map g f (x ∷ xs) = ap (λ ys. g (f x) ∷ ys) (map_map g f xs)
-
 module _ (spaces : SpacesState) (next : ℕ) (w : World) (is : IsOf spaces next w) where
-  pub grown_is : (cells : List NewCell) → IsOf (with_new spaces cells) (next + length cells) (grown w cells)
+  pub grown_is : (cells : List Cell) → IsOf (with_new spaces cells) (next + length cells) (grown w cells)
   grown_is cells =
       record {
         namespaces = is.namespaces;
         cells =
-            map-append called w.cells (map attached cells)
-            ∙ ap (λ cs. cs ++ map called (map attached cells)) is.cells
-            ∙ ap (λ cs. spaces.cells ++ cs) (map_map called attached cells);
+            map-append called w.cells cells ∙ ap (λ cs. cs ++ map called cells) is.cells;
         number = ap (λ n. n + length cells) is.number;
       }
 
   present_many : length w.cells ≡ length spaces.cells
   present_many = sym (length-map w.cells called) ∙ ap length is.cells
 
-  pub grown_many : (cells : List NewCell) → length (grown w cells).cells ≡ length spaces.cells + length cells
+  pub grown_many : (cells : List Cell) → length (grown w cells).cells ≡ length spaces.cells + length cells
   grown_many cells =
-      length-append w.cells (map attached cells) ∙ ap₂ (λ a b. a + b) present_many (length-map cells attached)
+      length-append w.cells cells ∙ ap (λ n. n + length cells) present_many
 
-  pub grown_more : (cells : List NewCell) (c : NewCell) → with_one (grown w cells) c ≡ grown w (cells ++ c ∷ [])
+  pub grown_more : (cells : List Cell) (c : NewCell) → with_one (grown w cells) c ≡ grown w (cells ++ attached c ∷ [])
   grown_more cells c =
-      let all : (w.cells ++ map attached cells) ++ attached c ∷ [] ≡ w.cells ++ map attached (cells ++ c ∷ []) =
-      append_assoc w.cells (map attached cells) (attached c ∷ []) ∙ ap (λ cs. w.cells ++ cs) (sym (map-append attached cells (c ∷ []))) in
-      let number : suc (w.next_cell + length cells) ≡ w.next_cell + length (cells ++ c ∷ []) = let l = length-append cells (c ∷ []) in omega arith in
+      let all : (w.cells ++ cells) ++ attached c ∷ [] ≡ w.cells ++ (cells ++ attached c ∷ []) = append_assoc w.cells cells (attached c ∷ []) in
+      let number : suc (w.next_cell + length cells) ≡ w.next_cell + length (cells ++ attached c ∷ []) = let l = length-append cells (attached c ∷ []) in omega arith in
       ap₂ (λ cs n. remade w cs n) all number
 
   pub grown_none : grown w [] ≡ w
   grown_none = ap₂ (λ cs n. remade w cs n) (append-nil w.cells) (let e : w.next_cell + 0 ≡ w.next_cell = omega arith in e)
 
   -- appending to the new cells
-  pub append_grown : (cells : List NewCell) (f : File) (ns : ℕ)
+  pub append_grown : (cells : List Cell) (f : File) (ns : ℕ)
       → append_cell (grown w cells) (source_of f) ns
-      ≡ (append_now (with_new spaces cells) (length spaces.cells + length cells) (next + length cells) f ns >>= (λ c. Ok (grown w (cells ++ c ∷ []))))
+      ≡ (append_now (with_new spaces cells) (length spaces.cells + length cells) (next + length cells) f ns >>= (λ c. Ok (grown w (cells ++ attached c ∷ []))))
   append_grown cells f ns =
       append_is (with_new spaces cells) (next + length cells) (grown w cells) (grown_is cells) (length spaces.cells + length cells) f ns (grown_many cells)
       ∙ same (append_now (with_new spaces cells) (length spaces.cells + length cells) (next + length cells) f ns)
     where
-      same : (o : Outcome NewCell) → (o >>= (λ c. Ok (with_one (grown w cells) c))) ≡ (o >>= (λ c. Ok (grown w (cells ++ c ∷ []))))
+      same : (o : Outcome NewCell) → (o >>= (λ c. Ok (with_one (grown w cells) c))) ≡ (o >>= (λ c. Ok (grown w (cells ++ attached c ∷ []))))
       same (Ok c) = ap (λ u. Ok u) (grown_more cells c)
       same (Err r) = refl

@@ -15,6 +15,7 @@ use Rattle.cell_world.specs.declared.refusal.Refusal.TheVariants.{TooMany}
 use Rattle.cell_world.specs.declared.refusal.Many.TheVariants.{Cells, CellNumbers}
 use Rattle.cell_world.specs.declared.state.NewCell.{NewCell}
 use Rattle.cell_world.specs.Gather.{source_of, stem_of_file, object_in, duplicate}
+use Rattle.cell_world.specs.Limits.{max_cells, max_cell_number}
 use Rattle.cell_world.specs.Names.{is_definition, is_used, definitions_of}
 use Rattle.cell_world.specs.Outcome.{Outcome, ◌>>=◌, ◌>>◌, need, refused_by}
 use Rattle.cell_world.specs.World.{Alias}
@@ -33,7 +34,8 @@ abbrev pub names_free : SpacesState → ℕ → List ℕ → List Alias → Outc
 names_free s ns stem names = stem_free s ns stem >> refused_by (clash_among_now s ns names)
 
 abbrev pub room_now : ℕ → ℕ → Outcome (Unit {0})
-room_now total next = need (nat_lt total 1024) (TooMany Cells 1024) >> need (nat_le next 65535) (TooMany CellNumbers 65535)
+room_now total next =
+    need (nat_lt total max_cells) (TooMany Cells max_cells) >> need (nat_le next max_cell_number) (TooMany CellNumbers max_cell_number)
 
 abbrev pub cell_from : ℕ → ℕ → File → Object → NewCell
 cell_from next ns f object =

@@ -3,3 +3,4 @@ pub mod Appending
 pub mod Choosing
 pub mod Growing
 pub mod Reading
+pub mod Renaming

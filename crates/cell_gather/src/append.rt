@@ -2,9 +2,11 @@
 
 ghost use Rattle.std.specs.Prelude.{◌≡◌, ◌<◌, ◌≤◌, ◌+◌, ◌++◌, ◌∷◌, [], OnOk, All, length, map};
 ghost use Rattle.cell_world.specs.Gather.{source_of, append_cell};
+ghost use Rattle.cell_world.specs.Limits.{max_cells, max_file_bytes};
 ghost use Rattle.cell_world.specs.Outcome.{each};
+ghost use Rattle.cell_world.specs.World.{attached};
 ghost use Rattle.cell_gather.specs.Gathering.{append_wanted, grown};
-ghost use Rattle.cell_gather.specs.Growing.{Ends, IsGrowing, IsOneMore};
+ghost use Rattle.cell_gather.specs.Growing.{new_of, Ends, HavePlain, IsGrowing, IsOneMore};
 
 use crate::fresh::Fresh;
 use crate::load::Load;
@@ -18,16 +20,14 @@ impl<'a> Load<'a> {
     fn add(&self, alloc: Global, gathered: &mut Gathered, fresh: Fresh) -> Result<(), AllocError>
         requires growing { IsGrowing self.now.spaces.now self.now.next gathered.old }
         requires there { fresh.cell.ns < length self.now.spaces.now.namespaces }
-        requires number { fresh.cell.id.0 ≡ self.now.next + length gathered.old.cells.items }
-        requires room { length self.now.spaces.now.cells + length gathered.old.cells.items < 1024 }
+        requires number { fresh.cell.id.0 ≡ self.now.next + length (new_of gathered.old) }
+        requires room { length self.now.spaces.now.cells + length (new_of gathered.old) < max_cells }
         ensures growing { OnOk result (IsGrowing self.now.spaces.now self.now.next gathered.new) }
-        ensures added { OnOk result (gathered.new.cells.items ≡ gathered.old.cells.items ++ fresh.cell ∷ []) }
+        ensures added { OnOk result (new_of gathered.new ≡ new_of gathered.old ++ attached fresh.cell ∷ []) }
     {
-        let names = fresh.names.copy(alloc)?;
         let stem = fresh.cell.stem.copy(alloc)?;
         let (id, ns) = (fresh.cell.id, fresh.cell.ns);
-        gathered.ahead.append(id, ns, stem, names)?;
-        gathered.names.push(fresh.names)?;
+        gathered.ahead.append(id, ns, stem, fresh.names)?;
         gathered.cells.push(fresh.cell)?;
         Ok(())
     }
@@ -41,11 +41,11 @@ impl<'a> Load<'a> {
         ns: u16,
     ) -> Result<(), Fail>
         requires growing { IsGrowing self.now.spaces.now self.now.next gathered.old }
-        requires small { length file.now.bytes ≤ 1048576 }
+        requires small { length file.now.bytes ≤ max_file_bytes }
         requires there { ns < length self.now.spaces.now.namespaces }
         ensures growing { OnOk result (IsGrowing self.now.spaces.now self.now.next gathered.new) }
-        ensures one { OnOk result (IsOneMore gathered.old.cells.items gathered.new.cells.items) }
-        ensures ends { Ends self.now.spaces.now self.now.next (λ w. append_cell (grown w gathered.old.cells.items) (source_of file.now) ns) result gathered.new.cells.items }
+        ensures one { OnOk result (IsOneMore (new_of gathered.old) (new_of gathered.new)) }
+        ensures ends { Ends self.now.spaces.now self.now.next (λ w. append_cell (grown w (new_of gathered.old)) (source_of file.now) ns) result (new_of gathered.new) }
     {
         let fresh = self.fresh(alloc, gathered, file, ns)?;
         self.add(alloc, gathered, fresh)?;
@@ -57,7 +57,9 @@ impl<'a> Load<'a> {
         requires growing { IsGrowing self.now.spaces.now self.now.next gathered.old }
         requires there { want.now.ns < length self.now.spaces.now.namespaces }
         ensures growing { OnOk result (IsGrowing self.now.spaces.now self.now.next gathered.new) }
-        ensures ends { Ends self.now.spaces.now self.now.next (λ w. append_wanted (map source_of self.now.depot.now) (grown w gathered.old.cells.items) want.now) result gathered.new.cells.items }
+        ensures many { OnOk result (length (new_of gathered.new) ≡ length (new_of gathered.old) + 1) }
+        ensures plain { OnOk result (HavePlain (new_of gathered.old) → HavePlain (new_of gathered.new)) }
+        ensures ends { Ends self.now.spaces.now self.now.next (λ w. append_wanted (map source_of self.now.depot.now) (grown w (new_of gathered.old)) want.now) result (new_of gathered.new) }
     {
         match self.depot.named(want.file.bytes()) {
             Some(file) => self.append(alloc, gathered, file, want.ns),
@@ -78,7 +80,9 @@ impl<'a> Load<'a> {
         requires growing { IsGrowing self.now.spaces.now self.now.next gathered.old }
         requires there { All (λ want. want.ns < length self.now.spaces.now.namespaces) wants.now }
         ensures growing { OnOk result (IsGrowing self.now.spaces.now self.now.next gathered.new) }
-        ensures ends { Ends self.now.spaces.now self.now.next (λ w. each (append_wanted (map source_of self.now.depot.now)) (grown w gathered.old.cells.items) wants.now) result gathered.new.cells.items }
+        ensures many { OnOk result (length (new_of gathered.new) ≡ length (new_of gathered.old) + length wants.now) }
+        ensures plain { OnOk result (HavePlain (new_of gathered.old) → HavePlain (new_of gathered.new)) }
+        ensures ends { Ends self.now.spaces.now self.now.next (λ w. each (append_wanted (map source_of self.now.depot.now)) (grown w (new_of gathered.old)) wants.now) result (new_of gathered.new) }
     {
         for want in wants {
             self.append_wanted(alloc, gathered, want)?;

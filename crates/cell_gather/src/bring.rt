@@ -2,10 +2,9 @@
 
 ghost use Rattle.std.specs.Prelude.{◌≡◌, ◌<◌, ◌+◌, OnOk, length, map};
 ghost use Rattle.cell_world.specs.Gather.{source_of, bring_one};
-ghost use Rattle.cell_world.specs.World.{attached};
-ghost use Rattle.cell_world.specs.declared.state.NewCell.{NewCell as SomeCell};
+ghost use Rattle.cell_world.specs.World.{Cell as SomeCell};
 ghost use Rattle.cell_gather.specs.Gathering.{grown};
-ghost use Rattle.cell_gather.specs.Growing.{Ends, IsGrowing, IsOneMore};
+ghost use Rattle.cell_gather.specs.Growing.{new_of, Ends, IsGrowing, IsOneMore};
 
 use crate::Gathered;
 use crate::load::Load;
@@ -26,8 +25,8 @@ impl<'a> Load<'a> {
         requires growing { IsGrowing self.now.spaces.now self.now.next gathered.old }
         requires there { ns < length self.now.spaces.now.namespaces }
         ensures growing { OnOk result (IsGrowing self.now.spaces.now self.now.next gathered.new) }
-        ensures one { OnOk result (IsOneMore gathered.old.cells.items gathered.new.cells.items) }
-        ensures ends { (c : SomeCell) → c.ns ≡ ns → c.id ≡ needed_by → Ends self.now.spaces.now self.now.next (λ w. bring_one (map source_of self.now.depot.now) (grown w gathered.old.cells.items) (record { cell = attached c; name = name.now })) result gathered.new.cells.items }
+        ensures one { OnOk result (IsOneMore (new_of gathered.old) (new_of gathered.new)) }
+        ensures ends { (c : SomeCell) → c.ns ≡ ns → c.id ≡ needed_by → Ends self.now.spaces.now self.now.next (λ w. bring_one (map source_of self.now.depot.now) (grown w (new_of gathered.old)) (record { cell = c; name = name.now })) result (new_of gathered.new) }
     {
         let near = self.choose(alloc, gathered, ns, needed_by, name)?;
         self.append(alloc, gathered, near.file, near.ns)

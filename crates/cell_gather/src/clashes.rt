@@ -28,7 +28,7 @@ fn refuse_taken(alloc: Global, name: &[u8], holder: Option<CellId>) -> Result<()
 
 fn check_stem(alloc: Global, ahead: &Ahead, path: &Path, stem: &[u8]) -> Result<(), Fail>
     requires { IsPath ahead.now.namespaces path.now }
-    ensures { Follows (λ _. tt) result (stem_free ahead.now path.now.ns stem.now) }
+    ensures { Follows (λ _. tt) result (stem_free ahead.now.spaces path.now.ns stem.now) }
 {
     refuse_taken(alloc, stem, ahead.clash_stem(path, stem))
 }
@@ -40,7 +40,7 @@ fn check_definitions(
     names: &NameRows,
 ) -> Result<(), Fail>
     requires { IsPath ahead.now.namespaces path.now }
-    ensures { Follows (λ _. tt) result (refused_by (clash_among_now ahead.now path.now.ns names.now)) }
+    ensures { Follows (λ _. tt) result (refused_by (clash_among_now ahead.now.spaces path.now.ns names.now)) }
 {
     for place in 0..names.len() {
         let (name, _) = names.at(place);
@@ -58,7 +58,7 @@ pub fn check_names(
     names: &NameRows,
 ) -> Result<(), Fail>
     requires { IsPath ahead.now.namespaces path.now }
-    ensures { Follows (λ _. tt) result (names_free ahead.now path.now.ns stem.now names.now) }
+    ensures { Follows (λ _. tt) result (names_free ahead.now.spaces path.now.ns stem.now names.now) }
 {
     check_stem(alloc, ahead, path, stem)?;
     check_definitions(alloc, ahead, path, names)

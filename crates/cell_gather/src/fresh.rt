@@ -1,11 +1,12 @@
 //! A new cell of a file.
 
 ghost use Rattle.std.specs.Prelude.{◌≡◌, ◌<◌, ◌≤◌, ◌+◌, IfOk, length};
+ghost use Rattle.cell_world.specs.Limits.{max_file_bytes};
 ghost use Rattle.cell_world.specs.Coherent.{IsLoadable};
 ghost use Rattle.cell_world.specs.Names.{definitions_of};
 ghost use Rattle.cell_gather.specs.Appending.{append_now, cell_from};
 ghost use Rattle.cell_world.specs.Following.{Follows};
-ghost use Rattle.cell_gather.specs.Growing.{IsGrowing, with_new};
+ghost use Rattle.cell_gather.specs.Growing.{new_of, IsGrowing, with_new};
 
 use crate::Gathered;
 use crate::clashes::check_names;
@@ -57,9 +58,9 @@ impl<'a> Load<'a> {
         ns: u16,
     ) -> Result<Fresh, Fail>
         requires growing { IsGrowing self.now.spaces.now self.now.next gathered.now }
-        requires small { length file.now.bytes ≤ 1048576 }
+        requires small { length file.now.bytes ≤ max_file_bytes }
         requires there { ns < length self.now.spaces.now.namespaces }
-        ensures { Follows (λ fresh. fresh.cell) result (append_now (with_new self.now.spaces.now gathered.now.cells.items) (length self.now.spaces.now.cells + length gathered.now.cells.items) (self.now.next + length gathered.now.cells.items) file.now ns) }
+        ensures { Follows (λ fresh. fresh.cell) result (append_now (with_new self.now.spaces.now (new_of gathered.now)) (length self.now.spaces.now.cells + length (new_of gathered.now)) (self.now.next + length (new_of gathered.now)) file.now ns) }
     {
         let count = gathered.cells.len();
         self.check_room(count)?;

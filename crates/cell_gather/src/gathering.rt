@@ -1,21 +1,22 @@
 //! The cells of a load.
 
 ghost use Rattle.std.specs.Prelude.{◌≡◌, ◌<◌, ◌≤◌, All, length};
+ghost use Rattle.std.specs.Option.{ForSome};
+ghost use Rattle.cell_world.specs.Limits.{max_file_bytes};
+ghost use Rattle.cell_space.specs.Spaces.{HasDetached};
 ghost use Rattle.cell_gather.specs.Gathering.{Gathers};
 
 use crate::Want;
 use crate::load::Load;
 use cell_depot::Depot;
-use cell_space::{Ahead, NameRows, Spaces};
+use cell_space::{Ahead, Spaces};
 use cell_world::{Fail, NewCell};
 use std::alloc::Global;
 
-/// New cells, and what each of them defines; and the spaces as they would be with them. The cells
-/// have no places yet.
+/// New cells, which have no places yet, and the spaces as they would be with them.
 #[derive(Drop)]
 pub struct Gathered<'a> {
     pub cells: Vec<NewCell>,
-    pub names: Vec<NameRows>,
     pub ahead: Ahead<'a>,
 }
 
@@ -33,12 +34,14 @@ pub fn gather<'a>(
     present: u32,
     next: u32,
     wants: &[Want],
+    reexport: bool,
 ) -> Result<Gathered<'a>, Fail>
     requires present { present ≡ length spaces.now.cells }
     requires given { All (λ c. c.cell.0 < next) spaces.now.cells }
     requires there { All (λ want. want.ns < length spaces.now.namespaces) wants.now }
-    requires small { All (λ f. length f.bytes ≤ 1048576) depot.now }
-    ensures { Gathers depot.now spaces.now next wants.now result }
+    requires old { All (λ want. ForSome want.replaces (λ id. HasDetached spaces.now id.0)) wants.now }
+    requires small { All (λ f. length f.bytes ≤ max_file_bytes) depot.now }
+    ensures { Gathers depot.now spaces.now next wants.now reexport result }
 {
     let load = Load {
         depot,
@@ -48,6 +51,7 @@ pub fn gather<'a>(
     };
     let mut gathered = load.start(alloc);
     load.append_all(alloc, &mut gathered, wants)?;
+    load.rename(alloc, &mut gathered, wants, reexport)?;
     load.bring(alloc, &mut gathered)?;
     Ok(gathered)
 }

@@ -7,10 +7,12 @@ mod clashes;
 mod definitions;
 mod fresh;
 mod gathering;
+mod heirs;
 mod load;
 mod nearest;
 mod needs;
 mod read;
+mod reexport;
 mod supply;
 mod want;
 

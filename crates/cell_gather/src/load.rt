@@ -2,18 +2,15 @@
 
 ghost use Rattle.std.specs.Prelude.{◌≡◌, ◌<◌, ◌≤◌, ◌+◌, All, length};
 ghost use Rattle.cell_gather.specs.Appending.{room_now};
+ghost use Rattle.cell_world.specs.Limits.{max_cells, max_file_bytes};
 ghost use Rattle.cell_world.specs.Following.{Follows};
-ghost use Rattle.cell_gather.specs.Growing.{IsGrowing};
+ghost use Rattle.cell_gather.specs.Growing.{new_of, IsGrowing};
 
 use crate::Gathered;
 use cell_depot::Depot;
 use cell_space::{Ahead, Spaces};
-use cell_world::{Fail, Many, Refusal};
+use cell_world::{Fail, MAX_CELL_NUMBER, MAX_CELLS, Many, Refusal};
 use std::alloc::Global;
-
-const MAX_CELLS: usize = 1024;
-
-const MAX_CELL_NUMBER: usize = 65535;
 
 /// The files, the present cells, how many they are, and the number of the next cell.
 #[derive(Drop)]
@@ -24,38 +21,37 @@ pub struct Load<'a> {
     pub next: u32,
     ghost counted: { present ≡ length spaces.now.cells },
     ghost given: { All (λ c. c.cell.0 < next) spaces.now.cells },
-    ghost small: { All (λ f. length f.bytes ≤ 1048576) depot.now },
+    ghost small: { All (λ f. length f.bytes ≤ max_file_bytes) depot.now },
 }
 
 impl<'a> Load<'a> {
     /// No new cells.
     pub fn start(&self, alloc: Global) -> Gathered<'a>
         ensures growing { IsGrowing self.now.spaces.now self.now.next result }
-        ensures empty { length result.cells.items ≡ 0 }
+        ensures empty { length (new_of result) ≡ 0 }
     {
         Gathered {
             cells: Vec::new(alloc),
-            names: Vec::new(alloc),
             ahead: Ahead::of(alloc, self.spaces),
         }
     }
 
     /// Sees that there may be one more cell, where so many are new.
     pub fn check_room(&self, fresh: usize) -> Result<(), Fail>
-        requires { fresh ≤ 1024 }
+        requires { fresh ≤ max_cells }
         ensures { Follows (λ _. tt) result (room_now (length self.now.spaces.now.cells + fresh) (self.now.next + fresh)) }
     {
         let (present, next) = (self.present, self.next);
-        if present as usize + fresh >= MAX_CELLS {
+        if present as usize + fresh >= MAX_CELLS as usize {
             return Err(Fail::Refused(Refusal::TooMany {
                 kind: Many::Cells,
-                limit: MAX_CELLS as u32,
+                limit: MAX_CELLS,
             }));
         }
-        if next as usize + fresh > MAX_CELL_NUMBER {
+        if next as usize + fresh > MAX_CELL_NUMBER as usize {
             return Err(Fail::Refused(Refusal::TooMany {
                 kind: Many::CellNumbers,
-                limit: MAX_CELL_NUMBER as u32,
+                limit: MAX_CELL_NUMBER,
             }));
         }
         Ok(())

@@ -1,11 +1,12 @@
 //! The file that brings a name.
 
 ghost use Rattle.std.specs.Prelude.{◌≡◌, ◌<◌, ◌≤◌, IfOk, IfSome, length, map, option_map};
+ghost use Rattle.cell_world.specs.Limits.{max_file_bytes};
 ghost use Rattle.cell_world.specs.Gather.{source_of, depot_files};
 ghost use Rattle.cell_world.specs.Names.{chain};
 ghost use Rattle.cell_gather.specs.Choosing.{choose_now, nearest_now, one_in, space_name, lacking};
 ghost use Rattle.cell_world.specs.Following.{Follows};
-ghost use Rattle.cell_gather.specs.Growing.{IsGrowing, with_new};
+ghost use Rattle.cell_gather.specs.Growing.{new_of, IsGrowing, with_new};
 ghost use Rattle.cell_world.specs.declared.refusal.Refusal.TheVariants.{Ambiguous};
 
 use crate::Gathered;
@@ -45,7 +46,7 @@ impl<'a> Load<'a> {
     fn in_depot(&self, alloc: Global, ns: u16, stem: &[u8]) -> Result<Option<&'a File>, Fail>
         requires { ns < length self.now.spaces.now.namespaces }
         ensures file { Follows (λ file. option_map (λ f. source_of f.now) file) result (one_in (depot_files (map source_of self.now.depot.now) (space_name self.now.spaces.now.namespaces ns) stem.now)) }
-        ensures small { IfOk result (λ file. IfSome file (λ f. length f.now.bytes ≤ 1048576)) }
+        ensures small { IfOk result (λ file. IfSome file (λ f. length f.now.bytes ≤ max_file_bytes)) }
     {
         let depot = self.depot;
         match depot.find(self.spaces.ns_name(ns).bytes(), stem) {
@@ -63,7 +64,7 @@ impl<'a> Load<'a> {
         requires { ns < length self.now.spaces.now.namespaces }
         ensures file { Follows (λ near. option_map (λ n. (n.ns, source_of n.file.now)) near) result (nearest_now (map source_of self.now.depot.now) self.now.spaces.now.namespaces (chain self.now.spaces.now.namespaces ns) stem.now) }
         ensures there { IfOk result (λ near. IfSome near (λ n. n.ns < length self.now.spaces.now.namespaces)) }
-        ensures small { IfOk result (λ near. IfSome near (λ n. length n.file.now.bytes ≤ 1048576)) }
+        ensures small { IfOk result (λ near. IfSome near (λ n. length n.file.now.bytes ≤ max_file_bytes)) }
     {
         for space in self.spaces.chain(ns) {
             if let Some(file) = self.in_depot(alloc, space, stem)? {
@@ -85,9 +86,9 @@ impl<'a> Load<'a> {
     ) -> Result<Near<'a>, Fail>
         requires growing { IsGrowing self.now.spaces.now self.now.next gathered.now }
         requires there { ns < length self.now.spaces.now.namespaces }
-        ensures file { Follows (λ n. (n.ns, source_of n.file.now)) result (choose_now (map source_of self.now.depot.now) (with_new self.now.spaces.now gathered.now.cells.items) ns needed_by name.now) }
+        ensures file { Follows (λ n. (n.ns, source_of n.file.now)) result (choose_now (map source_of self.now.depot.now) (with_new self.now.spaces.now (new_of gathered.now)) ns needed_by name.now) }
         ensures there { IfOk result (λ n. n.ns < length self.now.spaces.now.namespaces) }
-        ensures small { IfOk result (λ n. length n.file.now.bytes ≤ 1048576) }
+        ensures small { IfOk result (λ n. length n.file.now.bytes ≤ max_file_bytes) }
     {
         let Some(end) = crate_of(name) else {
             return Err(Fail::Refused(missing(alloc, name, needed_by)?));

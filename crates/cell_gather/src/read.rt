@@ -1,6 +1,7 @@
 //! The object of a file.
 
 ghost use Rattle.std.specs.Prelude.{◌≡◌, ◌≤◌, IfOk, length};
+ghost use Rattle.cell_world.specs.Limits.{max_file_bytes};
 ghost use Rattle.cell_world.specs.Coherent.{IsLoadable};
 ghost use Rattle.cell_world.specs.Gather.{source_of, object_in};
 ghost use Rattle.cell_gather.specs.Reading.{FailsToRead};
@@ -26,7 +27,7 @@ fn read_failed(alloc: Global, file: &File, fail: ReadFail) -> Fail
 
 /// The object of a file.
 pub fn read(alloc: Global, file: &File) -> Result<Object, Fail>
-    requires { length file.now.bytes ≤ 1048576 }
+    requires { length file.now.bytes ≤ max_file_bytes }
     ensures object { Follows (λ object. object) result (object_in (source_of file.now)) }
     ensures loadable { IfOk result IsLoadable }
 {

@@ -5,8 +5,9 @@ ghost use Rattle.cell_world.specs.Gather.{source_of, bring};
 ghost use Rattle.cell_world.specs.Names.{chain};
 ghost use Rattle.cell_space.specs.Named.{provider_for};
 ghost use Rattle.cell_space.specs.declared.cell.CellState.TheVariants.{Attached};
+ghost use Rattle.cell_space.specs.Machine.{called};
 ghost use Rattle.cell_gather.specs.Gathering.{grown};
-ghost use Rattle.cell_gather.specs.Growing.{AreSupplied, Ends, IsGrowing, IsNext, IsProvided, IsTurnOf, Leads, called_new};
+ghost use Rattle.cell_gather.specs.Growing.{new_of, HavePlain, AreSupplied, Ends, IsGrowing, IsNext, IsProvided, IsTurnOf, Leads};
 
 use crate::Gathered;
 use crate::load::Load;
@@ -20,7 +21,7 @@ impl<'a> Load<'a> {
     fn is_provided(&self, gathered: &Gathered, ns: u16, name: &[u8]) -> bool
         requires growing { IsGrowing self.now.spaces.now self.now.next gathered.now }
         requires there { ns < length self.now.spaces.now.namespaces }
-        ensures { result ≡ is_some (provider_for (chain self.now.spaces.now.namespaces ns) Attached name.now (self.now.spaces.now.cells ++ map called_new gathered.now.cells.items)) }
+        ensures { result ≡ is_some (provider_for (chain self.now.spaces.now.namespaces ns) Attached name.now (self.now.spaces.now.cells ++ map called (new_of gathered.now))) }
     {
         gathered.ahead.provider(ns, name).is_some()
     }
@@ -38,10 +39,10 @@ impl<'a> Load<'a> {
     ) -> Result<(), Fail>
         requires growing { IsGrowing self.now.spaces.now self.now.next gathered.old }
         requires there { ns < length self.now.spaces.now.namespaces }
-        requires next { IsNext self.now.spaces.now gathered.old.cells.items place ns needed_by name.now }
+        requires next { IsNext self.now.spaces.now (new_of gathered.old) place ns needed_by name.now }
         ensures growing { OnOk result (IsGrowing self.now.spaces.now self.now.next gathered.new) }
-        ensures leads { Leads self.now.depot.now self.now.spaces.now self.now.next gathered.old.cells.items result gathered.new.cells.items }
-        ensures provided { OnOk result (IsProvided self.now.spaces.now gathered.new.cells.items ns name.now) }
+        ensures leads { Leads self.now.depot.now self.now.spaces.now self.now.next (new_of gathered.old) result (new_of gathered.new) }
+        ensures provided { OnOk result (IsProvided self.now.spaces.now (new_of gathered.new) ns name.now) }
     {
         while !self.is_provided(gathered, ns, name) {
             self.bring_one(alloc, gathered, ns, needed_by, name)?;
@@ -61,10 +62,10 @@ impl<'a> Load<'a> {
     ) -> Result<(), Fail>
         requires growing { IsGrowing self.now.spaces.now self.now.next gathered.old }
         requires there { ns < length self.now.spaces.now.namespaces }
-        requires turn { IsTurnOf self.now.spaces.now gathered.old.cells.items place ns needed_by needs.now }
+        requires turn { IsTurnOf self.now.spaces.now (new_of gathered.old) place ns needed_by needs.now }
         ensures growing { OnOk result (IsGrowing self.now.spaces.now self.now.next gathered.new) }
-        ensures leads { Leads self.now.depot.now self.now.spaces.now self.now.next gathered.old.cells.items result gathered.new.cells.items }
-        ensures supplied { OnOk result (AreSupplied self.now.spaces.now gathered.new.cells.items (place + 1)) }
+        ensures leads { Leads self.now.depot.now self.now.spaces.now self.now.next (new_of gathered.old) result (new_of gathered.new) }
+        ensures supplied { OnOk result (AreSupplied self.now.spaces.now (new_of gathered.new) (place + 1)) }
     {
         for need in needs {
             self.supply(alloc, gathered, place, ns, needed_by, need.bytes())?;
@@ -75,11 +76,11 @@ impl<'a> Load<'a> {
     /// Brings what the new cell at a place needs, where no cell before it lacks anything.
     fn supply_cell(&self, alloc: Global, gathered: &mut Gathered, place: usize) -> Result<(), Fail>
         requires growing { IsGrowing self.now.spaces.now self.now.next gathered.old }
-        requires there { place < length gathered.old.cells.items }
-        requires supplied { AreSupplied self.now.spaces.now gathered.old.cells.items place }
+        requires there { place < length (new_of gathered.old) }
+        requires supplied { AreSupplied self.now.spaces.now (new_of gathered.old) place }
         ensures growing { OnOk result (IsGrowing self.now.spaces.now self.now.next gathered.new) }
-        ensures leads { Leads self.now.depot.now self.now.spaces.now self.now.next gathered.old.cells.items result gathered.new.cells.items }
-        ensures supplied { OnOk result (AreSupplied self.now.spaces.now gathered.new.cells.items (place + 1)) }
+        ensures leads { Leads self.now.depot.now self.now.spaces.now self.now.next (new_of gathered.old) result (new_of gathered.new) }
+        ensures supplied { OnOk result (AreSupplied self.now.spaces.now (new_of gathered.new) (place + 1)) }
     {
         let cell = &gathered.cells[place];
         let (ns, id) = (cell.ns, cell.id);
@@ -91,7 +92,8 @@ impl<'a> Load<'a> {
     pub fn bring(&self, alloc: Global, gathered: &mut Gathered) -> Result<(), Fail>
         requires { IsGrowing self.now.spaces.now self.now.next gathered.old }
         ensures growing { OnOk result (IsGrowing self.now.spaces.now self.now.next gathered.new) }
-        ensures ends { Ends self.now.spaces.now self.now.next (λ w. bring (map source_of self.now.depot.now) self.now.next (grown w gathered.old.cells.items)) result gathered.new.cells.items }
+        ensures plain { OnOk result (HavePlain (new_of gathered.old) → HavePlain (new_of gathered.new)) }
+        ensures ends { Ends self.now.spaces.now self.now.next (λ w. bring (map source_of self.now.depot.now) self.now.next (grown w (new_of gathered.old))) result (new_of gathered.new) }
     {
         let mut place = 0;
         while place < gathered.cells.len() {

@@ -1,14 +1,15 @@
 -- A new cell behind all others.
-use Rattle.std.proofs.Common.{◌≡◌, refl, sym, ap, ◌∙◌, ℕ, ◌<◌, Bool, true, false, cond, List, [], ◌∷◌, ◌++◌, Some, None, length, arith, subst}
-use Rattle.std.specs.Prelude.{All, Option, find, ◌==◌, nat_lt}
-use Rattle.std.proofs.lemmas.List.Elements.{All-head, All-tail}
+use Rattle.std.proofs.Common.{◌≡◌, refl, ap, ◌∙◌, ℕ, ◌<◌, true, cond, List, [], ◌∷◌, ◌++◌, Some, None, length, arith, subst}
+use Rattle.std.specs.Prelude.{All, Option, find}
+use Rattle.std.proofs.lemmas.List.Elements.{All-head, All-push, All-tail}
 use Rattle.std.proofs.lemmas.Bool.{ne_eqb, le-ltb}
 use Rattle.cell_world.specs.declared.state.Namespace.{Namespace}
+use Rattle.cell_space.specs.declared.cell.CellState.TheVariants.{Attached}
 use Rattle.cell_space.specs.declared.cell.SpaceCell.{SpaceCell}
 use Rattle.cell_space.specs.declared.index.Holder.{Holder}
 use Rattle.cell_space.specs.Ahead.{AreAhead}
 use Rattle.cell_space.specs.Index.{Grows, IsListed}
-use Rattle.cell_space.specs.Named.{is_numbered, is_higher, with_cell, cell_numbered}
+use Rattle.cell_space.specs.Named.{is_in, is_numbered, with_cell, cell_numbered}
 use Rattle.cell_space.specs.Spaces.{SpacesState, AreKept}
 use Rattle.cell_space.proofs.Holding.{whole_more}
 use Rattle.cell_space.proofs.Keeping.{kept_with}
@@ -40,14 +41,16 @@ module _ (present : SpacesState) (namespaces : List Namespace) (fresh : List Spa
   pub ahead_more : (g : ℕ → ℕ → Option Holder) (n : ℕ) → Grows fresh n f g → AreAhead present namespaces fresh g
   ahead_more g n grows = record {
     same = ahead.same;
+    attached = ahead.attached;
     kept = record { sound = ahead.kept.sound; rising = ahead.kept.rising; whole = whole_more fresh ahead.kept.rising n f g grows ahead.kept.whole };
   }
 
   -- and one more cell
-  pub ahead_with : (g : ℕ → ℕ → Option Holder) (c : SpaceCell) → c.ns < length namespaces → All (Below c.cell.0) fresh → Grows fresh c.cell.0 f g → IsListed g c
+  pub ahead_with : (g : ℕ → ℕ → Option Holder) (c : SpaceCell) → c.ns < length namespaces → All (Below c.cell.0) fresh → Grows fresh c.cell.0 f g → IsListed g c → is_in Attached c ≡ true
       → AreAhead present namespaces (fresh ++ c ∷ []) g
-  ahead_with g c there below grows listed = record {
+  ahead_with g c there below grows listed on = record {
     same = ahead.same;
+    attached = All-push (λ (d : SpaceCell). is_in Attached d ≡ true) fresh c ahead.attached on;
     kept = subst (λ cells. AreKept namespaces cells g) (stands_last c.cell.0 c fresh refl below)
         (kept_with namespaces fresh f ahead.kept g c there (new_number c.cell.0 fresh below) grows listed);
   }

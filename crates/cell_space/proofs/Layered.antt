@@ -1,17 +1,17 @@
 -- What is asked of present cells and of new ones behind them.
 use Rattle.std.proofs.Common.{◌≡◌, ℕ, Bool, true, false, cond, List, [], ◌∷◌, ◌++◌, Some, None, refl, ap, sym, ◌∙◌}
-use Rattle.std.specs.Prelude.{Option, find, filter, filter_map, option_map, is_some, ◌&&◌, ◌||◌, ◌==◌}
+use Rattle.std.specs.Prelude.{All, Option, find, filter, filter_map, option_map, is_some, ◌&&◌, ◌||◌, ◌==◌}
 use Rattle.std.specs.List.{list_any}
 use Rattle.std.specs.Option.{option_or}
-use Rattle.std.proofs.lemmas.List.Elements.{filter_map-append, filter-append}
+use Rattle.std.proofs.lemmas.List.Elements.{All-head, All-tail, filter_map-append, filter-append}
 use Rattle.std.proofs.lemmas.List.Folds.{find-append}
 use Rattle.std.proofs.lemmas.Bool.Decides.{nat_tests}
 use Rattle.std.proofs.Common.{arith}
 use Rattle.cell_num.specs.Lists.{first, equals, holds, or_else}
 use Rattle.cell_space.specs.declared.cell.CellState.{CellState}
-use Rattle.cell_space.specs.declared.cell.CellState.TheVariants.{Attached}
+use Rattle.cell_space.specs.declared.cell.CellState.TheVariants.{Attached, Detached}
 use Rattle.cell_space.specs.declared.cell.SpaceCell.{SpaceCell}
-use Rattle.cell_space.specs.Named.{is_in, is_holder, provider_at, first_provider, cell_at, number_of}
+use Rattle.cell_space.specs.Named.{is_in, is_state, is_holder, provider_at, first_provider, provider_for, cell_at, number_of}
 use Rattle.cell_space.specs.Ahead.{has_stem_in, is_there_in}
 
 pub first-append : {X : Type 0} (xs ys : List X) → first (xs ++ ys) ≡ or_else (first xs) (first ys)
@@ -24,6 +24,32 @@ first_provider-append spaces state name xs ys =
     ap (λ cs. first (filter_map (provider_at name) cs)) (filter-append (is_holder spaces state) xs ys)
     ∙ ap first (filter_map-append (provider_at name) (filter (is_holder spaces state) xs) (filter (is_holder spaces state) ys))
     ∙ first-append (filter_map (provider_at name) (filter (is_holder spaces state) xs)) (filter_map (provider_at name) (filter (is_holder spaces state) ys))
+
+-- no attached cell is put aside
+none_aside : (spaces : List ℕ) (k : ℕ) (name : List ℕ) (cells : List SpaceCell) → All (λ c. is_in Attached c ≡ true) cells → first_provider spaces (Detached k) name cells ≡ None
+none_aside spaces k name [] all = refl
+none_aside spaces k name (c ∷ cells) all =
+    ap (λ b. first (filter_map (provider_at name) (cond (b && holds spaces c.ns) (c ∷ filter (is_holder spaces (Detached k)) cells) (filter (is_holder spaces (Detached k)) cells))))
+    (other c.state (All-head (λ (d : SpaceCell). is_in Attached d ≡ true) c cells all))
+    ∙ none_aside spaces k name cells (All-tail (λ (d : SpaceCell). is_in Attached d ≡ true) c cells all)
+  where
+    other : (state : CellState) → is_state Attached state ≡ true → is_state (Detached k) state ≡ false
+    other Attached on = refl
+    other (Detached l) on = absurd (cc on)
+
+or_assoc : {X : Type 0} (a b c d : Option X) → b ≡ None → or_else (or_else a b) (or_else c d) ≡ or_else (or_else a c) d
+or_assoc None b None d e = ap (λ o. or_else o d) e
+or_assoc None b (Some y) d e = ap (λ o. or_else o (Some y)) e
+or_assoc (Some x) b c d e = refl
+
+-- the new cells are attached
+pub provider_for-append : (spaces : List ℕ) (state : CellState) (name : List ℕ) (xs ys : List SpaceCell) → All (λ c. is_in Attached c ≡ true) ys
+    → provider_for spaces state name (xs ++ ys) ≡ or_else (provider_for spaces state name xs) (provider_for spaces Attached name ys)
+provider_for-append spaces Attached name xs ys on = first_provider-append spaces Attached name xs ys
+provider_for-append spaces (Detached k) name xs ys on =
+    ap (λ o. or_else o (first_provider spaces Attached name (xs ++ ys))) (first_provider-append spaces (Detached k) name xs ys)
+    ∙ ap (or_else (or_else (first_provider spaces (Detached k) name xs) (first_provider spaces (Detached k) name ys))) (first_provider-append spaces Attached name xs ys)
+    ∙ or_assoc (first_provider spaces (Detached k) name xs) (first_provider spaces (Detached k) name ys) (first_provider spaces Attached name xs) (first_provider spaces Attached name ys) (none_aside spaces k name ys on)
 
 found_number : (a b : Option SpaceCell) → number_of (option_or a b) ≡ or_else (number_of a) (number_of b)
 found_number None b = refl

@@ -13,5 +13,7 @@ pub mod Joined
 pub mod Layered
 pub mod Chains
 pub mod Appended
+pub mod Renaming
+pub mod Unclaimed
 pub mod InOrder
 pub mod RisingOrder

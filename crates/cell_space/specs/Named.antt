@@ -5,10 +5,12 @@
 --     provider_for spaces state name cells     the same for a cell in that state
 --     rivals spaces ns cells             the attached cells on one path with the namespace
 --     with_cell c cells                  one more cell, before those of higher numbers
-use Rattle.std.specs.Prelude.{ℕ, ◌==◌, nat_lt, Bool, true, false, not, ◌&&◌, List, [], ◌∷◌, Option, None, map, filter, filter_map, find, option_map, if◌then◌else◌}
+--     with_name n a cells                the cell of that number with one more name
+use Rattle.std.specs.Prelude.{◌≡◌, IsSomeAnd, ◌++◌, ℕ, ◌==◌, nat_lt, Bool, true, false, not, ◌&&◌, List, [], ◌∷◌, Option, None, map, filter, filter_map, find, option_map, if◌then◌else◌}
 use Rattle.cell_num.specs.Lists.{equals, holds, first, or_else}
 use Rattle.cell_world.specs.declared.state.Namespace.{Namespace}
 use Rattle.cell_world.specs.Names.{Provider, are_on_one_path}
+use Rattle.cell_world.specs.World.{Alias}
 use Rattle.cell_space.specs.declared.cell.CellState.{CellState}
 use Rattle.cell_space.specs.declared.cell.CellState.TheVariants.{Attached, Detached}
 use Rattle.cell_space.specs.declared.cell.SpaceCell.{SpaceCell}
@@ -86,6 +88,17 @@ put_into state number c = if is_numbered number c then record c { state = state 
 
 abbrev pub with_state : CellState → ℕ → List SpaceCell → List SpaceCell
 with_state state number cells = map (put_into state number) cells
+
+-- the cell, with one more name where it has the number
+abbrev pub take_name : ℕ → Alias → SpaceCell → SpaceCell
+take_name number a c = if is_numbered number c then record c { names = c.names ++ a ∷ [] } else c
+
+abbrev pub with_name : ℕ → Alias → List SpaceCell → List SpaceCell
+with_name number a cells = map (take_name number a) cells
+
+-- the cell of that number is there, and lacks the name
+abbrev pub LacksName : List SpaceCell → ℕ → List ℕ → Type 0
+LacksName cells number name = IsSomeAnd (cell_numbered cells number) (λ c. has_name c.names name ≡ false)
 
 abbrev pub without : ℕ → List SpaceCell → List SpaceCell
 without number cells = filter (λ c. not (is_numbered number c)) cells

@@ -1,19 +1,20 @@
 //! The spaces as they would be with new cells.
 
-ghost use Rattle.std.specs.Prelude.{◌≡◌, ◌<◌, ◌++◌, ◌∷◌, [], All, IfOk, OnOk, Some, is_some, length, option_map, slice_get};
+ghost use Rattle.std.specs.Prelude.{◌≡◌, ◌<◌, ◌++◌, ◌∷◌, [], All, IfOk, IsSome, OnErr, OnOk, Some, is_some, length, option_map, slice_get};
 ghost use Rattle.cell_world.specs.Names.{chain as chain_in};
 ghost use Rattle.cell_space.specs.declared.cell.CellState.TheVariants.{Attached};
 ghost use Rattle.cell_space.specs.Ahead.{has_stem_in, is_there_in};
 ghost use Rattle.cell_space.specs.Path.{IsPath};
-ghost use Rattle.cell_space.specs.Named.{provider_for as provider_among, provider_as, number_as, clash_stem as stem_clash, clash_name as name_clash, cell_at as cell_in};
+ghost use Rattle.cell_space.specs.Named.{LacksName, with_name, cell_numbered as numbered, provider_for as provider_among, provider_as, number_as, clash_stem as stem_clash, clash_name as name_clash, cell_at as cell_in};
 
 use crate::cell::{CellState, SpaceCell};
 use crate::chain::Chain;
 use crate::index::Index;
-use crate::lookup::{cell_at, clash_name, clash_stem, provider_for};
+use crate::lookup::{cell_at, cell_numbered, clash_name, clash_stem, provider_for};
 use crate::names::NameRows;
 use crate::path::{Path, path_of};
-use crate::provider::{Provider, Scope};
+use crate::provider::Provider;
+use crate::rows::add_name;
 use crate::spaces::Spaces;
 use cell_num::{CellId, Name};
 use cell_world::Namespace;
@@ -32,10 +33,9 @@ pub struct Ahead<'a> {
 
 impl<'a> Model for Ahead<'a> {
     ghost use Rattle.cell_space.specs.Index.{held};
-    ghost use Rattle.cell_space.specs.Spaces.{SpacesState};
-    ghost use Rattle.cell_space.specs.Ahead.{AreAhead, with_fresh};
+    ghost use Rattle.cell_space.specs.Ahead.{AheadState, AreAhead, with_fresh};
 
-    ghost Value = { SpacesState };
+    ghost Value = { AheadState };
 
     ghost view = { λ a. with_fresh a.present.now a.fresh.items };
 
@@ -47,6 +47,8 @@ impl<'a> Ahead<'a> {
     pub fn of(alloc: Global, present: &'a Spaces) -> Ahead<'a>
         ensures namespaces { result.namespaces ≡ present.now.namespaces }
         ensures cells { result.cells ≡ present.now.cells }
+        ensures present { result.present ≡ present.now.cells }
+        ensures fresh { result.fresh ≡ [] }
     {
         Ahead {
             present,
@@ -67,7 +69,9 @@ impl<'a> Ahead<'a> {
         requires there { ns < length self.old.namespaces }
         requires above { All (λ c. c.cell.0 < cell.0) self.old.cells }
         ensures added { OnOk result (self.new.cells ≡ self.old.cells ++ record { cell = cell; ns = ns; stem = stem; state = Attached; names = names } ∷ []) }
+        ensures fresh { OnOk result (self.new.fresh ≡ self.old.fresh ++ record { cell = cell; ns = ns; stem = stem; state = Attached; names = names } ∷ []) }
         ensures same_namespaces { self.new.namespaces ≡ self.old.namespaces }
+        ensures same_present { self.new.present ≡ self.old.present }
     {
         let bytes = stem.bytes();
         self.index
@@ -80,6 +84,44 @@ impl<'a> Ahead<'a> {
             names,
         })?;
         Ok(())
+    }
+
+    /// The namespace of a new cell.
+    fn ns_of(&self, cell: CellId) -> u16
+        requires { IsSome (numbered self.now.fresh cell.0) }
+        ensures { option_map (λ c. c.ns) (numbered self.now.fresh cell.0) ≡ Some result }
+    {
+        match cell_numbered(&self.fresh, cell.0) {
+            Some(found) => found.ns,
+            None => unreachable!(),
+        }
+    }
+
+    /// Gives a new cell one more name for one of its symbols.
+    pub fn add_name(
+        &mut self,
+        alloc: Global,
+        cell: CellId,
+        name: &[u8],
+        symbol: u32,
+    ) -> Result<(), AllocError>
+        requires { LacksName self.old.fresh cell.0 name.now }
+        ensures added { OnOk result (self.new.fresh ≡ with_name cell.0 (record { name = name.now; symbol = symbol }) self.old.fresh) }
+        ensures cells { OnOk result (self.new.cells ≡ self.old.present ++ with_name cell.0 (record { name = name.now; symbol = symbol }) self.old.fresh) }
+        ensures unchanged { OnErr result (self.new ≡ self.old) }
+        ensures same_namespaces { self.new.namespaces ≡ self.old.namespaces }
+        ensures same_present { self.new.present ≡ self.old.present }
+    {
+        let ns = self.ns_of(cell);
+        self.index.claim_name(&self.fresh, ns, name, cell.0)?;
+        add_name(&mut self.fresh, alloc, cell.0, name, symbol)
+    }
+
+    /// The new cells, as they are called.
+    pub fn into_fresh(self) -> Vec<SpaceCell>
+        ensures { result.items ≡ self.entry.fresh }
+    {
+        self.fresh
     }
 
     /// The name of a namespace that is there.
@@ -123,11 +165,26 @@ impl<'a> Ahead<'a> {
         requires { ns < length self.now.namespaces }
         ensures { option_map provider_as result ≡ provider_among (chain_in self.now.namespaces ns) Attached name.now self.now.cells }
     {
-        match self.present.provider(Scope::Space(ns), name) {
+        self.provider_for(ns, CellState::Attached, name)
+    }
+
+    /// Who provides a name for a cell of that namespace and state. No new cell is put aside.
+    pub fn provider_for(&self, ns: u16, state: CellState, name: &[u8]) -> Option<Provider>
+        requires { ns < length self.now.namespaces }
+        ensures { option_map provider_as result ≡ provider_among (chain_in self.now.namespaces ns) state name.now self.now.cells }
+    {
+        match self.present.provider_for(ns, state, name) {
             Some(provider) => Some(provider),
             None => {
-                let state = CellState::Attached;
-                provider_for(self.namespaces, &self.index, &self.fresh, ns, state, name)
+                let attached = CellState::Attached;
+                provider_for(
+                    self.namespaces,
+                    &self.index,
+                    &self.fresh,
+                    ns,
+                    attached,
+                    name,
+                )
             }
         }
     }

@@ -1,6 +1,6 @@
 //! A cell by what it is called.
 
-ghost use Rattle.std.specs.Prelude.{◌≡◌, IfOk};
+ghost use Rattle.std.specs.Prelude.{◌≡◌, ◌++◌, ◌∷◌, [], IfOk, OnErr, OnOk, false, map};
 ghost use Rattle.cell_num.specs.Lists.{equals};
 ghost use Rattle.cell_space.specs.Rows.{has_name};
 ghost use Rattle.cell_space.specs.Named.{is_state, is_in, is_numbered};
@@ -62,6 +62,20 @@ impl SpaceCell {
         self.names.symbol_of(name).is_some()
     }
 
+    /// Adds a name that the cell lacks.
+    pub(crate) fn add_name(
+        &mut self,
+        alloc: Global,
+        name: &[u8],
+        symbol: u32,
+    ) -> Result<(), AllocError>
+        requires { has_name self.old.names name.now ≡ false }
+        ensures added { OnOk result (self.new ≡ record self.old { names = self.old.names ++ record { name = name.now; symbol = symbol } ∷ [] }) }
+        ensures unchanged { OnErr result (self.new ≡ self.old) }
+    {
+        self.names.add(alloc, name, symbol)
+    }
+
     fn copy(&self, alloc: Global) -> Result<SpaceCell, AllocError>
         ensures { IfOk result (λ copy. copy ≡ self.now) }
     {
@@ -84,4 +98,15 @@ pub fn copy_cells(alloc: Global, cells: &[SpaceCell]) -> Result<Vec<SpaceCell>, 
         copies.push(cell.copy(alloc)?)?;
     }
     Ok(copies)
+}
+
+/// The names of each cell.
+pub fn into_names(alloc: Global, cells: Vec<SpaceCell>) -> Result<Vec<NameRows>, AllocError>
+    ensures { IfOk result (λ names. names.items ≡ map (λ c. c.names) cells.items) }
+{
+    let mut names = Vec::new(alloc);
+    for cell in cells {
+        names.push(cell.names)?;
+    }
+    Ok(names)
 }

@@ -2,8 +2,9 @@
 //! walks over the cells, and few ask one namespace after the other. An entry answers for the attached cells alone, and stays when its cell is put aside or
 //! goes: what is found is always asked whether it is right.
 
-ghost use Rattle.std.specs.Prelude.{◌≡◌, ◌<◌, ◌≤◌, ◌+◌, ◌*◌, ◌⊎◌, ◌&&◌, ℕ, [], Some, true, nat_eq, length, All, IsOk, IsSome, IfOk, OnOk, OnErr, if◌then◌else◌};
+ghost use Rattle.std.specs.Prelude.{◌≡◌, ◌<◌, ◌≤◌, ◌+◌, ◌*◌, ◌⊎◌, ◌&&◌, ◌∷◌, ℕ, [], Some, true, nat_eq, length, All, IsOk, IsSome, IfOk, OnOk, OnErr, if◌then◌else◌};
 ghost use Rattle.indexmap.specs.IndexMap.{spare};
+ghost use Rattle.cell_space.specs.Hash.{name_hash as name_number};
 ghost use Rattle.cell_space.specs.Rising.{IsRising};
 ghost use Rattle.cell_space.specs.Named.{cell_numbered as numbered};
 ghost use Rattle.cell_space.specs.Index.{held, claimed, attached_at, hashes, name_hashes, Grows, IsTaken, AreHeld, AreTaken, IsCellTaken, IsListed, IsWhole};
@@ -113,6 +114,23 @@ impl Index {
     {
         let holder = claimed(cells, cell, attached, self.get(ns, hash));
         self.put(ns, hash, holder)
+    }
+
+    /// Takes an attached cell in that has one more name.
+    pub fn claim_name(
+        &mut self,
+        cells: &[SpaceCell],
+        ns: u16,
+        name: &[u8],
+        cell: u32,
+    ) -> Result<(), AllocError>
+        requires { IsRising cells.now }
+        ensures grows { Grows cells.now cell (held self.old) (held self.new) }
+        ensures taken { OnOk result (AreTaken (held self.new) ns cell true (name_number name.now ∷ [])) }
+    {
+        let hash = name_hash(name);
+        self.claim(cells, ANYWHERE, hash, cell, true)?;
+        self.claim(cells, ns, hash, cell, true)
     }
 
     /// Takes a cell in that has the names.

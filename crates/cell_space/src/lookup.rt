@@ -22,7 +22,7 @@ use cell_num::CellId;
 use cell_world::Namespace;
 
 /// How many of the cells have a lower number.
-fn cells_before(cells: &[SpaceCell], number: u32) -> usize
+pub fn cells_before(cells: &[SpaceCell], number: u32) -> usize
     requires { IsRising cells.now }
     ensures { AreBefore number_in number cells.now result }
 {

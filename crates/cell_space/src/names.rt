@@ -1,6 +1,6 @@
 //! The names that a cell has.
 
-ghost use Rattle.std.specs.Prelude.{◌≡◌, ◌==◌, ◌++◌, ◌∷◌, ◌<◌, [], Some, false, length, slice_get, IfOk, OnOk};
+ghost use Rattle.std.specs.Prelude.{◌≡◌, ◌==◌, ◌++◌, ◌∷◌, ◌<◌, [], Some, false, length, slice_get, IfOk, OnErr, OnOk};
 ghost use Rattle.cell_space.specs.Rows.{symbol_in, has_name};
 
 use indexmap::IndexMap;
@@ -58,7 +58,8 @@ impl NameRows {
     /// Adds a name that isn't there.
     pub fn add(&mut self, alloc: Global, name: &[u8], symbol: u32) -> Result<(), AllocError>
         requires { has_name self.old name.now ≡ false }
-        ensures { OnOk result (self.new ≡ self.old ++ record { name = name.now; symbol = symbol } ∷ []) }
+        ensures added { OnOk result (self.new ≡ self.old ++ record { name = name.now; symbol = symbol } ∷ []) }
+        ensures unchanged { OnErr result (self.new ≡ self.old) }
     {
         let key = Vec::from_slice(alloc, name)?;
         self.rows.insert(key, symbol)?;

@@ -1,10 +1,13 @@
 //! Changing the list of cells.
 
-ghost use Rattle.std.specs.Prelude.{◌≡◌, ◌<◌, ◌≤◌, ◌+◌, ℕ, length, vec_capacity, vec_len};
+ghost use Rattle.std.specs.Prelude.{◌≡◌, ◌<◌, ◌≤◌, ◌+◌, ℕ, OnErr, OnOk, length, vec_capacity, vec_len};
 ghost use Rattle.std.specs.List.{position_or_len};
-ghost use Rattle.cell_space.specs.Named.{is_higher, put_into, with_cell, with_state, without};
+ghost use Rattle.cell_space.specs.Named.{LacksName, is_higher, put_into, with_cell, with_name, with_state, without};
+ghost use Rattle.cell_space.specs.Rising.{IsRising};
 
 use crate::cell::{CellState, SpaceCell};
+use crate::lookup::cells_before;
+use std::alloc::{AllocError, Global};
 
 fn is_higher(cell: &SpaceCell, number: u32) -> bool
     ensures { result ≡ is_higher number cell.now }
@@ -45,6 +48,23 @@ pub fn set_state(cells: &mut Vec<SpaceCell>, number: u32, state: CellState)
     for cell in cells.iter_mut() {
         put_into(cell, number, state);
     }
+}
+
+/// Adds a name to the cell of a number, which lacks it.
+pub fn add_name(
+    cells: &mut Vec<SpaceCell>,
+    alloc: Global,
+    number: u32,
+    name: &[u8],
+    symbol: u32,
+) -> Result<(), AllocError>
+    requires rising { IsRising cells.old.items }
+    requires lacks { LacksName cells.old.items number name.now }
+    ensures added { OnOk result (cells.new.items ≡ with_name number (record { name = name.now; symbol = symbol }) cells.old.items) }
+    ensures unchanged { OnErr result (cells.new.items ≡ cells.old.items) }
+{
+    let place = cells_before(cells, number);
+    cells[place].add_name(alloc, name, symbol)
 }
 
 /// Adds a cell to cells that have room, before those of higher numbers; this takes no memory.

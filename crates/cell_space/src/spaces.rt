@@ -4,7 +4,7 @@ ghost use Rattle.std.specs.Prelude.{◌≡◌, ◌<◌, ◌≤◌, ◌+◌, ◌+
 ghost use Rattle.cell_world.specs.Names.{chain as chain_in};
 ghost use Rattle.cell_space.specs.declared.cell.CellState.TheVariants.{Attached, Detached};
 ghost use Rattle.cell_space.specs.Path.{IsPath};
-ghost use Rattle.cell_space.specs.Named.{cell_numbered as numbered, provider_as, number_as, clash_stem as stem_clash, clash_name as name_clash, cell_at as cell_in, with_cell, with_state, without};
+ghost use Rattle.cell_space.specs.Named.{cell_numbered as numbered, provider_for as provider_among, provider_as, number_as, clash_stem as stem_clash, clash_name as name_clash, cell_at as cell_in, with_cell, with_state, without};
 ghost use Rattle.cell_space.specs.Rooted.{AreRooted};
 ghost use Rattle.cell_space.specs.Spaces.{IsThere, HasCell, HasDetached, HasAttached, HasNoRival, kernel, provider_in, namespace_named};
 
@@ -164,18 +164,20 @@ impl Spaces {
         ensures { option_map provider_as result ≡ provider_in self.now scope name.now }
     {
         match scope {
-            Scope::Space(ns) => {
-                let state = CellState::Attached;
-                provider_for(&self.namespaces, &self.index, &self.cells, ns, state, name)
-            }
+            Scope::Space(ns) => self.provider_for(ns, CellState::Attached, name),
             Scope::Cell(cell) => match cell_numbered(&self.cells, cell.0) {
-                Some(found) => {
-                    let (ns, state) = (found.ns, found.state);
-                    provider_for(&self.namespaces, &self.index, &self.cells, ns, state, name)
-                }
+                Some(found) => self.provider_for(found.ns, found.state, name),
                 None => None,
             },
         }
+    }
+
+    /// Who provides a name for a cell of that namespace and state.
+    pub fn provider_for(&self, ns: u16, state: CellState, name: &[u8]) -> Option<Provider>
+        requires { ns < length self.now.namespaces }
+        ensures { option_map provider_as result ≡ provider_among (chain_in self.now.namespaces ns) state name.now self.now.cells }
+    {
+        provider_for(&self.namespaces, &self.index, &self.cells, ns, state, name)
     }
 
     /// The lowest attached cell on the path that has the stem.

@@ -4,4 +4,4 @@ use Rattle.cell_gather.proofs.clashes.check_definitions.Given as goal
 
 -- none so far
 abbrev pub invariant-loop-place : goal.invariant-loop-place
-invariant-loop-place l = clash_among_now l.ahead l.path.ns (drop l.place l.names) ≡ clash_among_now l.ahead l.path.ns l.names
+invariant-loop-place l = clash_among_now l.ahead.spaces l.path.ns (drop l.place l.names) ≡ clash_among_now l.ahead.spaces l.path.ns l.names

@@ -1,7 +1,6 @@
-use Rattle.std.proofs.Common.{◌≡◌, ◌∙◌, ◌++◌, ◌∷◌, [], ℕ, List, ap}
-use Rattle.cell_world.specs.World.{Alias}
+use Rattle.std.proofs.Common.{◌∙◌, ◌++◌, ◌∷◌, [], ℕ, List, ap}
 use Rattle.cell_gather.proofs.Attaching.{all_below}
-use Rattle.cell_gather.proofs.Growths.{grown_by_one, row_of}
+use Rattle.cell_gather.proofs.Growths.{grown_by_one, one_more, row_of}
 use Rattle.cell_gather.proofs.load.Load.add.Goals as goal
 
 pub append-requires-clause-above : goal.append-requires-clause-above
@@ -12,9 +11,16 @@ pub returns-clause-growing : goal.returns-clause-growing
 returns-clause-growing c =
     let cell = c.args.fresh.cell in
     let old = c.args.gathered.now.ahead.cells in
-    grown_by_one c.args.self.now.spaces.now c.args.self.now.next c.args.gathered.now (record { cells = c.push-2.new.self; names = c.push.new.self; ahead = c.append.new.self }) cell c.args.fresh.names c.requires.growing c.requires.there c.requires.number c.requires.room
-    c.args.fresh.named c.args.fresh.loadable c.append.ensures.same_namespaces
-    (c.in_ok-append.ensures.added
-    ∙ ap (λ (x : List ℕ). old ++ row_of cell.id cell.ns x c.in_ok-names.names ∷ []) c.in_ok-stem.ensures
-    ∙ ap (λ (x : List Alias). old ++ row_of cell.id cell.ns cell.stem x ∷ []) c.in_ok-names.ensures)
-    c.in_ok-push.ensures.items c.in_ok-push-2.ensures.items
+    let known = c.args.gathered.now.ahead.fresh in
+    grown_by_one c.args.self.now.spaces.now c.args.self.now.next c.args.gathered.now (record { cells = c.push.new.self; ahead = c.append.new.self }) cell c.args.fresh.names c.requires.growing c.args.fresh.named
+    (c.in_ok-append.ensures.fresh ∙ ap (λ (x : List ℕ). known ++ row_of cell.id cell.ns x c.args.fresh.names ∷ []) c.in_ok-stem.ensures)
+    c.in_ok-push.ensures.items c.requires.there c.requires.number c.requires.room c.args.fresh.loadable c.append.ensures.same_namespaces c.append.ensures.same_present
+    (c.in_ok-append.ensures.added ∙ ap (λ (x : List ℕ). old ++ row_of cell.id cell.ns x c.args.fresh.names ∷ []) c.in_ok-stem.ensures)
+
+pub returns-clause-added : goal.returns-clause-added
+returns-clause-added c =
+    let cell = c.args.fresh.cell in
+    let known = c.args.gathered.now.ahead.fresh in
+    one_more c.args.self.now.spaces.now c.args.self.now.next c.args.gathered.now (record { cells = c.push.new.self; ahead = c.append.new.self }) cell c.args.fresh.names c.requires.growing c.args.fresh.named
+    (c.in_ok-append.ensures.fresh ∙ ap (λ (x : List ℕ). known ++ row_of cell.id cell.ns x c.args.fresh.names ∷ []) c.in_ok-stem.ensures)
+    c.in_ok-push.ensures.items

@@ -1,5 +1,5 @@
-use Rattle.std.proofs.Common.{drop}
-use Rattle.cell_gather.specs.Growing.{IsGrowing}
+use Rattle.std.proofs.Common.{◌≡◌, ◌+◌, drop, length}
+use Rattle.cell_gather.specs.Growing.{new_of, HavePlain, IsGrowing}
 use Rattle.cell_gather.proofs.Appends.{AreLeft}
 use Rattle.cell_gather.proofs.load.Load.append_all.Given as goal
 
@@ -7,5 +7,7 @@ use Rattle.cell_gather.proofs.load.Load.append_all.Given as goal
 abbrev pub invariant-loop-want : goal.invariant-loop-want
 invariant-loop-want l = record {
   growing : IsGrowing l.self.spaces.now l.self.next l.gathered;
-  left : AreLeft l.self.spaces.now l.self.next l.self.depot.now l.fn.gathered.cells.items l.wants l.gathered.cells.items (drop l.want-index l.wants);
+  many : length (new_of l.gathered) ≡ length (new_of l.fn.gathered) + l.want-index;
+  plain : HavePlain (new_of l.fn.gathered) → HavePlain (new_of l.gathered);
+  left : AreLeft l.self.spaces.now l.self.next l.self.depot.now (new_of l.fn.gathered) l.wants (new_of l.gathered) (drop l.want-index l.wants);
 }

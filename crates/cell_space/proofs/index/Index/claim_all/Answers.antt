@@ -1,7 +1,7 @@
 use Rattle.std.proofs.Common.{length}
 use Rattle.std.specs.Prelude.{All}
 use Rattle.indexmap.specs.IndexMap.{spare}
-use Rattle.cell_space.specs.Index.{AreTaken, IsTaken, anywhere, hashes, held}
+use Rattle.cell_space.specs.Index.{AreTaken, IsTaken, hashes, held}
 use Rattle.cell_space.proofs.Holding.{both_taken, first_ready, ok_more, second_ready}
 use Rattle.cell_space.proofs.index.Index.claim_all.Goals as goal
 

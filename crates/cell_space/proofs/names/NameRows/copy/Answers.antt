@@ -13,6 +13,6 @@ add-requires c =
 pub loop-place-preserved : goal.loop-place-preserved
 loop-place-preserved c =
     let row : Alias = record { name = c.at-symbol.result.0.now; symbol = c.at-symbol.result.1 } in
-    c.in_ok-add.ensures {u = tt}
+    c.in_ok-add.ensures.added
     ∙ ap (λ rows. rows ++ row ∷ []) c.loop-place.invariant
     ∙ sym (take_next c.args.self.now c.loop-place.place row c.at-symbol.ensures)
