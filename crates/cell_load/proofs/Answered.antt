@@ -45,7 +45,7 @@ module _ (files : List File) (are : AreSound (map source_of files)) (m : Machine
 
   module _ (g : Gathered) (loaded : IsLoaded files m ns stem g) where
     abbrev new : List Cell
-    new = new_cells m.spaces g
+    new = new_cells g
 
     pub can_stage : CanStage m g
     can_stage = record {

@@ -1,15 +1,13 @@
 -- What `load NS STEM` gathers, by its one wanted file.
-use Rattle.std.proofs.Common.{◌≡◌, refl, sym, ◌∙◌, ap, ap₂, subst, arith, ℕ, ◌+◌, ◌<◌, ◌≤◌, true, List, [], ◌∷◌, ◌++◌, append-nil, drop, map, length}
-use Rattle.std.specs.Prelude.{Option, Some, Result, Ok, Err, All}
+use Rattle.std.proofs.Common.{◌≡◌, refl, sym, ◌∙◌, ap, subst, arith, ℕ, ◌+◌, ◌<◌, ◌≤◌, true, false, List, [], ◌∷◌, ◌++◌, map, length}
+use Rattle.std.specs.Prelude.{Option, Some, None, Result, Ok, Err, All}
 use Rattle.std.proofs.lemmas.List.{length-map}
 use Rattle.cell_world.specs.declared.file.File.{File}
 use Rattle.cell_world.specs.declared.refusal.Refusal.{Refusal}
 use Rattle.cell_world.specs.declared.refusal.Refusal.TheVariants.{NoObject, Unknown}
-use Rattle.cell_world.specs.World.{Alias, World, Cell, Attached, attached}
+use Rattle.cell_world.specs.World.{World, Cell, Attached}
 use Rattle.cell_world.specs.Answer.{space_of}
 use Rattle.cell_world.specs.Gather.{Source, append_cell, bring, depot_files, file_named, one_file, source_of}
-use Rattle.cell_world.specs.Names.{definitions_of, names_of}
-use Rattle.cell_world.specs.declared.state.NewCell.{NewCell}
 use Rattle.cell_world.specs.Outcome.{Outcome, ◌>>=◌, found}
 use Rattle.cell_coherent.specs.Grown.{In}
 use Rattle.cell_coherent.proofs.Elements.{In-All}
@@ -25,32 +23,18 @@ use Rattle.cell_space.specs.declared.cell.SpaceCell.{SpaceCell}
 use Rattle.cell_world.specs.declared.fail.Fail.{Fail}
 use Rattle.cell_world.specs.declared.fail.Fail.TheVariants.{Refused, OutOfMemory}
 use Rattle.cell_gather.specs.declared.gathering.Gathered.{Gathered}
+use Rattle.cell_gather.specs.declared.want.Want.{Want}
 use Rattle.cell_world.specs.Following.{FailsAs}
 use Rattle.cell_gather.specs.Gathering.{Gathers, IsGathered, IsOf, append_wanted, gather}
 use Rattle.cell_machine.specs.declared.machine.Machine.{Machine}
 use Rattle.cell_machine.specs.Machine.{IsSound, world_of}
-use Rattle.cell_machine.specs.Staged.{all_attached}
 use Rattle.cell_load.specs.Loads.{IsLoaded, Loads}
 use Rattle.cell_load.specs.Stages.{AreGathered, new_cells}
 use Rattle.cell_load.proofs.Files.{one_found, only_named}
-use Rattle.cell_machine.proofs.Lists.{map-map}
 use Rattle.cell_machine.proofs.Low.{limits_of}
 
-behind : {X : Type 0} (xs ys : List X) → drop (length xs) (xs ++ ys) ≡ ys
-behind [] ys = refl
-behind (x ∷ xs) ys = behind xs ys
-
-places_back : (cells : List NewCell) → map placed_of (all_attached cells) ≡ cells
-places_back [] = refl
-places_back (c ∷ cells) = ap (λ (cs : List NewCell). c ∷ cs) (places_back cells)
-
--- a cell without an alias has the names that it defines
-names_back : (cells : List NewCell) → map (λ c. definitions_of c.object) cells ≡ map names_of (all_attached cells)
-names_back [] = refl
-names_back (c ∷ cells) = ap₂ (λ (x : List Alias) (xs : List (List Alias)). x ∷ xs) (sym (append-nil (definitions_of c.object))) (names_back cells)
-
-all_standing : (cells : List NewCell) → All (λ (c : Cell). c.standing ≡ Attached) (all_attached cells)
-all_standing cells = In-All (λ (c : Cell). c.standing ≡ Attached) (all_attached cells) (λ c k. ap (λ (d : Cell). d.standing) (In-map attached cells c k).2)
+abbrev wanted_file : ℕ → List ℕ → Want
+wanted_file ns file = record { ns = ns; file = file; replaces = None }
 
 passed : {X : Type 0} (o : Outcome X) → (o >>= (λ x. Ok x)) ≡ o
 passed (Ok x) = refl
@@ -75,10 +59,10 @@ module _ (sources : List Source) (w : World) (ns stem : List ℕ) where
 
   -- the one file is wanted
   pub one_wanted : (number : ℕ) (f : Source) → space_of w ns ≡ Ok number → only ≡ Ok f → file_named sources f.name ≡ Some f
-      → gather sources w (record { ns = number; file = f.name } ∷ []) ≡ gathered_by sources w ns stem
+      → gather sources w (wanted_file number f.name ∷ []) false ≡ gathered_by sources w ns stem
   one_wanted number f there is named =
       ap (λ o. o >>= (λ a. bring sources w.next_cell a))
-      (passed (append_wanted sources w (record { ns = number; file = f.name }))
+      (passed (append_wanted sources w (wanted_file number f.name))
       ∙ (ap (λ (o : Option Source). found o (Unknown f.name) >>= (λ s. append_cell w s number)) named
       ∙ sym (ap (λ o. o >>= on) there ∙ ap (λ o. o >>= (λ f. append_cell w f number)) is)))
 
@@ -120,30 +104,22 @@ module _ (m : Machine) (sound : IsSound m) where
       file_failed OutOfMemory e = tt
 
       module _ (f : File) (is : IsOnly files chosen f) where
-        wanted : gather (map source_of files) (world_of m) (record { ns = number; file = f.name } ∷ []) ≡ gathered_by (map source_of files) (world_of m) ns stem
+        wanted : gather (map source_of files) (world_of m) (wanted_file number f.name ∷ []) false ≡ gathered_by (map source_of files) (world_of m) ns stem
         wanted =
             one_wanted (map source_of files) (world_of m) ns stem number (source_of f) there
             (one_found files chosen (NoObject stem) f is) (only_named files apart chosen f is)
 
-        module _ (g : Gathered) (h : IsGathered files m.spaces m.next (record { ns = number; file = f.name } ∷ []) g) where
-          abbrev attached_new : List Cell
-          attached_new = all_attached g.cells.items
-
-          ahead_are : g.ahead.cells ≡ m.spaces.cells ++ map called attached_new
-          ahead_are = h.cells ∙ ap (λ (cs : List SpaceCell). m.spaces.cells ++ cs) (sym (map-map called attached g.cells.items))
-
-          new_are : new_cells m.spaces g ≡ attached_new
-          new_are =
-              cells_are attached_new g.cells.items (drop (length m.spaces.cells) g.ahead.cells) (sym (places_back g.cells.items))
-              (ap (drop (length m.spaces.cells)) ahead_are ∙ behind m.spaces.cells (map called attached_new))
+        module _ (g : Gathered) (h : IsGathered files m.spaces m.next (wanted_file number f.name ∷ []) false g) where
+          new_are : new_cells g ≡ h.new
+          new_are = cells_are h.new g.cells.items g.ahead.fresh (sym h.placed) h.fresh
 
           are_gathered : AreGathered m.spaces g
           are_gathered = record {
             namespaces = h.namespaces;
-            placed = ap (map placed_of) new_are ∙ places_back g.cells.items;
-            cells = ahead_are ∙ ap (λ (cs : List Cell). m.spaces.cells ++ map called cs) (sym new_are);
-            names = h.names ∙ (names_back g.cells.items ∙ ap (map names_of) (sym new_are));
-            attached = subst (λ (cs : List Cell). All (λ (c : Cell). c.standing ≡ Attached) cs) (sym new_are) (all_standing g.cells.items);
+            placed = ap (map placed_of) new_are ∙ h.placed;
+            cells = h.cells ∙ ap (λ (cs : List Cell). m.spaces.cells ++ map called cs) (sym new_are);
+            fresh = h.fresh ∙ ap (map called) (sym new_are);
+            attached = subst (λ (cs : List Cell). All (λ (c : Cell). c.standing ≡ Attached) cs) (sym new_are) h.attached;
             objects = h.loadable;
           }
 
@@ -152,12 +128,11 @@ module _ (m : Machine) (sound : IsSound m) where
             gathered =
                 sym wanted
                 ∙ (h.gathered (world_of m) is_of
-                ∙ (ap (λ (n : ℕ). let u : World = record (world_of m) { cells = (world_of m).cells ++ attached_new; next_cell = m.next + n } in let o : Outcome World = Ok u in o) (sym (length-map g.cells.items attached))
-                ∙ ap (λ (cs : List Cell). let o : Outcome World = Ok (grown (world_of m) cs) in o) (sym new_are)));
+                ∙ ap (λ (cs : List Cell). let o : Outcome World = Ok (grown (world_of m) cs) in o) (sym new_are));
             are = are_gathered;
           }
 
-        pub gathers : (r : Result Gathered Fail) → Gathers files m.spaces m.next (record { ns = number; file = f.name } ∷ []) r → Loads files m ns stem r
+        pub gathers : (r : Result Gathered Fail) → Gathers files m.spaces m.next (wanted_file number f.name ∷ []) false r → Loads files m ns stem r
         gathers (Ok g) h = loaded g h
         gathers (Err (Refused r)) h = sym wanted ∙ h (world_of m) is_of
         gathers (Err OutOfMemory) h = tt

@@ -56,7 +56,7 @@ module _ (m : Machine) (g : Gathered) (can : CanStage m g) where
   u = world_of m
 
   abbrev new : List Cell
-  new = new_cells m.spaces g
+  new = new_cells g
 
   pub sound : All (λ c. IsSoundObject c.object) g.cells.items
   sound = sound_objects g.cells.items can.gathered.objects
@@ -161,7 +161,7 @@ module _ (m : Machine) (g : Gathered) (can : CanStage m g) where
         ∙ ap (λ o. refused_by o) (misfits_are ∙ e)
     link_failed OutOfMemory e = tt
 
-    pub staged : (l : Linked) → AreLinked v p.cells.items l → (s : Staged) → s.cells.items ≡ p.cells.items → s.names.items ≡ g.names.items → s.space ≡ space → s.regions.items ≡ p.regions.items
+    pub staged : (l : Linked) → AreLinked v p.cells.items l → (s : Staged) → s.cells.items ≡ p.cells.items → s.names.items ≡ map (λ (c : SpaceCell). c.names) g.ahead.fresh → s.space ≡ space → s.regions.items ≡ p.regions.items
         → s.fields.items ≡ l.fields.items → s.rows.items ≡ l.rows.items → IsStaged u new s
     staged l linked s cells names at regions fields rows = record {
       starts = stand.starts;
@@ -170,7 +170,7 @@ module _ (m : Machine) (g : Gathered) (can : CanStage m g) where
       runs = runs ∙ ap (λ (t : List Bool). let x : ManyTaken = record { starts = stand.starts; table = t } in let o : Outcome ManyTaken = Ok x in o) (ap (λ (x : SpaceState). x.taken) (sym at));
       base = ap (λ (x : SpaceState). x.base) at ∙ (stand.base ∙ can.parts.base);
       cells = cells ∙ placed_are;
-      names = names ∙ can.gathered.names;
+      names = names ∙ (ap (map (λ (c : SpaceCell). c.names)) can.gathered.fresh ∙ map-map (λ (c : SpaceCell). c.names) called new);
       regions = regions ∙ (stand.regions ∙ ap (λ (os : List Object). all_regions stand.starts os) objects_are);
       fit = misfits_are ∙ linked.fit;
       fields =

@@ -12,7 +12,7 @@ use Rattle.cell_machine.specs.Machine.{world_of}
 use Rattle.cell_load.specs.Stages.{AreGathered, new_cells}
 
 pub record IsLoaded (files : List File) (m : Machine) (ns stem : List ℕ) (g : Gathered) : Type 0 where
-  pub gathered : gathered_by (map source_of files) (world_of m) ns stem ≡ Ok (grown (world_of m) (new_cells m.spaces g))
+  pub gathered : gathered_by (map source_of files) (world_of m) ns stem ≡ Ok (grown (world_of m) (new_cells g))
   pub are : AreGathered m.spaces g
 
 abbrev pub Loads : List File → Machine → List ℕ → List ℕ → Result Gathered Fail → Type 0

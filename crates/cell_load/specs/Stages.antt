@@ -1,16 +1,15 @@
 -- New cells that were gathered for a machine, and what staging them comes to.
---     new_cells spaces g     the gathered cells, with the names that they are called by
+--     new_cells g            the gathered cells, with the names that they are called by
 --     AreGathered spaces g   they stand ahead of the present ones, attached
 --     CanStage m g           wherever there is room for them, they can be linked in the machine
 --     placing u new          the new cells get their places in u, and each of their entries fits
 --     Stages u new result    the cells placed and linked, or the refusal
-use Rattle.std.specs.Prelude.{◌≡◌, ◌+◌, ◌*◌, ◌<◌, ◌^◌, List, ◌++◌, All, Result, Ok, Err, drop, length, map}
+use Rattle.std.specs.Prelude.{◌≡◌, ◌+◌, ◌*◌, ◌<◌, ◌^◌, List, ◌++◌, All, Result, Ok, Err, length, map}
 use Rattle.cell_world.specs.declared.fail.Fail.{Fail}
 use Rattle.cell_world.specs.declared.fail.Fail.TheVariants.{Refused, OutOfMemory}
 use Rattle.cell_world.specs.World.{World, Cell, Attached}
 use Rattle.cell_world.specs.Coherent.{IsLoadable}
 use Rattle.cell_world.specs.Fit.{first_misfit}
-use Rattle.cell_world.specs.Names.{names_of}
 use Rattle.cell_world.specs.Outcome.{Outcome, ◌>>=◌, refused_by}
 use Rattle.cell_world.specs.Place.{page_table}
 use Rattle.cell_law.specs.Loading.{ManyTaken, objects_of, placed_after, placed_cells, take_all}
@@ -23,23 +22,23 @@ use Rattle.cell_machine.specs.declared.staged.Staged.{Staged}
 use Rattle.cell_machine.specs.Machine.{AreParts, world_of}
 use Rattle.cell_machine.specs.Staged.{AreNewIn, IsStaged}
 
-abbrev pub new_cells : SpacesState → Gathered → List Cell
-new_cells spaces g = cells_of g.cells.items (drop (length spaces.cells) g.ahead.cells)
+abbrev pub new_cells : Gathered → List Cell
+new_cells g = cells_of g.cells.items g.ahead.fresh
 
 pub record AreGathered (spaces : SpacesState) (g : Gathered) : Type 0 where
   pub namespaces : g.ahead.namespaces ≡ spaces.namespaces
-  pub placed : map placed_of (new_cells spaces g) ≡ g.cells.items
-  pub cells : g.ahead.cells ≡ spaces.cells ++ map called (new_cells spaces g)
-  pub names : g.names.items ≡ map names_of (new_cells spaces g)
-  pub attached : All (λ c. c.standing ≡ Attached) (new_cells spaces g)
+  pub placed : map placed_of (new_cells g) ≡ g.cells.items
+  pub cells : g.ahead.cells ≡ spaces.cells ++ map called (new_cells g)
+  pub fresh : g.ahead.fresh ≡ map called (new_cells g)
+  pub attached : All (λ c. c.standing ≡ Attached) (new_cells g)
   pub objects : All (λ c. IsLoadable c.object) g.cells.items
 
 pub record CanStage (m : Machine) (g : Gathered) : Type 0 where
   pub parts : AreParts m
   pub gathered : AreGathered m.spaces g
   pub low : m.memory.base + 4096 * m.memory.pages < 2 ^ 63
-  pub stand : (t : ManyTaken) → take_all m.memory.base (page_table (world_of m)) (objects_of (new_cells m.spaces g)) ≡ Ok t
-      → AreNewIn (world_of m) (placed_after t.starts (world_of m) (new_cells m.spaces g)) (placed_cells t.starts (new_cells m.spaces g))
+  pub stand : (t : ManyTaken) → take_all m.memory.base (page_table (world_of m)) (objects_of (new_cells g)) ≡ Ok t
+      → AreNewIn (world_of m) (placed_after t.starts (world_of m) (new_cells g)) (placed_cells t.starts (new_cells g))
 
 abbrev pub placing : World → List Cell → Outcome (Unit {0})
 placing u new =

@@ -10,7 +10,7 @@ use crate::link::{Linked, link_new};
 use crate::placing::place;
 use cell_gather::Gathered;
 use cell_machine::{Machine, Staged};
-use cell_space::Ahead;
+use cell_space::{Ahead, into_names};
 use cell_target::Scene;
 use cell_world::{Fail, NewCell};
 use std::alloc::Global;
@@ -41,15 +41,12 @@ fn link_among(
 /// whose number is outside its kind's range.
 pub fn stage(alloc: Global, machine: &Machine, gathered: Gathered) -> Result<Staged, Fail>
     requires { CanStage machine.now gathered }
-    ensures { Stages (world_of machine.now) (new_cells machine.now.spaces gathered.entry) result }
+    ensures { Stages (world_of machine.now) (new_cells gathered.entry) result }
 {
-    let Gathered {
-        cells,
-        names,
-        ahead,
-    } = gathered;
+    let Gathered { cells, ahead } = gathered;
     let (space, placed) = place(alloc, &machine.space, cells)?;
     let linked = link_among(alloc, machine, &ahead, &placed.cells)?;
+    let names = into_names(alloc, ahead.into_fresh())?;
     Ok(Staged {
         cells: placed.cells,
         names,

@@ -1,6 +1,6 @@
 //! Which cells a load brings.
 
-ghost use Rattle.std.specs.Prelude.{◌≡◌, ◌≤◌, All, IfOk, length, map, true};
+ghost use Rattle.std.specs.Prelude.{◌≡◌, ◌≤◌, All, IfOk, length, map, None, true};
 ghost use Rattle.cell_depot.specs.Files.{are_apart};
 ghost use Rattle.cell_depot.specs.Found.{IsOnly};
 ghost use Rattle.cell_world.specs.Following.{Follows};
@@ -48,10 +48,14 @@ fn one_file<'a>(alloc: Global, depot: &'a Depot, ns: &[u8], stem: &[u8]) -> Resu
 
 /// The wanted cell of a file.
 fn want(alloc: Global, ns: u16, file: &File) -> Result<Want, AllocError>
-    ensures { IfOk result (λ want. want ≡ record { ns = ns; file = file.now.name }) }
+    ensures { IfOk result (λ want. want ≡ record { ns = ns; file = file.now.name; replaces = None }) }
 {
     let file = file.name.copy(alloc)?;
-    Ok(Want { ns, file })
+    Ok(Want {
+        ns,
+        file,
+        replaces: None,
+    })
 }
 
 /// The new cells of `load NS STEM`, which have no places yet.
@@ -78,5 +82,6 @@ pub fn load_cells<'a>(
         present,
         machine.next,
         std::slice::from_ref(&want),
+        false,
     )
 }

@@ -1,4 +1,4 @@
-use Rattle.std.proofs.Common.{◌∙◌, ap, subst, List, [], ◌∷◌}
+use Rattle.std.proofs.Common.{◌∙◌, ap, false, subst, List, [], ◌∷◌}
 use Rattle.cell_gather.specs.declared.want.Want.{Want}
 use Rattle.cell_gather.specs.Gathering.{Gathers}
 use Rattle.cell_load.proofs.Gathers.{gathers, numbers_given}
@@ -10,5 +10,5 @@ gather-requires-clause-given c = numbers_given c.args.machine.now c.requires.sou
 pub returns : goal.returns
 returns c =
     let wanted = c.from_ref.ensures.value ∙ ap (λ (want : Want). want ∷ []) (c.in_ok-want.ensures {u = tt}) in
-    let gathered = subst (λ (wants : List Want). Gathers c.args.depot.now c.args.machine.now.spaces c.args.machine.now.next wants c.gather.result) wanted c.gather.ensures in
+    let gathered = subst (λ (wants : List Want). Gathers c.args.depot.now c.args.machine.now.spaces c.args.machine.now.next wants false c.gather.result) wanted c.gather.ensures in
     gathers c.args.machine.now c.requires.sound c.args.depot.now c.requires.apart c.args.ns.now c.args.stem.now c.in_ok-number.number c.in_ok-number.ensures.number c.in_ok-file.file.now c.in_ok-file.ensures.only c.gather.result gathered
