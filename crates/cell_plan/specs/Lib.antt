@@ -4,3 +4,5 @@ pub mod Lasts
 pub mod Firsts
 pub mod Lost
 pub mod Changes
+pub mod Staying
+pub mod Users
