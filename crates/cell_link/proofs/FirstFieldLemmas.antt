@@ -41,7 +41,7 @@ pub among_new : (before : List Entry) (x : Entry) (xs : List Entry) → list_any
 among_new before x xs h = when_false (list_any (is_at x) before) (fields_among before xs) (x ∷ fields_among (x ∷ before) xs) h
 
 -- one more entry makes a field where none is at its place
-among_push : (before es : List Entry) (e : Entry) → fields_among before (es ++ e ∷ []) ≡ fields_among before es ++ cond (list_any (is_at e) before || list_any (is_at e) es) [] (e ∷ [])
+pub among_push : (before es : List Entry) (e : Entry) → fields_among before (es ++ e ∷ []) ≡ fields_among before es ++ cond (list_any (is_at e) before || list_any (is_at e) es) [] (e ∷ [])
 among_push before [] e = last (list_any (is_at e) before)
   where
     last : (b : Bool) → elim b as (λ _. List Entry) [ true ↦ [] | false ↦ e ∷ [] ] ≡ cond (b || false) [] (e ∷ [])

@@ -11,4 +11,5 @@ mod symbols;
 mod targets;
 
 pub use cell_world::{NewCell, Target};
+pub use highs::Highs;
 pub use scene::Scene;

@@ -1,0 +1,29 @@
+//! What a swap changes in cells that stay, and which task stands inside a part of it.
+#![tactic(auto)]
+
+mod changes;
+mod firsts;
+mod lasts;
+mod laws;
+mod moves;
+mod old;
+mod partners;
+mod places;
+mod span;
+mod spans;
+mod spots;
+mod torn;
+mod uppers;
+mod users;
+
+pub use cell_link::{FieldValue, LinkFail};
+pub use cell_num::CellId;
+pub use cell_object::Entry;
+pub use cell_world::{LinkRow, NewCell, Target};
+pub use changes::{Change, Changes, changes_of};
+pub use laws::{links_are_own, lost_is_changed, users_are_enough};
+pub use old::Old;
+pub use span::Span;
+pub use spans::spans_of;
+pub use torn::{TaskPc, Torn, first_torn};
+pub use users::users_of;

@@ -1,0 +1,64 @@
+//! The cells that a swap puts aside.
+
+ghost use Rattle.std.specs.Prelude.{◌≡◌, ◌==◌, ◌||◌, ℕ, IfOk, OnOk, map, slice_get};
+ghost use Rattle.std.specs.List.{list_any};
+ghost use Rattle.std.specs.Ordering.{nat_cmp};
+ghost use Rattle.std.specs.BTreeSet.{contains};
+ghost use Rattle.cell_num.specs.Lists.{holds};
+ghost use Rattle.cell_swaps_law.specs.Targets.{is_target_in};
+
+use cell_num::CellId;
+use cell_world::Target;
+use std::alloc::{AllocError, Global};
+use std::collections::BTreeSet;
+
+/// Some cells by their numbers.
+#[derive(Drop)]
+pub struct Old<'a> {
+    pub cells: &'a [CellId],
+    numbers: BTreeSet<u32>,
+    ghost are: { (q : ℕ) → contains nat_cmp numbers q ≡ list_any (λ c. c.0 == q) cells.now },
+}
+
+fn add_number(numbers: &mut BTreeSet<u32>, cell: CellId) -> Result<(), AllocError>
+    ensures { OnOk result ((q : ℕ) → contains nat_cmp numbers.new q ≡ (contains nat_cmp numbers.old q || cell.0 == q)) }
+{
+    numbers.insert(cell.0)?;
+    Ok(())
+}
+
+fn numbers_of(alloc: Global, cells: &[CellId]) -> Result<BTreeSet<u32>, AllocError>
+    ensures { IfOk result (λ numbers. (q : ℕ) → contains nat_cmp numbers q ≡ list_any (λ c. c.0 == q) cells.now) }
+{
+    let mut numbers = BTreeSet::new(alloc);
+    for index in 0..cells.len() {
+        add_number(&mut numbers, cells[index])?;
+    }
+    Ok(numbers)
+}
+
+impl<'a> Old<'a> {
+    pub fn of(alloc: Global, cells: &'a [CellId]) -> Result<Old<'a>, AllocError>
+        ensures { IfOk result (λ old. old.cells.now ≡ cells.now) }
+    {
+        let numbers = numbers_of(alloc, cells)?;
+        Ok(Old { cells, numbers })
+    }
+
+    #[tactic(auto, using(crate::proofs::Lists::any_map))]
+    pub fn has(&self, cell: CellId) -> bool
+        ensures { result ≡ holds (map (λ c. c.0) self.now.cells.now) cell.0 }
+    {
+        self.numbers.contains(&cell.0)
+    }
+
+    /// Whether the target at a place of a table is in one of the cells.
+    pub fn has_target(&self, targets: &[Target], place: u32) -> bool
+        ensures { result ≡ is_target_in (map (λ c. c.0) self.now.cells.now) (slice_get targets.now place) }
+    {
+        match targets.get(place as usize) {
+            Some(Target::Section { key, .. }) => self.has(key.cell),
+            _ => false,
+        }
+    }
+}

@@ -1,0 +1,114 @@
+//! Fields and links that change.
+
+ghost use Rattle.std.specs.Prelude.{◌≡◌, ◌<◌, ◌^◌, length};
+
+use crate::cell::{START, cell, entry};
+use cell_link::{FieldValue, LinkFail};
+use cell_num::{RelKind, SecKey};
+use cell_object::Entry;
+use cell_plan::{CellId, Change, Changes, LinkRow, Old, Target, changes_of};
+use std::alloc::Global;
+use std::test::*;
+
+/// Section 1 of a cell.
+fn key(cell: u32) -> SecKey {
+    SecKey {
+        cell: CellId(cell),
+        section: 1,
+    }
+}
+
+/// The start of section 1 of a cell.
+fn target(cell: u32, addr: u64) -> Target {
+    Target::Section {
+        key: key(cell),
+        offset: 0,
+        addr,
+    }
+}
+
+/// The link of an entry of cell 1 into section 1 of another.
+fn link(entry: u32, cell: u32) -> LinkRow {
+    LinkRow {
+        user: key(1),
+        entry,
+        target: key(cell),
+    }
+}
+
+/// What changes in a cell with these entries where cells 2 and 3 are old ones.
+fn changes(
+    alloc: Global,
+    entries: &[Entry],
+    targets: &[Target],
+    links: &[LinkRow],
+) -> Result<Changes, LinkFail>
+    requires each { length targets.now ≡ length entries.now }
+    requires few { length entries.now < 2 ^ 32 }
+{
+    let cell = cell(alloc, entries)?;
+    let cells = [CellId(2), CellId(3)];
+    let old = Old::of(alloc, &cells)?;
+    changes_of(alloc, &cell, targets, links, &old)
+}
+
+/// A word of cell 1.
+fn word(field: Entry, value: u64) -> Change {
+    Change {
+        field,
+        value: FieldValue {
+            addr: START + u64::from(field.offset),
+            width: 4,
+            value,
+        },
+    }
+}
+
+/// Of the two entries at the first word, the second named an old cell.
+#[test]
+fn one_of_two_entries_at_a_field(rt: HostRuntime) -> Result<(), Fail> {
+    let alloc = rt.alloc();
+    let entries = [
+        entry(0, RelKind::Add32, 1),
+        entry(0, RelKind::Sub32, 2),
+        entry(4, RelKind::Abs32, 3),
+        entry(8, RelKind::Abs32, 2),
+    ];
+    let targets = [
+        target(4, 0x1014),
+        target(5, 0x1000),
+        target(4, 0x1014),
+        target(5, 0x1000),
+    ];
+    let links = [link(0, 4), link(1, 2), link(2, 4), link(3, 3)];
+    let changed = changes(alloc, &entries, &targets, &links)?;
+    assert!(rt;
+        changed.fields.as_slice() == [word(entries[0], 0x14), word(entries[3], 0x1000)].as_slice()
+    );
+    assert!(rt; changed.moves.as_slice() == [link(1, 5), link(3, 5)].as_slice());
+    Ok(())
+}
+
+/// A link into an old cell whose entry still names one stays as it is.
+#[test]
+fn still_in_an_old_cell(rt: HostRuntime) -> Result<(), Fail> {
+    let alloc = rt.alloc();
+    let entries = [entry(0, RelKind::Abs32, 1)];
+    let changed = changes(alloc, &entries, &[target(3, 0x1000)], &[link(0, 2)])?;
+    assert!(rt; changed.fields.is_empty());
+    assert!(rt; changed.moves.is_empty());
+    let kept = changes(alloc, &entries, &[target(4, 0x1000)], &[link(0, 4)])?;
+    assert!(rt; kept.fields.is_empty());
+    assert!(rt; kept.moves.is_empty());
+    Ok(())
+}
+
+#[test]
+fn a_field_that_does_not_fit(rt: HostRuntime) -> Result<(), Fail> {
+    let alloc = rt.alloc();
+    let entries = [entry(0, RelKind::Abs64, 1), entry(8, RelKind::Jal, 1)];
+    let far = target(4, 0x7000_0000);
+    let misfit = changes(alloc, &entries, &[far, far], &[link(0, 2), link(1, 2)]);
+    assert!(rt; matches!(misfit, Err(LinkFail::Overflow { entry: 1 })));
+    Ok(())
+}

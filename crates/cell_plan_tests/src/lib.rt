@@ -1,0 +1,9 @@
+//! Tests of what a swap changes in cells that stay.
+#![tactic(auto)]
+
+#[cfg(test)]
+mod cell;
+#[cfg(test)]
+mod changes;
+#[cfg(test)]
+mod torn;
