@@ -14,8 +14,8 @@ use Rattle.cell_world.specs.Layout.{is_in_class, gap, class_of, offset_in, laid_
 use Rattle.cell_world.specs.declared.layout.Class.TheVariants.{Text, ReadOnly, Writable}
 use Rattle.cell_world.specs.declared.layout.Class.{Class}
 use Rattle.cell_coherent.specs.Grown.{In}
-use Rattle.cell_law.proofs.Elements.{all-In, all-filter, In-filtered, In-right}
-use Rattle.cell_law.proofs.Offsets.{running_offset}
+use Rattle.cell_load_law.proofs.Elements.{all-In, all-filter, In-filtered, In-right}
+use Rattle.cell_load_law.proofs.Offsets.{running_offset}
 use Rattle.cell_layout.specs.declared.layout.Ends.{Ends}
 use Rattle.cell_layout.specs.Layout.{in_class, end_for, with_end, end_of, AreEnds, AreSmall, next_in, offset_among, offset_place}
 use Rattle.cell_layout.proofs.Bounds.{laid_small, gap_small, size_small, filter_shorter}

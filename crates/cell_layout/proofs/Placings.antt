@@ -11,10 +11,10 @@ use Rattle.cell_world.specs.declared.layout.Class.TheVariants.{Text, ReadOnly, W
 use Rattle.cell_world.specs.declared.layout.Class.{Class}
 use Rattle.cell_world.specs.declared.layout.Starts.{Starts}
 use Rattle.cell_coherent.specs.Grown.{In}
-use Rattle.cell_law.specs.Loading.{Taken, AllTaken, take_run, take_for, take_class, take_runs}
-use Rattle.cell_law.proofs.Binds.{bind_same}
-use Rattle.cell_law.proofs.Elements.{all-filter, pairs-filter, filter-In}
-use Rattle.cell_law.proofs.Offsets.{run_rounded, run_within}
+use Rattle.cell_load_law.specs.Loading.{Taken, AllTaken, take_run, take_for, take_class, take_runs}
+use Rattle.cell_load_law.proofs.Binds.{bind_same}
+use Rattle.cell_load_law.proofs.Elements.{all-filter, pairs-filter, filter-In}
+use Rattle.cell_load_law.proofs.Offsets.{run_rounded, run_within}
 use Rattle.cell_layout.specs.declared.layout.Ends.{Ends}
 use Rattle.cell_layout.specs.Layout.{in_class, end_for, end_of, AreEnds, AreSmall}
 use Rattle.cell_layout.specs.Placing.{taken_by, all_taken_by}

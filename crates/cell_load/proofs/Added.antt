@@ -4,7 +4,7 @@ use Rattle.std.specs.Prelude.{fold}
 use Rattle.std.proofs.lemmas.List.{length-map}
 use Rattle.cell_world.specs.World.{World, Region}
 use Rattle.cell_world.specs.Relink.{patched}
-use Rattle.cell_law.specs.Loading.{objects_of}
+use Rattle.cell_load_law.specs.Loading.{objects_of}
 use Rattle.cell_mem.specs.State.{MemoryState}
 use Rattle.cell_commit.specs.Commit.{all_mapped, patches_from}
 use Rattle.cell_commit.proofs.Mapping.{mapped_base, mapped_maps, mapped_pages, mapped_patches, mapped_regions, mapped_sealed, mapped_undo}

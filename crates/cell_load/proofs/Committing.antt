@@ -17,7 +17,7 @@ use Rattle.cell_world.specs.Relink.{Patch}
 use Rattle.cell_coherent.specs.Grown.{In}
 use Rattle.cell_coherent.proofs.Elements.{all-In, All-In, In-map, In-right}
 use Rattle.cell_coherent.proofs.Ready.{limit_parts}
-use Rattle.cell_law.specs.Loading.{objects_of}
+use Rattle.cell_load_law.specs.Loading.{objects_of}
 use Rattle.cell_link.specs.declared.value.FieldValue.{FieldValue}
 use Rattle.cell_graph.specs.Order.{Rises, below_link}
 use Rattle.cell_space.specs.declared.cell.SpaceCell.{SpaceCell}

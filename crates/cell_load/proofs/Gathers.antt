@@ -13,9 +13,9 @@ use Rattle.cell_coherent.specs.Grown.{In}
 use Rattle.cell_coherent.proofs.Elements.{In-All}
 use Rattle.cell_depot.specs.Files.{are_apart}
 use Rattle.cell_depot.specs.Found.{IsOnly}
-use Rattle.cell_law.specs.Loading.{gathered_by, grown}
-use Rattle.cell_law.proofs.Elements.{In-map}
-use Rattle.cell_law.proofs.Loads.{older}
+use Rattle.cell_load_law.specs.Loading.{gathered_by, grown}
+use Rattle.cell_load_law.proofs.Elements.{In-map}
+use Rattle.cell_load_law.proofs.Loads.{older}
 use Rattle.cell_space.specs.Machine.{called}
 use Rattle.cell_space.specs.Joined.{placed_of}
 use Rattle.cell_space.proofs.Joined.{cells_are}

@@ -16,8 +16,8 @@ use Rattle.cell_coherent.specs.Grown.{links_from, with_fields}
 use Rattle.cell_coherent.specs.Loading.{HasPlaced}
 use Rattle.cell_coherent.proofs.LoadLinks.{is_linkable, is_ready, links, relinks}
 use Rattle.cell_coherent.proofs.Relinks.{coherent_relinked}
-use Rattle.cell_law.specs.Loading.{ManyTaken, gathered_by, grown, objects_of, placed_after, placed_cells, take_all}
-use Rattle.cell_law.proofs.Loads.{fresh_placed, has_placed as placed_of, load_full}
+use Rattle.cell_load_law.specs.Loading.{ManyTaken, gathered_by, grown, objects_of, placed_after, placed_cells, take_all}
+use Rattle.cell_load_law.proofs.Loads.{fresh_placed, has_placed as placed_of, load_full}
 use Rattle.cell_machine.specs.Staged.{AreNewIn, ComesTo}
 use Rattle.cell_load.specs.Stages.{placing}
 use Rattle.cell_load.proofs.Refusals.{load_overflows}

@@ -7,7 +7,7 @@ use Rattle.cell_world.specs.declared.state.NewCell.{NewCell}
 use Rattle.cell_world.specs.Coherent.{IsLoadable}
 use Rattle.cell_world.specs.declared.layout.Starts.{Starts}
 use Rattle.cell_world.specs.World.{attached}
-use Rattle.cell_law.specs.Loading.{placed_cells}
+use Rattle.cell_load_law.specs.Loading.{placed_cells}
 use Rattle.cell_place.specs.Space.{SpaceState}
 use Rattle.cell_layout.specs.declared.placement.PlaceFail.{PlaceFail}
 use Rattle.cell_layout.specs.declared.placement.PlaceFail.TheVariants.{NoRoom, OutOfMemory as NoMemory}

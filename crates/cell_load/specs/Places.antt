@@ -4,7 +4,7 @@
 use Rattle.std.specs.Prelude.{◌≡◌, List, Result, Ok, Err}
 use Rattle.cell_world.specs.declared.refusal.Refusal.TheVariants.{Exhausted}
 use Rattle.cell_world.specs.declared.state.NewCell.{NewCell}
-use Rattle.cell_law.specs.Loading.{take_all}
+use Rattle.cell_load_law.specs.Loading.{take_all}
 use Rattle.cell_place.specs.Space.{SpaceState}
 use Rattle.cell_layout.specs.declared.cells.PlacedCells.{PlacedCells}
 use Rattle.cell_layout.specs.declared.placement.PlaceFail.{PlaceFail}

@@ -12,7 +12,7 @@ use Rattle.cell_world.specs.Coherent.{IsLoadable}
 use Rattle.cell_world.specs.Fit.{first_misfit}
 use Rattle.cell_world.specs.Outcome.{Outcome, ◌>>=◌, refused_by}
 use Rattle.cell_world.specs.Place.{page_table}
-use Rattle.cell_law.specs.Loading.{ManyTaken, objects_of, placed_after, placed_cells, take_all}
+use Rattle.cell_load_law.specs.Loading.{ManyTaken, objects_of, placed_after, placed_cells, take_all}
 use Rattle.cell_space.specs.Joined.{cells_of, placed_of}
 use Rattle.cell_space.specs.Machine.{called}
 use Rattle.cell_space.specs.Spaces.{SpacesState}

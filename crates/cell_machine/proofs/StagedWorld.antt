@@ -9,8 +9,8 @@ use Rattle.cell_world.specs.Names.{names_of}
 use Rattle.cell_world.specs.declared.layout.Starts.{Starts}
 use Rattle.cell_coherent.specs.Grown.{In}
 use Rattle.cell_coherent.proofs.Elements.{All-In}
-use Rattle.cell_law.specs.Loading.{ManyTaken, placed_after, placed_cell, placed_cells}
-use Rattle.cell_law.proofs.Elements.{filter-Passes, pairs-filter}
+use Rattle.cell_load_law.specs.Loading.{ManyTaken, placed_after, placed_cell, placed_cells}
+use Rattle.cell_load_law.proofs.Elements.{filter-Passes, pairs-filter}
 use Rattle.cell_space.specs.Machine.{called, state_of}
 use Rattle.cell_space.specs.Joined.{placed_of}
 use Rattle.cell_space.specs.declared.cell.SpaceCell.{SpaceCell}

@@ -25,7 +25,7 @@ use Rattle.cell_coherent.specs.Present.{HasSection, JoinsPresent}
 use Rattle.cell_coherent.proofs.Elements.{all-In, In-all, All-In, In-append, found-In, any-In, any-Has, map-In, In-map, In-flat_map, pairs-map, pairs_same}
 use Rattle.cell_coherent.proofs.Known.{object_sound}
 use Rattle.cell_coherent.proofs.Present.{links_present, some_same}
-use Rattle.cell_law.proofs.Elements.{pairs-filter}
+use Rattle.cell_load_law.proofs.Elements.{pairs-filter}
 use Rattle.cell_graph.specs.Links.{is_same}
 use Rattle.cell_machine.specs.Machine.{section_keys}
 use Rattle.cell_machine.specs.LinkOrder.{is_before}

@@ -18,11 +18,11 @@ use Rattle.cell_world.specs.declared.refusal.Refusal.TheVariants.{Exhausted}
 use Rattle.cell_coherent.proofs.NewPlaced.{in_order, one_changes}
 use Rattle.cell_coherent.proofs.Renamed.{bare, pairs_bare}
 use Rattle.cell_coherent.specs.Grown.{In}
-use Rattle.cell_law.specs.Loading.{Taken, take_for, take_class, AllTaken, ManyTaken, take_runs, take_all, with_run_of, with_classes, with_all, objects_of, placed_cell, placed_cells}
-use Rattle.cell_law.proofs.Binds.{bind_map, bind_assoc, bind_same, bind_ok, ok_same}
-use Rattle.cell_law.proofs.Elements.{all-In, found-In}
-use Rattle.cell_law.proofs.Offsets.{image_pages}
-use Rattle.cell_law.proofs.Tables.{table_with, length-from}
+use Rattle.cell_load_law.specs.Loading.{Taken, take_for, take_class, AllTaken, ManyTaken, take_runs, take_all, with_run_of, with_classes, with_all, objects_of, placed_cell, placed_cells}
+use Rattle.cell_load_law.proofs.Binds.{bind_map, bind_assoc, bind_same, bind_ok, ok_same}
+use Rattle.cell_load_law.proofs.Elements.{all-In, found-In}
+use Rattle.cell_load_law.proofs.Offsets.{image_pages}
+use Rattle.cell_load_law.proofs.Tables.{table_with, length-from}
 
 past_table : (table : List Bool) (k : ℕ) → length table ≤ k → slice_index_or table k true ≡ true
 past_table [] k h = refl

@@ -12,7 +12,7 @@ use Rattle.cell_world.specs.Memory.{covers, end_of}
 use Rattle.cell_world.specs.Pages.{filled}
 use Rattle.cell_world.specs.Place.{is_taken, page_table, with_region}
 use Rattle.cell_coherent.specs.Grown.{In}
-use Rattle.cell_law.proofs.Elements.{map_same}
+use Rattle.cell_load_law.proofs.Elements.{map_same}
 
 from_split : (a m n : ℕ) → from_on a (m + n) ≡ from_on a m ++ from_on (a + m) n
 from_split a zero n = let i : zero + n ≡ n = omega arith in let j : a ≡ a + zero = omega arith in ap₂ from_on j i

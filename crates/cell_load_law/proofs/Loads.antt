@@ -20,10 +20,10 @@ use Rattle.cell_coherent.proofs.LoadGrown.{all_gathered}
 use Rattle.cell_coherent.proofs.Ready.{append_same}
 use Rattle.cell_coherent.specs.Grown.{In}
 use Rattle.cell_world.specs.Coherent.{IsCoherent}
-use Rattle.cell_law.specs.Loading.{ManyTaken, gathered_by, grown, objects_of, placed_after, placed_cells, take_all}
-use Rattle.cell_law.proofs.Binds.{bind_assoc, bind_err, bind_ok}
-use Rattle.cell_law.proofs.Elements.{all-In, filter_all, filter_none}
-use Rattle.cell_law.proofs.Placing.{all_is}
+use Rattle.cell_load_law.specs.Loading.{ManyTaken, gathered_by, grown, objects_of, placed_after, placed_cells, take_all}
+use Rattle.cell_load_law.proofs.Binds.{bind_assoc, bind_err, bind_ok}
+use Rattle.cell_load_law.proofs.Elements.{all-In, filter_all, filter_none}
+use Rattle.cell_load_law.proofs.Placing.{all_is}
 
 -- gathering is refused
 pub load_refused : (sources : List Source) (w : World) (ns stem : List ℕ) (r : Refusal) → gathered_by sources w ns stem ≡ Err r → next_load sources w ns stem ≡ Err r
