@@ -79,7 +79,10 @@ fn images_by_hand(rt: HostRuntime) -> Result<(), Fail> {
     for (number, case) in IMAGES.iter().enumerate() {
         let image = written(rt.alloc(), &case.parts)?;
         assert!(rt; image.as_slice() == case.bytes, "image {number}");
-        assert!(rt; has_fields(image.as_slice(), &case.fields), "image {number}");
+        assert!(rt;
+            has_fields(image.as_slice(), &case.fields),
+            "image {number}"
+        );
     }
     Ok(())
 }
