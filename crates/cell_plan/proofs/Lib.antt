@@ -5,3 +5,5 @@ pub mod Ends
 pub mod Lists
 pub mod Staying
 pub mod Using
+pub mod Moving
+pub mod Unfit

@@ -27,7 +27,7 @@ use Rattle.cell_plan.specs.Lost.{is_lost_at, is_lost_spot}
 use Rattle.cell_plan.specs.Staying.{links_in, is_user, StaysBy}
 
 -- a name without a provider counts as a number, which is in no cell
-in_or_zero : (old : List ℕ) (o : Option Target) → is_target_in old (Some (unwrap_or o (Number 0))) ≡ is_target_in old o
+pub in_or_zero : (old : List ℕ) (o : Option Target) → is_target_in old (Some (unwrap_or o (Number 0))) ≡ is_target_in old o
 in_or_zero old None = refl
 in_or_zero old (Some (Section key offset addr)) = refl
 in_or_zero old (Some (Number value)) = refl
@@ -43,13 +43,13 @@ and_none true = refl
 and_none false = refl
 
 -- the rest of the entries stands in the table from place k on
-abbrev StandsFrom : List Entry → ℕ → List Entry → Type 0
+abbrev pub StandsFrom : List Entry → ℕ → List Entry → Type 0
 StandsFrom es k rest = (j : ℕ) (e : Entry) → slice_get rest j ≡ Some e → slice_get es (k + j) ≡ Some e
 
-stands_at_head : (es : List Entry) (k : ℕ) (e : Entry) (rest : List Entry) → StandsFrom es k (e ∷ rest) → slice_get es k ≡ Some e
+pub stands_at_head : (es : List Entry) (k : ℕ) (e : Entry) (rest : List Entry) → StandsFrom es k (e ∷ rest) → slice_get es k ≡ Some e
 stands_at_head es k e rest stands = ap (slice_get es) (omega arith) ∙ stands zero e refl
 
-stands_behind : (es : List Entry) (k : ℕ) (e : Entry) (rest : List Entry) → StandsFrom es k (e ∷ rest) → StandsFrom es (suc k) rest
+pub stands_behind : (es : List Entry) (k : ℕ) (e : Entry) (rest : List Entry) → StandsFrom es k (e ∷ rest) → StandsFrom es (suc k) rest
 stands_behind es k e rest stands = λ j d there. ap (slice_get es) (omega arith) ∙ stands (suc j) d there
 
 -- the entry's link is lost exactly where the entry loses its target

@@ -1,8 +1,11 @@
 -- What changes in one cell once some cells are put aside.
 --     AreChanges old c targets links r     the fields at which a link is lost, with what they hold by now, and the lost links as they lead by now;
 --                                          or the first entry that doesn't fit
+--     entry_overflow c e                   the refusal for an entry that doesn't fit
 use Rattle.std.specs.Prelude.{◌≡◌, ℕ, List, None, Some, Result, Ok, Err, map, filter, slice_get}
 use Rattle.cell_object.specs.declared.object.Entry.{Entry}
+use Rattle.cell_world.specs.declared.refusal.Refusal.{Refusal}
+use Rattle.cell_world.specs.declared.refusal.Refusal.TheVariants.{Overflow as OverflowRefusal}
 use Rattle.cell_world.specs.declared.state.LinkRow.{LinkRow}
 use Rattle.cell_world.specs.declared.state.NewCell.{NewCell}
 use Rattle.cell_world.specs.declared.state.Target.{Target}
@@ -32,6 +35,9 @@ pub record AreChanged (old : List ℕ) (c : NewCell) (targets : List Target) (li
   pub fit : first_unfit c targets ≡ None
   pub fields : changes.fields.items ≡ map (change_by (value_at c targets)) (lost_fields old c targets links)
   pub moves : changes.moves.items ≡ lost_links old targets links
+
+abbrev pub entry_overflow : NewCell → Entry → Refusal
+entry_overflow c e = OverflowRefusal c.id e.section e.offset e.kind
 
 abbrev pub AreChanges : List ℕ → NewCell → List Target → List LinkRow → Result Changes LinkFail → Type 0
 AreChanges old c targets links (Ok changes) = AreChanged old c targets links changes

@@ -1,15 +1,19 @@
 //! That what is found by links is what the definitions of a swap name, on any two machines.
 
-ghost use Rattle.std.specs.Prelude.{ℕ, ◌≡◌, ◌==◌, nat_lt, IsTrue, List, All, filter, flat_map};
-ghost use Rattle.cell_world.specs.Changed.{changed_fields, changed_in, changed_misfit, first_changed_misfit, is_changed, now_in};
+ghost use Rattle.std.specs.Prelude.{ℕ, ◌≡◌, ◌==◌, nat_lt, IsTrue, List, All, None, Some, false, filter, flat_map, map, slice_get};
+ghost use Rattle.cell_world.specs.Changed.{changed_fields, changed_in, changed_misfit, differs, first_changed_misfit, is_changed, now_in};
 ghost use Rattle.cell_world.specs.Field.{fields_of};
 ghost use Rattle.cell_world.specs.Fit.{misfit_in};
 ghost use Rattle.cell_world.specs.Relink.{links_of};
-ghost use Rattle.cell_world.specs.Target.{targets_of};
+ghost use Rattle.cell_world.specs.Target.{target_of, targets_of};
 ghost use Rattle.cell_coherent.specs.Grown.{In};
 ghost use Rattle.cell_num.specs.Lists.{each_pair};
-ghost use Rattle.cell_world.specs.World.{Cell, World};
-ghost use Rattle.cell_plan.specs.Changes.{lost_fields};
+ghost use Rattle.cell_world.specs.World.{Cell, World, cell_of};
+ghost use Rattle.cell_swaps_law.specs.Moved.{moved};
+ghost use Rattle.cell_object.specs.declared.object.Entry.{Entry};
+ghost use Rattle.cell_link.specs.Linked.{first_unfit};
+ghost use Rattle.cell_plan.specs.Changes.{entry_overflow, lost_fields, lost_links};
+ghost use Rattle.cell_plan.specs.Lost.{is_lost};
 ghost use Rattle.cell_plan.specs.Staying.{StaysBy, is_user, links_in};
 
 /// The fields of a cell at which a link is lost are those that change, and the first entry that doesn't
@@ -18,6 +22,9 @@ pub fn lost_is_changed()
     ensures fields { (v : World) (w : World) (old : List ℕ) (c : Cell) → StaysBy v w old c →
         lost_fields old (now_in w c).placed (targets_of w (now_in w c)) (links_in v c) ≡ filter (is_changed v w c) (fields_of c.object) }
     ensures misfit { (v : World) (w : World) (old : List ℕ) (c : Cell) → StaysBy v w old c → changed_misfit v w c ≡ misfit_in w (now_in w c) }
+    ensures refusal { (v : World) (w : World) (old : List ℕ) (c : Cell) → StaysBy v w old c → (place : ℕ) (e : Entry) → first_unfit (now_in w c).placed (targets_of w (now_in w c)) ≡ Some place → slice_get c.object.entries place ≡ Some e →
+        changed_misfit v w c ≡ Some (entry_overflow (now_in w c).placed e) }
+    ensures fits { (v : World) (w : World) (old : List ℕ) (c : Cell) → StaysBy v w old c → first_unfit (now_in w c).placed (targets_of w (now_in w c)) ≡ None → changed_misfit v w c ≡ None }
 {}
 
 /// In a cell without a link into an old cell nothing changes, so the cells with one are enough.
@@ -30,4 +37,14 @@ pub fn users_are_enough()
 pub fn links_are_own()
     ensures { (v : World) (c : Cell) → IsTrue (each_pair (λ a b. nat_lt a.id.0 b.id.0) v.cells) → v.links ≡ links_of v → In c v.cells →
         filter (λ l. l.user.cell.0 == c.id.0) v.links ≡ links_in v c }
+{}
+
+/// The links that move, as they lead by now, are those to the sections that their entries name by now. Each
+/// other link leads where it led, where an entry that doesn't differ names what it named.
+pub fn lost_links_move()
+    ensures moves { (v : World) (w : World) (old : List ℕ) (c : Cell) → StaysBy v w old c → cell_of w c.id.0 ≡ Some (now_in w c) →
+        lost_links old (targets_of w (now_in w c)) (links_in v c) ≡ map (moved w) (filter (is_lost old (targets_of w (now_in w c))) (links_in v c)) }
+    ensures others { (v : World) (w : World) (old : List ℕ) (c : Cell) → StaysBy v w old c → cell_of w c.id.0 ≡ Some (now_in w c) →
+        All (λ e. differs v w c e ≡ false → target_of w (now_in w c) e ≡ target_of v c e) c.object.entries →
+        All (λ l. is_lost old (targets_of w (now_in w c)) l ≡ false → moved w l ≡ l) (links_in v c) }
 {}

@@ -21,7 +21,7 @@ pub use cell_num::CellId;
 pub use cell_object::Entry;
 pub use cell_world::{LinkRow, NewCell, Target};
 pub use changes::{Change, Changes, changes_of};
-pub use laws::{links_are_own, lost_is_changed, users_are_enough};
+pub use laws::{links_are_own, lost_is_changed, lost_links_move, users_are_enough};
 pub use old::Old;
 pub use span::Span;
 pub use spans::spans_of;
