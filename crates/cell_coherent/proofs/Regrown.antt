@@ -22,7 +22,7 @@ use Rattle.cell_world.specs.declared.layout.Class.TheVariants.{Text, ReadOnly}
 use Rattle.cell_world.specs.declared.layout.Class.{Class}
 use Rattle.cell_world.specs.Changed.{FieldAt, now_in, is_changed, changed_in, changed_fields}
 use Rattle.cell_world.specs.Coherent.{IsReady, IsCoherent, ends_before}
-use Rattle.cell_coherent.specs.Grown.{IsOwn, links_from}
+use Rattle.cell_coherent.specs.Grown.{IsOwn, links_from, IsRegrown, patch_at, with_changes}
 use Rattle.cell_coherent.proofs.Elements.{In, all-In, In-all, In-right, In-append, In-map, In-flat_map, In-filtered, filter-Passes, first-In, pairs-In, flat_same, map_same}
 use Rattle.cell_coherent.proofs.FieldsInside.{among-In, field_inside, fields_end_in, length-bytes_of}
 use Rattle.cell_coherent.proofs.Distinct.{one_class}
@@ -31,7 +31,6 @@ use Rattle.cell_coherent.proofs.Relinked.{patches, own_image, restore, restored_
 use Rattle.cell_coherent.proofs.ImagesInside.{images_fit}
 use Rattle.cell_coherent.proofs.Regions.{none_there, passed_by, starts_at, restore_same, uncovered}
 use Rattle.cell_coherent.proofs.Lists.{fixed-In, map_filter, filter_same}
-use Rattle.cell_coherent.specs.Grown.{IsRegrown, patch_at, with_changes}
 use Rattle.cell_coherent.proofs.Offsets.{Apart}
 use Rattle.cell_coherent.proofs.FieldsApart.{AreFieldsApart, fields_apart}
 use Rattle.cell_coherent.proofs.Overwritten.{IsUpdate, overwritten}

@@ -1,6 +1,6 @@
 -- A command that is no swap changes no target of a cell that stays.
 use Rattle.std.proofs.Common.{◌≡◌, refl, sym, ◌∙◌, ap, subst, ℕ, List, map, Ok}
-use Rattle.std.specs.Prelude.{All, IsTrue}
+use Rattle.std.specs.Prelude.{All, IsTrue, length, nat_le, nat_lt}
 use Rattle.cell_num.specs.Lists.{holds}
 use Rattle.cell_object.specs.declared.object.Entry.{Entry}
 use Rattle.cell_world.specs.declared.command.Command.{Command}
@@ -21,7 +21,6 @@ use Rattle.cell_world.specs.Outcome.{found, need, refused_by}
 use Rattle.cell_world.specs.Answer.{Done, numbers_of, space_of}
 use Rattle.cell_world.specs.Next.{outcome_of}
 use Rattle.cell_world.specs.Coherent.{AreSound, IsCoherent}
-use Rattle.std.specs.Prelude.{length, nat_le, nat_lt}
 use Rattle.cell_coherent.specs.Grown.{HasAttached}
 use Rattle.cell_coherent.proofs.Appended.{ok_same}
 use Rattle.cell_coherent.proofs.Elements.{In, In-All, All-In, In-left, In-map, In-filtered}

@@ -15,7 +15,6 @@ use Rattle.cell_coherent.specs.Grown.{IsRegrown}
 use Rattle.cell_coherent.proofs.Elements.{In, In-All}
 use Rattle.cell_coherent.proofs.FreshLinks.{link_with}
 use Rattle.cell_coherent.proofs.Inside.{ready_linkable}
-use Rattle.cell_coherent.specs.Grown.{IsRegrown}
 use Rattle.cell_swaps_law.specs.Targets.{FollowsTargets}
 use Rattle.cell_coherent.proofs.Unchanged.{placed_same, target_same}
 

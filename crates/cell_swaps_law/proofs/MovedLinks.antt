@@ -20,7 +20,7 @@ use Rattle.cell_world.specs.Target.{provided_target, symbol_target, numbered_tar
 use Rattle.cell_world.specs.Relink.{link_of, relink}
 use Rattle.cell_world.specs.Changed.{now_in}
 use Rattle.cell_world.specs.Coherent.{IsReady, IsCoherent, is_supplied}
-use Rattle.cell_coherent.specs.Grown.{links_from}
+use Rattle.cell_coherent.specs.Grown.{links_from, IsRegrown}
 use Rattle.cell_coherent.proofs.Elements.{In, Has, all-In, In-numbered, get-In}
 use Rattle.cell_coherent.proofs.Known.{object_sound}
 use Rattle.cell_coherent.proofs.Targets.{In-find, provides, target_has}
@@ -29,7 +29,6 @@ use Rattle.cell_coherent.proofs.Inside.{ready_linkable}
 use Rattle.cell_coherent.proofs.Relinks.{coherent_relinked}
 use Rattle.cell_turns.proofs.Fixed.{links_fixed}
 use Rattle.cell_removal.proofs.TargetsLeft.{provided}
-use Rattle.cell_coherent.specs.Grown.{IsRegrown}
 use Rattle.cell_swaps_law.specs.Moved.{entry_at, led_to, moved}
 use Rattle.cell_coherent.proofs.Unchanged.{placed_same, now_There}
 use Rattle.std.proofs.lemmas.List.{map-append}
