@@ -24,8 +24,8 @@ fn section(alloc: Global) -> Result<Section, AllocError> {
     })
 }
 
-/// Cell 1, with one section at 0x10000000, a LOCAL symbol at its start, and these entries.
-pub fn cell(alloc: Global, entries: &[Entry]) -> Result<NewCell, AllocError>
+/// A cell with one section at 0x10000000, a LOCAL symbol at its start, and these entries.
+pub fn cell(alloc: Global, id: u32, entries: &[Entry]) -> Result<NewCell, AllocError>
     ensures entries { IfOk result (λ cell. cell.object.entries ≡ entries.now) }
     ensures starts { IfOk result (λ cell. All (λ p. p.start < 2 ^ 63) cell.places) }
     ensures low { IfOk result IsLow }
@@ -43,7 +43,7 @@ pub fn cell(alloc: Global, entries: &[Entry]) -> Result<NewCell, AllocError>
         start: START,
     };
     Ok(NewCell {
-        id: CellId(1),
+        id: CellId(id),
         ns: 0,
         stem: Name::of(alloc, b"a")?,
         file: Name::of(alloc, b"k#a.o")?,

@@ -46,7 +46,7 @@ fn changes(
     requires each { length targets.now ≡ length entries.now }
     requires few { length entries.now < 2 ^ 32 }
 {
-    let cell = cell(alloc, entries)?;
+    let cell = cell(alloc, 1, entries)?;
     let cells = [CellId(2), CellId(3)];
     let old = Old::of(alloc, &cells)?;
     changes_of(alloc, &cell, targets, links, &old)

@@ -7,3 +7,5 @@ mod cell;
 mod changes;
 #[cfg(test)]
 mod torn;
+#[cfg(test)]
+mod users;

@@ -19,7 +19,7 @@ fn torn_at(
 ) -> Result<Option<u32>, AllocError>
     requires { offset < 4096 }
 {
-    let cell = cell(alloc, entries)?;
+    let cell = cell(alloc, 1, entries)?;
     let spans = spans_of(alloc, &cell, fields)?;
     let task = TaskPc {
         task: 1,
@@ -110,7 +110,7 @@ fn the_lowest_field(rt: HostRuntime) -> Result<(), Fail> {
         entry(0, RelKind::Hi20, 3),
         entry(16, RelKind::Lo12I, 3),
     ];
-    let cell = cell(alloc, &entries)?;
+    let cell = cell(alloc, 1, &entries)?;
     let spans = spans_of(alloc, &cell, &[entries[0], entries[2]])?;
     let tasks = [
         TaskPc { task: 2, pc: START },
