@@ -206,73 +206,105 @@ fn holder(
     Ok(holder_of(&graph, memory, &places, roots, &into, CellId(cell)))
 }
 
+/// Two roots, and the cells that they keep, as bits.
+struct Kept([Root; 2], u32);
+
+const KEPT: [Kept; 7] = [
+    Kept([Root::Attached(CellId(3)), Root::Word(1, 0)], 0b1000),
+    Kept([Root::Word(1, BASE - 1), Root::Word(1, BASE + 0x31)], 0),
+    Kept([Root::Word(1, BASE), Root::Word(1, BASE + 0x30)], 0b10010),
+    Kept([Root::Word(1, BASE + 0x10), Root::Word(1, 0)], 0b110),
+    Kept([Root::Word(1, BASE + 0x20), Root::Word(1, 0)], 0b11100),
+    Kept([Root::Word(1, BASE + 0x60), Root::Word(1, 0)], 0b11100000),
+    Kept([Root::Word(1, BASE + 0xa4), Root::Word(1, 0)], 0b1100000000),
+];
+
 /// What a root, a word and a pc hold; both ends of a section count.
 #[test]
 fn words_and_roots(rt: HostRuntime) -> Result<(), Fail> {
     let memory = memory(rt.alloc())?;
-    for (roots, want) in [
-        ([Root::Attached(CellId(3)), Root::Word(1, 0)], 0b1000),
-        ([Root::Word(1, BASE - 1), Root::Word(1, BASE + 0x31)], 0),
-        ([Root::Word(1, BASE), Root::Word(1, BASE + 0x30)], 0b10010),
-        ([Root::Word(1, BASE + 0x10), Root::Word(1, 0)], 0b110),
-        ([Root::Word(1, BASE + 0x20), Root::Word(1, 0)], 0b11100),
-        ([Root::Word(1, BASE + 0x60), Root::Word(1, 0)], 0b11100000),
-        ([Root::Word(1, BASE + 0xa4), Root::Word(1, 0)], 0b1100000000),
-        (
-            [Root::Task(task(1, 2, BASE + 0x10, STACK)), Root::Word(1, 0)],
-            0b110,
-        ),
-    ] {
-        assert_eq!(rt; cells_kept(&rt, &memory, &roots)?, want);
+    for (number, case) in KEPT.iter().enumerate() {
+        assert_eq!(rt; cells_kept(&rt, &memory, &case.0)?, case.1, "case {number}");
     }
+    let of_pc = [Root::Task(task(1, 2, BASE + 0x10, STACK))];
+    assert_eq!(rt; cells_kept(&rt, &memory, &of_pc)?, 0b110);
     Ok(())
 }
+
+/// A number, and the cells that are kept, as bits.
+struct Bits(u64, u32);
+
+/// Values of x2.
+const TOPS: [Bits; 6] = [
+    Bits(STACK + 0xf8, 0b11100010),
+    Bits(STACK + 0x107, 0b11100010),
+    Bits(STACK + 0x108, 0b10),
+    Bits(STACK + 0x4000, 0b10),
+    Bits(STACK + 0x4001, 0b11100010),
+    Bits(STACK - 1, 0b11100010),
+];
 
 /// The words of a stack count from x2 on, rounded down, and all of them where x2 is outside.
 #[test]
 fn stacks(rt: HostRuntime) -> Result<(), Fail> {
     let mut memory = memory(rt.alloc())?;
     assert_eq!(rt; memory.store(STACK + 0x100, 8, BASE + 0x44), Ok(()));
-    for (top, want) in [
-        (STACK + 0xf8, 0b11100010),
-        (STACK + 0x107, 0b11100010),
-        (STACK + 0x108, 0b10),
-        (STACK + 0x4000, 0b10),
-        (STACK + 0x4001, 0b11100010),
-        (STACK - 1, 0b11100010),
-    ] {
-        let roots = [Root::Task(task(1, 1, 0, top))];
-        assert_eq!(rt; cells_kept(&rt, &memory, &roots)?, want, "x2 {top:x}");
+    for case in &TOPS {
+        let roots = [Root::Task(task(1, 1, 0, case.0))];
+        assert_eq!(rt; cells_kept(&rt, &memory, &roots)?, case.1, "x2 {}", case.0);
     }
     Ok(())
+}
+
+/// Places where a word is stored that points into a cell.
+const WORDS: [Bits; 6] = [
+    Bits(DATA + 0x8, 0b1100010110),
+    Bits(DATA + 0x18, 0b1100010110),
+    Bits(DATA + 0x28, 0b1100010110),
+    Bits(DATA + 0x20, 0b10110),
+    Bits(DATA + 0x30, 0b10110),
+    Bits(DATA + 0x40, 0b10110),
+];
+
+const ATTACHED: [Root; 3] = [
+    Root::Attached(CellId(1)),
+    Root::Attached(CellId(2)),
+    Root::Attached(CellId(4)),
+];
+
+/// What is kept by a number of so many bytes that is stored there, as bits.
+fn kept_by(rt: &HostRuntime, at: u64, is_half: bool) -> Result<u32, Fail> {
+    let mut memory = memory(rt.alloc())?;
+    let width = if is_half { 4 } else { 8 };
+    if memory.store(at, width, BASE + 0xb0).is_err() {
+        return Err("nothing is stored".into());
+    }
+    cells_kept(rt, &memory, &ATTACHED)
 }
 
 /// Aligned words of writable sections count: no constants, no other words, none that is whole only
 /// with padding.
 #[test]
 fn words_of_sections(rt: HostRuntime) -> Result<(), Fail> {
-    let attached = [
-        Root::Attached(CellId(1)),
-        Root::Attached(CellId(2)),
-        Root::Attached(CellId(4)),
-    ];
-    for (at, want) in [
-        (DATA + 0x8, 0b1100010110),
-        (DATA + 0x18, 0b1100010110),
-        (DATA + 0x28, 0b1100010110),
-        (DATA + 0x20, 0b10110),
-        (DATA + 0x30, 0b10110),
-        (DATA + 0x40, 0b10110),
-    ] {
-        let mut memory = memory(rt.alloc())?;
-        assert_eq!(rt; memory.store(at, 8, BASE + 0xb0), Ok(()));
-        assert_eq!(rt; cells_kept(&rt, &memory, &attached)?, want, "at {at:x}");
+    for case in &WORDS {
+        assert_eq!(rt; kept_by(&rt, case.0, false)?, case.1, "at {}", case.0);
     }
-    let mut memory = memory(rt.alloc())?;
-    assert_eq!(rt; memory.store(DATA + 0x4, 4, BASE + 0xb0), Ok(()));
-    assert_eq!(rt; cells_kept(&rt, &memory, &attached)?, 0b10110);
+    assert_eq!(rt; kept_by(&rt, DATA + 0x4, true)?, 0b10110);
     Ok(())
 }
+
+/// A cell, and its holder.
+struct Held(u32, Option<Holder>);
+
+const HELD: [Held; 7] = [
+    Held(1, None),
+    Held(2, Some(Holder::Task(3))),
+    Held(4, Some(Holder::Task(3))),
+    Held(5, Some(Holder::Cell(CellId(7)))),
+    Held(6, Some(Holder::Cell(CellId(1)))),
+    Held(7, Some(Holder::Task(4))),
+    Held(8, None),
+];
 
 /// The first task comes before any cell, and of the cells the lowest other one.
 #[test]
@@ -286,16 +318,9 @@ fn holders(rt: HostRuntime) -> Result<(), Fail> {
         Root::Word(4, BASE + 0x80),
         Root::Word(5, BASE + 0x28),
     ];
-    for (cell, want) in [
-        (1, None),
-        (2, Some(Holder::Task(3))),
-        (4, Some(Holder::Task(3))),
-        (5, Some(Holder::Cell(CellId(7)))),
-        (6, Some(Holder::Cell(CellId(1)))),
-        (7, Some(Holder::Task(4))),
-        (8, None),
-    ] {
-        assert_eq!(rt; holder(&rt, &memory, &roots, cell)?, want, "cell {cell}");
+    for case in &HELD {
+        let found = holder(&rt, &memory, &roots, case.0)?;
+        assert_eq!(rt; found, case.1, "cell {}", case.0);
     }
     Ok(())
 }

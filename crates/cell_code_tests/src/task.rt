@@ -185,29 +185,30 @@ fn returns(rt: HostRuntime) -> Result<(), Fail> {
     Ok(())
 }
 
+/// Two instructions, and why the second traps.
+struct Trapped([u32; 2], Cause);
+
+const TRAPPED: [Trapped; 5] = [
+    Trapped([0x0040_0893, 0x0000_0073], Cause::Call), // addi x17, x0, 4; ecall
+    Trapped([0x0050_0893, 0x0000_0073], Cause::Call), // addi x17, x0, 5; ecall
+    Trapped([0x0060_0893, 0x0000_0073], Cause::Call), // addi x17, x0, 6; ecall
+    Trapped([0xfff0_0893, 0x0000_0073], Cause::Call), // addi x17, x0, -1; ecall
+    Trapped([0x0060_0893, 0x0010_0073], Cause::Break), // addi x17, x0, 6; ebreak
+];
+
 /// A call that no task has, and a fault, leave registers and stack.
 #[test]
 fn faults(rt: HostRuntime) -> Result<(), Fail> {
-    for (code, cause) in [
-        ([0x0040_0893, 0x0000_0073], Cause::Call), // addi x17, x0, 4; ecall
-        ([0x0050_0893, 0x0000_0073], Cause::Call), // addi x17, x0, 5; ecall
-        ([0x0060_0893, 0x0000_0073], Cause::Call), // addi x17, x0, 6; ecall
-        ([0xfff0_0893, 0x0000_0073], Cause::Call), // addi x17, x0, -1; ecall
-        ([0x0060_0893, 0x0010_0073], Cause::Break), // addi x17, x0, 6; ebreak
-    ] {
-        let run = run_code(rt.alloc(), &code, 100)?;
-        let fault = Turned::Fault(cause, BASE + 4);
+    for case in &TRAPPED {
+        let run = run_code(rt.alloc(), &case.0, 100)?;
+        let pc = BASE + 4;
+        let cause = case.1;
+        let fault = Turned::Fault(cause, pc);
         assert_eq!(rt; run.answers.as_slice(), [Turned::Ready, fault].as_slice());
         assert_eq!(rt; run.out.len(), 0);
         let live = run.tasks.get(1).ok_or("not live")?;
-        assert_eq!(rt;
-            live.fault,
-            Some(TaskFault {
-                cause,
-                pc: BASE + 4
-            })
-        );
-        assert_eq!(rt; live.hart.pc, BASE + 4);
+        assert_eq!(rt; live.fault, Some(TaskFault { cause, pc }));
+        assert_eq!(rt; live.hart.pc, pc);
         assert_eq!(rt; live.hart.x[10], 5);
         assert!(rt; live.hart.x[17] != 0);
         assert!(rt; run.memory.bytes(STACK, 16384).is_some());
@@ -215,22 +216,35 @@ fn faults(rt: HostRuntime) -> Result<(), Fail> {
     Ok(())
 }
 
+/// An instruction that sets x2, and how many words of the stack count then.
+struct Counted(u32, u16);
+
+const COUNTED: [Counted; 5] = [
+    Counted(0x0000_0113, 2048), // addi x2, x0, 0: below
+    Counted(0x0031_0113, 2), // addi x2, x2, 3
+    Counted(0x0081_0113, 1), // addi x2, x2, 8
+    Counted(0x0101_0113, 0), // addi x2, x2, 16: at the end
+    Counted(0x0111_0113, 2048), // addi x2, x2, 17: above
+];
+
+/// The words of task 1 behind a 1, after `sd x10, 8(x2)` and an instruction.
+fn words_after(alloc: Global, set_x2: u32) -> Result<Vec<u64>, Fail> {
+    let run = run_code(alloc, &[0x00a1_3423, set_x2], 2)?;
+    let mut words = Vec::new(alloc);
+    words.push(1)?;
+    if run.tasks.get(1).is_none() {
+        return Err("not live".into());
+    }
+    run.tasks.words_of(1, &run.memory, &mut words)?;
+    Ok(words)
+}
+
 /// x2 is set, and the words are the pc, 31 registers and those of the stack from x2 on.
 #[test]
 fn words(rt: HostRuntime) -> Result<(), Fail> {
-    for (set_x2, count) in [
-        (0x0000_0113, 2048), // addi x2, x0, 0: below
-        (0x0031_0113, 2), // addi x2, x2, 3
-        (0x0081_0113, 1), // addi x2, x2, 8
-        (0x0101_0113, 0), // addi x2, x2, 16: at the end
-        (0x0111_0113, 2048), // addi x2, x2, 17: above
-    ] {
-        // sd x10, 8(x2), and x2
-        let run = run_code(rt.alloc(), &[0x00a1_3423, set_x2], 2)?;
-        let mut words = Vec::new(rt.alloc());
-        words.push(1)?;
-        assert!(rt; run.tasks.get(1).is_some());
-        run.tasks.words_of(1, &run.memory, &mut words)?;
+    for case in &COUNTED {
+        let words = words_after(rt.alloc(), case.0)?;
+        let count = usize::from(case.1);
         assert_eq!(rt; words.len(), 32 + count);
         assert_eq!(rt; words[0], BASE + 8);
         assert_eq!(rt; words[10], 5);

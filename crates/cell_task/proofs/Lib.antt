@@ -2,6 +2,6 @@ mod Arena
 mod Calling
 mod Ending
 mod Places
-mod Standing
+pub mod Standing
 mod Turning
 pub mod Wording
