@@ -1,5 +1,5 @@
 -- What `load NS STEM` gathers, by its one wanted file.
-use Rattle.std.proofs.Common.{◌≡◌, refl, sym, ◌∙◌, ap, subst, arith, ℕ, ◌+◌, ◌<◌, ◌≤◌, true, false, List, [], ◌∷◌, ◌++◌, map, length}
+use Rattle.std.proofs.Common.{◌≡◌, refl, sym, ◌∙◌, ap, subst, arith, ℕ, ◌<◌, ◌≤◌, true, false, List, [], ◌∷◌, ◌++◌, map, length}
 use Rattle.std.specs.Prelude.{Option, Some, None, Result, Ok, Err, All}
 use Rattle.std.proofs.lemmas.List.{length-map}
 use Rattle.cell_world.specs.declared.file.File.{File}

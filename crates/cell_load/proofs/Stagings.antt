@@ -19,6 +19,7 @@ use Rattle.cell_coherent.specs.Grown.{In, links_from}
 use Rattle.cell_coherent.proofs.Elements.{All-In, In-All, In-map, In-right}
 use Rattle.cell_load_law.specs.Loading.{ManyTaken, all_regions, objects_of, placed_after, placed_cells, take_all}
 use Rattle.cell_place.specs.Space.{SpaceState}
+use Rattle.cell_space.specs.declared.cell.SpaceCell.{SpaceCell}
 use Rattle.cell_space.specs.Machine.{called}
 use Rattle.cell_space.specs.Joined.{AreJoined, cells_of, placed_of}
 use Rattle.cell_space.proofs.Joined.{cells_are as joined_are, cells_both, joined_both, joined_by}

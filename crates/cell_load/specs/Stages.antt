@@ -4,7 +4,7 @@
 --     CanStage m g           wherever there is room for them, they can be linked in the machine
 --     placing u new          the new cells get their places in u, and each of their entries fits
 --     Stages u new result    the cells placed and linked, or the refusal
-use Rattle.std.specs.Prelude.{◌≡◌, ◌+◌, ◌*◌, ◌<◌, ◌^◌, List, ◌++◌, All, Result, Ok, Err, length, map}
+use Rattle.std.specs.Prelude.{◌≡◌, ◌+◌, ◌*◌, ◌<◌, ◌^◌, List, ◌++◌, All, Result, Ok, Err, map}
 use Rattle.cell_world.specs.declared.fail.Fail.{Fail}
 use Rattle.cell_world.specs.declared.fail.Fail.TheVariants.{Refused, OutOfMemory}
 use Rattle.cell_world.specs.World.{World, Cell, Attached}
