@@ -117,6 +117,8 @@ fn new_cells_ahead(rt: HostRuntime) -> Result<(), Fail> {
     assert_eq!(rt; ahead.cell_at(0, b"b"), None);
     assert!(rt; ahead.provider(u, b"b::y").is_some());
     assert!(rt; ahead.provider(u, b"a::x").is_some());
+    let aside = CellState::Detached(1);
+    assert!(rt; ahead.provider_for(u, aside, b"b::y").is_some());
     assert!(rt; ahead.has_stem(u, b"a"));
     assert!(rt; !ahead.has_stem(0, b"b"));
     Ok(())
