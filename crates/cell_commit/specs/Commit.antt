@@ -1,6 +1,7 @@
 -- What a commit makes of the memory.
 --     all_mapped m regions      m with the regions, mapped one after another
 --     fields_written m fields   m with each field sealed and then written
+--     fields_patched m fields   m with each field written
 --     AreRoom m regions         there is room for each region, once those before it are mapped
 use Rattle.std.specs.Prelude.{◌≡◌, ◌+◌, ◌*◌, true, List, [], ◌∷◌, length, fold, map, is_some}
 use Rattle.cell_num.specs.Bits.{bytes_of}
@@ -25,9 +26,15 @@ AreRoom m (r ∷ regions) = IsRoom m r.start (length r.bytes) × AreRoom (mapped
 abbrev pub IsMapped : MemoryState → FieldValue → Type 0
 IsMapped m f = (is_width f.width ≡ true) × (is_some (region_with m f.addr f.width) ≡ true)
 
+abbrev pub field_patched : MemoryState → FieldValue → MemoryState
+field_patched m f = patched_at m f.addr f.width f.value
+
+abbrev pub fields_patched : MemoryState → List FieldValue → MemoryState
+fields_patched m fields = fold field_patched m fields
+
 -- sealed against stores, and then patched
 abbrev pub field_written : MemoryState → FieldValue → MemoryState
-field_written m f = patched_at (sealed_at m f.addr f.width) f.addr f.width f.value
+field_written m f = field_patched (sealed_at m f.addr f.width) f
 
 abbrev pub fields_written : MemoryState → List FieldValue → MemoryState
 fields_written m fields = fold field_written m fields

@@ -1,9 +1,13 @@
 //! The links of the graph.
 
-ghost use Rattle.std.specs.Prelude.{◌≡◌, ◌≤◌, ◌++◌, All, Contains, length};
+ghost use Rattle.std.specs.Prelude.{◌≡◌, ◌<◌, ◌≤◌, ◌++◌, All, Contains, IsTrue, length};
+ghost use Rattle.cell_graph.specs.Links.{is_bound};
+ghost use Rattle.cell_graph.specs.Moves.{AreApart, moved};
 ghost use Rattle.cell_graph.specs.Order.{below_link, Rises};
 
-use cell_graph::{Graph, LinkRow};
+use cell_graph::{Graph, LinkRow, Steps};
+use std::marker::Brand;
+use std::sync::ledger::{Blank, Ledger};
 
 /// Adds the links, each of which comes after all others that are there by then.
 pub fn bind_rows(graph: &mut Graph, rows: &[LinkRow])
@@ -16,4 +20,34 @@ pub fn bind_rows(graph: &mut Graph, rows: &[LinkRow])
     for row in rows {
         graph.bind(*row);
     }
+}
+
+/// Gives links their new targets, with a counter that nobody reads.
+fn move_with<L: Ledger>(graph: &mut Graph, moves: &[LinkRow], blank: Blank)
+    requires name { blank.name ≡ L.name }
+    requires parts { blank.parts ≡ L.parts }
+    requires countable { 0 < blank.parts }
+    requires bound { All (λ m. IsTrue (is_bound graph.old.rows m.user m.entry)) moves.now }
+    requires distinct { AreApart moves.now }
+    requires present { All (λ m. Contains graph.old.sections m.target) moves.now }
+    ensures rows { graph.new.rows ≡ moved graph.old.rows moves.now }
+    ensures sections { graph.new.sections ≡ graph.old.sections }
+    ensures room_for_rows { graph.old.spare_rows ≤ graph.new.spare_rows }
+    ensures room_for_sections { graph.old.spare_sections ≤ graph.new.spare_sections }
+{
+    let mut steps = Steps::<L>::new(blank);
+    graph.move_users(moves, &mut steps);
+}
+
+/// Gives the links of these users and entries their new targets.
+pub fn move_rows(graph: &mut Graph, moves: &[LinkRow])
+    requires bound { All (λ m. IsTrue (is_bound graph.old.rows m.user m.entry)) moves.now }
+    requires distinct { AreApart moves.now }
+    requires present { All (λ m. Contains graph.old.sections m.target) moves.now }
+    ensures rows { graph.new.rows ≡ moved graph.old.rows moves.now }
+    ensures sections { graph.new.sections ≡ graph.old.sections }
+    ensures room_for_rows { graph.old.spare_rows ≤ graph.new.spare_rows }
+    ensures room_for_sections { graph.old.spare_sections ≤ graph.new.spare_sections }
+{
+    move_with::<Brand>(graph, moves, Blank::new(1));
 }

@@ -1,7 +1,7 @@
 //! The fields of the code and data.
 
 ghost use Rattle.std.specs.Prelude.{◌≡◌, None, All};
-ghost use Rattle.cell_commit.specs.Commit.{IsLaidOut, IsMapped, field_written, fields_written};
+ghost use Rattle.cell_commit.specs.Commit.{IsLaidOut, IsMapped, field_patched, field_written, fields_patched, fields_written};
 
 use cell_link::FieldValue;
 use cell_mem::Memory;
@@ -26,5 +26,27 @@ pub fn write_fields(memory: &mut Memory, fields: &[FieldValue])
 {
     for field in fields {
         write_field(memory, field);
+    }
+}
+
+/// Writes a field. The regions of every memory are laid out.
+fn patch_field(memory: &mut Memory, field: &FieldValue)
+    requires mapped { IsMapped memory.old field.now }
+    requires undo { memory.old.writes_left ≡ None }
+    ensures written { memory.new ≡ field_patched memory.old field.now }
+    ensures laid { IsLaidOut memory.old }
+{
+    memory.laid_out();
+    memory.patch(field.addr, field.width, field.value);
+}
+
+/// Writes fields one after another, whose seals stay as they are.
+pub fn patch_fields(memory: &mut Memory, fields: &[FieldValue])
+    requires mapped { All (IsMapped memory.old) fields.now }
+    requires undo { memory.old.writes_left ≡ None }
+    ensures { memory.new ≡ fields_patched memory.old fields.now }
+{
+    for field in fields {
+        patch_field(memory, field);
     }
 }

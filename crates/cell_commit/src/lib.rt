@@ -11,8 +11,8 @@ mod regions;
 mod sections;
 
 pub use attach::{Newcomer, attach_cells};
-pub use bind::bind_rows;
-pub use fields::write_fields;
+pub use bind::{bind_rows, move_rows};
+pub use fields::{patch_fields, write_fields};
 pub use laws::{mapping_adds, writing_adds, writing_seals};
 pub use regions::map_regions;
 pub use sections::{CellSections, add_sections};

@@ -10,11 +10,12 @@ mod gathering;
 mod heirs;
 mod load;
 mod nearest;
-mod needs;
 mod read;
 mod reexport;
 mod supply;
+mod used;
 mod want;
 
 pub use gathering::{Gathered, gather};
+pub use used::needs;
 pub use want::Want;

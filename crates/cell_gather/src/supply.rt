@@ -11,7 +11,7 @@ ghost use Rattle.cell_gather.specs.Growing.{new_of, HavePlain, AreSupplied, Ends
 
 use crate::Gathered;
 use crate::load::Load;
-use crate::needs::needs;
+use crate::used::needs;
 use cell_num::{CellId, Name};
 use cell_world::Fail;
 use std::alloc::Global;

@@ -7,3 +7,4 @@ pub mod TableLemmas
 pub mod FirstFieldLemmas
 pub mod ValueLemmas
 pub mod ScanLemmas
+pub mod Misfits

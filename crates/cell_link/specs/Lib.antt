@@ -1,3 +1,4 @@
 pub mod Linked
 pub mod Tables
 pub mod Applied
+pub mod LinksBy

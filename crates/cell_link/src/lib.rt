@@ -9,6 +9,7 @@ mod maps;
 mod numbers;
 mod one_field;
 mod places;
+mod refused;
 mod value;
 
 pub use cell_world::{NewCell, SecPlace, Target};
@@ -17,4 +18,5 @@ pub use link::link_cell;
 pub use maps::insert_first;
 pub use numbers::{label_of, spot};
 pub use one_field::field_value;
+pub use refused::link_fields;
 pub use value::FieldValue;

@@ -2,7 +2,9 @@
 --     all_attached cells          the cells, which take part in names under their own
 --     all_fields w cells          what the fields of the cells hold, cell by cell
 --     arrivals cells names        what the new cells are called, by their names
---     IsStaged u new s            the new cells in their places in u, with their fields and links
+--     AreLinkedIn u new cells space regions fields rows   these are the new cells in their places in u, the space with their runs, and
+--                                 their regions, fields and links
+--     IsStaged u new s            that is what is staged, with the names of the cells
 --     AreNewIn u w cells          in w the cells stand behind those of u, and all can be linked
 --     ComesTo w cells changed rows next   linking w writes what changes and the fields of the new cells
 --     IsLike v m                  m is v, where cells may stand aside
@@ -11,7 +13,7 @@ use Rattle.std.specs.Prelude.{◌≡◌, ◌+◌, List, [], ◌∷◌, ◌++◌,
 use Rattle.cell_world.specs.declared.layout.Starts.{Starts}
 use Rattle.cell_world.specs.declared.state.LinkRow.{LinkRow}
 use Rattle.cell_world.specs.declared.state.NewCell.{NewCell}
-use Rattle.cell_world.specs.World.{Alias, World, Cell, Attached, attached}
+use Rattle.cell_world.specs.World.{Alias, World, Cell, Region, Attached, attached}
 use Rattle.cell_world.specs.Coherent.{IsCoherent, IsReady}
 use Rattle.cell_world.specs.Fit.{first_misfit}
 use Rattle.cell_world.specs.Gather.{fresh_cells}
@@ -25,6 +27,7 @@ use Rattle.cell_load_law.specs.Loading.{all_regions, objects_of, placed_after, p
 use Rattle.cell_link.specs.declared.value.FieldValue.{FieldValue}
 use Rattle.cell_link.specs.Linked.{field_values}
 use Rattle.cell_mem.specs.State.{MemoryState}
+use Rattle.cell_place.specs.Space.{SpaceState}
 use Rattle.cell_commit.specs.Commit.{fields_written}
 use Rattle.cell_space.specs.declared.cell.CellState.TheVariants.{Attached as IsAttached}
 use Rattle.cell_space.specs.declared.cell.SpaceCell.{SpaceCell}
@@ -49,18 +52,22 @@ arrivals (c ∷ cells) [] = []
 arrivals (c ∷ cells) (names ∷ rest) = arrival c names ∷ arrivals cells rest
 
 -- the new cells as they were gathered have no places yet
-pub record IsStaged (u : World) (new : List Cell) (s : Staged) : Type 0 where
+pub record AreLinkedIn (u : World) (new : List Cell) (in_places : List NewCell) (space : SpaceState) (own : List Region) (values : List FieldValue) (links : List LinkRow) : Type 0 where
   pub starts : List Starts
   pub each : length starts ≡ length new
-  pub attached : All (λ c. c.standing ≡ Attached) new
-  pub runs : take_all u.base (page_table u) (objects_of new) ≡ Ok (record { starts = starts; table = s.space.taken })
-  pub base : s.space.base ≡ u.base
-  pub cells : s.cells.items ≡ map placed_of (placed_cells starts new)
-  pub names : s.names.items ≡ map names_of new
-  pub regions : s.regions.items ≡ all_regions starts (objects_of new)
+  pub runs : take_all u.base (page_table u) (objects_of new) ≡ Ok (record { starts = starts; table = space.taken })
+  pub base : space.base ≡ u.base
+  pub cells : in_places ≡ map placed_of (placed_cells starts new)
+  pub regions : own ≡ all_regions starts (objects_of new)
   pub fit : first_misfit (placed_after starts u new) (placed_cells starts new) ≡ None
-  pub fields : s.fields.items ≡ all_fields (placed_after starts u new) (placed_cells starts new)
-  pub rows : s.rows.items ≡ links_from (placed_after starts u new) (placed_cells starts new)
+  pub fields : values ≡ all_fields (placed_after starts u new) (placed_cells starts new)
+  pub rows : links ≡ links_from (placed_after starts u new) (placed_cells starts new)
+
+pub record IsStaged (u : World) (new : List Cell) (s : Staged) : Type 0 where
+  pub linked : AreLinkedIn u new s.cells.items s.space s.regions.items s.fields.items s.rows.items
+  pub open linked use *
+  pub attached : All (λ c. c.standing ≡ Attached) new
+  pub names : s.names.items ≡ map names_of new
 
 pub record AreNewIn (u w : World) (cells : List Cell) : Type 0 where
   pub linkable : IsLinkable w

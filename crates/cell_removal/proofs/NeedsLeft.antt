@@ -53,21 +53,21 @@ own_naming object sound e here s at u = go (is_pcrel_lo12 e.kind) refl
         ∙ ap (λ (l : Option (ℕ × ℕ)). unwrap_or (option_map (λ label. label.0 == e.section) l) false) none))
 
 -- an entry that names an undefined GLOBAL
-record Names (object : Object) (name : List ℕ) : Type 0 where
-  symbol : Symbol
-  number : ℕ
-  entry : Entry
-  there : In entry object.entries
-  by_number : entry.symbol ≡ suc number
-  has : slice_get object.symbols number ≡ Some symbol
-  home : symbol.home ≡ Undef
-  global : is_global symbol.bind ≡ true
-  named : name ≡ symbol.name
+pub record Names (object : Object) (name : List ℕ) : Type 0 where
+  pub symbol : Symbol
+  pub number : ℕ
+  pub entry : Entry
+  pub there : In entry object.entries
+  pub by_number : entry.symbol ≡ suc number
+  pub has : slice_get object.symbols number ≡ Some symbol
+  pub home : symbol.home ≡ Undef
+  pub global : is_global symbol.bind ≡ true
+  pub named : name ≡ symbol.name
 
 abbrev is_need : Object → ℕ × Symbol → Bool
 is_need object q = is_global q.1.bind && is_undefined q.1.home && is_used object q.0
 
-need_named : (object : Object) (name : List ℕ) → In name (needs_of object) → Names object name
+pub need_named : (object : Object) (name : List ℕ) → In name (needs_of object) → Names object name
 need_named object name j =
     let m : (q : ℕ × Symbol) × In q (filter (is_need object) (numbered_from 1 object.symbols)) × (name ≡ q.1.name) = In-map (λ (q : ℕ × Symbol). q.1.name) (filter (is_need object) (numbered_from 1 object.symbols)) name j in
     let p : is_need object m.0 ≡ true = filter-Passes (is_need object) (numbered_from 1 object.symbols) m.0 m.1 in
@@ -86,9 +86,9 @@ need_named object name j =
       named = m.2;
     }
 
-module _ (w : World) (h : IsCoherent w) (numbers : List ℕ) (closed : Closed w numbers) (c : Cell) (here : In c w.cells) (stays : holds numbers c.id.0 ≡ false) where
+module _ (w : World) (h : IsCoherent w) (c : Cell) (here : In c w.cells) where
   -- what an entry of an undefined symbol names is what the symbol's provider has
-  target_is : (name : List ℕ) → (n : Names c.object name) → target_of w c n.entry ≡ option_and_then (provided_target w) (provider_of w c name)
+  pub target_is : (name : List ℕ) → (n : Names c.object name) → target_of w c n.entry ≡ option_and_then (provided_target w) (provider_of w c name)
   target_is name n =
       ap (option_and_then (λ (y : Entry). numbered_target w c y.symbol)) (own_naming c.object (object_sound w h.ready.objects c here) n.entry n.there n.symbol (subst (λ m. symbol_at c.object m ≡ Some n.symbol) (sym n.by_number) n.has) n.home)
       ∙ (ap (numbered_target w c) n.by_number
@@ -97,11 +97,12 @@ module _ (w : World) (h : IsCoherent w) (numbers : List ℕ) (closed : Closed w 
       ∙ (ap (λ b. cond b (option_and_then (provided_target w) (provider_of w c n.symbol.name)) None) n.global
       ∙ ap (λ (x : List ℕ). option_and_then (provided_target w) (provider_of w c x)) (sym n.named)))))
 
+module _ (w : World) (h : IsCoherent w) (numbers : List ℕ) (closed : Closed w numbers) (c : Cell) (here : In c w.cells) (stays : holds numbers c.id.0 ≡ false) where
   need_same : (name : List ℕ) → In name (needs_of c.object) → provider_of (without_cells w numbers) c name ≡ provider_of w c name
   need_same name j = provider_same w h numbers c name (provider_free w h numbers c name (free (need_named c.object name j)))
     where
       free : Names c.object name → IsFree numbers (option_and_then (provided_target w) (provider_of w c name))
-      free n = subst (IsFree numbers) (target_is name n) (target_free w h numbers closed c here stays n.entry n.there)
+      free n = subst (IsFree numbers) (target_is w h c here name n) (target_free w h numbers closed c here stays n.entry n.there)
 
   pub supplied_left : is_supplied (without_cells w numbers) c ≡ true
   supplied_left = In-all (λ name. is_some (provider_of (without_cells w numbers) c name)) (needs_of c.object)

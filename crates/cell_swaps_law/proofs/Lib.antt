@@ -1,6 +1,7 @@
 pub mod Paths
 pub mod Unique
 pub mod Detached
+pub mod Coverage
 pub mod SetAside
 pub mod Reexported
 pub mod SwapGathered

@@ -192,6 +192,16 @@ module _ (sources : List Source) (sound : AreSound sources) (v : World) (h : IsC
     starts = base_regrown.starts;
   }
 
+  -- an entry that names what it named fits
+  pub unchanged_fits : (c : Cell) → In c v.cells → (e : Entry) → In e c.object.entries → differs v w c e ≡ false
+      → fits (now_in w c).placed (bound_entries w (now_in w c)) (bind (named_in w (now_in w c)) e) ≡ true
+  unchanged_fits c i e j same =
+      fits_same v w (fresh_cells v.next_cell w) h.ready swap_linkable swap_regrown c i e same
+      ∙ not_fits _ (unfound-In (λ (x : Bound). not (fits c.placed (bound_entries v c) x)) (bound_entries v c)
+      (none_is (misfit_of c.placed (bound_entries v c)) (all-In (is_fitting v) v.cells h.ready.fitting c i)) (bind (named_in v c) e)
+      (subst (λ (xs : List Bound). In (bind (named_in v c) e) xs) (sym (bound_is v c))
+      (map-In (bind (named_in v c)) c.object.entries e j)))
+
   -- what changes fits, and so does what doesn't
   module _ (fit : first_changed_misfit v w v.cells ≡ None) where
     entry_fits : (c : Cell) → In c v.cells → (e : Entry) → In e c.object.entries
@@ -208,12 +218,8 @@ module _ (sources : List Source) (sound : AreSound sources) (v : World) (h : IsC
             (subst (λ (xs : List Bound). In (bind (named_in w (now_in w c)) e) xs) (sym (bound_now v w (fresh_cells v.next_cell w) h.ready swap_linkable swap_regrown c i))
             (map-In (bind (named_in w (now_in w c))) c.object.entries e j))) q)
         go false q =
-            fits_same v w (fresh_cells v.next_cell w) h.ready swap_linkable swap_regrown c i e
+            unchanged_fits c i e j
             (both_false (is_at e e) (differs v w c e) (none-In (λ (x : Entry). is_at e x && differs v w c x) c.object.entries q e j) itself)
-            ∙ not_fits _ (unfound-In (λ (x : Bound). not (fits c.placed (bound_entries v c) x)) (bound_entries v c)
-            (none_is (misfit_of c.placed (bound_entries v c)) (all-In (is_fitting v) v.cells h.ready.fitting c i)) (bind (named_in v c) e)
-            (subst (λ (xs : List Bound). In (bind (named_in v c) e) xs) (sym (bound_is v c))
-            (map-In (bind (named_in v c)) c.object.entries e j)))
 
     cell_fits : (c : Cell) → In c v.cells → is_fitting w (now_in w c) ≡ true
     cell_fits c i = ap is_none (ap (find (λ (x : Bound). not (fits (now_in w c).placed (bound_entries w (now_in w c)) x))) (bound_now v w (fresh_cells v.next_cell w) h.ready swap_linkable swap_regrown c i)

@@ -11,14 +11,16 @@ use Rattle.cell_world.specs.declared.state.NewCell.{NewCell}
 use Rattle.cell_world.specs.declared.state.Target.{Target}
 use Rattle.cell_world.specs.Target.{provided_target}
 use Rattle.cell_world.specs.World.{World, Cell, cell_of}
-use Rattle.cell_world.specs.Names.{Provider, attached_provider, chain}
+use Rattle.cell_world.specs.Names.{Provider, chain, provider_for as provider_in}
 use Rattle.cell_coherent.specs.Grown.{In}
-use Rattle.cell_space.specs.declared.cell.CellState.TheVariants.{Attached}
+use Rattle.cell_space.specs.declared.cell.CellState.{CellState}
+use Rattle.cell_space.specs.declared.cell.CellState.TheVariants.{Attached, Detached}
 use Rattle.cell_space.specs.declared.cell.SpaceCell.{SpaceCell}
-use Rattle.cell_space.specs.Joined.{AreJoined, cells_of, placed_of}
+use Rattle.cell_space.specs.Joined.{AreJoined, cells_of, placed_of, standing_of}
+use Rattle.cell_space.specs.Machine.{called, state_of}
 use Rattle.cell_space.proofs.Joined.{found_placed, is_numbered}
 use Rattle.cell_space.specs.Named.{provider_for}
-use Rattle.cell_space.proofs.Machines.{attached_provider-called}
+use Rattle.cell_space.proofs.Machines.{provider_for-called}
 use Rattle.cell_target.specs.Scene.{seen, AreCells}
 
 pub in_get : {X : Type 0} (xs : List X) (i : ℕ) (d : X) → i < length xs → In (get_or xs i d) xs
@@ -53,17 +55,26 @@ module _ (namespaces : List Namespace) (present fresh : List NewCell) (known : L
   in_fresh o none e = e ∙ ap (λ p. option_or p (find (is_numbered n) fresh)) none ∙ sym by_parts
 
 -- who provides a name is told by the spaces
-pub provider_told : (namespaces : List Namespace) (spaces : List SpaceCell) (cells : List NewCell) → AreCells spaces cells → (ns : ℕ) (name : List ℕ)
-    → provider_for (chain namespaces ns) Attached name spaces ≡ attached_provider (seen namespaces cells spaces) ns name
-provider_told namespaces spaces cells are ns name =
-    sym (attached_provider-called (seen namespaces cells spaces) ns name ∙ ap (provider_for (chain namespaces ns) Attached name) are.joined.called)
+state_again : (state : CellState) → state_of (standing_of state) ≡ state
+state_again Attached = refl
+state_again (Detached k) = refl
 
--- the target of a name's provider, where the spaces tell who that is
-module _ (namespaces : List Namespace) (spaces : List SpaceCell) (cells : List NewCell) (are : AreCells spaces cells) (ns : ℕ) (name : List ℕ) (t : Option Target) where
-  pub nobody_there : t ≡ None → None ≡ provider_for (chain namespaces ns) Attached name spaces
-      → t ≡ option_and_then (provided_target (seen namespaces cells spaces)) (attached_provider (seen namespaces cells spaces) ns name)
-  nobody_there e none = e ∙ ap (option_and_then (provided_target (seen namespaces cells spaces))) (none ∙ provider_told namespaces spaces cells are ns name)
+module _ (namespaces : List Namespace) (spaces : List SpaceCell) (cells : List NewCell) (are : AreCells spaces cells) (ns : ℕ) (state : CellState) (name : List ℕ) where
+  abbrev machine : World
+  machine = seen namespaces cells spaces
 
-  pub somebody_there : (p : Provider) → Some p ≡ provider_for (chain namespaces ns) Attached name spaces → t ≡ provided_target (seen namespaces cells spaces) p
-      → t ≡ option_and_then (provided_target (seen namespaces cells spaces)) (attached_provider (seen namespaces cells spaces) ns name)
-  somebody_there p some e = e ∙ ap (option_and_then (provided_target (seen namespaces cells spaces))) (some ∙ provider_told namespaces spaces cells are ns name)
+  provider_told : provider_for (chain namespaces ns) state name spaces ≡ provider_in machine (standing_of state) ns name
+  provider_told =
+      sym (provider_for-called machine ns name (standing_of state)
+      ∙ (ap (λ (s : CellState). provider_for (chain namespaces ns) s name (map called machine.cells)) (state_again state)
+      ∙ ap (provider_for (chain namespaces ns) state name) are.joined.called))
+
+  -- the target of a name's provider, where the spaces tell who that is
+  module _ (t : Option Target) where
+    pub nobody_there : t ≡ None → None ≡ provider_for (chain namespaces ns) state name spaces
+        → t ≡ option_and_then (provided_target machine) (provider_in machine (standing_of state) ns name)
+    nobody_there e none = e ∙ ap (option_and_then (provided_target machine)) (none ∙ provider_told)
+
+    pub somebody_there : (p : Provider) → Some p ≡ provider_for (chain namespaces ns) state name spaces → t ≡ provided_target machine p
+        → t ≡ option_and_then (provided_target machine) (provider_in machine (standing_of state) ns name)
+    somebody_there p some e = e ∙ ap (option_and_then (provided_target machine)) (some ∙ provider_told)

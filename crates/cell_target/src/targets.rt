@@ -3,24 +3,29 @@
 ghost use Rattle.std.specs.Prelude.{◌≡◌, ◌<◌, ◌++◌, IfOk, length};
 ghost use Rattle.cell_world.specs.Target.{targets_of};
 ghost use Rattle.cell_coherent.specs.Grown.{In};
-ghost use Rattle.cell_world.specs.World.{attached};
-ghost use Rattle.cell_target.specs.Scene.{seen};
+ghost use Rattle.cell_target.specs.Scene.{in_state, seen};
 
 use crate::entries::entry_targets;
 use crate::highs::Highs;
 use crate::scene::Scene;
+use cell_space::CellState;
 use cell_world::{NewCell, Target};
 use std::alloc::{AllocError, Global};
 
 impl<'a> Scene<'a> {
-    /// What each entry of the cell names, in table order. A name that nobody provides is the number 0.
+    /// What each entry of the cell names in that state, in table order. A name that nobody provides is the number 0.
     #[tactic(auto, using(crate::proofs::Tabled::targets_tabled))]
-    pub fn targets(&self, alloc: Global, cell: &NewCell) -> Result<Vec<Target>, AllocError>
+    pub fn targets(
+        &self,
+        alloc: Global,
+        cell: &NewCell,
+        state: CellState,
+    ) -> Result<Vec<Target>, AllocError>
         requires there { In cell.now (self.now.present.now ++ self.now.fresh.now) }
         requires ns { cell.now.ns < length self.now.ahead.now.namespaces }
-        ensures { IfOk result (λ targets. targets.items ≡ targets_of (seen self.now.ahead.now.namespaces (self.now.present.now ++ self.now.fresh.now) self.now.ahead.now.cells) (attached cell.now)) }
+        ensures { IfOk result (λ targets. targets.items ≡ targets_of (seen self.now.ahead.now.namespaces (self.now.present.now ++ self.now.fresh.now) self.now.ahead.now.cells) (in_state cell.now state)) }
     {
-        let symbols = self.symbol_targets(alloc, cell)?;
+        let symbols = self.symbol_targets(alloc, cell, state)?;
         let highs = Highs::of(alloc, &cell.object)?;
         entry_targets(alloc, &symbols, &highs)
     }

@@ -1,7 +1,7 @@
 use Rattle.std.proofs.Common.{◌∙◌, sym}
 use Rattle.cell_gather.specs.Appending.{is_need}
 use Rattle.cell_gather.proofs.Symbols.{its_name, none_added, one_added}
-use Rattle.cell_gather.proofs.needs.Used.add_need.Goals as goal
+use Rattle.cell_gather.proofs.used.Used.add_need.Goals as goal
 
 pub returns-in_ok-push : goal.returns-in_ok-push
 returns-in_ok-push c =

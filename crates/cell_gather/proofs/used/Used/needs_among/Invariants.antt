@@ -1,6 +1,6 @@
 use Rattle.std.proofs.Common.{◌≡◌, suc, ◌++◌, drop}
 use Rattle.cell_gather.specs.Appending.{needs_from}
-use Rattle.cell_gather.proofs.needs.Used.needs_among.Given as goal
+use Rattle.cell_gather.proofs.used.Used.needs_among.Given as goal
 
 -- those so far, and those that are left
 abbrev pub invariant-loop-place : goal.invariant-loop-place

@@ -3,7 +3,7 @@ use Rattle.std.specs.Prelude.{◌==◌}
 use Rattle.std.specs.List.{list_any}
 use Rattle.std.specs.Ordering.{nat_cmp}
 use Rattle.std.specs.BTreeSet.{contains}
-use Rattle.cell_gather.proofs.needs.used_symbols.Given as goal
+use Rattle.cell_gather.proofs.used.used_symbols.Given as goal
 
 -- the symbols so far, and those of the entries that are left, are all
 abbrev pub invariant-loop-entry : goal.invariant-loop-entry

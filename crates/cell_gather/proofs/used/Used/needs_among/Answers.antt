@@ -1,7 +1,7 @@
 use Rattle.std.proofs.Common.{arith}
 use Rattle.cell_gather.specs.Appending.{is_need, needs_from}
 use Rattle.cell_gather.proofs.Symbols.{at_end, its_name, one_taken}
-use Rattle.cell_gather.proofs.needs.Used.needs_among.Goals as goal
+use Rattle.cell_gather.proofs.used.Used.needs_among.Goals as goal
 
 pub loop-place-preserved : goal.loop-place-preserved
 loop-place-preserved c =

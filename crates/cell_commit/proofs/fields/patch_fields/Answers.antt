@@ -1,0 +1,18 @@
+use Rattle.cell_commit.specs.Commit.{field_patched}
+use Rattle.cell_commit.proofs.FieldsLeft.{all_mapped_kept, no_field, patched_kept, patched_undo, undo_kept, written_done, written_more}
+use Rattle.cell_commit.proofs.fields.patch_fields.Goals as goal
+
+pub patch_field-requires-clause-mapped : goal.patch_field-requires-clause-mapped
+patch_field-requires-clause-mapped c = c.loop-field.invariant.mapped c.loop-field.field-index no_field c.loop-field-test.true
+
+pub loop-field-preserved : goal.loop-field-preserved
+loop-field-preserved c =
+    let this = c.loop-field.invariant.mapped c.loop-field.field-index no_field c.loop-field-test.true in
+    record {
+      written = written_more field_patched patched_undo patched_kept _ _ _ c.args.fields.now c.loop-field.field-index c.loop-field-test.true c.patch_field.ensures.written c.loop-field.invariant.written;
+      undo = undo_kept field_patched patched_undo patched_kept _ _ _ c.patch_field.ensures.written c.loop-field.invariant.undo;
+      mapped = all_mapped_kept field_patched patched_undo patched_kept _ _ _ c.args.fields.now c.patch_field.ensures.laid this c.patch_field.ensures.written c.loop-field.invariant.mapped;
+    }
+
+pub returns : goal.returns
+returns c = written_done field_patched patched_undo patched_kept _ _ c.args.fields.now c.loop-field.field-index c.loop-field-test.false c.loop-field.invariant.written
