@@ -31,7 +31,7 @@ use Rattle.cell_load.specs.Adding.{IsAdded, IsReadyToAdd}
 use Rattle.cell_load.specs.Loads.{IsLoaded, Loads}
 use Rattle.cell_load.specs.Stages.{CanStage, Stages, new_cells}
 use Rattle.cell_load.proofs.Added.{maps_now, more_regions, patches_now, sound as sound_after, world_added}
-use Rattle.cell_load.proofs.Landed.{comes, load_is, refused, stands}
+use Rattle.cell_load.proofs.LoadLanded.{comes, load_is, refused, stands}
 use Rattle.cell_load.proofs.NewRegions.{new_regions}
 
 module _ (files : List File) (are : AreSound (map source_of files)) (m : Machine) (sound : IsSound m) (ns stem : List ℕ) where

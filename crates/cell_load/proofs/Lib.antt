@@ -2,7 +2,6 @@ pub mod Files
 pub mod Gathers
 pub mod Sources
 pub mod Low
-pub mod Misfits
 pub mod RowLemmas
 pub mod Linked
 pub mod Plain
@@ -13,6 +12,6 @@ pub mod Ready
 pub mod NewRegions
 pub mod Committing
 pub mod Added
-pub mod Landed
+pub mod LoadLanded
 pub mod Arrived
 pub mod Answered

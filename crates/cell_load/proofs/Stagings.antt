@@ -1,4 +1,4 @@
--- Gathered cells that are placed and linked are staged.
+-- Gathered cells that are placed and linked have landed, and are staged.
 use Rattle.std.proofs.Common.{◌≡◌, refl, sym, ◌∙◌, ap, subst, arith, ℕ, Bool, true, List, [], ◌∷◌, ◌++◌, map, length}
 use Rattle.std.specs.Prelude.{Ok, Err, All, nat_lt}
 use Rattle.std.proofs.lemmas.List.{length-map}
@@ -20,6 +20,7 @@ use Rattle.cell_coherent.proofs.Elements.{All-In, In-All, In-map, In-right}
 use Rattle.cell_load_law.specs.Loading.{ManyTaken, all_regions, objects_of, placed_after, placed_cells, take_all}
 use Rattle.cell_place.specs.Space.{SpaceState}
 use Rattle.cell_space.specs.declared.cell.SpaceCell.{SpaceCell}
+use Rattle.cell_space.specs.Ahead.{AheadState}
 use Rattle.cell_space.specs.Machine.{called}
 use Rattle.cell_space.specs.Joined.{AreJoined, cells_of, placed_of}
 use Rattle.cell_space.proofs.Joined.{cells_are as joined_are, cells_both, joined_both, joined_by}
@@ -39,7 +40,8 @@ use Rattle.cell_machine.proofs.StagedWorld.{kept_placed, standing_placed}
 use Rattle.cell_load.specs.declared.link.Linked.{Linked}
 use Rattle.cell_load.specs.Linking.{AreLinked, CanLink, LinksAll}
 use Rattle.cell_load.specs.Places.{Stands}
-use Rattle.cell_load.specs.Stages.{CanStage, Stages, new_cells}
+use Rattle.cell_load.specs.declared.landing.Landed.{Landed}
+use Rattle.cell_load.specs.Stages.{CanStage, IsLanded, Lands, Names, new_cells}
 use Rattle.cell_load.proofs.Linked.{fields_same, misfits_same, rows_are}
 use Rattle.cell_load.proofs.Low.{can_link}
 use Rattle.cell_load.proofs.Places.{sound_objects}
@@ -72,7 +74,7 @@ module _ (m : Machine) (g : Gathered) (can : CanStage m g) where
       ∙ ap (λ (os : List Object). take_all u.base (page_table u) os) objects_are)
 
   -- no run is long enough
-  pub place_failed : (fail : Fail) → Stands m.space g.cells.items (Err fail) → Stages u new (Err fail)
+  pub place_failed : (fail : Fail) → Stands m.space g.cells.items (Err fail) → Lands m g (Err fail)
   place_failed (Refused r) e =
       ap (λ (o : Outcome ManyTaken). o >>= (λ t. refused_by (first_misfit (placed_after t.starts u new) (placed_cells t.starts new)))) (sym space_is ∙ e)
   place_failed OutOfMemory e = tt
@@ -156,32 +158,56 @@ module _ (m : Machine) (g : Gathered) (can : CanStage m g) where
         ∙ (ap (λ (cs : List NewCell). first_misfit W (all_attached cs)) (sym placed_are) ∙ misfits_same v W same p.cells.items)
 
     -- an entry doesn't fit
-    pub link_failed : (fail : Fail) → LinksAll v p.cells.items (Err fail) → Stages u new (Err fail)
+    pub link_failed : (fail : Fail) → LinksAll v p.cells.items (Err fail) → Lands m g (Err fail)
     link_failed (Refused r) e =
         ap (λ (o : Outcome ManyTaken). o >>= (λ t. refused_by (first_misfit (placed_after t.starts u new) (placed_cells t.starts new)))) runs
         ∙ ap (λ o. refused_by o) (misfits_are ∙ e)
     link_failed OutOfMemory e = tt
 
-    pub staged : (l : Linked) → AreLinked v p.cells.items l → (s : Staged) → s.cells.items ≡ p.cells.items → s.names.items ≡ map (λ (c : SpaceCell). c.names) g.ahead.fresh → s.space ≡ space → s.regions.items ≡ p.regions.items
-        → s.fields.items ≡ l.fields.items → s.rows.items ≡ l.rows.items → IsStaged u new s
-    staged l linked s cells names at regions fields rows = record {
-      starts = stand.starts;
-      each = long;
-      attached = can.gathered.attached;
-      runs = runs ∙ ap (λ (t : List Bool). let x : ManyTaken = record { starts = stand.starts; table = t } in let o : Outcome ManyTaken = Ok x in o) (ap (λ (x : SpaceState). x.taken) (sym at));
-      base = ap (λ (x : SpaceState). x.base) at ∙ (stand.base ∙ can.parts.base);
-      cells = cells ∙ placed_are;
-      names = names ∙ (ap (map (λ (c : SpaceCell). c.names)) can.gathered.fresh ∙ map-map (λ (c : SpaceCell). c.names) called new);
-      regions = regions ∙ (stand.regions ∙ ap (λ (os : List Object). all_regions stand.starts os) objects_are);
-      fit = misfits_are ∙ linked.fit;
-      fields =
-          fields
-          ∙ (linked.fields
-          ∙ (sym (fields_same v W same p.cells.items)
-          ∙ (ap (λ (cs : List NewCell). all_fields W (all_attached cs)) placed_are ∙ sym (fields_plain W F standing))));
-      rows =
-          rows
-          ∙ (linked.rows
-          ∙ (sym (rows_are v W same p.cells.items)
-          ∙ (ap (λ (cs : List NewCell). links_from W (all_attached cs)) placed_are ∙ sym (rows_plain W F standing))));
+    pub landed : (l : Linked) → AreLinked v p.cells.items l → (d : Landed) → d.ahead ≡ g.ahead → d.cells.items ≡ p.cells.items → d.space ≡ space → d.regions.items ≡ p.regions.items
+        → d.fields.items ≡ l.fields.items → d.rows.items ≡ l.rows.items → IsLanded m g d
+    landed l linked d ahead cells at regions fields rows = record {
+      linked = record {
+        starts = stand.starts;
+        each = long;
+        runs = runs ∙ ap (λ (t : List Bool). let x : ManyTaken = record { starts = stand.starts; table = t } in let o : Outcome ManyTaken = Ok x in o) (ap (λ (x : SpaceState). x.taken) (sym at));
+        base = ap (λ (x : SpaceState). x.base) at ∙ (stand.base ∙ can.parts.base);
+        cells = cells ∙ placed_are;
+        regions = regions ∙ (stand.regions ∙ ap (λ (os : List Object). all_regions stand.starts os) objects_are);
+        fit = misfits_are ∙ linked.fit;
+        fields =
+            fields
+            ∙ (linked.fields
+            ∙ (sym (fields_same v W same p.cells.items)
+            ∙ (ap (λ (cs : List NewCell). all_fields W (all_attached cs)) placed_are ∙ sym (fields_plain W F standing))));
+        rows =
+            rows
+            ∙ (linked.rows
+            ∙ (sym (rows_are v W same p.cells.items)
+            ∙ (ap (λ (cs : List NewCell). links_from W (all_attached cs)) placed_are ∙ sym (rows_plain W F standing))));
+      };
+      same = ahead;
+      are = subst (λ (cs : List NewCell). AreCells g.ahead.cells (m.cells.items ++ cs)) (sym cells) are_cells;
+      targets = λ (c : Cell). same c ∙ ap (λ (cs : List NewCell). targets_of (seen m.spaces.namespaces (m.cells.items ++ cs) g.ahead.cells) c) (sym cells);
     }
+
+-- what has landed is staged once its names are listed
+pub staged : (m : Machine) (g : Gathered) → CanStage m g → (l : Landed) → IsLanded m g l → (s : Staged) → Names l s → IsStaged (world_of m) (new_cells g) s
+staged m g can l landed s named = record {
+  linked = record {
+    starts = landed.starts;
+    each = landed.each;
+    runs = landed.runs ∙ ap (λ (t : List Bool). let x : ManyTaken = record { starts = landed.starts; table = t } in let o : Outcome ManyTaken = Ok x in o) (ap (λ (x : SpaceState). x.taken) (sym named.space));
+    base = ap (λ (x : SpaceState). x.base) named.space ∙ landed.base;
+    cells = named.cells ∙ landed.cells;
+    regions = named.regions ∙ landed.regions;
+    fit = landed.fit;
+    fields = named.fields ∙ landed.fields;
+    rows = named.rows ∙ landed.rows;
+  };
+  attached = can.gathered.attached;
+  names =
+      named.names
+      ∙ (ap (λ (a : AheadState). map (λ (c : SpaceCell). c.names) a.fresh) landed.same
+      ∙ (ap (map (λ (c : SpaceCell). c.names)) can.gathered.fresh ∙ map-map (λ (c : SpaceCell). c.names) called (new_cells g)));
+}

@@ -28,15 +28,6 @@ use Rattle.cell_load.specs.declared.link.Linked.{Linked}
 abbrev pub targets_in : World → NewCell → List Target
 targets_in w c = targets_of w (attached c)
 
-abbrev pub entry_overflow : NewCell → Entry → Refusal
-entry_overflow c e = Overflow c.id e.section e.offset e.kind
-
--- all fields, or the refusal of the first entry that doesn't fit
-abbrev pub LinksBy : NewCell → List Target → Result (List FieldValue) Fail → Type 0
-LinksBy c targets (Ok fields) = (misfit_of c (bound_in c targets) ≡ None) × (fields ≡ field_values c targets)
-LinksBy c targets (Err (Refused refusal)) = option_map (overflow_at (attached c)) (misfit_of c (bound_in c targets)) ≡ Some refusal
-LinksBy c targets (Err OutOfMemory) = Unit {0}
-
 -- the entries are numbered from i on
 abbrev pub rows_from : NewCell → ℕ → List Entry → List Target → List LinkRow
 rows_from c i [] targets = []

@@ -3,7 +3,10 @@
 --     AreGathered spaces g   they stand ahead of the present ones, attached
 --     CanStage m g           wherever there is room for them, they can be linked in the machine
 --     placing u new          the new cells get their places in u, and each of their entries fits
---     Stages u new result    the cells placed and linked, or the refusal
+--     IsLanded m g l         the gathered cells placed and linked, among which names are looked up still
+--     Lands m g result       that, or the refusal
+--     Names l s              what is staged is what has landed, with the cells' names
+--     Stages u new result    the cells placed, linked and named, or the refusal
 use Rattle.std.specs.Prelude.{◌≡◌, ◌+◌, ◌*◌, ◌<◌, ◌^◌, List, ◌++◌, All, Result, Ok, Err, map}
 use Rattle.cell_world.specs.declared.fail.Fail.{Fail}
 use Rattle.cell_world.specs.declared.fail.Fail.TheVariants.{Refused, OutOfMemory}
@@ -20,7 +23,10 @@ use Rattle.cell_gather.specs.declared.gathering.Gathered.{Gathered}
 use Rattle.cell_machine.specs.declared.machine.Machine.{Machine}
 use Rattle.cell_machine.specs.declared.staged.Staged.{Staged}
 use Rattle.cell_machine.specs.Machine.{AreParts, world_of}
-use Rattle.cell_machine.specs.Staged.{AreNewIn, IsStaged}
+use Rattle.cell_machine.specs.Staged.{AreLinkedIn, AreNewIn, IsStaged}
+use Rattle.cell_target.specs.Scene.{AreCells, seen}
+use Rattle.cell_world.specs.Target.{targets_of}
+use Rattle.cell_load.specs.declared.landing.Landed.{Landed}
 
 abbrev pub new_cells : Gathered → List Cell
 new_cells g = cells_of g.cells.items g.ahead.fresh
@@ -44,6 +50,27 @@ abbrev pub placing : World → List Cell → Outcome (Unit {0})
 placing u new =
     take_all u.base (page_table u) (objects_of new)
     >>= (λ t. refused_by (first_misfit (placed_after t.starts u new) (placed_cells t.starts new)))
+
+pub record IsLanded (m : Machine) (g : Gathered) (l : Landed) : Type 0 where
+  pub linked : AreLinkedIn (world_of m) (new_cells g) l.cells.items l.space l.regions.items l.fields.items l.rows.items
+  pub open linked use *
+  pub same : l.ahead ≡ g.ahead
+  pub are : AreCells g.ahead.cells (m.cells.items ++ l.cells.items)
+  -- an entry names the same among them
+  pub targets : (c : Cell) → targets_of (placed_after starts (world_of m) (new_cells g)) c ≡ targets_of (seen m.spaces.namespaces (m.cells.items ++ l.cells.items) g.ahead.cells) c
+
+abbrev pub Lands : Machine → Gathered → Result Landed Fail → Type 0
+Lands m g (Ok l) = IsLanded m g l
+Lands m g (Err (Refused refusal)) = placing (world_of m) (new_cells g) ≡ Err refusal
+Lands m g (Err OutOfMemory) = Unit {0}
+
+pub record Names (l : Landed) (s : Staged) : Type 0 where
+  pub cells : s.cells.items ≡ l.cells.items
+  pub names : s.names.items ≡ map (λ c. c.names) l.ahead.fresh
+  pub space : s.space ≡ l.space
+  pub regions : s.regions.items ≡ l.regions.items
+  pub fields : s.fields.items ≡ l.fields.items
+  pub rows : s.rows.items ≡ l.rows.items
 
 abbrev pub Stages : World → List Cell → Result Staged Fail → Type 0
 Stages u new (Ok s) = IsStaged u new s

@@ -4,8 +4,8 @@
 
 mod add;
 mod command;
+mod landing;
 mod link;
-mod misfit;
 mod placing;
 mod prepared;
 mod room;
@@ -15,5 +15,8 @@ mod wanted;
 
 pub use cell_gather::{Gathered, Want, gather};
 pub use command::load;
+pub use landing::{Landed, land};
 pub use placing::place;
+pub use prepared::Prepared;
+pub use room::{count, reserve};
 pub use staging::stage;

@@ -5,9 +5,9 @@ ghost use Rattle.cell_coherent.specs.Grown.{In};
 ghost use Rattle.cell_target.specs.Scene.{seen};
 ghost use Rattle.cell_load.specs.Linking.{CanLink, Links, LinksAll};
 
-use crate::misfit::fields;
 use crate::rows::rows;
-use cell_link::FieldValue;
+use cell_link::{FieldValue, link_fields};
+use cell_space::CellState;
 use cell_target::Scene;
 use cell_world::{Fail, LinkRow, NewCell};
 use std::alloc::{AllocError, Global};
@@ -37,8 +37,8 @@ fn link_one(alloc: Global, scene: &Scene, cell: &NewCell) -> Result<Linked, Fail
     requires can { CanLink scene.now.ahead.now.namespaces cell.now }
     ensures { Links (seen scene.now.ahead.now.namespaces (scene.now.present.now ++ scene.now.fresh.now) scene.now.ahead.now.cells) cell.now result }
 {
-    let targets = scene.targets(alloc, cell)?;
-    let fields = fields(alloc, cell, &targets)?;
+    let targets = scene.targets(alloc, cell, CellState::Attached)?;
+    let fields = link_fields(alloc, cell, &targets)?;
     let rows = rows(alloc, cell, &targets)?;
     Ok(Linked {
         fields: fields.into_vec(),

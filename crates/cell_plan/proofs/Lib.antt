@@ -7,3 +7,5 @@ pub mod Staying
 pub mod Using
 pub mod Moving
 pub mod Unfit
+pub mod Swapped
+pub mod Covering

@@ -6,3 +6,4 @@ pub mod Lost
 pub mod Changes
 pub mod Staying
 pub mod Users
+pub mod Coverage

@@ -2,6 +2,7 @@
 #![tactic(auto)]
 
 mod changes;
+mod coverage;
 mod firsts;
 mod lasts;
 mod laws;
@@ -21,6 +22,7 @@ pub use cell_num::CellId;
 pub use cell_object::Entry;
 pub use cell_world::{LinkRow, NewCell, Target};
 pub use changes::{Change, Changes, changes_of};
+pub use coverage::check_coverage;
 pub use laws::{links_are_own, lost_is_changed, lost_links_move, users_are_enough};
 pub use old::Old;
 pub use span::Span;

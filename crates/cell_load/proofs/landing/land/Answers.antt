@@ -1,12 +1,11 @@
-use Rattle.std.proofs.Common.{◌∙◌, ap, map, sym, subst, refl, List, ◌++◌}
+use Rattle.std.proofs.Common.{sym, subst, refl, List, ◌++◌}
 use Rattle.std.specs.Prelude.{All, Err, Ok}
 use Rattle.std.proofs.lemmas.Result.{err_from_is_err_and}
 use Rattle.cell_world.specs.declared.state.NewCell.{NewCell}
-use Rattle.cell_space.specs.declared.cell.SpaceCell.{SpaceCell}
 use Rattle.cell_target.specs.Scene.{AreCells, seen}
 use Rattle.cell_load.specs.Linking.{CanLink, LinksAll}
-use Rattle.cell_load.proofs.Stagings.{are_cells, can_link_all, link_failed, place_failed, sound, staged}
-use Rattle.cell_load.proofs.staging.stage.Goals as goal
+use Rattle.cell_load.proofs.Stagings.{are_cells, can_link_all, landed, link_failed, place_failed, sound}
+use Rattle.cell_load.proofs.landing.land.Goals as goal
 
 pub place-requires : goal.place-requires
 place-requires c = sound c.args.machine.now c.args.gathered c.requires
@@ -37,4 +36,4 @@ returns-in_err-linked c =
 pub returns : goal.returns
 returns c =
     let links = subst (λ (cells : List NewCell). LinksAll (seen c.args.machine.now.spaces.namespaces (c.args.machine.now.cells.items ++ cells) (c.args.gathered.ahead.cells)) cells (Ok c.in_ok-linked.linked)) c.deref.ensures.value (c.in_ok-linked.ensures {u = tt}) in
-    staged c.args.machine.now c.args.gathered c.requires c.in_ok-space.space c.in_ok-space.placed (c.in_ok-space.ensures {u = tt}) c.in_ok-linked.linked links _ refl ((c.in_ok-names.ensures {u = tt}) ∙ ap (map (λ (d : SpaceCell). d.names)) c.into_fresh.ensures) refl refl refl refl
+    landed c.args.machine.now c.args.gathered c.requires c.in_ok-space.space c.in_ok-space.placed (c.in_ok-space.ensures {u = tt}) c.in_ok-linked.linked links _ refl refl refl refl refl refl

@@ -1,5 +1,0 @@
-use Rattle.cell_load.proofs.Misfits.{all_fit}
-use Rattle.cell_load.proofs.misfit.fields.Goals as goal
-
-pub returns-in-Ok : goal.returns-in-Ok
-returns-in-Ok c = (all_fit c.args.cell.now c.args.targets.now c.in-Ok.ensures.0, c.in-Ok.ensures.1)
