@@ -6,6 +6,5 @@ pub mod Lists
 pub mod Staying
 pub mod Using
 pub mod Moving
-pub mod Unfit
 pub mod Swapped
 pub mod Covering

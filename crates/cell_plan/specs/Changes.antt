@@ -1,19 +1,16 @@
 -- What changes in one cell once some cells are put aside.
 --     AreChanges old c targets links r     the fields at which a link is lost, with what they hold by now, and the lost links as they lead by now;
---                                          or the first entry that doesn't fit
---     entry_overflow c e                   the refusal for an entry that doesn't fit
+--                                          or the refusal of the first entry that doesn't fit
 use Rattle.std.specs.Prelude.{◌≡◌, ℕ, List, None, Some, Result, Ok, Err, map, filter, slice_get}
 use Rattle.cell_object.specs.declared.object.Entry.{Entry}
-use Rattle.cell_world.specs.declared.refusal.Refusal.{Refusal}
-use Rattle.cell_world.specs.declared.refusal.Refusal.TheVariants.{Overflow as OverflowRefusal}
+use Rattle.cell_world.specs.declared.fail.Fail.{Fail}
 use Rattle.cell_world.specs.declared.state.LinkRow.{LinkRow}
 use Rattle.cell_world.specs.declared.state.NewCell.{NewCell}
 use Rattle.cell_world.specs.declared.state.Target.{Target}
-use Rattle.cell_world.specs.Field.{fields_of}
-use Rattle.cell_link.specs.declared.fail.LinkFail.{LinkFail}
-use Rattle.cell_link.specs.declared.fail.LinkFail.TheVariants.{Overflow, OutOfMemory}
+use Rattle.cell_world.specs.Field.{fields_of, misfit_of}
 use Rattle.cell_link.specs.declared.value.FieldValue.{FieldValue}
-use Rattle.cell_link.specs.Linked.{first_unfit, value_at}
+use Rattle.cell_link.specs.Linked.{bound_in, value_at}
+use Rattle.cell_link.specs.LinksBy.{LinksBy}
 use Rattle.cell_link.specs.Applied.{spot_of}
 use Rattle.cell_swaps_law.specs.Moved.{led_to}
 use Rattle.cell_plan.specs.declared.changes.Change.{Change}
@@ -32,14 +29,10 @@ abbrev pub lost_links : List ℕ → List Target → List LinkRow → List LinkR
 lost_links old targets links = map (λ l. led_to l (slice_get targets l.entry)) (filter (is_lost old targets) links)
 
 pub record AreChanged (old : List ℕ) (c : NewCell) (targets : List Target) (links : List LinkRow) (changes : Changes) : Type 0 where
-  pub fit : first_unfit c targets ≡ None
+  pub fit : misfit_of c (bound_in c targets) ≡ None
   pub fields : changes.fields.items ≡ map (change_by (value_at c targets)) (lost_fields old c targets links)
   pub moves : changes.moves.items ≡ lost_links old targets links
 
-abbrev pub entry_overflow : NewCell → Entry → Refusal
-entry_overflow c e = OverflowRefusal c.id e.section e.offset e.kind
-
-abbrev pub AreChanges : List ℕ → NewCell → List Target → List LinkRow → Result Changes LinkFail → Type 0
+abbrev pub AreChanges : List ℕ → NewCell → List Target → List LinkRow → Result Changes Fail → Type 0
 AreChanges old c targets links (Ok changes) = AreChanged old c targets links changes
-AreChanges old c targets links (Err (Overflow entry)) = first_unfit c targets ≡ Some entry
-AreChanges old c targets links (Err OutOfMemory) = Unit {0}
+AreChanges old c targets links (Err fail) = LinksBy c targets (Err fail)

@@ -7,3 +7,5 @@ pub mod Changes
 pub mod Staying
 pub mod Users
 pub mod Coverage
+pub mod Exchanged
+pub mod Viewed

@@ -12,9 +12,9 @@ use crate::firsts::first_entries;
 use crate::moves::moves_of;
 use crate::old::Old;
 use crate::spots::spots_of;
-use cell_link::{FieldValue, LinkFail, link_cell, spot};
+use cell_link::{FieldValue, link_fields, spot};
 use cell_object::Entry;
-use cell_world::{LinkRow, NewCell, Target};
+use cell_world::{Fail, LinkRow, NewCell, Target};
 use std::alloc::{AllocError, Global};
 use std::collections::BTreeSet;
 
@@ -68,20 +68,20 @@ fn fields_at(
 }
 
 /// What changes in a cell where the old cells are put aside: `links` are its links before, and
-/// `targets` what its entries name by now. An entry that doesn't fit is named by its place in the table.
+/// `targets` what its entries name by now. The first entry that doesn't fit is refused.
 pub fn changes_of(
     alloc: Global,
     cell: &NewCell,
     targets: &[Target],
     links: &[LinkRow],
     old: &Old,
-) -> Result<Changes, LinkFail>
+) -> Result<Changes, Fail>
     requires each { length targets.now ≡ length cell.now.object.entries }
     requires few { length cell.now.object.entries < 2 ^ 32 }
     requires low { All (λ p. p.start < 2 ^ 63) cell.now.places }
     ensures { AreChanges (map (λ c. c.0) old.now.cells.now) cell.now targets.now links.now result }
 {
-    let values = link_cell(alloc, cell, targets)?;
+    let values = link_fields(alloc, cell, targets)?;
     let firsts = first_entries(alloc, &cell.object)?;
     let spots = spots_of(alloc, old, cell.object.entries.as_slice(), targets, links)?;
     let fields = fields_at(alloc, &firsts, values.as_slice(), &spots)?;

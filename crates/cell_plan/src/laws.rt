@@ -1,6 +1,6 @@
 //! That what is found by links is what the definitions of a swap name, on any two machines.
 
-ghost use Rattle.std.specs.Prelude.{ℕ, ◌≡◌, ◌==◌, nat_lt, IsTrue, List, All, None, Some, false, filter, flat_map, map, slice_get};
+ghost use Rattle.std.specs.Prelude.{ℕ, ◌≡◌, ◌==◌, nat_lt, IsTrue, List, All, Some, false, filter, flat_map, map};
 ghost use Rattle.cell_world.specs.Changed.{changed_fields, changed_in, changed_misfit, differs, first_changed_misfit, is_changed, now_in};
 ghost use Rattle.cell_world.specs.Field.{fields_of};
 ghost use Rattle.cell_world.specs.Fit.{misfit_in};
@@ -10,9 +10,7 @@ ghost use Rattle.cell_coherent.specs.Grown.{In};
 ghost use Rattle.cell_num.specs.Lists.{each_pair};
 ghost use Rattle.cell_world.specs.World.{Cell, World, cell_of};
 ghost use Rattle.cell_swaps_law.specs.Moved.{moved};
-ghost use Rattle.cell_object.specs.declared.object.Entry.{Entry};
-ghost use Rattle.cell_link.specs.Linked.{first_unfit};
-ghost use Rattle.cell_plan.specs.Changes.{entry_overflow, lost_fields, lost_links};
+ghost use Rattle.cell_plan.specs.Changes.{lost_fields, lost_links};
 ghost use Rattle.cell_plan.specs.Lost.{is_lost};
 ghost use Rattle.cell_plan.specs.Staying.{StaysBy, is_user, links_in};
 
@@ -22,9 +20,6 @@ pub fn lost_is_changed()
     ensures fields { (v : World) (w : World) (old : List ℕ) (c : Cell) → StaysBy v w old c →
         lost_fields old (now_in w c).placed (targets_of w (now_in w c)) (links_in v c) ≡ filter (is_changed v w c) (fields_of c.object) }
     ensures misfit { (v : World) (w : World) (old : List ℕ) (c : Cell) → StaysBy v w old c → changed_misfit v w c ≡ misfit_in w (now_in w c) }
-    ensures refusal { (v : World) (w : World) (old : List ℕ) (c : Cell) → StaysBy v w old c → (place : ℕ) (e : Entry) → first_unfit (now_in w c).placed (targets_of w (now_in w c)) ≡ Some place → slice_get c.object.entries place ≡ Some e →
-        changed_misfit v w c ≡ Some (entry_overflow (now_in w c).placed e) }
-    ensures fits { (v : World) (w : World) (old : List ℕ) (c : Cell) → StaysBy v w old c → first_unfit (now_in w c).placed (targets_of w (now_in w c)) ≡ None → changed_misfit v w c ≡ None }
 {}
 
 /// In a cell without a link into an old cell nothing changes, so the cells with one are enough.

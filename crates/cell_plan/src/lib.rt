@@ -1,8 +1,10 @@
 //! What a swap changes in cells that stay, and which task stands inside a part of it.
 #![tactic(auto)]
 
+mod changed;
 mod changes;
 mod coverage;
+mod exchange;
 mod firsts;
 mod lasts;
 mod laws;
@@ -17,12 +19,14 @@ mod torn;
 mod uppers;
 mod users;
 
-pub use cell_link::{FieldValue, LinkFail};
+pub use cell_link::FieldValue;
 pub use cell_num::CellId;
 pub use cell_object::Entry;
 pub use cell_world::{LinkRow, NewCell, Target};
+pub use changed::Changed;
 pub use changes::{Change, Changes, changes_of};
 pub use coverage::check_coverage;
+pub use exchange::Exchange;
 pub use laws::{links_are_own, lost_is_changed, lost_links_move, users_are_enough};
 pub use old::Old;
 pub use span::Span;
