@@ -2,6 +2,7 @@
 
 ghost use Rattle.std.specs.Prelude.{◌≡◌, None, All};
 ghost use Rattle.cell_commit.specs.Commit.{IsLaidOut, IsMapped, field_patched, field_written, fields_patched, fields_written};
+ghost use Rattle.cell_link.specs.declared.value.FieldValue.{FieldValue as Value};
 
 use cell_link::FieldValue;
 use cell_mem::Memory;
@@ -40,13 +41,14 @@ fn patch_field(memory: &mut Memory, field: &FieldValue)
     memory.patch(field.addr, field.width, field.value);
 }
 
-/// Writes fields one after another, whose seals stay as they are.
-pub fn patch_fields(memory: &mut Memory, fields: &[FieldValue])
-    requires mapped { All (IsMapped memory.old) fields.now }
+/// Writes fields one after another, whose seals stay as they are. What is mapped stays so.
+pub fn patch_fields(memory: &mut Memory, patches: &[FieldValue])
+    requires mapped { All (IsMapped memory.old) patches.now }
     requires undo { memory.old.writes_left ≡ None }
-    ensures { memory.new ≡ fields_patched memory.old fields.now }
+    ensures patched { memory.new ≡ fields_patched memory.old patches.now }
+    ensures still_mapped { (f : Value) → IsMapped memory.old f → IsMapped memory.new f }
 {
-    for field in fields {
-        patch_field(memory, field);
+    for patch in patches {
+        patch_field(memory, patch);
     }
 }

@@ -1,18 +1,25 @@
-use Rattle.cell_commit.specs.Commit.{field_patched}
+use Rattle.std.proofs.Common.{subst, sym}
+use Rattle.cell_commit.specs.Commit.{IsMapped, field_patched}
+use Rattle.cell_link.specs.declared.value.FieldValue.{FieldValue}
+use Rattle.cell_mem.specs.State.{MemoryState}
 use Rattle.cell_commit.proofs.FieldsLeft.{all_mapped_kept, no_field, patched_kept, patched_undo, undo_kept, written_done, written_more}
 use Rattle.cell_commit.proofs.fields.patch_fields.Goals as goal
 
-pub patch_field-requires-clause-mapped : goal.patch_field-requires-clause-mapped
-patch_field-requires-clause-mapped c = c.loop-field.invariant.mapped c.loop-field.field-index no_field c.loop-field-test.true
+pub loop-patch-init : goal.loop-patch-init
+loop-patch-init c = record { written = ?; undo = c.requires.undo; still = λ f m. m; mapped = c.requires.mapped }
 
-pub loop-field-preserved : goal.loop-field-preserved
-loop-field-preserved c =
-    let this = c.loop-field.invariant.mapped c.loop-field.field-index no_field c.loop-field-test.true in
+pub patch_field-requires-clause-mapped : goal.patch_field-requires-clause-mapped
+patch_field-requires-clause-mapped c = c.loop-patch.invariant.mapped c.loop-patch.patch-index no_field c.loop-patch-test.true
+
+pub loop-patch-preserved : goal.loop-patch-preserved
+loop-patch-preserved c =
+    let this = c.loop-patch.invariant.mapped c.loop-patch.patch-index no_field c.loop-patch-test.true in
     record {
-      written = written_more field_patched patched_undo patched_kept _ _ _ c.args.fields.now c.loop-field.field-index c.loop-field-test.true c.patch_field.ensures.written c.loop-field.invariant.written;
-      undo = undo_kept field_patched patched_undo patched_kept _ _ _ c.patch_field.ensures.written c.loop-field.invariant.undo;
-      mapped = all_mapped_kept field_patched patched_undo patched_kept _ _ _ c.args.fields.now c.patch_field.ensures.laid this c.patch_field.ensures.written c.loop-field.invariant.mapped;
+      written = written_more field_patched patched_undo patched_kept _ _ _ c.args.patches.now c.loop-patch.patch-index c.loop-patch-test.true c.patch_field.ensures.written c.loop-patch.invariant.written;
+      undo = undo_kept field_patched patched_undo patched_kept _ _ _ c.patch_field.ensures.written c.loop-patch.invariant.undo;
+      still = λ (f : FieldValue) m. subst (λ (n : MemoryState). IsMapped n f) (sym c.patch_field.ensures.written) (patched_kept _ _ f c.patch_field.ensures.laid this (c.loop-patch.invariant.still f m));
+      mapped = all_mapped_kept field_patched patched_undo patched_kept _ _ _ c.args.patches.now c.patch_field.ensures.laid this c.patch_field.ensures.written c.loop-patch.invariant.mapped;
     }
 
-pub returns : goal.returns
-returns c = written_done field_patched patched_undo patched_kept _ _ c.args.fields.now c.loop-field.field-index c.loop-field-test.false c.loop-field.invariant.written
+pub returns-clause-patched : goal.returns-clause-patched
+returns-clause-patched c = written_done field_patched patched_undo patched_kept _ _ c.args.patches.now c.loop-patch.patch-index c.loop-patch-test.false c.loop-patch.invariant.written
