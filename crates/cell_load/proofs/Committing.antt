@@ -19,6 +19,7 @@ use Rattle.cell_coherent.proofs.Elements.{all-In, All-In, In-map, In-right}
 use Rattle.cell_coherent.proofs.Ready.{limit_parts}
 use Rattle.cell_load_law.specs.Loading.{objects_of}
 use Rattle.cell_link.specs.declared.value.FieldValue.{FieldValue}
+use Rattle.cell_graph.specs.Moves.{moved}
 use Rattle.cell_graph.specs.Order.{Rises, below_link}
 use Rattle.cell_space.specs.declared.cell.SpaceCell.{SpaceCell}
 use Rattle.cell_space.specs.Joined.{placed_of}
@@ -39,10 +40,11 @@ use Rattle.cell_machine.proofs.StagedWorld.{F, W, known_are, new_count, numbers_
 use Rattle.cell_machine.proofs.Lists.{pairs-map}
 use Rattle.cell_machine.proofs.LinksRise.{in_graph_order, links_rise}
 use Rattle.cell_load.specs.declared.prepared.Prepared.{Prepared}
-use Rattle.cell_load.specs.Adding.{HasRoomFor, IsCommittable, IsPrepared, IsReadyToAdd}
-use Rattle.cell_load.proofs.Ready.{ready_same}
+use Rattle.cell_load.specs.Adding.{CanChange, HasRoomFor, IsCommittable, IsPrepared, IsReadyToAdd}
+use Rattle.cell_load.proofs.Ready.{change_same, ready_same}
 
-module _ (m : Machine) (s : Staged) (p : Prepared) (changed : List Patch) (r : IsReadyToAdd m changed m.graph.rows s) (prepared : IsPrepared s.cells.items s.names.items p) (room : HasRoomFor m s p) where
+module _ (m : Machine) (s : Staged) (p : Prepared) (patches : List FieldValue) (moves : List LinkRow) (changed : List Patch) (r : IsReadyToAdd m changed (moved m.graph.rows moves) s) (prepared : IsPrepared s.cells.items s.names.items p) (room : HasRoomFor m s p)
+    (change : CanChange m s patches moves) where
   abbrev u : World
   u = world_of m
 
@@ -120,15 +122,15 @@ module _ (m : Machine) (s : Staged) (p : Prepared) (changed : List Patch) (r : I
   all_keys : keys_of (m.cells.items ++ s.cells.items) ≡ m.graph.sections ++ keys_of s.cells.items
   all_keys = flat_map-append section_keys m.cells.items s.cells.items ∙ ap (λ (keys : List SecKey). keys ++ keys_of s.cells.items) (sym r.parts.sections)
 
-  rows_are : r.after.links ≡ m.graph.rows ++ s.rows.items
-  rows_are = ap (λ (w : World). w.links) r.comes.is ∙ ap (λ (rows : List LinkRow). m.graph.rows ++ rows) (sym st.rows)
+  rows_are : r.after.links ≡ moved m.graph.rows moves ++ s.rows.items
+  rows_are = ap (λ (w : World). w.links) r.comes.is ∙ ap (λ (rows : List LinkRow). moved m.graph.rows moves ++ rows) (sym st.rows)
 
   all_present : All (λ (x : LinkRow). Contains (m.graph.sections ++ keys_of s.cells.items) x.user × Contains (m.graph.sections ++ keys_of s.cells.items) x.target) s.rows.items
   all_present =
       subst (λ (keys : List SecKey). All (λ (x : LinkRow). Contains keys x.user × Contains keys x.target) s.rows.items) all_keys
-      (rows_present r.after r.comes.coherent (m.cells.items ++ s.cells.items) all_cells m.graph.rows s.rows.items rows_are)
+      (rows_present r.after r.comes.coherent (m.cells.items ++ s.cells.items) all_cells (moved m.graph.rows moves) s.rows.items rows_are)
 
-  all_rise : Rises below_link (m.graph.rows ++ s.rows.items)
+  all_rise : Rises below_link (moved m.graph.rows moves ++ s.rows.items)
   all_rise = subst (Rises below_link) rows_are (in_graph_order r.after.links (links_rise r.after r.comes.coherent))
 
   known : (c : Cell) → In c new → (is_attached c.standing ≡ true) × (is_known_cell later c ≡ true)
@@ -148,13 +150,14 @@ module _ (m : Machine) (s : Staged) (p : Prepared) (changed : List Patch) (r : I
       let next = ap (λ (w : World). w.next_cell) r.comes.is ∙ ap (λ (k : ℕ). m.next + k) (new_count u r.new s st) in
       subst (λ (n : ℕ). n ≤ 65536) next (leb-true r.after.next_cell 65536 limits.next_cell)
 
-  pub committable : IsCommittable m s p
+  pub committable : IsCommittable m s p patches moves
   committable = record {
     sections = prepared.sections;
     room = room;
     regions = regions_room;
     mapped = fields_are_mapped;
     undo = mapped_undo m.memory s.regions.items ∙ r.parts.undo;
+    change = change;
     above = all_above;
     present = all_present;
     rise = all_rise;
@@ -163,24 +166,29 @@ module _ (m : Machine) (s : Staged) (p : Prepared) (changed : List Patch) (r : I
   }
 
 -- once there is room, and the names have been taken out of what was staged
-pub committable_then : (old new : Machine) (s : Staged) (p : Prepared) (names : Vec (List Alias) Global) → IsSame old new → IsReadyToAdd old [] old.graph.rows s → IsPrepared s.cells.items s.names.items p
-    → HasRoomFor new (record s { names = names }) p → IsCommittable new (record s { names = names }) p
-committable_then old new s p names same r prepared room =
-    let ready : IsReadyToAdd new [] new.graph.rows s = subst (λ (rows : List LinkRow). IsReadyToAdd new [] rows s) (sym same.rows) (ready_same old new same [] old.graph.rows s r) in
-    let c : IsCommittable new s p = committable new s p [] ready prepared (record {
+pub committable_then : (old new : Machine) (s : Staged) (p : Prepared) (names : Vec (List Alias) Global) (patches : List FieldValue) (moves : List LinkRow) (changed : List Patch) → IsSame old new
+    → IsReadyToAdd old changed (moved old.graph.rows moves) s → IsPrepared s.cells.items s.names.items p
+    → HasRoomFor new (record s { names = names }) p → CanChange old s patches moves → IsCommittable new (record s { names = names }) p patches moves
+committable_then old new s p names patches moves changed same r prepared room change =
+    let ready : IsReadyToAdd new changed (moved new.graph.rows moves) s =
+    subst (λ (rows : List LinkRow). IsReadyToAdd new changed (moved rows moves) s) (sym same.rows) (ready_same old new same changed (moved old.graph.rows moves) s r) in
+    let c : IsCommittable new s p patches moves = committable new s p patches moves changed ready prepared
+    (record {
       cells = room.cells;
       regions = room.regions;
       sections = room.sections;
       rows = room.rows;
       newcomers = room.newcomers;
       names = room.names;
-    }) in
+    })
+    (change_same old new same s patches moves change) in
     record {
       sections = c.sections;
       room = room;
       regions = c.regions;
       mapped = c.mapped;
       undo = c.undo;
+      change = record { mapped = c.change.mapped; bound = c.change.bound; apart = c.change.apart; present = c.change.present };
       above = c.above;
       present = c.present;
       rise = c.rise;

@@ -3,7 +3,11 @@ use Rattle.std.proofs.Common.{◌≡◌, sym, ◌∙◌, ap, ap₂, subst, ℕ, 
 use Rattle.std.proofs.lemmas.List.{length-map}
 use Rattle.cell_num.specs.declared.ids.SecKey.{SecKey}
 use Rattle.cell_mem.specs.State.{MemoryState}
-use Rattle.cell_commit.specs.Commit.{all_mapped, fields_written}
+use Rattle.cell_commit.specs.Commit.{IsMapped, all_mapped, fields_written}
+use Rattle.cell_commit.proofs.Mapping.{mapped_regions}
+use Rattle.cell_graph.specs.Links.{is_bound}
+use Rattle.cell_graph.specs.Moves.{moved}
+use Rattle.cell_link.specs.declared.value.FieldValue.{FieldValue}
 use Rattle.cell_space.specs.declared.cell.SpaceCell.{SpaceCell}
 use Rattle.cell_world.specs.declared.state.LinkRow.{LinkRow}
 use Rattle.cell_world.specs.declared.state.NewCell.{NewCell}
@@ -17,7 +21,7 @@ use Rattle.cell_machine.specs.Same.{IsSame}
 use Rattle.cell_machine.specs.Staged.{IsCommitted}
 use Rattle.cell_machine.proofs.Same.{parts_same, world_same}
 use Rattle.cell_machine.proofs.StagedWorld.{new_count}
-use Rattle.cell_load.specs.Adding.{IsAdded, IsPlanned, IsReadyToAdd}
+use Rattle.cell_load.specs.Adding.{CanChange, IsAdded, IsPlanned, IsReadyToAdd, memory_with}
 
 pub ready_same : (old new : Machine) → IsSame old new → (changed : List Patch) (rows : List LinkRow) (s : Staged) → IsReadyToAdd old changed rows s → IsReadyToAdd new changed rows s
 ready_same old new same changed rows s r = record {
@@ -38,9 +42,27 @@ ready_same old new same changed rows s r = record {
 pub as_many : (m : Machine) (changed : List Patch) (rows : List LinkRow) (s : Staged) → IsReadyToAdd m changed rows s → length s.names.items ≡ length s.cells.items
 as_many m changed rows s r = ap length r.staged.names ∙ (length-map r.new names_of ∙ new_count (world_of m) r.new s r.staged)
 
-pub added_same : (old new n : Machine) → IsSame old new → (s : Staged) (names : Vec (List Alias) Global) (newcomers all : List SpaceCell) → newcomers ≡ all
-    → IsCommitted new (all_mapped new.memory s.regions.items) new.graph.rows newcomers (record s { names = names }) n → IsAdded old s all n
-added_same old new n same s names newcomers all e c = record {
+-- with other room there is as much as is there
+pub change_same : (old new : Machine) → IsSame old new → (s : Staged) (patches : List FieldValue) (moves : List LinkRow) → CanChange old s patches moves → CanChange new s patches moves
+change_same old new same s patches moves c = record {
+  mapped = λ (k : ℕ) (d : FieldValue) (lt : k < length patches). still (get_or patches k d) (c.mapped k d lt);
+  bound = subst (λ (rows : List LinkRow). All (λ (r : LinkRow). IsTrue (is_bound rows r.user r.entry)) moves) (sym same.rows) c.bound;
+  apart = c.apart;
+  present = subst (λ (keys : List SecKey). All (λ (r : LinkRow). Contains (keys ++ keys_of s.cells.items) r.target) moves) (sym same.sections) c.present;
+}
+  where
+    regions : (all_mapped old.memory s.regions.items).regions ≡ (all_mapped new.memory s.regions.items).regions
+    regions =
+        mapped_regions old.memory s.regions.items
+        ∙ (sym (ap (λ (m : MemoryState). fold (λ rs r. with_region r rs) m.regions s.regions.items) same.memory)
+        ∙ sym (mapped_regions new.memory s.regions.items))
+
+    still : (f : FieldValue) → IsMapped (all_mapped old.memory s.regions.items) f → IsMapped (all_mapped new.memory s.regions.items) f
+    still f m = (m.0, subst (λ (rs : List Region). is_some (option_and_then (λ (r : Region). where_true (nat_le (f.addr + f.width) (end_of r)) r) (find (covers_addr f.addr) rs)) ≡ true) regions m.1)
+
+pub added_same : (old new n : Machine) → IsSame old new → (s : Staged) (names : Vec (List Alias) Global) (patches : List FieldValue) (moves : List LinkRow) (newcomers all : List SpaceCell) → newcomers ≡ all
+    → IsCommitted new (memory_with new.memory s.regions.items patches) (moved new.graph.rows moves) newcomers (record s { names = names }) n → IsAdded old patches moves s all n
+added_same old new n same s names patches moves newcomers all e c = record {
   spare = same.spare;
   is = record {
     cells = c.cells ∙ ap (λ (cs : List NewCell). cs ++ s.cells.items) same.cells;
@@ -49,9 +71,9 @@ added_same old new n same s names newcomers all e c = record {
     namespaces = c.namespaces ∙ same.namespaces;
     known = c.known ∙ ap₂ (λ (xs ys : List SpaceCell). xs ++ ys) same.known e;
     space = c.space;
-    memory = c.memory ∙ ap (λ (m : MemoryState). fields_written (all_mapped m s.regions.items) s.fields.items) same.memory;
+    memory = c.memory ∙ ap (λ (m : MemoryState). fields_written (memory_with m s.regions.items patches) s.fields.items) same.memory;
     sections = c.sections ∙ ap (λ (ks : List SecKey). ks ++ keys_of s.cells.items) same.sections;
-    rows = c.rows ∙ ap (λ (ls : List LinkRow). ls ++ s.rows.items) same.rows;
+    rows = c.rows ∙ ap (λ (ls : List LinkRow). moved ls moves ++ s.rows.items) same.rows;
     tasks = c.tasks ∙ same.tasks;
   };
 }

@@ -2,21 +2,27 @@
 --     IsPlanned u changed rows s      the cells were staged for u; linking writes these fields of others too, whose links are these then
 --     IsReadyToAdd m changed rows s   they were staged for the machine m
 --     IsPrepared cells names p        what the staged cells are called, and the numbers of their sections
---     IsCommittable m s p             what the calls of the commit ask
---     IsAdded old s new               the machine with the staged cells
-use Rattle.std.specs.Prelude.{◌≡◌, ◌≤◌, ◌+◌, ℕ, List, ◌++◌, None, All, Contains, length, map, vec_len, vec_capacity}
+--     memory_with m regions patches   the memory with new regions, and fields of others written
+--     CanChange m s patches moves     these fields of others may be written, and these links of others moved
+--     IsCommittable m s p patches moves   what the calls of the commit ask
+--     IsAdded old patches moves s newcomers new   the machine with the staged cells, to which others lead so
+use Rattle.std.specs.Prelude.{◌≡◌, ◌≤◌, ◌+◌, ℕ, List, ◌++◌, None, All, Contains, IsTrue, length, map, vec_len, vec_capacity}
 use Rattle.cell_num.specs.declared.ids.CellId.{CellId}
 use Rattle.cell_world.specs.declared.state.LinkRow.{LinkRow}
 use Rattle.cell_world.specs.declared.state.NewCell.{NewCell}
-use Rattle.cell_world.specs.World.{Alias, World, Cell}
+use Rattle.cell_world.specs.World.{Alias, World, Cell, Region}
 use Rattle.cell_world.specs.Coherent.{IsCoherent}
 use Rattle.cell_world.specs.Relink.{Patch}
 use Rattle.cell_load_law.specs.Loading.{placed_after, placed_cells}
 use Rattle.cell_space.specs.declared.cell.SpaceCell.{SpaceCell}
 use Rattle.cell_commit.specs.Cells.{AreAbove, AreFree, arrived, name_count, section_count}
-use Rattle.cell_commit.specs.Commit.{AreRoom, IsMapped, all_mapped}
+use Rattle.cell_commit.specs.Commit.{AreRoom, IsMapped, all_mapped, fields_patched}
 use Rattle.cell_commit.specs.declared.sections.CellSections.{CellSections}
+use Rattle.cell_graph.specs.Links.{is_bound}
+use Rattle.cell_graph.specs.Moves.{AreApart, moved}
 use Rattle.cell_graph.specs.Order.{Rises, below_link}
+use Rattle.cell_link.specs.declared.value.FieldValue.{FieldValue}
+use Rattle.cell_mem.specs.State.{MemoryState}
 use Rattle.cell_machine.specs.declared.machine.Machine.{Machine}
 use Rattle.cell_machine.specs.declared.staged.Staged.{Staged}
 use Rattle.cell_machine.specs.Machine.{AreParts, keys_of, world_of}
@@ -59,19 +65,30 @@ pub record HasRoomFor (m : Machine) (s : Staged) (p : Prepared) : Type 0 where
   pub newcomers : length p.newcomers.items ≤ m.spaces.spare_cells
   pub names : length p.newcomers.items + name_count p.newcomers.items ≤ m.spaces.spare_names
 
-pub record IsCommittable (m : Machine) (s : Staged) (p : Prepared) : Type 0 where
+abbrev pub memory_with : MemoryState → List Region → List FieldValue → MemoryState
+memory_with m regions patches = fields_patched (all_mapped m regions) patches
+
+-- the links are there, each is named once, and leads to a section that is or comes
+pub record CanChange (m : Machine) (s : Staged) (patches : List FieldValue) (moves : List LinkRow) : Type 0 where
+  pub mapped : All (IsMapped (all_mapped m.memory s.regions.items)) patches
+  pub bound : All (λ r. IsTrue (is_bound m.graph.rows r.user r.entry)) moves
+  pub apart : AreApart moves
+  pub present : All (λ r. Contains (m.graph.sections ++ keys_of s.cells.items) r.target) moves
+
+pub record IsCommittable (m : Machine) (s : Staged) (p : Prepared) (patches : List FieldValue) (moves : List LinkRow) : Type 0 where
   pub sections : map listed p.sections.items ≡ map numbers_in s.cells.items
   pub room : HasRoomFor m s p
   pub regions : AreRoom m.memory s.regions.items
   pub mapped : All (IsMapped (all_mapped m.memory s.regions.items)) s.fields.items
   pub undo : (all_mapped m.memory s.regions.items).writes_left ≡ None
+  pub change : CanChange m s patches moves
   pub above : AreAbove m.graph.sections p.sections.items
   pub present : All (λ r. Contains (m.graph.sections ++ keys_of s.cells.items) r.user × Contains (m.graph.sections ++ keys_of s.cells.items) r.target) s.rows.items
-  pub rise : Rises below_link (m.graph.rows ++ s.rows.items)
+  pub rise : Rises below_link (moved m.graph.rows moves ++ s.rows.items)
   pub free : AreFree m.spaces.namespaces m.spaces.cells p.newcomers.items
   pub next : m.next + length s.cells.items ≤ 65536
 
 -- with other room, into which the new regions are mapped
-pub record IsAdded (old : Machine) (s : Staged) (newcomers : List SpaceCell) (new : Machine) : Type 0 where
+pub record IsAdded (old : Machine) (patches : List FieldValue) (moves : List LinkRow) (s : Staged) (newcomers : List SpaceCell) (new : Machine) : Type 0 where
   pub spare : ℕ
-  pub is : IsCommitted old (all_mapped (record old.memory { spare = spare }) s.regions.items) old.graph.rows newcomers s new
+  pub is : IsCommitted old (memory_with (record old.memory { spare = spare }) s.regions.items patches) (moved old.graph.rows moves) newcomers s new

@@ -1,24 +1,35 @@
-//! Adding what a load has staged: all room is made first, and then nothing can fail.
+//! Adding what was staged: all room is made first, and then nothing can fail.
 
 ghost use Rattle.std.specs.Prelude.{◌≡◌, ◌+◌, ◌≤◌, ◌++◌, [], OnErr, OnOk, map, vec_capacity, vec_len};
 ghost use Rattle.cell_commit.specs.Cells.{arrived};
-ghost use Rattle.cell_commit.specs.Commit.{all_mapped};
-ghost use Rattle.cell_load.specs.Adding.{IsAdded, IsCommittable, IsReadyToAdd};
+ghost use Rattle.cell_load.specs.Adding.{IsAdded, IsCommittable, IsReadyToAdd, memory_with};
+ghost use Rattle.cell_graph.specs.Moves.{moved};
 ghost use Rattle.cell_machine.specs.Same.{IsSame};
 ghost use Rattle.cell_machine.specs.Staged.{IsCommitted, arrivals};
 
 use crate::prepared::Prepared;
 use crate::room::reserve;
-use cell_commit::{add_sections, attach_cells, bind_rows, map_regions, write_fields};
+use cell_commit::{
+    add_sections, attach_cells, bind_rows, map_regions, move_rows, patch_fields, write_fields,
+};
+use cell_link::FieldValue;
 use cell_machine::{Machine, Staged};
-use cell_world::NewCell;
+use cell_world::{LinkRow, NewCell};
 use std::alloc::{AllocError, Global};
 use std::mem::replace;
 
-/// Adds the staged cells, for which there is room. This takes no memory.
-fn commit(machine: &mut Machine, staged: Staged, prepared: Prepared)
-    requires { IsCommittable machine.old staged prepared }
-    ensures { IsCommitted machine.old (all_mapped machine.old.memory staged.regions.items) machine.old.graph.rows (map arrived prepared.newcomers.items) staged machine.new }
+/// Adds the staged cells, for which there is room, and has other cells lead to them: `patches` are
+/// the fields of others that change, and `moves` the links of others as they lead then. This takes
+/// no memory.
+pub fn commit(
+    machine: &mut Machine,
+    staged: Staged,
+    prepared: Prepared,
+    patches: &[FieldValue],
+    moves: &[LinkRow],
+)
+    requires { IsCommittable machine.old staged prepared patches.now moves.now }
+    ensures { IsCommitted machine.old (memory_with machine.old.memory staged.regions.items patches.now) (moved machine.old.graph.rows moves.now) (map arrived prepared.newcomers.items) staged machine.new }
 {
     let Staged {
         cells,
@@ -33,8 +44,10 @@ fn commit(machine: &mut Machine, staged: Staged, prepared: Prepared)
         sections,
     } = prepared;
     map_regions(&mut machine.memory, regions);
+    patch_fields(&mut machine.memory, patches);
     write_fields(&mut machine.memory, &fields);
     add_sections(&mut machine.graph, &sections);
+    move_rows(&mut machine.graph, moves);
     bind_rows(&mut machine.graph, &rows);
     attach_cells(&mut machine.spaces, newcomers);
     machine.space = space;
@@ -50,16 +63,17 @@ fn append(into: &mut Vec<NewCell>, mut cells: Vec<NewCell>)
     let _ = into.append(&mut cells);
 }
 
-/// Adds the staged cells, or leaves the machine as it is where memory is lacking.
+/// Adds the staged cells, which change nothing in others, or leaves the machine as it is where memory
+/// is lacking.
 #[tactic(auto, using(cell_machine::proofs::Unchanged::same_itself))]
 pub fn add(alloc: Global, machine: &mut Machine, mut staged: Staged) -> Result<(), AllocError>
     requires { IsReadyToAdd machine.old [] machine.old.graph.rows staged }
-    ensures added { OnOk result (IsAdded machine.old staged (arrivals staged.cells.items staged.names.items) machine.new) }
+    ensures added { OnOk result (IsAdded machine.old [] [] staged (arrivals staged.cells.items staged.names.items) machine.new) }
     ensures kept { OnErr result (IsSame machine.old machine.new) }
 {
     let names = replace(&mut staged.names, Vec::new(alloc));
     let prepared = Prepared::of(alloc, &staged.cells, names)?;
     reserve(machine, &staged, &prepared)?;
-    commit(machine, staged, prepared);
+    commit(machine, staged, prepared, &[], &[]);
     Ok(())
 }
