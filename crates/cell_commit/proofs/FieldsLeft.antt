@@ -42,6 +42,11 @@ module _ (step : MemoryState → FieldValue → MemoryState) (undone : (m : Memo
       λ (k : ℕ) (d : FieldValue) (lt : k < length fields).
       subst (λ (s : MemoryState). IsMapped s (get_or fields k d)) (sym e) (kept m f (get_or fields k d) laid this (all k d lt))
 
+  -- what was mapped at first is so still
+  pub still_kept : (first m n : MemoryState) (fields : List FieldValue) (i : ℕ) → IsLaidOut m → IsMapped m (get_or fields i no_field) → n ≡ step m (get_or fields i no_field)
+      → ((g : FieldValue) → IsMapped first g → IsMapped m g) → (g : FieldValue) → IsMapped first g → IsMapped n g
+  still_kept first m n fields i laid this e so g there = subst (λ (s : MemoryState). IsMapped s g) (sym e) (kept m (get_or fields i no_field) g laid this (so g there))
+
   -- one field more
   pub written_more : (m n all : MemoryState) (fields : List FieldValue) (i : ℕ) → i < length fields → n ≡ step m (get_or fields i no_field)
       → fold step m (drop i fields) ≡ all → fold step n (drop (i + 1) fields) ≡ all

@@ -1,41 +1,92 @@
--- What writing fields leaves of a memory, part by part.
-use Rattle.std.proofs.Common.{◌≡◌, refl, sym, ap, ◌∙◌, ◌+◌, ◌-◌, ◌^◌, ◌≤◌, List, [], ◌∷◌, None, length, map, min}
+-- What writing fields leaves of a memory, part by part, whether they are sealed before or not.
+use Rattle.std.proofs.Common.{◌≡◌, refl, sym, ap, ◌∙◌, arith, ◌+◌, ◌-◌, ◌^◌, ◌≤◌, ℕ, List, [], ◌∷◌, None, length, map, min}
 use Rattle.std.specs.Prelude.{fold}
 use Rattle.std.proofs.lemmas.List.{map-id}
 use Rattle.std.proofs.lemmas.Simd.{map-map}
 use Rattle.cell_world.specs.World.{Region}
 use Rattle.cell_world.specs.Relink.{patched}
-use Rattle.cell_mem.specs.State.{MemoryState, one_less}
+use Rattle.cell_mem.specs.State.{MemoryState, one_less, one_more}
 use Rattle.cell_link.specs.declared.value.FieldValue.{FieldValue}
-use Rattle.cell_commit.specs.Commit.{field_written, fields_written, patch_from, patches_from}
+use Rattle.cell_commit.specs.Commit.{field_patched, field_written, fields_patched, fields_written, patch_from, patches_from}
 use Rattle.cell_commit.proofs.Mapping.{count_bound, count_more, count_none}
 
--- each region has all fields, one after another
+-- a step that writes one field and counts it
+record IsWrite (step : MemoryState → FieldValue → MemoryState) : Type 0 where
+  regions : (m : MemoryState) (f : FieldValue) → (step m f).regions ≡ map (λ r. patched r (patch_from f)) m.regions
+  patches : (m : MemoryState) (f : FieldValue) → (step m f).patches ≡ one_more m.patches
+  undo : (m : MemoryState) (f : FieldValue) → (step m f).writes_left ≡ one_less m.writes_left
+
+module _ (step : MemoryState → FieldValue → MemoryState) (is : IsWrite step) where
+  -- each region has all fields, one after another
+  all_regions : (m : MemoryState) (fields : List FieldValue) → (fold step m fields).regions ≡ map (λ r. fold patched r (patches_from fields)) m.regions
+  all_regions m [] = sym (map-id m.regions)
+  all_regions m (f ∷ fields) =
+      all_regions (step m f) fields
+      ∙ (ap (map (λ (r : Region). fold patched r (patches_from fields))) (is.regions m f)
+      ∙ map-map (λ (r : Region). fold patched r (patches_from fields)) (λ (r : Region). patched r (patch_from f)) m.regions)
+
+  all_patches : (m : MemoryState) (fields : List FieldValue) → m.patches ≤ 2 ^ 64 - 1 → (fold step m fields).patches ≡ min (m.patches + length fields) (2 ^ 64 - 1)
+  all_patches m [] le = count_none m.patches le
+  all_patches m (f ∷ fields) le =
+      all_patches (step m f) fields (bounded (is.patches m f))
+      ∙ (ap (λ (n : ℕ). min (n + length fields) (2 ^ 64 - 1)) (is.patches m f) ∙ count_more m.patches (length fields))
+    where
+      bounded : (step m f).patches ≡ one_more m.patches → (step m f).patches ≤ 2 ^ 64 - 1
+      bounded e = let b = count_bound m.patches in omega (arith, e, b)
+
+  all_undo : (m : MemoryState) (fields : List FieldValue) → m.writes_left ≡ None → (fold step m fields).writes_left ≡ None
+  all_undo m [] none = none
+  all_undo m (f ∷ fields) none = all_undo (step m f) fields (is.undo m f ∙ ap one_less none)
+
+  -- a part that no step changes
+  same_part : {X : Type 0} (part : MemoryState → X) → ((m : MemoryState) (f : FieldValue) → part (step m f) ≡ part m) → (m : MemoryState) (fields : List FieldValue) → part (fold step m fields) ≡ part m
+  same_part part same m [] = refl
+  same_part part same m (f ∷ fields) = same_part part same (step m f) fields ∙ same m f
+
+written : IsWrite field_written
+written = record { regions = λ m f. refl; patches = λ m f. refl; undo = λ m f. refl }
+
 pub written_regions : (m : MemoryState) (fields : List FieldValue) → (fields_written m fields).regions ≡ map (λ r. fold patched r (patches_from fields)) m.regions
-written_regions m [] = sym (map-id m.regions)
-written_regions m (f ∷ fields) =
-    written_regions (field_written m f) fields ∙ map-map (λ (r : Region). fold patched r (patches_from fields)) (λ (r : Region). patched r (patch_from f)) m.regions
+written_regions = all_regions field_written written
 
 pub written_patches : (m : MemoryState) (fields : List FieldValue) → m.patches ≤ 2 ^ 64 - 1 → (fields_written m fields).patches ≡ min (m.patches + length fields) (2 ^ 64 - 1)
-written_patches m [] le = count_none m.patches le
-written_patches m (f ∷ fields) le = written_patches (field_written m f) fields (count_bound m.patches) ∙ count_more m.patches (length fields)
-
-pub written_maps : (m : MemoryState) (fields : List FieldValue) → (fields_written m fields).maps ≡ m.maps
-written_maps m [] = refl
-written_maps m (f ∷ fields) = written_maps (field_written m f) fields
-
-pub written_base : (m : MemoryState) (fields : List FieldValue) → (fields_written m fields).base ≡ m.base
-written_base m [] = refl
-written_base m (f ∷ fields) = written_base (field_written m f) fields
-
-pub written_pages : (m : MemoryState) (fields : List FieldValue) → (fields_written m fields).pages ≡ m.pages
-written_pages m [] = refl
-written_pages m (f ∷ fields) = written_pages (field_written m f) fields
-
-pub written_spare : (m : MemoryState) (fields : List FieldValue) → (fields_written m fields).spare ≡ m.spare
-written_spare m [] = refl
-written_spare m (f ∷ fields) = written_spare (field_written m f) fields
+written_patches = all_patches field_written written
 
 pub written_undo : (m : MemoryState) (fields : List FieldValue) → m.writes_left ≡ None → (fields_written m fields).writes_left ≡ None
-written_undo m [] none = none
-written_undo m (f ∷ fields) none = written_undo (field_written m f) fields (ap one_less none)
+written_undo = all_undo field_written written
+
+pub written_maps : (m : MemoryState) (fields : List FieldValue) → (fields_written m fields).maps ≡ m.maps
+written_maps = same_part field_written written (λ (m : MemoryState). m.maps) (λ m f. refl)
+
+pub written_base : (m : MemoryState) (fields : List FieldValue) → (fields_written m fields).base ≡ m.base
+written_base = same_part field_written written (λ (m : MemoryState). m.base) (λ m f. refl)
+
+pub written_pages : (m : MemoryState) (fields : List FieldValue) → (fields_written m fields).pages ≡ m.pages
+written_pages = same_part field_written written (λ (m : MemoryState). m.pages) (λ m f. refl)
+
+pub written_spare : (m : MemoryState) (fields : List FieldValue) → (fields_written m fields).spare ≡ m.spare
+written_spare = same_part field_written written (λ (m : MemoryState). m.spare) (λ m f. refl)
+
+patching : IsWrite field_patched
+patching = record { regions = λ m f. refl; patches = λ m f. refl; undo = λ m f. refl }
+
+pub patched_regions : (m : MemoryState) (fields : List FieldValue) → (fields_patched m fields).regions ≡ map (λ r. fold patched r (patches_from fields)) m.regions
+patched_regions = all_regions field_patched patching
+
+pub patched_patches : (m : MemoryState) (fields : List FieldValue) → m.patches ≤ 2 ^ 64 - 1 → (fields_patched m fields).patches ≡ min (m.patches + length fields) (2 ^ 64 - 1)
+patched_patches = all_patches field_patched patching
+
+pub patched_undo : (m : MemoryState) (fields : List FieldValue) → m.writes_left ≡ None → (fields_patched m fields).writes_left ≡ None
+patched_undo = all_undo field_patched patching
+
+pub patched_maps : (m : MemoryState) (fields : List FieldValue) → (fields_patched m fields).maps ≡ m.maps
+patched_maps = same_part field_patched patching (λ (m : MemoryState). m.maps) (λ m f. refl)
+
+pub patched_base : (m : MemoryState) (fields : List FieldValue) → (fields_patched m fields).base ≡ m.base
+patched_base = same_part field_patched patching (λ (m : MemoryState). m.base) (λ m f. refl)
+
+pub patched_pages : (m : MemoryState) (fields : List FieldValue) → (fields_patched m fields).pages ≡ m.pages
+patched_pages = same_part field_patched patching (λ (m : MemoryState). m.pages) (λ m f. refl)
+
+pub patched_sealed : (m : MemoryState) (fields : List FieldValue) → (fields_patched m fields).sealed ≡ m.sealed
+patched_sealed = same_part field_patched patching (λ (m : MemoryState). m.sealed) (λ m f. refl)

@@ -30,7 +30,7 @@ use Rattle.cell_machine.proofs.Unchanged.{same_itself}
 use Rattle.cell_load.specs.Adding.{IsAdded, IsReadyToAdd}
 use Rattle.cell_load.specs.Loads.{IsLoaded, Loads}
 use Rattle.cell_load.specs.Stages.{CanStage, Stages, new_cells}
-use Rattle.cell_load.proofs.Added.{maps_now, more_regions, patches_now, sound as sound_after, world_added}
+use Rattle.cell_load.proofs.Added.{maps_now, more_regions, none_moved, patches_now, sound as sound_after, world_added}
 use Rattle.cell_load.proofs.LoadLanded.{comes, load_is, refused, stands}
 use Rattle.cell_load.proofs.NewRegions.{new_regions}
 
@@ -79,12 +79,12 @@ module _ (files : List File) (are : AreSound (map source_of files)) (m : Machine
         };
       }
 
-      module _ (n : Machine) (added : IsAdded m s (arrivals s.cells.items s.names.items) n) where
+      module _ (n : Machine) (added : IsAdded m [] [] s (arrivals s.cells.items s.names.items) n) where
         abbrev cells : List Cell
         cells = F w new s st
 
         after : IsSound n
-        after = sound_after m n s ready_to_add added
+        after = sound_after m n s [] [] m.graph.rows (none_moved m.graph.rows) [] refl ready_to_add added
 
         count_fields : field_count cells ≡ length s.fields.items
         count_fields = count_is (W w new s st) cells ∙ ap length (sym st.fields)
@@ -93,13 +93,13 @@ module _ (files : List File) (are : AreSound (map source_of files)) (m : Machine
         loaded_is =
             load_is (map source_of files) w ns stem sound.coherent are new loaded.gathered t st.runs st.fit
             ∙ (ap (λ k. done (Load (ids (numbers_of cells)) k) ready_to_add.after) count_fields
-            ∙ ap (λ (u : World). done (Load (ids (numbers_of cells)) (length s.fields.items)) u) (sym (world_added m n s ready_to_add added)))
+            ∙ ap (λ (u : World). done (Load (ids (numbers_of cells)) (length s.fields.items)) u) (sym (world_added m n s [] [] m.graph.rows (none_moved m.graph.rows) [] refl ready_to_add added)))
 
         runs_are : length s.regions.items ≡ new_runs (Load (ids (numbers_of cells)) (length s.fields.items)) (world_of n)
         runs_are =
             new_regions w (world_of n) sound.coherent after.coherent cells
-            (ap (λ (u : World). u.cells) (world_added m n s ready_to_add added)) (ap (λ (ts : TasksState). ts.tasks) added.is.tasks) (older w sound.coherent)
-            (numbers_new w new s st ready_to_add.there) (length s.regions.items) (length s.fields.items) (more_regions m n s ready_to_add added)
+            (ap (λ (u : World). u.cells) (world_added m n s [] [] m.graph.rows (none_moved m.graph.rows) [] refl ready_to_add added)) (ap (λ (ts : TasksState). ts.tasks) added.is.tasks) (older w sound.coherent)
+            (numbers_new w new s st ready_to_add.there) (length s.regions.items) (length s.fields.items) (more_regions m n s [] [] m.graph.rows (none_moved m.graph.rows) [] refl ready_to_add added)
 
         ids_are : (cs : List Cell) → map (λ (c : NewCell). c.id) (map placed_of cs) ≡ ids (numbers_of cs)
         ids_are [] = refl
@@ -115,7 +115,7 @@ module _ (files : List File) (are : AreSound (map source_of files)) (m : Machine
               sound = after;
               is = record {
                 step = loaded_is;
-                patches = patches_now m n s ready_to_add added;
-                maps = maps_now m n s ready_to_add added ∙ ap (raised m.memory.maps) (runs_are ∙ omega arith);
+                patches = patches_now m n s [] [] m.graph.rows (none_moved m.graph.rows) [] refl ready_to_add added ∙ ap (raised m.memory.patches) (omega arith);
+                maps = maps_now m n s [] [] m.graph.rows (none_moved m.graph.rows) [] refl ready_to_add added ∙ ap (raised m.memory.maps) (runs_are ∙ omega arith);
               };
             }))

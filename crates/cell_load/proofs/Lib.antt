@@ -15,3 +15,4 @@ pub mod Added
 pub mod LoadLanded
 pub mod Arrived
 pub mod Answered
+pub mod Committed

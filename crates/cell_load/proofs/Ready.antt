@@ -1,8 +1,9 @@
 -- What is staged for a machine is staged for the same machine with other room, and what is added there is added.
-use Rattle.std.proofs.Common.{◌≡◌, sym, ◌∙◌, ap, ap₂, subst, ℕ, ◌+◌, List, ◌++◌, length, Vec, Global}
+use Rattle.std.proofs.Common.{◌≡◌, sym, ◌∙◌, ap, ap₂, subst, ℕ, ◌+◌, ◌<◌, true, List, ◌++◌, length, get_or, Vec, Global}
+use Rattle.std.specs.Prelude.{All, Contains, IsTrue, fold, is_some}
 use Rattle.std.proofs.lemmas.List.{length-map}
 use Rattle.cell_num.specs.declared.ids.SecKey.{SecKey}
-use Rattle.cell_mem.specs.State.{MemoryState}
+use Rattle.cell_mem.specs.State.{MemoryState, region_with}
 use Rattle.cell_commit.specs.Commit.{IsMapped, all_mapped, fields_written}
 use Rattle.cell_commit.proofs.Mapping.{mapped_regions}
 use Rattle.cell_graph.specs.Links.{is_bound}
@@ -13,7 +14,8 @@ use Rattle.cell_world.specs.declared.state.LinkRow.{LinkRow}
 use Rattle.cell_world.specs.declared.state.NewCell.{NewCell}
 use Rattle.cell_world.specs.Names.{names_of}
 use Rattle.cell_world.specs.Relink.{Patch}
-use Rattle.cell_world.specs.World.{Alias, World}
+use Rattle.cell_world.specs.Place.{with_region}
+use Rattle.cell_world.specs.World.{Alias, World, Region}
 use Rattle.cell_machine.specs.declared.machine.Machine.{Machine}
 use Rattle.cell_machine.specs.declared.staged.Staged.{Staged}
 use Rattle.cell_machine.specs.Machine.{keys_of, world_of}
@@ -58,7 +60,7 @@ change_same old new same s patches moves c = record {
         ∙ sym (mapped_regions new.memory s.regions.items))
 
     still : (f : FieldValue) → IsMapped (all_mapped old.memory s.regions.items) f → IsMapped (all_mapped new.memory s.regions.items) f
-    still f m = (m.0, subst (λ (rs : List Region). is_some (option_and_then (λ (r : Region). where_true (nat_le (f.addr + f.width) (end_of r)) r) (find (covers_addr f.addr) rs)) ≡ true) regions m.1)
+    still f m = (m.0, subst (λ (rs : List Region). is_some (region_with (record (all_mapped new.memory s.regions.items) { regions = rs }) f.addr f.width) ≡ true) regions m.1)
 
 pub added_same : (old new n : Machine) → IsSame old new → (s : Staged) (names : Vec (List Alias) Global) (patches : List FieldValue) (moves : List LinkRow) (newcomers all : List SpaceCell) → newcomers ≡ all
     → IsCommitted new (memory_with new.memory s.regions.items patches) (moved new.graph.rows moves) newcomers (record s { names = names }) n → IsAdded old patches moves s all n

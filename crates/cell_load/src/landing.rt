@@ -32,7 +32,7 @@ pub struct Landed<'a> {
 impl<'a> Landed<'a> {
     /// All that is to be added, once names needn't be looked up any more.
     pub fn into_staged(self, alloc: Global) -> Result<Staged, AllocError>
-        ensures { IfOk result (Names self) }
+        ensures { IfOk result (Names self.entry) }
     {
         let names = into_names(alloc, self.ahead.into_fresh())?;
         Ok(Staged {

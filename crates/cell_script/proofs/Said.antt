@@ -77,7 +77,7 @@ each_filled word words = go (swap_item word)
   where
     one : (x : SwapItem) (o : Option (List SwapItem)) → Filled (option_map (λ rest. x ∷ rest) o)
     one x None = tt
-    one x (Some rest) = refl
+    one x (Some rest) = lt-ltb 0 (length (x ∷ rest)) (omega arith)
 
     go : (o : Option SwapItem) → Filled (option_and_then (λ x. option_map (λ rest. x ∷ rest) (each_said swap_item words)) o)
     go None = tt

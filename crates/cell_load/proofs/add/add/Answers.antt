@@ -1,9 +1,12 @@
-use Rattle.std.proofs.Common.{◌≡◌, ◌∙◌, sym, ap, ap₂, map, length, List, Vec, Global}
+use Rattle.std.proofs.Common.{◌≡◌, ◌∙◌, sym, ap, ap₂, subst, map, length, List, [], Vec, Global}
+use Rattle.std.proofs.lemmas.List.Elements.{All-nil}
+use Rattle.cell_world.specs.declared.state.LinkRow.{LinkRow}
 use Rattle.cell_commit.specs.Cells.{arrived}
 use Rattle.cell_world.specs.declared.state.NewCell.{NewCell}
 use Rattle.cell_world.specs.World.{Alias}
 use Rattle.cell_machine.specs.Staged.{arrivals}
-use Rattle.cell_load.specs.Adding.{numbers_in}
+use Rattle.cell_load.specs.Adding.{IsReadyToAdd, numbers_in}
+use Rattle.cell_load.proofs.Added.{none_moved}
 use Rattle.cell_load.proofs.Committing.{committable_then}
 use Rattle.cell_load.proofs.Ready.{added_same, as_many}
 use Rattle.cell_load.proofs.add.add.Goals as goal
@@ -17,12 +20,15 @@ pub commit-requires : goal.commit-requires
 commit-requires c =
     let p = c.in_ok-prepared.ensures {u = tt} in
     let reserved = c.in_ok-reserve.ensures {u = tt} in
-    committable_then c.args.machine.now c.reserve.new.machine c.args.staged c.in_ok-prepared.prepared c.replace-names.new.dest reserved.same c.requires
+    let unmoved = sym (none_moved c.args.machine.now.graph.rows) in
+    committable_then c.args.machine.now c.reserve.new.machine c.args.staged c.in_ok-prepared.prepared c.replace-names.new.dest [] [] [] reserved.same
+    (subst (λ (rows : List LinkRow). IsReadyToAdd c.args.machine.now [] rows c.args.staged) unmoved c.requires)
     (record {
       newcomers = p.newcomers ∙ ap₂ (λ (cells : List NewCell) (names : Vec (List Alias) Global). arrivals cells names.items) c.deref.ensures.value c.replace-names.ensures.value;
       sections = p.sections ∙ ap (λ (cells : List NewCell). map numbers_in cells) c.deref.ensures.value;
     })
     reserved.room
+    (record { mapped = All-nil _; bound = All-nil _; apart = tt; present = All-nil _ })
 
 pub returns : goal.returns
 returns c =
@@ -30,6 +36,6 @@ returns c =
     let are : map arrived c.in_ok-prepared.prepared.newcomers.items ≡ arrivals c.args.staged.cells.items c.args.staged.names.items =
     p ∙ ap₂ (λ (cells : List NewCell) (names : Vec (List Alias) Global). arrivals cells names.items) c.deref.ensures.value c.replace-names.ensures.value in
     record {
-      added = added_same c.args.machine.now c.reserve.new.machine c.commit.new.machine (c.in_ok-reserve.ensures {u = tt}).same c.args.staged c.replace-names.new.dest _ _ are c.commit.ensures;
+      added = added_same c.args.machine.now c.reserve.new.machine c.commit.new.machine (c.in_ok-reserve.ensures {u = tt}).same c.args.staged c.replace-names.new.dest [] [] _ _ are c.commit.ensures;
       kept = tt;
     }

@@ -3,30 +3,34 @@ use Rattle.std.specs.Prelude.{All, Contains, flat_map}
 use Rattle.cell_num.specs.declared.ids.SecKey.{SecKey}
 use Rattle.cell_world.specs.declared.state.LinkRow.{LinkRow}
 use Rattle.cell_commit.specs.Cells.{keys_in}
-use Rattle.cell_commit.specs.Commit.{fields_written}
+use Rattle.cell_commit.specs.Commit.{fields_patched, fields_written}
 use Rattle.cell_commit.specs.declared.sections.CellSections.{CellSections}
-use Rattle.cell_graph.specs.Order.{Rises, below_link}
+use Rattle.cell_commit.proofs.Writing.{patched_undo}
+use Rattle.cell_graph.specs.Moves.{moved}
 use Rattle.cell_link.specs.declared.value.FieldValue.{FieldValue}
 use Rattle.cell_mem.specs.State.{MemoryState}
 use Rattle.cell_machine.proofs.Above.{all_keys_listed}
+use Rattle.cell_load.proofs.Committed.{sections_are}
 use Rattle.cell_load.proofs.add.commit.Goals as goal
+
+pub write_fields-requires-clause-undo : goal.write_fields-requires-clause-undo
+write_fields-requires-clause-undo c =
+    ap (λ (m : MemoryState). m.writes_left) c.patch_fields.ensures.patched
+    ∙ patched_undo _ c.args.patches.now (ap (λ (m : MemoryState). m.writes_left) c.map_regions.ensures ∙ c.requires.undo)
+
+pub move_rows-requires-clause-present : goal.move_rows-requires-clause-present
+move_rows-requires-clause-present c =
+    subst (λ (ks : List SecKey). All (λ (r : LinkRow). Contains ks r.target) c.args.moves.now)
+    (sym (sections_are c.args.machine.now.graph.sections c.args.prepared c.args.staged.cells.items _ _ c.requires.sections c.deref-2.ensures.value c.add_sections.ensures.sections)) c.requires.change.present
 
 pub bind_rows-requires-clause-present : goal.bind_rows-requires-clause-present
 bind_rows-requires-clause-present c =
-    let keys = all_keys_listed c.args.prepared.sections.items c.args.staged.cells.items c.requires.sections in
-    let given = ap (λ (cells : List CellSections). c.args.machine.now.graph.sections ++ flat_map keys_in cells) c.deref-2.ensures.value in
-    let sections = c.add_sections.ensures.sections ∙ given ∙ ap (λ (ks : List SecKey). c.args.machine.now.graph.sections ++ ks) keys in
-    subst (λ (rows : List LinkRow). All (λ (r : LinkRow). Contains c.add_sections.new.graph.sections r.user × Contains c.add_sections.new.graph.sections r.target) rows) (sym c.deref-3.ensures.value)
-    (subst (λ (ks : List SecKey). All (λ (r : LinkRow). Contains ks r.user × Contains ks r.target) c.args.staged.rows.items) (sym sections) c.requires.present)
-
-pub bind_rows-requires-clause-rising : goal.bind_rows-requires-clause-rising
-bind_rows-requires-clause-rising c =
-    subst (Rises below_link) (ap₂ (λ (old rows : List LinkRow). old ++ rows) (sym c.add_sections.ensures.rows) (sym c.deref-3.ensures.value)) c.requires.rise
+    subst (λ (rows : List LinkRow). All (λ (r : LinkRow). Contains c.move_rows.new.graph.sections r.user × Contains c.move_rows.new.graph.sections r.target) rows) (sym c.deref-3.ensures.value)
+    (subst (λ (ks : List SecKey). All (λ (r : LinkRow). Contains ks r.user × Contains ks r.target) c.args.staged.rows.items)
+    (sym (c.move_rows.ensures.sections ∙ sections_are c.args.machine.now.graph.sections c.args.prepared c.args.staged.cells.items _ _ c.requires.sections c.deref-2.ensures.value c.add_sections.ensures.sections)) c.requires.present)
 
 pub returns : goal.returns
 returns c =
-    let keys = all_keys_listed c.args.prepared.sections.items c.args.staged.cells.items c.requires.sections in
-    let given = ap (λ (cells : List CellSections). c.args.machine.now.graph.sections ++ flat_map keys_in cells) c.deref-2.ensures.value in
     let cells = c.args.staged.cells in
     let long = cells.ok.0 in
     let len = c.len.ensures in
@@ -40,9 +44,14 @@ returns c =
       space = refl;
       memory =
           c.write_fields.ensures
-          ∙ (ap (λ (fields : List FieldValue). fields_written c.map_regions.new.memory fields) c.deref.ensures.value
-          ∙ ap (λ (m : MemoryState). fields_written m c.args.staged.fields.items) c.map_regions.ensures);
-      sections = c.bind_rows.ensures.sections ∙ (c.add_sections.ensures.sections ∙ (given ∙ ap (λ (ks : List SecKey). c.args.machine.now.graph.sections ++ ks) keys));
-      rows = c.bind_rows.ensures.rows ∙ (ap (λ (rows : List LinkRow). c.add_sections.new.graph.rows ++ rows) c.deref-3.ensures.value ∙ ap (λ (rows : List LinkRow). rows ++ c.args.staged.rows.items) c.add_sections.ensures.rows);
+          ∙ (ap (λ (fields : List FieldValue). fields_written c.patch_fields.new.memory fields) c.deref.ensures.value
+          ∙ ap (λ (m : MemoryState). fields_written m c.args.staged.fields.items) (c.patch_fields.ensures.patched ∙ ap (λ (m : MemoryState). fields_patched m c.args.patches.now) c.map_regions.ensures));
+      sections =
+          c.bind_rows.ensures.sections
+          ∙ (c.move_rows.ensures.sections ∙ sections_are c.args.machine.now.graph.sections c.args.prepared c.args.staged.cells.items _ _ c.requires.sections c.deref-2.ensures.value c.add_sections.ensures.sections);
+      rows =
+          c.bind_rows.ensures.rows
+          ∙ (ap (λ (rows : List LinkRow). c.move_rows.new.graph.rows ++ rows) c.deref-3.ensures.value
+          ∙ ap (λ (rows : List LinkRow). rows ++ c.args.staged.rows.items) (c.move_rows.ensures.rows ∙ ap (λ (rows : List LinkRow). moved rows c.args.moves.now) c.add_sections.ensures.rows));
       tasks = refl;
     }
