@@ -8,3 +8,5 @@ pub mod Using
 pub mod Moving
 pub mod Swapped
 pub mod Covering
+pub mod Lacking
+pub mod Exchanging

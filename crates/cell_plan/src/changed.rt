@@ -32,6 +32,17 @@ fn entries_of(alloc: Global, fields: &[Change]) -> Result<Vec<Entry>, AllocError
     Ok(entries)
 }
 
+/// What the fields hold.
+fn values_of(alloc: Global, fields: &[Change]) -> Result<Vec<FieldValue>, AllocError>
+    ensures { IfOk result (λ values. values.items ≡ map (λ f. f.value) fields.now) }
+{
+    let mut values = Vec::new(alloc);
+    for change in fields {
+        values.push(change.value)?;
+    }
+    Ok(values)
+}
+
 impl Changed {
     /// Nothing changes.
     pub fn none(alloc: Global) -> Changed
@@ -46,17 +57,6 @@ impl Changed {
         }
     }
 
-    fn add_values(&mut self, fields: &[Change]) -> Result<(), AllocError>
-        ensures patches { OnOk result (self.new.patches.items ≡ self.old.patches.items ++ map (λ f. f.value) fields.now) }
-        ensures moves { self.new.moves ≡ self.old.moves }
-        ensures spans { self.new.spans ≡ self.old.spans }
-    {
-        for change in fields {
-            self.patches.push(change.value)?;
-        }
-        Ok(())
-    }
-
     /// Adds what changes in one cell.
     pub fn add(
         &mut self,
@@ -69,7 +69,8 @@ impl Changed {
         ensures moves { OnOk result (self.new.moves.items ≡ self.old.moves.items ++ changes.now.moves.items) }
         ensures spans { OnOk result (self.new.spans.items ≡ self.old.spans.items ++ map (span_in cell.now) (map (λ f. f.field) changes.now.fields.items)) }
     {
-        self.add_values(&changes.fields)?;
+        let values = values_of(alloc, &changes.fields)?;
+        self.patches.extend_from_slice(&values)?;
         self.moves.extend_from_slice(&changes.moves)?;
         let entries = entries_of(alloc, &changes.fields)?;
         let spans = spans_of(alloc, cell, &entries)?;

@@ -2,3 +2,5 @@ pub mod Sweep
 pub mod Removed
 pub mod Begun
 pub mod Unmapped
+pub mod Asking
+pub mod OldCells

@@ -1,0 +1,66 @@
+-- What changes, one user after the other.
+use Rattle.std.proofs.Common.{◌≡◌, refl, sym, ◌∙◌, ap, ap₂, arith, ℕ, ◌+◌, ◌<◌, ◌≤◌, List, [], ◌∷◌, ◌++◌, map, length, drop, get_or, append_assoc, append-nil}
+use Rattle.std.specs.Prelude.{Option, Some, None, Ok, Err, flat_map}
+use Rattle.std.proofs.lemmas.List.{drop_more}
+use Rattle.std.proofs.Math.ListN.{drop_of_length-le}
+use Rattle.cell_num.specs.Lists.{or_else}
+use Rattle.cell_link.specs.declared.value.FieldValue.{FieldValue}
+use Rattle.cell_world.specs.declared.fail.Fail.{Fail}
+use Rattle.cell_world.specs.declared.fail.Fail.TheVariants.{Refused, OutOfMemory}
+use Rattle.cell_world.specs.declared.refusal.Refusal.{Refusal}
+use Rattle.cell_world.specs.declared.state.LinkRow.{LinkRow}
+use Rattle.cell_world.specs.declared.state.NewCell.{NewCell}
+use Rattle.cell_plan.specs.declared.changed.Changed.{Changed}
+use Rattle.cell_plan.specs.declared.span.Span.{Span}
+use Rattle.cell_plan.specs.Exchanged.{Change, IsChange, View, first_unfit, moves_of, patches_of, spans_of, unfit_of}
+use Rattle.cell_plan.specs.Viewed.{Adds, HasAdded}
+
+-- what has been added, with what the users that are left change, is all of it
+pub record IsChangeTo (x : View) (users : List NewCell) (place : ℕ) (changed : Changed) : Type 0 where
+  pub fit : first_unfit x (drop place users) ≡ first_unfit x users
+  pub patches : changed.patches.items ++ flat_map (patches_of x) (drop place users) ≡ flat_map (patches_of x) users
+  pub moves : changed.moves.items ++ flat_map (moves_of x) (drop place users) ≡ flat_map (moves_of x) users
+  pub spans : changed.spans.items ++ flat_map (spans_of x) (drop place users) ≡ flat_map (spans_of x) users
+
+pub nothing_yet : (x : View) (users : List NewCell) (changed : Changed) → changed.patches.items ≡ [] → changed.moves.items ≡ [] → changed.spans.items ≡ [] → IsChangeTo x users 0 changed
+nothing_yet x users changed patches moves spans = record {
+  fit = refl;
+  patches = ap (λ (xs : List FieldValue). xs ++ flat_map (patches_of x) users) patches;
+  moves = ap (λ (xs : List LinkRow). xs ++ flat_map (moves_of x) users) moves;
+  spans = ap (λ (xs : List Span). xs ++ flat_map (spans_of x) users) spans;
+}
+
+-- one more part of a list that is gone over
+part_more : {X Y : Type 0} (f : X → List Y) (c : X) (rest : List X) (old new all : List Y) → new ≡ old ++ f c → old ++ flat_map f (c ∷ rest) ≡ all → new ++ flat_map f rest ≡ all
+part_more f c rest old new all added before = ap (λ ys. ys ++ flat_map f rest) added ∙ (append_assoc old (f c) (flat_map f rest) ∙ before)
+
+module _ (x : View) (users : List NewCell) (place : ℕ) (changed : Changed) (to : IsChangeTo x users place changed) where
+  pub all_added : length users ≤ place → IsChange x users changed
+  all_added past = record {
+    fit = sym to.fit ∙ ap (first_unfit x) none;
+    patches = at_end (patches_of x) changed.patches.items to.patches;
+    moves = at_end (moves_of x) changed.moves.items to.moves;
+    spans = at_end (spans_of x) changed.spans.items to.spans;
+  }
+    where
+      none : drop place users ≡ []
+      none = drop_of_length-le users {i = place} past
+
+      at_end : {Y : Type 0} (f : NewCell → List Y) (ys : List Y) → ys ++ flat_map f (drop place users) ≡ flat_map f users → ys ≡ flat_map f users
+      at_end f ys e = sym (append-nil ys) ∙ (ap (λ (cs : List NewCell). ys ++ flat_map f cs) (sym none) ∙ e)
+
+  module _ (here : place < length users) (c : NewCell) (at : c ≡ get_or users place c) where
+    next : drop place users ≡ c ∷ drop (place + 1) users
+    next = drop_more users place c here ∙ ap (λ (d : NewCell). d ∷ drop (place + 1) users) (sym at)
+
+    pub one_refused : (new : Changed) (fail : Fail) → Adds x c changed (Err fail) new → Change x users (Err fail)
+    one_refused new (Refused refusal) e = sym to.fit ∙ (ap (first_unfit x) next ∙ ap (λ (o : Option Refusal). or_else o (first_unfit x (drop (place + 1) users))) e)
+    one_refused new OutOfMemory e = tt
+
+    pub one_added : (new : Changed) → HasAdded x c changed new → IsChangeTo x users (place + 1) new
+    one_added new added = record {
+      fit = sym (ap (first_unfit x) next ∙ ap (λ (o : Option Refusal). or_else o (first_unfit x (drop (place + 1) users))) added.fit) ∙ to.fit;
+      patches = part_more (patches_of x) c (drop (place + 1) users) changed.patches.items new.patches.items _ added.patches (ap (λ (cs : List NewCell). changed.patches.items ++ flat_map (patches_of x) cs) (sym next) ∙ to.patches);
+      moves = part_more (moves_of x) c (drop (place + 1) users) changed.moves.items new.moves.items _ added.moves (ap (λ (cs : List NewCell). changed.moves.items ++ flat_map (moves_of x) cs) (sym next) ∙ to.moves);
+      spans = part_more (spans_of x) c (drop (place + 1) users) changed.spans.items new.spans.items _ added.spans (ap (λ (cs : List NewCell). changed.spans.items ++ flat_map (spans_of x) cs) (sym next) ∙ to.spans);
+    }

@@ -1,0 +1,8 @@
+use Rattle.std.proofs.Common.{map}
+use Rattle.cell_plan.specs.Viewed.{view_of}
+use Rattle.cell_plan.proofs.Exchanging.{IsChangeTo}
+use Rattle.cell_plan.proofs.exchange.Exchange.changed.Given as goal
+
+-- the users so far
+abbrev pub invariant-loop-place : goal.invariant-loop-place
+invariant-loop-place l = IsChangeTo (view_of l.self) (map (λ c. c.now) l.users) l.place l.changed

@@ -1,0 +1,47 @@
+-- Cells put aside for a swap, as the spaces know them.
+--     aside_where k p c        the cell, put aside by swap k where its number passes the test
+--     IsPut before k p cells   the cells, so many of them put aside
+--     among cells              the test for these cells
+--     IsAside before old m     the machine with the old cells put aside by a swap that is counted, and with other room
+--     AreThere cells old       they are there, attached
+--     CanReturn m old          the old cells may be attached again in m
+use Rattle.std.specs.Prelude.{◌≡◌, ◌+◌, ℕ, Bool, List, Some, All, map, option_map, if◌then◌else◌}
+use Rattle.cell_num.specs.declared.ids.CellId.{CellId}
+use Rattle.cell_num.specs.Lists.{holds}
+use Rattle.cell_space.specs.Named.{cell_numbered}
+use Rattle.cell_space.specs.declared.cell.CellState.TheVariants.{Attached, Detached}
+use Rattle.cell_space.specs.declared.cell.SpaceCell.{SpaceCell}
+use Rattle.cell_machine.specs.declared.machine.Machine.{Machine}
+use Rattle.cell_machine.specs.Machine.{IsSound}
+
+abbrev pub aside_where : ℕ → (ℕ → Bool) → SpaceCell → SpaceCell
+aside_where k p c = if p c.cell.0 then record c { state = Detached k } else c
+
+abbrev pub IsPut : List SpaceCell → ℕ → (ℕ → Bool) → List SpaceCell → Type 0
+IsPut before k p cells = cells ≡ map (aside_where k p) before
+
+abbrev pub among : List CellId → ℕ → Bool
+among cells n = holds (map (λ c. c.0) cells) n
+
+abbrev pub AreThere : List SpaceCell → List CellId → Type 0
+AreThere cells old = All (λ c. option_map (λ x. x.state) (cell_numbered cells c.0) ≡ Some Attached) old
+
+pub record IsAside (before : Machine) (old : List CellId) (m : Machine) : Type 0 where
+  pub cells : m.cells.items ≡ before.cells.items
+  pub next : m.next ≡ before.next
+  pub swaps : m.swaps ≡ before.swaps + 1
+  pub namespaces : m.spaces.namespaces ≡ before.spaces.namespaces
+  pub known : IsPut before.spaces.cells (before.swaps + 1) (among old) m.spaces.cells
+  pub space : m.space ≡ before.space
+  pub spare : ℕ
+  pub memory : m.memory ≡ record before.memory { spare = spare }
+  pub sections : m.graph.sections ≡ before.graph.sections
+  pub rows : m.graph.rows ≡ before.graph.rows
+  pub tasks : m.tasks ≡ before.tasks
+
+-- the machine was sound before they were put aside
+pub record CanReturn (m : Machine) (old : List CellId) : Type 0 where
+  pub before : Machine
+  pub sound : IsSound before
+  pub there : AreThere before.spaces.cells old
+  pub aside : IsAside before old m
