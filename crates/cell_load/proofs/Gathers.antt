@@ -31,7 +31,6 @@ use Rattle.cell_machine.specs.Machine.{IsSound, world_of}
 use Rattle.cell_load.specs.Loads.{IsLoaded, Loads}
 use Rattle.cell_load.specs.Stages.{AreGathered, new_cells}
 use Rattle.cell_load.proofs.Files.{one_found, only_named}
-use Rattle.cell_machine.proofs.Low.{limits_of}
 
 abbrev wanted_file : ℕ → List ℕ → Want
 wanted_file ns file = record { ns = ns; file = file; replaces = None }
@@ -76,7 +75,7 @@ module _ (m : Machine) (sound : IsSound m) where
 
   pub few_cells : length m.cells.items ≤ 1024
   few_cells =
-      let few = (limits_of (world_of m) sound.coherent.ready.limits).cells in
+      let few = sound.coherent.ready.few_cells in
       let same = length-map (world_of m).cells placed_of in
       let are = ap length sound.joined.placed in
       omega (arith, few, same, are)
