@@ -6,6 +6,7 @@ use Rattle.std.proofs.lemmas.Bool.{ltb-true, lt-ltb, leb-true, le-leb}
 use Rattle.std.proofs.lemmas.List.{append-nil}
 use Rattle.cell_object.specs.declared.object.Object.{Object}
 use Rattle.cell_num.specs.Lists.{each_pair}
+use Rattle.cell_world.specs.Limits.{max_cells, max_cell_number}
 use Rattle.cell_world.specs.World.{World, Cell, Standing, Attached, Detached, is_attached}
 use Rattle.cell_world.specs.Names.{chain}
 use Rattle.cell_world.specs.Gather.{Source, new_cell, append_cell, first_lack, fresh_cells, bring}
@@ -23,8 +24,8 @@ pub record Ranks (w : World) : Type 0 where
   pub order : each_pair (λ a b. nat_lt a.id.0 b.id.0) w.cells ≡ true
   pub known : list_all (is_known_cell w) w.cells ≡ true
   pub objects : All (λ c. IsLoadable c.object) w.cells
-  pub few : nat_le (length w.cells) 1024 ≡ true
-  pub last : nat_le w.next_cell 65536 ≡ true
+  pub few : length w.cells ≤ max_cells
+  pub last : w.next_cell ≤ suc max_cell_number
 
 below_next : (n m : ℕ) → nat_lt n m ≡ true → nat_lt n (suc m) ≡ true
 below_next n m h = lt-ltb n (suc m) (omega (arith, ltb-true n m h))
@@ -63,8 +64,8 @@ module _ (w : World) (f : Source) (ns : ℕ) (w' : World) (app : Appended w f ns
         (pairs_push (λ a b. nat_lt a.id.0 b.id.0) w.cells (new_cell w ns f app.object) r.order (λ c k. (known_parts w c (all-In (is_known_cell w) w.cells r.known c k)).number));
     known = known_more r;
     objects = objects_more r;
-    few = subst (λ (v : World). nat_le (length v.cells) 1024 ≡ true) app.is (le-leb _ 1024 (omega (arith, length-append w.cells (new_cell w ns f app.object ∷ []), ltb-true (length w.cells) 1024 app.room)));
-    last = subst (λ (v : World). nat_le v.next_cell 65536 ≡ true) app.is (le-leb (suc w.next_cell) 65536 (omega (arith, leb-true w.next_cell 65535 app.numbers)));
+    few = subst (λ (v : World). length v.cells ≤ max_cells) app.is (omega (arith, length-append w.cells (new_cell w ns f app.object ∷ []), ltb-true (length w.cells) max_cells app.room));
+    last = subst (λ (v : World). v.next_cell ≤ suc max_cell_number) app.is (omega (arith, leb-true w.next_cell max_cell_number app.numbers));
   }
 
 -- w with new cells and a greater next number, and nothing else changed
@@ -114,4 +115,4 @@ module _ (sources : List Source) (sound : AreSound sources) (v : World) where
       → Good w2 × (first_lack w2 (fresh_cells v.next_cell w2) ≡ None)
   gathered f ns w1 w2 r k t h b =
       let g : Good w1 = good_append v f ns w1 k t h (r, extends_none v) in
-      brought sources v.next_cell Good good_append 1025 w1 w2 (leb-true (length w1.cells) 1024 g.0.few) (omega arith) b g
+      brought sources v.next_cell Good good_append 1025 w1 w2 g.0.few (omega arith) b g

@@ -54,4 +54,4 @@ places_lie w r = places_in_space w r.regions r.in_space r.apart r.placed r.objec
 
 -- a ready machine can be linked
 pub ready_linkable : (w : World) → IsReady w → IsLinkable w
-ready_linkable w r = record { regions = r.regions; in_space = r.in_space; apart = r.apart; placed = r.placed; supplied = r.supplied; cell_order = r.cell_order; cells = r.cells; objects = r.objects }
+ready_linkable w r = record { alone = r.alone; memory = r.memory; cells = r.cells; supplied = r.supplied }

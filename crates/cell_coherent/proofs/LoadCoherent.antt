@@ -1,8 +1,8 @@
 -- An accepted load keeps the machine coherent.
-use Rattle.std.proofs.Common.{◌≡◌, refl, sym, ◌∙◌, ap, subst, arith, ℕ, ◌⊎◌, inl, inr, true, false, List, ◌++◌, map, None, Ok}
+use Rattle.std.proofs.Common.{◌≡◌, ◌<◌, refl, sym, ◌∙◌, ap, subst, arith, ℕ, ◌⊎◌, inl, inr, true, false, List, ◌++◌, map, None, Ok}
 use Rattle.std.specs.Prelude.{filter, flat_map, nat_lt, nat_le}
 use Rattle.std.specs.List.{list_all}
-use Rattle.std.proofs.lemmas.Bool.{ltb-true, leb-true, cases_Bool, lt-ltb}
+use Rattle.std.proofs.lemmas.Bool.{ltb-true, leb-true, cases_Bool}
 use Rattle.std.proofs.lemmas.List.Elements.{filter-append}
 use Rattle.cell_world.specs.World.{World, Cell, is_attached}
 use Rattle.cell_world.specs.Relink.{relink}
@@ -20,7 +20,7 @@ use Rattle.cell_coherent.proofs.Places.{Spaced}
 use Rattle.cell_coherent.proofs.Renamed.{bare, all_bare}
 use Rattle.cell_coherent.proofs.PlacedAll.{Placed, all_placed}
 use Rattle.cell_coherent.proofs.NewPlaced.{Adds, AllPlaced, new_placed, shapes_of}
-use Rattle.cell_coherent.proofs.Ready.{grown, LimitParts, limit_parts, linkable_after, ready_after, IsBase, ready_base, append_same}
+use Rattle.cell_coherent.proofs.Ready.{grown, linkable_after, ready_after, IsBase, ready_base, append_same}
 use Rattle.cell_coherent.proofs.Loaded.{Loaded, load_ok}
 use Rattle.cell_coherent.proofs.Relinks.{coherent_relinked}
 use Rattle.cell_coherent.proofs.Attach.{Grows}
@@ -33,8 +33,7 @@ ready_spaced w r = record { in_space = r.in_space; apart = r.apart }
 
 pub ready_ranks : (w : World) → IsReady w → Ranks w
 ready_ranks w r =
-    let l : LimitParts w = limit_parts w r.limits in
-    record { names = r.names; own_names = r.own_names; order = r.cell_order; known = r.cells; objects = r.objects; few = l.cells; last = l.next_cell }
+    record { names = r.names; own_names = r.own_names; order = r.cell_order; known = r.cells; objects = r.objects; few = r.few_cells; last = r.cell_numbers }
 
 module _ (v : World) (base : IsBase v) (new : List Cell) (next : ℕ) where
   abbrev gathered : World
@@ -99,7 +98,7 @@ module _ (v : World) (base : IsBase v) (new : List Cell) (next : ℕ) where
           (ap (map bare) (sym all.cells) ∙ rest.cells) all.placed adds supplied_there)
 
       -- and ready for it, where each entry fits
-      pub placed_ready : nat_lt v.swaps next ≡ true → ((c : Cell) → In c v.cells → is_fitting w c ≡ true) → first_misfit w (fresh_cells v.next_cell w) ≡ None → IsReady w
+      pub placed_ready : v.swaps < next → ((c : Cell) → In c v.cells → is_fitting w c ≡ true) → first_misfit w (fresh_cells v.next_cell w) ≡ None → IsReady w
       placed_ready swaps old_fitting fit =
           subst IsReady is
           (ready_after v base new all.new next w.regions ranks attached fresh lacks (subst Spaced (sym is) rest.spaced)
@@ -115,8 +114,8 @@ module _ (v w : World) (ready : IsReady v) (grows : Grows v w) where
   pub fitting_still : (c : Cell) → In c v.cells → is_fitting w c ≡ true
   fitting_still c k = still_fitting v w grows ready.cell_order ready.cells ready.objects ready.supplied c k (all-In (is_fitting v) v.cells ready.fitting c k)
 
-pub swaps_below : (v w : World) → IsReady v → (x : Extends v w) → nat_lt v.swaps x.next ≡ true
-swaps_below v w ready x = lt-ltb v.swaps x.next (omega (arith, ltb-true v.swaps v.next_cell (limit_parts v ready.limits).swaps, x.rises))
+pub swaps_below : (v w : World) → IsReady v → (x : Extends v w) → v.swaps < x.next
+swaps_below v w ready x = omega (arith, ready.swap_numbers, x.rises)
 
 pub load_ready : (v after : World) → IsReady v → Loaded v after → (w : World) × IsReady w × (relink w ≡ after)
 load_ready v after ready l = (

@@ -7,6 +7,7 @@ use Rattle.cell_object.specs.declared.object.Entry.{Entry}
 use Rattle.cell_world.specs.declared.refusal.Many.TheVariants.{Namespaces}
 use Rattle.cell_world.specs.declared.refusal.Refusal.TheVariants.{NameTaken, TooMany, Unknown}
 use Rattle.cell_world.specs.declared.state.LinkRow.{LinkRow}
+use Rattle.cell_world.specs.Limits.{max_namespaces}
 use Rattle.cell_world.specs.World.{World, Cell, Region}
 use Rattle.cell_world.specs.Names.{chain, namespace_named, provider_of}
 use Rattle.cell_world.specs.Field.{Bound, fields_of}
@@ -14,11 +15,10 @@ use Rattle.cell_world.specs.Relink.{Patch, patch_of, patched, patches_of, restor
 use Rattle.cell_world.specs.Outcome.{need}
 use Rattle.cell_world.specs.Answer.{Done, space_of}
 use Rattle.cell_world.specs.NsCommand.{with_namespace, next_ns}
-use Rattle.cell_world.specs.Coherent.{IsReady, IsCoherent, is_supplied, is_fitting, are_limits_kept}
+use Rattle.cell_world.specs.Coherent.{IsReady, IsCoherent, is_supplied, is_fitting}
 use Rattle.cell_coherent.proofs.Elements.{In, all-In, In-all, In-All, In-numbered, get-In, none_is, position_below, flat_same, filter_map_same, map_same}
 use Rattle.cell_coherent.proofs.Outcomes.{bind_ok, then_ok, need_ok, found_ok}
 use Rattle.cell_coherent.proofs.Appended.{ok_same}
-use Rattle.cell_coherent.proofs.Ready.{LimitParts, limit_parts, limits_from}
 use Rattle.cell_coherent.proofs.FreshLinks.{link_with}
 use Rattle.cell_coherent.proofs.Supplied.{same_target, same_bound, still_supplied, still_fitting}
 use Rattle.cell_coherent.proofs.Spaces.{child, spaces_more, names_more, few_more, chain_stays, space_grows, provider_stays, stands_there, known_stays, names_stay}
@@ -55,46 +55,30 @@ module _ (w : World) (coherent : IsCoherent w) (name : List ℕ) (parent : ℕ) 
       (map_same (remade after) (remade w) w.regions (λ r k. same_remade r) ∙ ap (λ (x : World). x.regions) coherent.linked)
       ∙ ap (λ (links : List LinkRow). record after { links = links }) (same_links ∙ ap (λ (x : World). x.links) coherent.linked)
 
-  limits_after : nat_lt (length w.namespaces) 256 ≡ true → are_limits_kept after ≡ true
-  limits_after room =
-      let l : LimitParts w = limit_parts w ready.limits in
-      limits_from after (record {
-        namespaces = few_more w.namespaces (child name parent) 256 room;
-        cells = l.cells;
-        tasks = l.tasks;
-        next_cell = l.next_cell;
-        next_task = l.next_task;
-        swaps = l.swaps;
-        fewest = l.fewest;
-        most = l.most;
-        aligned = l.aligned;
-        lowest = l.lowest;
-        highest = l.highest;
-      })
-
-  ready_after : parent < length w.namespaces → namespace_named w name ≡ None → nat_lt (length w.namespaces) 256 ≡ true → IsReady after
+  ready_after : parent < length w.namespaces → namespace_named w name ≡ None → nat_lt (length w.namespaces) max_namespaces ≡ true → IsReady after
   ready_after below free room = record {
-    names = names_stay w ready.spaces name parent ready.cells ready.names;
-    own_names = ready.own_names;
-    regions = ready.regions;
-    in_space = ready.in_space;
-    apart = ready.apart;
-    placed = ready.placed;
-    supplied = In-all (is_supplied after) w.cells
-        (λ c k. still_supplied w after (space_grows w ready.spaces name parent) ready.cell_order ready.cells ready.objects ready.supplied c k);
-    fitting = In-all (is_fitting after) w.cells
-        (λ c k. still_fitting w after (space_grows w ready.spaces name parent) ready.cell_order ready.cells ready.objects ready.supplied c k (all-In (is_fitting w) w.cells ready.fitting c k));
-    spaces = spaces_more w.namespaces name parent ready.spaces below;
-    space_names = names_more w.namespaces name parent ready.space_names free;
-    cell_order = ready.cell_order;
-    cells = known_stays w ready.spaces name parent ready.cells;
-    objects = ready.objects;
-    task_order = ready.task_order;
-    tasks = ready.tasks;
-    limits = limits_after room;
+    alone = ready.alone;
+    together = record {
+      names = names_stay w ready.spaces name parent ready.cells ready.names;
+      own_names = ready.own_names;
+      cells = known_stays w ready.spaces name parent ready.cells;
+      supplied = In-all (is_supplied after) w.cells
+          (λ c k. still_supplied w after (space_grows w ready.spaces name parent) ready.cell_order ready.cells ready.objects ready.supplied c k);
+      fitting = In-all (is_fitting after) w.cells
+          (λ c k. still_fitting w after (space_grows w ready.spaces name parent) ready.cell_order ready.cells ready.objects ready.supplied c k (all-In (is_fitting w) w.cells ready.fitting c k));
+    };
+    counted = ready.counted;
+    parents = record {
+      spaces = spaces_more w.namespaces name parent ready.spaces below;
+      space_names = names_more w.namespaces name parent ready.space_names free;
+      few_spaces = few_more w.namespaces (child name parent) max_namespaces room;
+    };
+    memory = ready.memory;
+    running = ready.running;
+    space = ready.space;
   }
 
-  pub coherent_after : parent < length w.namespaces → namespace_named w name ≡ None → nat_lt (length w.namespaces) 256 ≡ true → IsCoherent after
+  pub coherent_after : parent < length w.namespaces → namespace_named w name ≡ None → nat_lt (length w.namespaces) max_namespaces ≡ true → IsCoherent after
   coherent_after below free room = record { ready = ready_after below free room; linked = linked_after }
 
 -- what an accepted `ns` has passed
@@ -102,14 +86,14 @@ pub record Added (w : World) (name : List ℕ) (w' : World) : Type 0 where
   pub parent : ℕ
   pub below : parent < length w.namespaces
   pub free : namespace_named w name ≡ None
-  pub room : nat_lt (length w.namespaces) 256 ≡ true
+  pub room : nat_lt (length w.namespaces) max_namespaces ≡ true
   pub is : with_namespace w name parent ≡ w'
 
 pub ns_ok : (w : World) (name parent : List ℕ) (d : Done) → next_ns w name parent ≡ Ok d → Added w name d.world
 ns_ok w name parent d h =
     let a = bind_ok (space_of w parent) _ d h in
     let b = then_ok (need (is_none (namespace_named w name)) (NameTaken name)) _ d a.2 in
-    let c = then_ok (need (nat_lt (length w.namespaces) 256) (TooMany Namespaces 256)) _ d b.2 in
+    let c = then_ok (need (nat_lt (length w.namespaces) max_namespaces) (TooMany Namespaces max_namespaces)) _ d b.2 in
     record {
       parent = a.0;
       below = position_below (λ space. equals space.name parent) w.namespaces a.0 (found_ok (namespace_named w parent) (Unknown parent) a.0 a.1);

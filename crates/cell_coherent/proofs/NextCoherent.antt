@@ -1,7 +1,6 @@
 -- A machine stays coherent over an answer whose world is; `find`, `map` and `dump` change nothing; the first machine is coherent.
-use Rattle.std.proofs.Common.{◌≡◌, refl, ap, arith, ℕ, true, List, Ok, Err}
-use Rattle.std.specs.Prelude.{decimal, ◌%◌}
-use Rattle.std.proofs.lemmas.Bool.{le-leb, eq-eqb}
+use Rattle.std.proofs.Common.{◌≡◌, refl, ap, arith, ℕ, List, Ok, Err}
+use Rattle.std.specs.Prelude.{decimal}
 use Rattle.cell_object.specs.Parts.{section_of}
 use Rattle.cell_world.specs.declared.refusal.Refusal.TheVariants.{Unknown}
 use Rattle.cell_world.specs.World.{World, empty_world}
@@ -12,10 +11,9 @@ use Rattle.cell_world.specs.FindCommand.{next_find}
 use Rattle.cell_world.specs.MapCommand.{next_map}
 use Rattle.cell_world.specs.DumpCommand.{next_dump}
 use Rattle.cell_world.specs.Next.{answered_by}
-use Rattle.cell_world.specs.Coherent.{IsReady, IsCoherent, are_limits_kept}
+use Rattle.cell_world.specs.Coherent.{IsReady, IsCoherent}
 use Rattle.cell_coherent.proofs.Outcomes.{bind_ok}
 use Rattle.cell_coherent.proofs.Appended.{ok_same}
-use Rattle.cell_coherent.proofs.Ready.{limits_from}
 
 pub dump_same : (w : World) (cell section : ℕ) (d : Done) → next_dump w cell section ≡ Ok d → w ≡ d.world
 dump_same w cell section d h =
@@ -33,39 +31,15 @@ pub answered : (w : World) (o : Outcome Done) → IsCoherent w → ((d : Done) �
 answered w (Ok d) c f = f d refl
 answered w (Err r) c f = c
 
-empty_limits : (base pages : ℕ) → IsSpace base pages → are_limits_kept (empty_world base pages) ≡ true
-empty_limits base pages s = limits_from (empty_world base pages) (record {
-  namespaces = refl;
-  cells = refl;
-  tasks = refl;
-  next_cell = refl;
-  next_task = refl;
-  swaps = refl;
-  fewest = le-leb 16 pages s.fewest;
-  most = le-leb pages 4096 s.most;
-  aligned = eq-eqb (base % 4096) 0 s.aligned;
-  lowest = le-leb 0x1000 base s.lowest;
-  highest = le-leb base 0x7ff_ffff_f000 s.highest;
-})
-
 empty_ready : (base pages : ℕ) → IsSpace base pages → IsReady (empty_world base pages)
 empty_ready base pages s = record {
-  names = refl;
-  own_names = refl;
-  regions = refl;
-  in_space = refl;
-  apart = refl;
-  placed = refl;
-  supplied = refl;
-  fitting = refl;
-  spaces = refl;
-  space_names = refl;
-  cell_order = refl;
-  cells = refl;
-  objects = λ k d l. absurd (omega (arith, l));
-  task_order = refl;
-  tasks = refl;
-  limits = empty_limits base pages s;
+  alone = record { cell_order = refl; placed = refl; objects = λ k d l. absurd (omega (arith, l)) };
+  together = record { names = refl; own_names = refl; cells = refl; supplied = refl; fitting = refl };
+  counted = record { few_cells = omega arith; cell_numbers = omega arith; swap_numbers = omega arith };
+  parents = record { spaces = refl; space_names = refl; few_spaces = omega arith };
+  memory = record { regions = refl; in_space = refl; apart = refl };
+  running = record { task_order = refl; tasks = refl; few_tasks = omega arith; task_numbers = omega arith };
+  space = s;
 }
 
 pub empty_coherent : (base pages : ℕ) → IsSpace base pages → IsCoherent (empty_world base pages)

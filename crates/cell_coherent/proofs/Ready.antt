@@ -1,8 +1,8 @@
 -- The machine with the new cells in their places is ready to be linked.
-use Rattle.std.proofs.Common.{◌≡◌, refl, sym, ◌∙◌, ap, subst, ℕ, ◌⊎◌, inl, inr, Bool, true, ◌&&◌, List, [], ◌∷◌, ◌++◌, map, length, None, arith, not}
-use Rattle.std.specs.Prelude.{All, flat_map, is_some, nat_lt, nat_le, slice_index, ◌%◌, ◌==◌}
+use Rattle.std.proofs.Common.{◌≡◌, refl, sym, ◌∙◌, ap, subst, ℕ, ◌≤◌, ◌<◌, ◌⊎◌, inl, inr, true, ◌&&◌, List, [], ◌∷◌, ◌++◌, map, length, None, arith}
+use Rattle.std.specs.Prelude.{All, flat_map, is_some, nat_lt, nat_le, slice_index, ◌==◌}
 use Rattle.std.specs.List.{list_all}
-use Rattle.std.proofs.lemmas.Bool.{and_parts, and_from, ltb-true, lt-ltb}
+use Rattle.std.proofs.lemmas.Bool.{and_parts, and_from}
 use Rattle.std.proofs.lemmas.List.{length-map, map-append}
 use Rattle.std.proofs.lemmas.List.Sums.{fold-append}
 use Rattle.std.proofs.lemmas.Grind.{flat_map-append}
@@ -10,7 +10,9 @@ use Rattle.cell_world.specs.World.{World, Cell, Region, Task, is_attached, cell_
 use Rattle.cell_world.specs.Names.{needs_of, provider_of}
 use Rattle.cell_world.specs.Gather.{first_lack, fresh_cells}
 use Rattle.cell_world.specs.Fit.{first_misfit}
-use Rattle.cell_world.specs.Coherent.{IsReady, IsLoadable, Shape, shape_of, with_shape, stack_shape, wanted_shapes, may_both_stand, has_each_name_once, is_placed, is_supplied, is_fitting, is_known_cell, is_sound_task, are_limits_kept, is_in_space, ends_before, begins_with_k, is_sound_parent}
+use Rattle.cell_world.specs.Limits.{max_cells}
+use Rattle.cell_world.specs.Pages.{IsSpace}
+use Rattle.cell_world.specs.Coherent.{IsReady, AreSoundRegions, AreSoundSpaces, AreSoundTasks, only_regions, only_tasks, IsLoadable, Shape, shape_of, with_shape, stack_shape, wanted_shapes, may_both_stand, has_each_name_once, is_placed, is_supplied, is_fitting, is_known_cell, is_sound_task}
 use Rattle.cell_coherent.specs.Linkable.{IsLinkable}
 use Rattle.cell_coherent.proofs.Elements.{In, Has, all-In, In-all, All-In, In-All, In-append, In-right, In-map, filter-In, some_has}
 use Rattle.cell_coherent.proofs.Attach.{Grows, cell_grown}
@@ -22,93 +24,24 @@ use Rattle.cell_coherent.proofs.Renamed.{bare, In-bare, all_bare, pairs_bare, pr
 use Rattle.cell_coherent.proofs.PlacedAll.{Put, puts_past}
 use Rattle.cell_coherent.proofs.NewPlaced.{Adds, shapes_of}
 use Rattle.cell_coherent.proofs.FieldsInside.{In-fold_shape}
-use Rattle.cell_num.specs.Lists.{each_pair, equals, numbered}
 
 -- w with other cells, next number and regions
 abbrev pub grown : World → List Cell → ℕ → List Region → World
 grown w cells next regions = record w { cells = cells; next_cell = next; regions = regions }
 
--- each limit by itself
-pub record LimitParts (w : World) : Type 0 where
-  pub namespaces : nat_le (length w.namespaces) 256 ≡ true
-  pub cells : nat_le (length w.cells) 1024 ≡ true
-  pub tasks : nat_le (length w.tasks) 64 ≡ true
-  pub next_cell : nat_le w.next_cell 65536 ≡ true
-  pub next_task : nat_le w.next_task 65536 ≡ true
-  pub swaps : nat_lt w.swaps w.next_cell ≡ true
-  pub fewest : nat_le 16 w.pages ≡ true
-  pub most : nat_le w.pages 4096 ≡ true
-  pub aligned : (w.base % 4096 == 0) ≡ true
-  pub lowest : nat_le 0x1000 w.base ≡ true
-  pub highest : nat_le w.base 0x7ff_ffff_f000 ≡ true
-
-pub limit_parts : (w : World) → are_limits_kept w ≡ true → LimitParts w
-limit_parts w l = go (nat_le (length w.namespaces) 256) (nat_le (length w.cells) 1024) (nat_le (length w.tasks) 64) (nat_le w.next_cell 65536) (nat_le w.next_task 65536) (nat_lt w.swaps w.next_cell)
-    (nat_le 16 w.pages) (nat_le w.pages 4096) (w.base % 4096 == 0) (nat_le 0x1000 w.base) (nat_le w.base 0x7ff_ffff_f000) l
-    (λ a b c d e f g h i j k. record { namespaces = a; cells = b; tasks = c; next_cell = d; next_task = e; swaps = f; fewest = g; most = h; aligned = i; lowest = j; highest = k })
-  where
-    go : {X : Type 0} (a b c d e f g h i j k : Bool) → (a && b && c && d && e && f && g && h && i && j && k) ≡ true
-        → (a ≡ true → b ≡ true → c ≡ true → d ≡ true → e ≡ true → f ≡ true → g ≡ true → h ≡ true → i ≡ true → j ≡ true → k ≡ true → X) → X
-    go a b c d e f g h i j k l parts =
-        let pk = and_parts (a && b && c && d && e && f && g && h && i && j) k l in
-        let pj = and_parts (a && b && c && d && e && f && g && h && i) j pk.0 in
-        let pi = and_parts (a && b && c && d && e && f && g && h) i pj.0 in
-        let ph = and_parts (a && b && c && d && e && f && g) h pi.0 in
-        let pg = and_parts (a && b && c && d && e && f) g ph.0 in
-        let pf = and_parts (a && b && c && d && e) f pg.0 in
-        let pe = and_parts (a && b && c && d) e pf.0 in
-        let pd = and_parts (a && b && c) d pe.0 in
-        let pc = and_parts (a && b) c pd.0 in
-        let pb = and_parts a b pc.0 in
-        parts pb.0 pb.1 pc.1 pd.1 pe.1 pf.1 pg.1 ph.1 pi.1 pj.1 pk.1
-
-pub limits_from : (w : World) → LimitParts w → are_limits_kept w ≡ true
-limits_from w l =
-    and_from _ (nat_le w.base 0x7ff_ffff_f000) (and_from _ (nat_le 0x1000 w.base) (and_from _ (w.base % 4096 == 0) (and_from _ (nat_le w.pages 4096) (and_from _ (nat_le 16 w.pages)
-    (and_from _ (nat_lt w.swaps w.next_cell) (and_from _ (nat_le w.next_task 65536) (and_from _ (nat_le w.next_cell 65536) (and_from _ (nat_le (length w.tasks) 64)
-    (and_from (nat_le (length w.namespaces) 256) (nat_le (length w.cells) 1024) l.namespaces l.cells) l.tasks) l.next_cell) l.next_task) l.swaps) l.fewest) l.most) l.aligned) l.lowest) l.highest
-
--- what cells find that come to a machine, providers and fits aside. How many swaps there were is left open
+-- what cells find that come to a machine, providers, fits and how many there are aside
 pub record IsBase (v : World) : Type 0 where
-  pub regions : map shape_of v.regions ≡ wanted_shapes v
-  pub in_space : list_all (is_in_space v) v.regions ≡ true
-  pub apart : each_pair ends_before v.regions ≡ true
+  pub memory : AreSoundRegions (only_regions v)
+  pub open memory use *
   pub placed : list_all is_placed v.cells ≡ true
-  pub spaces : (begins_with_k v.namespaces && list_all is_sound_parent (numbered v.namespaces)) ≡ true
-  pub space_names : each_pair (λ a b. not (equals a.name b.name)) v.namespaces ≡ true
   pub known : list_all (is_known_cell v) v.cells ≡ true
-  pub task_order : each_pair (λ a b. nat_lt a.number b.number) v.tasks ≡ true
-  pub tasks : list_all (is_sound_task v) v.tasks ≡ true
-  pub limits : are_limits_kept (record v { swaps = 0 }) ≡ true
+  pub parents : AreSoundSpaces v.namespaces
+  pub running : AreSoundTasks (only_tasks v)
+  pub open running use *
+  pub space : IsSpace v.base v.pages
 
 pub ready_base : (v : World) → IsReady v → IsBase v
-ready_base v r = record {
-  regions = r.regions;
-  in_space = r.in_space;
-  apart = r.apart;
-  placed = r.placed;
-  spaces = r.spaces;
-  space_names = r.space_names;
-  known = r.cells;
-  task_order = r.task_order;
-  tasks = r.tasks;
-  limits = limits_from (record v { swaps = 0 }) (record {
-    namespaces = l.namespaces;
-    cells = l.cells;
-    tasks = l.tasks;
-    next_cell = l.next_cell;
-    next_task = l.next_task;
-    swaps = lt-ltb 0 v.next_cell (omega (arith, ltb-true v.swaps v.next_cell l.swaps));
-    fewest = l.fewest;
-    most = l.most;
-    aligned = l.aligned;
-    lowest = l.lowest;
-    highest = l.highest;
-  });
-}
-  where
-    l : LimitParts v
-    l = limit_parts v r.limits
+ready_base v r = record { memory = r.memory; placed = r.placed; known = r.cells; parents = r.parents; running = r.running; space = r.space }
 
 pub append_same : {X : Type 0} (front xs ys : List X) → front ++ xs ≡ front ++ ys → xs ≡ ys
 append_same [] xs ys e = e
@@ -193,55 +126,44 @@ module _ (v : World) (base : IsBase v) (new placed : List Cell) (next : ℕ) (re
         go : (c : Cell) → (d : Cell) × In d bare_world.cells × (bare c ≡ bare d) → IsLoadable c.object
         go c d = subst (λ (x : Cell). IsLoadable x.object) (sym d.2) (All-In (λ (c : Cell). IsLoadable c.object) bare_world.cells ranks.objects d.0 d.1)
 
-    limits_after : nat_lt v.swaps next ≡ true → are_limits_kept after ≡ true
-    limits_after swaps =
-        let l : LimitParts (record v { swaps = 0 }) = limit_parts (record v { swaps = 0 }) base.limits in
+    few_after : length after.cells ≤ max_cells
+    few_after =
         let count : length after.cells ≡ length bare_world.cells = sym (length-map after.cells bare) ∙ (ap length same ∙ length-map bare_world.cells bare) in
-        limits_from after (record {
-          namespaces = l.namespaces;
-          cells = ap (λ (n : ℕ). nat_le n 1024) count ∙ ranks.few;
-          tasks = l.tasks;
-          next_cell = ranks.last;
-          next_task = l.next_task;
-          swaps = swaps;
-          fewest = l.fewest;
-          most = l.most;
-          aligned = l.aligned;
-          lowest = l.lowest;
-          highest = l.highest;
-        })
+        omega (arith, count, ranks.few)
 
     -- all that linking asks for
     pub linkable_after : IsLinkable after
     linkable_after = record {
-      regions = regions_wanted;
-      in_space = spaced.in_space;
-      apart = spaced.apart;
-      placed = In-all is_placed after.cells (old_or_new (λ c. is_placed c ≡ true) (all-In is_placed v.cells base.placed) (all-In is_placed placed by_rule));
-      supplied = In-all (is_supplied after) after.cells (old_or_new (λ c. is_supplied after c ≡ true) old_supplied new_supplied);
-      cell_order = pairs_bare (λ a b. nat_lt a.id.0 b.id.0) (λ a b. refl) after.cells bare_world.cells same ranks.order;
+      alone = record {
+        cell_order = pairs_bare (λ a b. nat_lt a.id.0 b.id.0) (λ a b. refl) after.cells bare_world.cells same ranks.order;
+        placed = In-all is_placed after.cells (old_or_new (λ c. is_placed c ≡ true) (all-In is_placed v.cells base.placed) (all-In is_placed placed by_rule));
+        objects = objects_after;
+      };
+      memory = record { regions = regions_wanted; in_space = spaced.in_space; apart = spaced.apart };
       cells = all_bare (is_known_cell after) (λ c. refl) after.cells bare_world.cells same ranks.known;
-      objects = objects_after;
+      supplied = In-all (is_supplied after) after.cells (old_or_new (λ c. is_supplied after c ≡ true) old_supplied new_supplied);
     }
 
-    pub ready_after : nat_lt v.swaps next ≡ true → ((c : Cell) → In c v.cells → is_fitting after c ≡ true) → first_misfit after (fresh_cells v.next_cell after) ≡ None → IsReady after
+    pub ready_after : v.swaps < next → ((c : Cell) → In c v.cells → is_fitting after c ≡ true) → first_misfit after (fresh_cells v.next_cell after) ≡ None → IsReady after
     ready_after swaps old_fitting fits = record {
-      names = pairs_bare (may_both_stand after) (λ a b. refl) after.cells bare_world.cells same ranks.names;
-      own_names = all_bare has_each_name_once (λ c. refl) after.cells bare_world.cells same ranks.own_names;
-      regions = linkable_after.regions;
-      in_space = linkable_after.in_space;
-      apart = linkable_after.apart;
-      placed = linkable_after.placed;
-      supplied = linkable_after.supplied;
-      fitting = In-all (is_fitting after) after.cells (old_or_new (λ c. is_fitting after c ≡ true)
-          old_fitting
-          (λ c k. new_fits after (fresh_cells v.next_cell after) fits c (new_is_fresh c k)));
-      spaces = base.spaces;
-      space_names = base.space_names;
-      cell_order = linkable_after.cell_order;
-      cells = linkable_after.cells;
-      objects = linkable_after.objects;
-      task_order = base.task_order;
-      tasks = In-all (is_sound_task after) v.tasks (λ t k. task_still t (all-In (is_sound_task v) v.tasks base.tasks t k));
-      limits = limits_after swaps;
+      alone = linkable_after.alone;
+      together = record {
+        names = pairs_bare (may_both_stand after) (λ a b. refl) after.cells bare_world.cells same ranks.names;
+        own_names = all_bare has_each_name_once (λ c. refl) after.cells bare_world.cells same ranks.own_names;
+        cells = linkable_after.cells;
+        supplied = linkable_after.supplied;
+        fitting = In-all (is_fitting after) after.cells (old_or_new (λ c. is_fitting after c ≡ true)
+            old_fitting
+            (λ c k. new_fits after (fresh_cells v.next_cell after) fits c (new_is_fresh c k)));
+      };
+      counted = record { few_cells = few_after; cell_numbers = ranks.last; swap_numbers = swaps };
+      parents = base.parents;
+      memory = linkable_after.memory;
+      running = record {
+        task_order = base.task_order;
+        tasks = In-all (is_sound_task after) v.tasks (λ t k. task_still t (all-In (is_sound_task v) v.tasks base.tasks t k));
+        few_tasks = base.few_tasks;
+        task_numbers = base.task_numbers;
+      };
+      space = base.space;
     }

@@ -24,22 +24,17 @@ shape_before s t = nat_le (s.start + s.size) t.start
 -- linking changes no more of a ready world than the bytes of its regions and the links
 pub ready_relinked : (w : World) → IsReady w → IsReady (relink w)
 ready_relinked w c = record {
-  names = c.names;
-  own_names = c.own_names;
-  regions = regions_after w c.regions c.in_space c.apart c.placed c.objects;
-  in_space = sym (list_all-map (shape_in_space w) shape_of (relink w).regions) ∙ (ap (list_all (shape_in_space w)) shapes ∙ (list_all-map (shape_in_space w) shape_of w.regions ∙ c.in_space));
-  apart = sym (pairs-map shape_before shape_of (relink w).regions) ∙ (ap (each_pair shape_before) shapes ∙ (pairs-map shape_before shape_of w.regions ∙ c.apart));
-  placed = c.placed;
-  supplied = c.supplied;
-  fitting = c.fitting;
-  spaces = c.spaces;
-  space_names = c.space_names;
-  cell_order = c.cell_order;
-  cells = c.cells;
-  objects = c.objects;
-  task_order = c.task_order;
-  tasks = c.tasks;
-  limits = c.limits;
+  alone = c.alone;
+  together = c.together;
+  counted = c.counted;
+  parents = c.parents;
+  memory = record {
+    regions = regions_after w c.regions c.in_space c.apart c.placed c.objects;
+    in_space = sym (list_all-map (shape_in_space w) shape_of (relink w).regions) ∙ (ap (list_all (shape_in_space w)) shapes ∙ (list_all-map (shape_in_space w) shape_of w.regions ∙ c.in_space));
+    apart = sym (pairs-map shape_before shape_of (relink w).regions) ∙ (ap (each_pair shape_before) shapes ∙ (pairs-map shape_before shape_of w.regions ∙ c.apart));
+  };
+  running = c.running;
+  space = c.space;
 }
   where
     shapes : map shape_of (relink w).regions ≡ map shape_of w.regions

@@ -1,8 +1,8 @@
 -- A namespace that is added: the lists of them, and what it leaves of those before it.
-use Rattle.std.proofs.Common.{◌≡◌, refl, sym, ◌∙◌, ap, subst, arith, ℕ, suc, ◌+◌, ◌<◌, inl, inr, Bool, true, false, cond, not, ◌&&◌, ◌||◌, List, [], ◌∷◌, ◌++◌, length, length-append, Some, None}
-use Rattle.std.specs.Prelude.{position, nat_lt, nat_le, filter}
+use Rattle.std.proofs.Common.{◌≡◌, ◌≤◌, refl, sym, ◌∙◌, ap, subst, arith, ℕ, suc, ◌+◌, ◌<◌, inl, inr, Bool, true, false, cond, not, ◌&&◌, ◌||◌, List, [], ◌∷◌, ◌++◌, length, length-append, Some, None}
+use Rattle.std.specs.Prelude.{position, nat_lt, filter}
 use Rattle.std.specs.List.{list_any, list_all, prefix_len}
-use Rattle.std.proofs.lemmas.Bool.{and_parts, and_from, lt-ltb, ltb-true, le-leb}
+use Rattle.std.proofs.lemmas.Bool.{and_parts, and_from, lt-ltb, ltb-true}
 use Rattle.std.proofs.lemmas.List.{append-nil}
 use Rattle.cell_num.specs.Lists.{equals, holds, holds_name, numbered, numbered_from, each_pair, or_else}
 use Rattle.cell_world.specs.declared.state.Namespace.{Namespace}
@@ -63,8 +63,8 @@ names_more spaces name parent h free =
     pairs_push (λ a b. not (equals a.name b.name)) spaces (child name parent) h
     (λ space k. ap not (unplaced-In (λ space. equals space.name name) spaces free space k))
 
-pub few_more : {X : Type 0} (xs : List X) (x : X) (n : ℕ) → nat_lt (length xs) n ≡ true → nat_le (length (xs ++ x ∷ [])) n ≡ true
-few_more xs x n h = le-leb (length (xs ++ x ∷ [])) n (omega (arith, ltb-true (length xs) n h, length-append xs (x ∷ [])))
+pub few_more : {X : Type 0} (xs : List X) (x : X) (n : ℕ) → nat_lt (length xs) n ≡ true → length (xs ++ x ∷ []) ≤ n
+few_more xs x n h = omega (arith, ltb-true (length xs) n h, length-append xs (x ∷ []))
 
 module _ (w : World) (spaces : (begins_with_k w.namespaces && list_all is_sound_parent (numbered w.namespaces)) ≡ true) (name : List ℕ) (parent : ℕ) where
   abbrev after : World

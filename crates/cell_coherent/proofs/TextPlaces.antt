@@ -15,7 +15,6 @@ use Rattle.cell_world.specs.World.{World, Cell}
 use Rattle.cell_coherent.proofs.Elements.{In, all-In, filter-In}
 use Rattle.cell_coherent.proofs.FieldsInside.{region_There}
 use Rattle.cell_coherent.proofs.Places.{whole_region}
-use Rattle.cell_coherent.proofs.Ready.{limit_parts}
 
 page_begins : (base start at : ℕ) → base ≤ start → (start - base) % 4096 ≡ 0 → base % 4096 ≡ 0 → start ≡ at → at % 4 ≡ 0
 page_begins base start at low aligned whole same = omega (arith, low, aligned, whole, same)
@@ -32,8 +31,7 @@ module _ (w : World) (h : IsReady w) where
       go (Some start) e =
           let q = region_There w h.regions h.apart h.placed h.objects c k class start e in
           let whole = whole_region w q.0 (all-In (is_in_space w) w.regions h.in_space q.0 q.1) in
-          let base : w.base % 4096 ≡ 0 = eqb-true (w.base % 4096) 0 (limit_parts w h.limits).aligned in
-          page_begins w.base q.0.start start whole.0 whole.1 base q.2
+          page_begins w.base q.0.start start whole.0 whole.1 h.space.aligned q.2
 
   stands : (c : Cell) → In c w.cells → (s : ObjectSection) → In s (sections_in Text c.object) → start_of c.placed s.number ≡ unwrap_or (class_start c Text) 0 + offset_in (sections_in Text c.object) s.number
   stands c k s i =

@@ -2,6 +2,7 @@
 
 ghost use Rattle.std.specs.Prelude.{◌≡◌, ◌<◌, ◌≤◌, true, IfOk, All, Some, find, length, option_map, slice_get};
 ghost use Rattle.std.specs.List.{list_all};
+ghost use Rattle.cell_world.specs.Limits.{max_file_bytes, max_files};
 ghost use Rattle.cell_depot.specs.Files.{are_apart, has_name};
 ghost use Rattle.cell_depot.specs.ObjectName.{is_object_name};
 ghost use Rattle.cell_depot.specs.Found.{Finds};
@@ -46,10 +47,10 @@ impl Model for Depot {
 impl Depot {
     /// The depot of these files.
     pub fn of_files(alloc: Global, files: Vec<File>) -> Result<Depot, AllocError>
-        requires few { length files.items ≤ 1024 }
+        requires few { length files.items ≤ max_files }
         requires apart { are_apart files.items ≡ true }
         requires named { list_all (λ f. is_object_name f.name) files.items ≡ true }
-        requires small { All (λ f. length f.bytes ≤ 1048576) files.items }
+        requires small { All (λ f. length f.bytes ≤ max_file_bytes) files.items }
         ensures { IfOk result (λ depot. depot ≡ files.items) }
     {
         let mut shelves = Shelves::new(alloc);

@@ -9,7 +9,7 @@ use Rattle.cell_world.specs.declared.refusal.Refusal.{Refusal}
 use Rattle.cell_world.specs.declared.refusal.Refusal.TheVariants.{Unknown}
 use Rattle.cell_world.specs.declared.state.NewCell.{NewCell}
 use Rattle.cell_world.specs.World.{World, Cell, attached}
-use Rattle.cell_world.specs.Gather.{Source, Need, source_of, file_named, append_cell, bring_one, bring}
+use Rattle.cell_world.specs.Gather.{Source, Need, source_of, file_named, append_cell, bring_one, bring, grown}
 use Rattle.cell_world.specs.Outcome.{Outcome, ◌>>=◌, found, each}
 use Rattle.cell_depot.specs.Files.{has_name}
 use Rattle.cell_space.specs.Spaces.{SpacesState}
@@ -19,7 +19,7 @@ use Rattle.cell_gather.specs.declared.want.Want.{Want}
 use Rattle.cell_gather.specs.Appending.{append_now}
 use Rattle.cell_gather.specs.Choosing.{choose_now}
 use Rattle.cell_world.specs.Following.{FailsAs}
-use Rattle.cell_gather.specs.Gathering.{IsOf, append_wanted, gather, grown, renamed}
+use Rattle.cell_gather.specs.Gathering.{IsOf, append_wanted, gather, renamed}
 use Rattle.cell_gather.specs.Growing.{Ends, with_new}
 use Rattle.cell_gather.proofs.Brings.{bring_is}
 use Rattle.cell_gather.proofs.Worlds.{append_grown, grown_is, grown_none}

@@ -5,7 +5,7 @@ use Rattle.std.specs.Option.{ForSome}
 use Rattle.std.proofs.lemmas.List.Elements.{All-head, All-tail}
 use Rattle.cell_num.specs.declared.ids.CellId.{CellId}
 use Rattle.cell_world.specs.declared.file.File.{File}
-use Rattle.cell_world.specs.Gather.{source_of, bring}
+use Rattle.cell_world.specs.Gather.{source_of, bring, grown}
 use Rattle.cell_world.specs.Outcome.{Outcome, each}
 use Rattle.cell_world.specs.World.{World, Alias, Cell, Standing, Attached, attached}
 use Rattle.cell_space.specs.declared.cell.CellState.TheVariants.{Attached as IsAttached}
@@ -17,7 +17,7 @@ use Rattle.cell_world.specs.declared.fail.Fail.{Fail}
 use Rattle.cell_world.specs.declared.fail.Fail.TheVariants.{Refused, OutOfMemory}
 use Rattle.cell_gather.specs.declared.gathering.Gathered.{Gathered}
 use Rattle.cell_gather.specs.declared.want.Want.{Want}
-use Rattle.cell_gather.specs.Gathering.{IsOf, append_wanted, grown, renamed, Gathers}
+use Rattle.cell_gather.specs.Gathering.{IsOf, append_wanted, renamed, Gathers}
 use Rattle.cell_gather.specs.Growing.{Ends, HavePlain, IsGrowing, new_of}
 use Rattle.cell_gather.proofs.Appends.{gather_refused, gather_brings}
 

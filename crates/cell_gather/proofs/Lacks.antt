@@ -8,14 +8,14 @@ use Rattle.cell_num.specs.Lists.{first, or_else}
 use Rattle.cell_world.specs.declared.state.Namespace.{Namespace}
 use Rattle.cell_world.specs.World.{World, Cell, Standing, Attached as IsAttached}
 use Rattle.cell_world.specs.Names.{Provider, chain, needs_of, provider_of, provider_for as provider_as}
-use Rattle.cell_world.specs.Gather.{Need, lacks_of, first_lack, fresh_cells}
+use Rattle.cell_world.specs.Gather.{Need, lacks_of, first_lack, fresh_cells, grown}
 use Rattle.cell_space.specs.declared.cell.CellState.TheVariants.{Attached}
 use Rattle.cell_space.specs.declared.cell.SpaceCell.{SpaceCell}
 use Rattle.cell_space.specs.Machine.{called}
 use Rattle.cell_space.specs.Named.{provider_for}
 use Rattle.cell_space.specs.Spaces.{SpacesState}
 use Rattle.cell_space.proofs.Machines.{attached_provider-called}
-use Rattle.cell_gather.specs.Gathering.{IsOf, grown}
+use Rattle.cell_gather.specs.Gathering.{IsOf}
 use Rattle.cell_gather.specs.Growing.{IsProvided, IsSupplied, AreSupplied, IsNext}
 use Rattle.cell_gather.proofs.Worlds.{grown_is}
 

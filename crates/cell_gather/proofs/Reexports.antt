@@ -16,7 +16,8 @@ use Rattle.cell_space.specs.Machine.{called}
 use Rattle.cell_space.specs.Named.{cell_numbered}
 use Rattle.cell_space.specs.Spaces.{SpacesState}
 use Rattle.cell_gather.specs.declared.want.Want.{Want}
-use Rattle.cell_gather.specs.Gathering.{IsOf, exchanges_from, grown, renamed}
+use Rattle.cell_world.specs.Gather.{grown}
+use Rattle.cell_gather.specs.Gathering.{IsOf, exchanges_from, renamed}
 use Rattle.cell_gather.specs.Growing.{with_new}
 use Rattle.cell_gather.specs.Renaming.{hand_on_now, heir_now, new_numbered, renamed_now, take_all_now, take_now}
 use Rattle.cell_gather.proofs.Worlds.{clash_name_is, grown_is, remade}

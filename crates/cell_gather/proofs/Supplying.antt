@@ -3,7 +3,7 @@ use Rattle.std.proofs.Common.{◌≡◌, ap, arith, ℕ, ◌+◌, ◌<◌, ◌�
 use Rattle.std.specs.Prelude.{Ok, Err, All, is_some}
 use Rattle.cell_num.specs.declared.ids.CellId.{CellId}
 use Rattle.cell_world.specs.declared.file.File.{File}
-use Rattle.cell_world.specs.Gather.{Need, source_of, bring, bring_one}
+use Rattle.cell_world.specs.Gather.{Need, source_of, bring, bring_one, grown}
 use Rattle.cell_world.specs.Names.{chain}
 use Rattle.cell_world.specs.Outcome.{Outcome}
 use Rattle.cell_world.specs.World.{World, Cell}
@@ -13,7 +13,6 @@ use Rattle.cell_space.specs.Named.{provider_for}
 use Rattle.cell_space.specs.Spaces.{SpacesState}
 use Rattle.cell_world.specs.declared.fail.Fail.{Fail}
 use Rattle.cell_gather.specs.declared.gathering.Gathered.{Gathered}
-use Rattle.cell_gather.specs.Gathering.{grown}
 use Rattle.cell_gather.specs.Growing.{AreSupplied, Ends, IsGrowing, IsLed, IsNext, IsOneMore, Leads, new_of}
 use Rattle.cell_gather.proofs.Lacks.{first_lack_is}
 use Rattle.cell_gather.proofs.Supplies.{within, next_stays}

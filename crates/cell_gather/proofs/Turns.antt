@@ -5,12 +5,12 @@ use Rattle.std.proofs.lemmas.List.Elements.{All-append, All-cons, All-nil}
 use Rattle.cell_world.specs.declared.file.File.{File}
 use Rattle.cell_world.specs.declared.refusal.Refusal.{Refusal}
 use Rattle.cell_world.specs.World.{World, Cell}
-use Rattle.cell_world.specs.Gather.{Source, Need, source_of, first_lack, fresh_cells, bring_one, bring_within}
+use Rattle.cell_world.specs.Gather.{Source, Need, source_of, first_lack, fresh_cells, bring_one, bring_within, grown}
 use Rattle.cell_world.specs.Outcome.{Outcome, ◌>>=◌}
 use Rattle.cell_space.specs.Spaces.{SpacesState}
 use Rattle.cell_world.specs.declared.fail.Fail.{Fail}
 use Rattle.cell_world.specs.declared.fail.Fail.TheVariants.{Refused, OutOfMemory}
-use Rattle.cell_gather.specs.Gathering.{IsOf, grown}
+use Rattle.cell_gather.specs.Gathering.{IsOf}
 use Rattle.cell_gather.specs.Growing.{Ends, IsLed, IsOneMore, Leads}
 
 module _ (sources : List Source) (next : ℕ) (u : World) where

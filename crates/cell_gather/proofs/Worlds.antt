@@ -11,14 +11,14 @@ use Rattle.cell_world.specs.declared.state.NewCell.{NewCell}
 use Rattle.cell_world.specs.World.{World, Cell, Alias, attached}
 use Rattle.cell_world.specs.Names as names
 use Rattle.cell_world.specs.Names.{definitions_of}
-use Rattle.cell_world.specs.Gather.{source_of, stem_of_file, object_in, duplicate, clash_among, append_cell}
+use Rattle.cell_world.specs.Gather.{source_of, stem_of_file, object_in, duplicate, clash_among, append_cell, grown}
 use Rattle.cell_world.specs.Outcome.{Outcome, ◌>>=◌, ◌>>◌, need, refused_by}
 use Rattle.cell_space.specs.Machine.{called}
 use Rattle.cell_space.specs.Named.{clash_stem, clash_name}
 use Rattle.cell_space.specs.Spaces.{SpacesState}
 use Rattle.cell_space.proofs.Machines.{clash_stem-called, clash_name-called}
 use Rattle.cell_gather.specs.Appending.{clash_among_now, stem_free, names_free, cell_from, append_now}
-use Rattle.cell_gather.specs.Gathering.{IsOf, grown}
+use Rattle.cell_gather.specs.Gathering.{IsOf}
 use Rattle.cell_gather.specs.Growing.{with_new}
 use Rattle.cell_gather.proofs.Outcomes.{then_assoc, need_then, refused_then, bind_then}
 

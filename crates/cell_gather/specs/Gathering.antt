@@ -1,14 +1,13 @@
 -- Which new cells a load or a swap gathers: over the machine that the spaces are those of.
 --     gather sources w wants reexport     the wanted cells after those of w, with names of those that they replace, and then all that they need
 --     IsOf spaces next w                  these are the spaces of the machine w, and that is its next number
---     grown w cells                       w with the new cells
 --     Gathers files spaces next wants reexport result     the new cells, or the refusal
-use Rattle.std.specs.Prelude.{◌≡◌, ◌+◌, ℕ, suc, Bool, true, false, List, [], ◌∷◌, ◌++◌, Option, All, Result, Ok, Err, length, map, option_and_then, option_map}
+use Rattle.std.specs.Prelude.{◌≡◌, ◌+◌, ℕ, suc, Bool, true, false, List, [], ◌∷◌, ◌++◌, Option, All, Result, Ok, Err, map, option_and_then, option_map}
 use Rattle.std.specs.List.{cons_option}
 use Rattle.cell_world.specs.declared.file.File.{File}
 use Rattle.cell_world.specs.declared.refusal.Refusal.TheVariants.{Unknown}
 use Rattle.cell_world.specs.Coherent.{IsLoadable}
-use Rattle.cell_world.specs.Gather.{Source, source_of, file_named, append_cell, bring}
+use Rattle.cell_world.specs.Gather.{Source, source_of, file_named, append_cell, bring, grown}
 use Rattle.cell_world.specs.Outcome.{Outcome, ◌>>=◌, found, each}
 use Rattle.cell_world.specs.Reexport.{Exchange, with_reexports}
 use Rattle.cell_world.specs.World.{World, Cell, Attached, attached, cell_of}
@@ -46,9 +45,6 @@ pub record IsOf (spaces : SpacesState) (next : ℕ) (w : World) : Type 0 where
   pub namespaces : w.namespaces ≡ spaces.namespaces
   pub cells : map called w.cells ≡ spaces.cells
   pub number : w.next_cell ≡ next
-
-abbrev pub grown : World → List Cell → World
-grown w cells = record w { cells = w.cells ++ cells; next_cell = w.next_cell + length cells }
 
 pub record IsGathered (files : List File) (spaces : SpacesState) (next : ℕ) (wants : List Want) (reexport : Bool) (g : Gathered) : Type 0 where
   -- the new cells, with the names that they took on

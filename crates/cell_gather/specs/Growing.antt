@@ -8,7 +8,7 @@ use Rattle.std.specs.Prelude.{◌≡◌, ◌<◌, ◌≤◌, ◌+◌, ℕ, true,
 use Rattle.cell_num.specs.declared.ids.CellId.{CellId}
 use Rattle.cell_world.specs.declared.file.File.{File}
 use Rattle.cell_world.specs.Coherent.{IsLoadable}
-use Rattle.cell_world.specs.Gather.{source_of, bring_within}
+use Rattle.cell_world.specs.Gather.{source_of, bring_within, grown}
 use Rattle.cell_world.specs.Names.{needs_of, chain}
 use Rattle.cell_world.specs.Outcome.{Outcome}
 use Rattle.cell_world.specs.Limits.{max_cells}
@@ -21,7 +21,7 @@ use Rattle.cell_space.specs.Spaces.{SpacesState}
 use Rattle.cell_world.specs.declared.fail.Fail.{Fail}
 use Rattle.cell_world.specs.declared.fail.Fail.TheVariants.{Refused, OutOfMemory}
 use Rattle.cell_gather.specs.declared.gathering.Gathered.{Gathered}
-use Rattle.cell_gather.specs.Gathering.{IsOf, grown}
+use Rattle.cell_gather.specs.Gathering.{IsOf}
 
 -- the new cells, by their places and by what they are called
 abbrev pub new_of : Gathered → List Cell

@@ -1,9 +1,8 @@
 //! Bringing the cell of a name.
 
 ghost use Rattle.std.specs.Prelude.{◌≡◌, ◌<◌, ◌+◌, OnOk, length, map};
-ghost use Rattle.cell_world.specs.Gather.{source_of, bring_one};
+ghost use Rattle.cell_world.specs.Gather.{source_of, bring_one, grown};
 ghost use Rattle.cell_world.specs.World.{Cell as SomeCell};
-ghost use Rattle.cell_gather.specs.Gathering.{grown};
 ghost use Rattle.cell_gather.specs.Growing.{new_of, Ends, IsGrowing, IsOneMore};
 
 use crate::Gathered;

@@ -6,7 +6,8 @@ ghost use Rattle.cell_world.specs.Names.{definitions_of};
 ghost use Rattle.cell_world.specs.World.{World, Cell as SomeCell};
 ghost use Rattle.cell_space.specs.Path.{IsPath};
 ghost use Rattle.cell_space.specs.Spaces.{HasCell};
-ghost use Rattle.cell_gather.specs.Gathering.{IsOf, grown, renamed};
+ghost use Rattle.cell_world.specs.Gather.{grown};
+ghost use Rattle.cell_gather.specs.Gathering.{IsOf, renamed};
 ghost use Rattle.cell_gather.specs.Growing.{IsGrowing, new_of};
 ghost use Rattle.cell_gather.specs.Renaming.{AreHeirs, IsNew, hand_on_now, heir_now, renamed_now, take_all_now, take_now};
 

@@ -1,12 +1,11 @@
 //! Bringing what new cells need.
 
 ghost use Rattle.std.specs.Prelude.{◌≡◌, ◌<◌, ◌+◌, ◌++◌, OnOk, is_some, length, map};
-ghost use Rattle.cell_world.specs.Gather.{source_of, bring};
+ghost use Rattle.cell_world.specs.Gather.{source_of, bring, grown};
 ghost use Rattle.cell_world.specs.Names.{chain};
 ghost use Rattle.cell_space.specs.Named.{provider_for};
 ghost use Rattle.cell_space.specs.declared.cell.CellState.TheVariants.{Attached};
 ghost use Rattle.cell_space.specs.Machine.{called};
-ghost use Rattle.cell_gather.specs.Gathering.{grown};
 ghost use Rattle.cell_gather.specs.Growing.{new_of, HavePlain, AreSupplied, Ends, IsGrowing, IsNext, IsProvided, IsTurnOf, Leads};
 
 use crate::Gathered;

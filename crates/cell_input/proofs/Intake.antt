@@ -9,6 +9,7 @@ use Rattle.std.specs.declared.result.Result.{Result}
 use Rattle.std.proofs.lemmas.List.Elements.{All-nil, All-head, All-tail, All-filter, All-contains_itself}
 use Rattle.std.proofs.lemmas.Slice.Eq.{bytes_eq-Decides}
 use Rattle.std.proofs.lemmas.Map.Views.{All-insert_key, Contains-from_any}
+use Rattle.cell_world.specs.Limits.{max_names, max_files, max_script_bytes}
 use Rattle.cell_world.specs.declared.file.File.{File}
 use Rattle.cell_input.specs.declared.take.Input.{Input}
 use Rattle.cell_input.specs.declared.take.TakeFail.{TakeFail}
@@ -25,13 +26,13 @@ use Rattle.cell_input.proofs.Binds.{fails_first, fails_same, goes_on}
 use Rattle.cell_input.proofs.Listing.{many_names}
 
 -- a list that was cut past the limit is refused as the whole list is
-pub listing_up_to : (script : List ℕ) (all got : List (List ℕ)) → (65536 < length all) ⊎ (length all ≤ 65536) → UpTo 65536 all got → listing script got ≡ listing script all
+pub listing_up_to : (script : List ℕ) (all got : List (List ℕ)) → (max_names < length all) ⊎ (length all ≤ max_names) → UpTo max_names all got → listing script got ≡ listing script all
 listing_up_to script all got (inr le) up = ap (listing script) (up.whole le)
 listing_up_to script all got (inl lt) up =
-    let long : 65536 < length got = omega (arith, up.more lt) in
+    let long : max_names < length got = omega (arith, up.more lt) in
     many_names script got long ∙ sym (many_names script all lt)
 
-found : (many there full : Bool) (objects got : List (List ℕ)) → cond many (Err (TooLarge Names 65536)) (cond there (cond full (Err (TooLarge Files 1024)) (Ok objects)) (Err NoScript)) ≡ Ok got → (there ≡ true) × (objects ≡ got)
+found : (many there full : Bool) (objects got : List (List ℕ)) → cond many (Err (TooLarge Names max_names)) (cond there (cond full (Err (TooLarge Files max_files)) (Ok objects)) (Err NoScript)) ≡ Ok got → (there ≡ true) × (objects ≡ got)
 found true there full objects got e = cc
 found false false full objects got e = cc
 found false true true objects got e = cc
@@ -39,7 +40,7 @@ found false true false objects got e = (refl, cc)
 
 opened : (script : List ℕ) (names got : List (List ℕ)) → listing script names ≡ Ok got → (list_any (bytes_eq script) names ≡ true) × (objects_of names ≡ got)
 unfolding listing
-opened script names got e = found (nat_lt 65536 (length names)) (list_any (bytes_eq script) names) (nat_lt 1024 (length (objects_of names))) (objects_of names) got e
+opened script names got e = found (nat_lt max_names (length names)) (list_any (bytes_eq script) names) (nat_lt max_files (length (objects_of names))) (objects_of names) got e
 
 -- the script stands in the folder
 pub script_listed : (script : List ℕ) (names got : List (List ℕ)) → listing script names ≡ Ok got → Contains names script
@@ -66,7 +67,7 @@ after_text files objects text = files_after 0 objects files >>= after_files text
 
 -- what follows the listing
 abbrev pub after_objects : List ℕ → List HostFile → List (List ℕ) → Result Input Reason
-after_objects script files objects = within ScriptBytes 1048576 (bytes_named script files) >>= after_text files objects
+after_objects script files objects = within ScriptBytes max_script_bytes (bytes_named script files) >>= after_text files objects
 
 from_start : (script : List ℕ) (files : List HostFile) → input_from script files ≡ (listing script (map (λ f. f.name) files) >>= after_objects script files)
 unfolding input_from
@@ -76,30 +77,30 @@ from_listing : (script : List ℕ) (files : List HostFile) (objects : List (List
 from_listing script files objects e = from_start script files ∙ goes_on objects _ (after_objects script files) e
 
 from_text : (script : List ℕ) (files : List HostFile) (objects : List (List ℕ)) (text : List ℕ) → listing script (map (λ f. f.name) files) ≡ Ok objects
-    → within ScriptBytes 1048576 (bytes_named script files) ≡ Ok text → input_from script files ≡ after_text files objects text
+    → within ScriptBytes max_script_bytes (bytes_named script files) ≡ Ok text → input_from script files ≡ after_text files objects text
 from_text script files objects text e t = from_listing script files objects e ∙ goes_on text _ (after_text files objects) t
 
 from_files : (script : List ℕ) (files : List HostFile) (objects : List (List ℕ)) (text : List ℕ) (taken : List File) → listing script (map (λ f. f.name) files) ≡ Ok objects
-    → within ScriptBytes 1048576 (bytes_named script files) ≡ Ok text → files_after 0 objects files ≡ Ok taken → input_from script files ≡ after_files text taken
+    → within ScriptBytes max_script_bytes (bytes_named script files) ≡ Ok text → files_after 0 objects files ≡ Ok taken → input_from script files ≡ after_files text taken
 from_files script files objects text taken e t f = from_text script files objects text e t ∙ goes_on taken _ (after_files text) f
 
 pub no_listing : (script : List ℕ) (files : List HostFile) (fail : TakeFail) → Fails fail (listing script (map (λ f. f.name) files)) → Fails fail (input_from script files)
 no_listing script files fail h = fails_same fail _ _ (from_start script files) (fails_first fail _ (after_objects script files) h)
 
 pub no_text : (script : List ℕ) (files : List HostFile) (objects : List (List ℕ)) (fail : TakeFail) → listing script (map (λ f. f.name) files) ≡ Ok objects
-    → Fails fail (within ScriptBytes 1048576 (bytes_named script files)) → Fails fail (input_from script files)
+    → Fails fail (within ScriptBytes max_script_bytes (bytes_named script files)) → Fails fail (input_from script files)
 no_text script files objects fail e h = fails_same fail _ _ (from_listing script files objects e) (fails_first fail _ (after_text files objects) h)
 
 pub no_files : (script : List ℕ) (files : List HostFile) (objects : List (List ℕ)) (text : List ℕ) (fail : TakeFail) → listing script (map (λ f. f.name) files) ≡ Ok objects
-    → within ScriptBytes 1048576 (bytes_named script files) ≡ Ok text → Fails fail (files_after 0 objects files) → Fails fail (input_from script files)
+    → within ScriptBytes max_script_bytes (bytes_named script files) ≡ Ok text → Fails fail (files_after 0 objects files) → Fails fail (input_from script files)
 no_files script files objects text fail e t h = fails_same fail _ _ (from_text script files objects text e t) (fails_first fail _ (after_files text) h)
 
 pub no_commands : (script : List ℕ) (files : List HostFile) (objects : List (List ℕ)) (text : List ℕ) (taken : List File) (fail : TakeFail) → listing script (map (λ f. f.name) files) ≡ Ok objects
-    → within ScriptBytes 1048576 (bytes_named script files) ≡ Ok text → files_after 0 objects files ≡ Ok taken → Fails fail (commands_of text) → Fails fail (input_from script files)
+    → within ScriptBytes max_script_bytes (bytes_named script files) ≡ Ok text → files_after 0 objects files ≡ Ok taken → Fails fail (commands_of text) → Fails fail (input_from script files)
 no_commands script files objects text taken fail e t f h =
     fails_same fail _ _ (from_files script files objects text taken e t f) (fails_first fail _ (λ lines. Ok (record { files = taken; script = lines })) h)
 
 pub all_steps : (script : List ℕ) (files : List HostFile) (objects : List (List ℕ)) (text : List ℕ) (taken : List File) (lines : List Line) → listing script (map (λ f. f.name) files) ≡ Ok objects
-    → within ScriptBytes 1048576 (bytes_named script files) ≡ Ok text → files_after 0 objects files ≡ Ok taken → commands_of text ≡ Ok lines → input_from script files ≡ Ok (record { files = taken; script = lines })
+    → within ScriptBytes max_script_bytes (bytes_named script files) ≡ Ok text → files_after 0 objects files ≡ Ok taken → commands_of text ≡ Ok lines → input_from script files ≡ Ok (record { files = taken; script = lines })
 all_steps script files objects text taken lines e t f l =
     from_files script files objects text taken e t f ∙ goes_on lines _ (λ lines. Ok (record { files = taken; script = lines })) l

@@ -11,6 +11,7 @@ use Rattle.std.proofs.lemmas.List.{drop_more}
 use Rattle.std.specs.Prelude.{All, Contains}
 use Rattle.std.proofs.lemmas.List.Elements.{All-head, All-same, All-rest, All-append, All-cons, All-nil}
 use Rattle.std.proofs.Math.Seq.{take-length}
+use Rattle.cell_world.specs.Limits.{max_file_bytes}
 use Rattle.cell_io.specs.Files.{File as HostFile, names_in, folder}
 use Rattle.cell_world.specs.declared.file.File.{File}
 use Rattle.std.specs.declared.result.Result.{Result}
@@ -118,9 +119,9 @@ pub rest_of : (t : List ℕ) (i : ℕ) → take (length t - i) (drop i t) ≡ dr
 rest_of t i = ap (λ k. take k (drop i t)) (sym (length-drop i t)) ∙ take-length (drop i t)
 
 abbrev pub IsSmall : File → Type 0
-IsSmall file = length file.bytes ≤ 1048576
+IsSmall file = length file.bytes ≤ max_file_bytes
 
-pub small_more : (files : List File) (file : File) → All IsSmall files → length file.bytes ≤ 1048576 → All IsSmall (files ++ file ∷ [])
+pub small_more : (files : List File) (file : File) → All IsSmall files → length file.bytes ≤ max_file_bytes → All IsSmall (files ++ file ∷ [])
 small_more files file all small = All-append IsSmall files (file ∷ []) all (All-cons IsSmall file [] small (All-nil IsSmall))
 
 -- one more file has one more of the names

@@ -10,6 +10,7 @@ use Rattle.std.specs.Cmp.Lexicographic.{slice_cmp}
 use Rattle.std.specs.BTreeSet.{insert_key}
 use Rattle.std.proofs.lemmas.Bool.{and_parts, eqb-true, ltb-true}
 use Rattle.std.proofs.lemmas.Bool.Decides.{nat_tests}
+use Rattle.cell_world.specs.Limits.{max_files, max_file_bytes}
 use Rattle.cell_num.specs.Lists.{each_pair, is_before}
 use Rattle.cell_depot.specs.ObjectName.{is_object_name}
 use Rattle.cell_world.specs.declared.file.File.{File}
@@ -147,7 +148,7 @@ order_of [] = refl
 order_of (f ∷ files) = ap (λ b. b && each_pair is_before (map (λ (f : File). f.name) files)) (all_after f.name files) ∙ ap (λ b. list_all (λ (g : File). is_before f.name g.name) files && b) (order_of files)
 
 -- files of such names
-pub object_files : (names : List (List ℕ)) (files : List File) → AreObjects names → map (λ (f : File). f.name) files ≡ names → All (λ (f : File). length f.bytes ≤ 1048576) files → AreObjectFiles files
+pub object_files : (names : List (List ℕ)) (files : List File) → AreObjects names → map (λ (f : File). f.name) files ≡ names → All (λ (f : File). length f.bytes ≤ max_file_bytes) files → AreObjectFiles files
 object_files names files are same small = record {
   few = let a = are.few in let b : length (map (λ (f : File). f.name) files) ≡ length names = ap length same in omega (arith, a, b, length-map files (λ (f : File). f.name));
   small = small;
@@ -155,7 +156,7 @@ object_files names files are same small = record {
   ordered = sym (order_of files) ∙ (ap (each_pair is_before) same ∙ are.ordered);
 }
 
-pub are_objects : (names objects : List (List ℕ)) → objects ≡ objects_of names → length objects ≤ 1024 → AreObjects objects
+pub are_objects : (names objects : List (List ℕ)) → objects ≡ objects_of names → length objects ≤ max_files → AreObjects objects
 are_objects names objects is few = record {
   few = few;
   named = ap (list_all is_object_name) is ∙ objects_named names;

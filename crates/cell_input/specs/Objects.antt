@@ -1,6 +1,7 @@
 -- The object files among the names of a folder.
 use Rattle.std.specs.Prelude.{ℕ, ◌≡◌, ◌≤◌, true, All, List, [], filter, fold, length}
 use Rattle.std.specs.List.{list_all}
+use Rattle.cell_world.specs.Limits.{max_files, max_file_bytes}
 use Rattle.cell_num.specs.Lists.{each_pair, is_before}
 use Rattle.std.specs.Ordering.{nat_cmp}
 use Rattle.std.specs.Cmp.Lexicographic.{slice_cmp}
@@ -15,13 +16,13 @@ objects_of names = fold (insert_key (slice_cmp nat_cmp)) [] (filter is_object_na
 
 -- not too many names of object files, in byte order
 pub record AreObjects (names : List (List ℕ)) : Type 0 where
-  pub few : length names ≤ 1024
+  pub few : length names ≤ max_files
   pub named : list_all is_object_name names ≡ true
   pub ordered : each_pair is_before names ≡ true
 
 -- not too many files of at most a mebibyte, with names of object files, in byte order
 pub record AreObjectFiles (files : List File) : Type 0 where
-  pub few : length files ≤ 1024
-  pub small : All (λ f. length f.bytes ≤ 1048576) files
+  pub few : length files ≤ max_files
+  pub small : All (λ f. length f.bytes ≤ max_file_bytes) files
   pub named : list_all (λ f. is_object_name f.name) files ≡ true
   pub ordered : are_in_order files ≡ true

@@ -2,6 +2,7 @@
 --     input_from script files      the object files and the commands, or the first refusal
 use Rattle.std.specs.Prelude.{ℕ, ◌+◌, nat_lt, List, [], ◌∷◌, length, map, if◌then◌else◌, bytes_eq, Result, Ok, Err}
 use Rattle.std.specs.List.{list_any}
+use Rattle.cell_world.specs.Limits.{max_names, max_files, max_file_bytes, max_all_bytes, max_script_bytes}
 use Rattle.cell_io.specs.Files.{File as HostFile, bytes_named}
 use Rattle.cell_world.specs.declared.file.File.{File}
 use Rattle.cell_script.specs.declared.line.Line.{Line}
@@ -16,12 +17,12 @@ use Rattle.cell_input.specs.Gives.{◌>>=◌}
 
 -- at most that many files
 abbrev pub few_objects : List (List ℕ) → Result (List (List ℕ)) Reason
-few_objects objects = if nat_lt 1024 (length objects) then Err (TooLarge Files 1024) else Ok objects
+few_objects objects = if nat_lt max_files (length objects) then Err (TooLarge Files max_files) else Ok objects
 
 -- the object files of a folder with the script
 unfoldable pub listing : List ℕ → List (List ℕ) → Result (List (List ℕ)) Reason
 listing script names =
-    if nat_lt 65536 (length names) then Err (TooLarge Names 65536)
+    if nat_lt max_names (length names) then Err (TooLarge Names max_names)
     else (if list_any (bytes_eq script) names then few_objects (objects_of names) else Err NoScript)
 
 -- bytes of at most that length
@@ -30,11 +31,11 @@ within what limit bytes = if nat_lt limit (length bytes) then Err (TooLarge what
 
 -- so many bytes, with those of the files before
 abbrev pub within_all : ℕ → List ℕ → Result (List ℕ) Reason
-within_all total bytes = if nat_lt 67108864 (total + length bytes) then Err (TooLarge AllBytes 67108864) else Ok bytes
+within_all total bytes = if nat_lt max_all_bytes (total + length bytes) then Err (TooLarge AllBytes max_all_bytes) else Ok bytes
 
 -- the bytes of one more file
 unfoldable pub bytes_after : ℕ → List ℕ → Result (List ℕ) Reason
-bytes_after total bytes = within FileBytes 1048576 bytes >>= within_all total
+bytes_after total bytes = within FileBytes max_file_bytes bytes >>= within_all total
 
 abbrev pub file_after : ℕ → List ℕ → List HostFile → Result File Reason
 file_after total name files = bytes_after total (bytes_named name files) >>= λ bytes. Ok (record { name = name; bytes = bytes })
@@ -58,7 +59,7 @@ commands_of text = readable (script_of text)
 unfoldable pub input_from : List ℕ → List HostFile → Result Input Reason
 input_from script files =
     listing script (map (λ f. f.name) files) >>= λ objects.
-    within ScriptBytes 1048576 (bytes_named script files) >>= λ text.
+    within ScriptBytes max_script_bytes (bytes_named script files) >>= λ text.
     files_after 0 objects files >>= λ taken.
     commands_of text >>= λ lines.
     Ok (record { files = taken; script = lines })

@@ -4,19 +4,18 @@ ghost use Rattle.std.specs.Prelude.{◌≡◌, ◌≢◌, ◌≤◌, ◌^◌, �
 ghost use Rattle.std.specs.List.{list_any};
 ghost use Rattle.cell_io.specs.Causes.{HasCause};
 ghost use Rattle.cell_io.specs.Files.{names_in, bytes_in, folder};
+ghost use Rattle.cell_world.specs.Limits.{max_all_bytes, max_file_bytes, max_script_bytes};
 ghost use Rattle.cell_script.specs.Script.{are_said};
 ghost use Rattle.cell_input.specs.Gives.{IfTold, Gives};
 ghost use Rattle.cell_input.specs.Objects.{AreObjectFiles, AreObjects, objects_of};
 ghost use Rattle.cell_input.specs.Taking.{listing, within, bytes_after, file_after, files_after, commands_of, input_from};
 
 use crate::object_name::is_object_name;
-use crate::reason::{
-    MAX_ALL_BYTES, MAX_FILE_BYTES, MAX_FILES, MAX_NAMES, MAX_SCRIPT_BYTES, Reason, What,
-};
+use crate::reason::{Reason, What};
 use cell_io::{Host, HostFault};
 use cell_num::{Listed, Name, Shared};
 use cell_script::{Script, ScriptFail, read_script};
-use cell_world::File;
+use cell_world::{File, MAX_ALL_BYTES, MAX_FILE_BYTES, MAX_FILES, MAX_NAMES, MAX_SCRIPT_BYTES};
 use std::alloc::{AllocError, Global};
 use std::collections::BTreeSet;
 
@@ -180,8 +179,8 @@ fn read_text<H: Host>(
 ) -> Result<Vec<u8>, TakeFail>
     requires { IfTold (H.files host.old) (λ all. Contains (names_in dir.now all) script.now) }
     ensures bytes { IfTold (H.files host.old) (λ all.
-        Gives (λ bytes. bytes.items) result (within What.ScriptBytes MAX_SCRIPT_BYTES (bytes_in dir.now script.now all))) }
-    ensures short { IfOk result (λ bytes. length bytes.items ≤ MAX_SCRIPT_BYTES) }
+        Gives (λ bytes. bytes.items) result (within What.ScriptBytes max_script_bytes (bytes_in dir.now script.now all))) }
+    ensures short { IfOk result (λ bytes. length bytes.items ≤ max_script_bytes) }
     ensures files { H.files host.new ≡ H.files host.old }
     ensures cause { HasCause (H.faults host.old) (H.faults host.new) (IsErrOf result TakeFail.ReadFault) }
 {
@@ -205,7 +204,7 @@ fn take_files<H: Host>(
     requires { IfTold (H.files host.old) (λ all. All (Contains (names_in dir.now all)) (map string_bytes objects.now.keys)) }
     ensures taken { IfTold (H.files host.old) (λ all.
         Gives (λ files. files) result (files_after 0 (map string_bytes objects.now.keys) (folder dir.now all))) }
-    ensures small { IfOk result (λ files. All (λ f. length f.bytes ≤ 1048576) files) }
+    ensures small { IfOk result (λ files. All (λ f. length f.bytes ≤ max_file_bytes) files) }
     ensures names { IfOk result (λ files. map (λ f. f.name) files ≡ map string_bytes objects.now.keys) }
     ensures files { H.files host.new ≡ H.files host.old }
     ensures cause { HasCause (H.faults host.old) (H.faults host.new) (IsErrOf result TakeFail.ReadFault) }
@@ -231,11 +230,11 @@ fn take_file<H: Host>(
     host: &mut H,
 ) -> Result<File, TakeFail>
     requires listed { IfTold (H.files host.old) (λ all. Contains (names_in dir.now all) name.now) }
-    requires small { total ≤ MAX_ALL_BYTES }
+    requires small { total ≤ max_all_bytes }
     ensures file { IfTold (H.files host.old) (λ all. Gives (λ file. file) result (file_after total name.now (folder dir.now all))) }
-    ensures small { IfOk result (λ file. length file.bytes ≤ 1048576) }
+    ensures small { IfOk result (λ file. length file.bytes ≤ max_file_bytes) }
     ensures name { IfOk result (λ file. file.name ≡ name.now) }
-    ensures all { IfOk result (λ file. total + length file.bytes ≤ MAX_ALL_BYTES) }
+    ensures all { IfOk result (λ file. total + length file.bytes ≤ max_all_bytes) }
     ensures files { H.files host.new ≡ H.files host.old }
     ensures cause { HasCause (H.faults host.old) (H.faults host.new) (IsErrOf result TakeFail.ReadFault) }
 {
@@ -253,10 +252,10 @@ fn read_after<H: Host>(
     host: &mut H,
 ) -> Result<Shared, TakeFail>
     requires listed { IfTold (H.files host.old) (λ all. Contains (names_in dir.now all) name.now) }
-    requires small { total ≤ MAX_ALL_BYTES }
+    requires small { total ≤ max_all_bytes }
     ensures bytes { IfTold (H.files host.old) (λ all. Gives (λ bytes. bytes) result (bytes_after total (bytes_in dir.now name.now all))) }
-    ensures small { IfOk result (λ bytes. length bytes ≤ 1048576) }
-    ensures all { IfOk result (λ bytes. total + length bytes ≤ MAX_ALL_BYTES) }
+    ensures small { IfOk result (λ bytes. length bytes ≤ max_file_bytes) }
+    ensures all { IfOk result (λ bytes. total + length bytes ≤ max_all_bytes) }
     ensures files { H.files host.new ≡ H.files host.old }
     ensures cause { HasCause (H.faults host.old) (H.faults host.new) (IsErrOf result TakeFail.ReadFault) }
 {

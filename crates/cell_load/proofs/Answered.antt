@@ -23,7 +23,6 @@ use Rattle.cell_machine.specs.Does.{Does, new_runs}
 use Rattle.cell_machine.specs.Machine.{IsSound, world_of}
 use Rattle.cell_machine.specs.Same.{raised}
 use Rattle.cell_machine.specs.Staged.{IsStaged, arrivals}
-use Rattle.cell_machine.proofs.Low.{limits_of}
 use Rattle.cell_machine.proofs.NewFields.{count_is}
 use Rattle.cell_machine.proofs.StagedWorld.{F, W, numbers_new, taken}
 use Rattle.cell_machine.proofs.Unchanged.{same_itself}
@@ -51,7 +50,7 @@ module _ (files : List File) (are : AreSound (map source_of files)) (m : Machine
     can_stage = record {
       parts = sound.parts;
       gathered = loaded.are;
-      low = let l = limits_of w sound.coherent.ready.limits in let b = l.base in let p = l.pages in omega (arith, b, p);
+      low = let space = sound.coherent.ready.space in omega arith;
       stand = stands (map source_of files) w ns stem sound.coherent are new loaded.gathered;
     }
 

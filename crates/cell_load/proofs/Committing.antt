@@ -2,7 +2,6 @@
 use Rattle.std.proofs.Common.{◌≡◌, refl, sym, ◌∙◌, ap, ap₂, subst, arith, ℕ, ◌+◌, ◌%◌, ◌≤◌, ◌<◌, true, List, [], ◌++◌, length, map, Vec, Global}
 use Rattle.std.specs.Prelude.{All, Contains, nat_lt}
 use Rattle.std.specs.List.{list_all}
-use Rattle.std.proofs.lemmas.Bool.{eqb-true, leb-true}
 use Rattle.std.proofs.lemmas.List.{map-append}
 use Rattle.std.proofs.lemmas.List.Concat.{flat_map-append}
 use Rattle.cell_num.specs.declared.ids.SecKey.{SecKey}
@@ -16,7 +15,6 @@ use Rattle.cell_world.specs.Coherent.{IsLoadable, ends_before, is_in_space, is_k
 use Rattle.cell_world.specs.Relink.{Patch}
 use Rattle.cell_coherent.specs.Grown.{In}
 use Rattle.cell_coherent.proofs.Elements.{all-In, All-In, In-map, In-right}
-use Rattle.cell_coherent.proofs.Ready.{limit_parts}
 use Rattle.cell_load_law.specs.Loading.{objects_of}
 use Rattle.cell_link.specs.declared.value.FieldValue.{FieldValue}
 use Rattle.cell_graph.specs.Moves.{moved}
@@ -66,7 +64,7 @@ module _ (m : Machine) (s : Staged) (p : Prepared) (patches : List FieldValue) (
     base = refl;
     pages = refl;
     regions = refl;
-    aligned = ap (λ (b : ℕ). b % 4096) r.like.base ∙ eqb-true (r.before.base % 4096) 0 (limit_parts r.before r.coherent.ready.limits).aligned;
+    aligned = ap (λ (b : ℕ). b % 4096) r.like.base ∙ r.coherent.ready.space.aligned;
     in_space =
         ap (λ (b : ℕ). list_all (λ (x : Region). is_in_space (record r.before { base = b; pages = m.memory.pages }) x) m.memory.regions) r.like.base
         ∙ (ap (λ (k : ℕ). list_all (λ (x : Region). is_in_space (record r.before { pages = k }) x) m.memory.regions) r.like.pages
@@ -146,9 +144,8 @@ module _ (m : Machine) (s : Staged) (p : Prepared) (patches : List FieldValue) (
 
   number_left : m.next + length s.cells.items ≤ 65536
   number_left =
-      let limits = limit_parts r.after r.comes.coherent.ready.limits in
       let next = ap (λ (w : World). w.next_cell) r.comes.is ∙ ap (λ (k : ℕ). m.next + k) (new_count u r.new s st) in
-      subst (λ (n : ℕ). n ≤ 65536) next (leb-true r.after.next_cell 65536 limits.next_cell)
+      subst (λ (n : ℕ). n ≤ 65536) next r.comes.coherent.ready.cell_numbers
 
   pub committable : IsCommittable m s p patches moves
   committable = record {

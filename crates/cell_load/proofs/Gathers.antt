@@ -7,13 +7,13 @@ use Rattle.cell_world.specs.declared.refusal.Refusal.{Refusal}
 use Rattle.cell_world.specs.declared.refusal.Refusal.TheVariants.{NoObject, Unknown}
 use Rattle.cell_world.specs.World.{World, Cell, Attached}
 use Rattle.cell_world.specs.Answer.{space_of}
-use Rattle.cell_world.specs.Gather.{Source, append_cell, bring, depot_files, file_named, one_file, source_of}
+use Rattle.cell_world.specs.Gather.{Source, append_cell, bring, depot_files, file_named, one_file, source_of, grown}
 use Rattle.cell_world.specs.Outcome.{Outcome, ◌>>=◌, found}
 use Rattle.cell_coherent.specs.Grown.{In}
 use Rattle.cell_coherent.proofs.Elements.{In-All}
 use Rattle.cell_depot.specs.Files.{are_apart}
 use Rattle.cell_depot.specs.Found.{IsOnly}
-use Rattle.cell_load_law.specs.Loading.{gathered_by, grown}
+use Rattle.cell_load_law.specs.Loading.{gathered_by}
 use Rattle.cell_load_law.proofs.Elements.{In-map}
 use Rattle.cell_load_law.proofs.Loads.{older}
 use Rattle.cell_space.specs.Machine.{called}
@@ -31,7 +31,6 @@ use Rattle.cell_machine.specs.Machine.{IsSound, world_of}
 use Rattle.cell_load.specs.Loads.{IsLoaded, Loads}
 use Rattle.cell_load.specs.Stages.{AreGathered, new_cells}
 use Rattle.cell_load.proofs.Files.{one_found, only_named}
-use Rattle.cell_machine.proofs.Low.{limits_of}
 
 abbrev wanted_file : ℕ → List ℕ → Want
 wanted_file ns file = record { ns = ns; file = file; replaces = None }
@@ -76,7 +75,7 @@ module _ (m : Machine) (sound : IsSound m) where
 
   pub few_cells : length m.cells.items ≤ 1024
   few_cells =
-      let few = (limits_of (world_of m) sound.coherent.ready.limits).cells in
+      let few = sound.coherent.ready.few_cells in
       let same = length-map (world_of m).cells placed_of in
       let are = ap length sound.joined.placed in
       omega (arith, few, same, are)

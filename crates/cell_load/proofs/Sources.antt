@@ -2,6 +2,7 @@
 use Rattle.std.proofs.Common.{◌≡◌, ℕ, ◌≤◌, refl, subst, List, length, map, Ok, Err}
 use Rattle.std.specs.Prelude.{All, Result}
 use Rattle.std.proofs.lemmas.List.Elements.{All-map, All-weaker}
+use Rattle.cell_world.specs.Limits.{max_file_bytes}
 use Rattle.cell_object.specs.declared.object.Object.{Object}
 use Rattle.cell_object.specs.Bytes.{Broken}
 use Rattle.cell_object.specs.Reads.{reads}
@@ -12,7 +13,7 @@ use Rattle.cell_world.specs.Gather.{Source, source_of}
 use Rattle.cell_world.specs.Coherent.{IsLoadable, IsLoadableReading, AreSound}
 
 -- what is read from a file of at most a mebibyte is an object that a cell may have
-pub loadable : (bytes : List ℕ) (o : Object) → length bytes ≤ 1048576 → reads bytes ≡ Ok o → IsLoadable o
+pub loadable : (bytes : List ℕ) (o : Object) → length bytes ≤ max_file_bytes → reads bytes ≡ Ok o → IsLoadable o
 loadable bytes o small e =
     let p = reads_passed bytes o e in
     subst IsLoadable p.1 (record {
@@ -21,12 +22,12 @@ loadable bytes o small e =
       entries = few_entries bytes p.0 small;
     })
 
-reading_loadable : (bytes : List ℕ) (r : Result Object Broken) → length bytes ≤ 1048576 → reads bytes ≡ r → IsLoadableReading r
+reading_loadable : (bytes : List ℕ) (r : Result Object Broken) → length bytes ≤ max_file_bytes → reads bytes ≡ r → IsLoadableReading r
 reading_loadable bytes (Ok o) small e = loadable bytes o small e
 reading_loadable bytes (Err b) small e = tt
 
 -- the objects of files of at most a mebibyte
-pub sources_sound : (files : List File) → All (λ f. length f.bytes ≤ 1048576) files → AreSound (map source_of files)
+pub sources_sound : (files : List File) → All (λ f. length f.bytes ≤ max_file_bytes) files → AreSound (map source_of files)
 sources_sound files small =
     All-map (λ (s : Source). IsLoadableReading s.reading) source_of files
-    (All-weaker (λ (f : File). length f.bytes ≤ 1048576) (λ (f : File). IsLoadableReading (reads f.bytes)) (λ f k. reading_loadable f.bytes (reads f.bytes) k refl) files small)
+    (All-weaker (λ (f : File). length f.bytes ≤ max_file_bytes) (λ (f : File). IsLoadableReading (reads f.bytes)) (λ f k. reading_loadable f.bytes (reads f.bytes) k refl) files small)

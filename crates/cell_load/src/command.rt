@@ -1,6 +1,7 @@
 //! The command that loads a crate.
 
 ghost use Rattle.std.specs.Prelude.{◌≡◌, ◌≤◌, All, IfOk, length, map, true};
+ghost use Rattle.cell_world.specs.Limits.{max_file_bytes};
 ghost use Rattle.cell_depot.specs.Files.{are_apart};
 ghost use Rattle.cell_world.specs.Gather.{source_of};
 ghost use Rattle.cell_world.specs.LoadCommand.{next_load};
@@ -41,7 +42,7 @@ pub fn load(
     stem: &[u8],
 ) -> Result<Reply, Fail>
     requires sound { IsSound machine.old }
-    requires small { All (λ f. length f.bytes ≤ 1048576) depot.now }
+    requires small { All (λ f. length f.bytes ≤ max_file_bytes) depot.now }
     requires apart { are_apart depot.now ≡ true }
     ensures { Does (next_load (map source_of depot.now) (world_of machine.old) ns.now stem.now) 0 machine.old result machine.new }
 {

@@ -1,6 +1,7 @@
 //! Which cells a load brings.
 
 ghost use Rattle.std.specs.Prelude.{◌≡◌, ◌≤◌, All, IfOk, length, map, None, true};
+ghost use Rattle.cell_world.specs.Limits.{max_file_bytes};
 ghost use Rattle.cell_depot.specs.Files.{are_apart};
 ghost use Rattle.cell_depot.specs.Found.{IsOnly};
 ghost use Rattle.cell_world.specs.Following.{Follows};
@@ -67,7 +68,7 @@ pub fn load_cells<'a>(
     stem: &[u8],
 ) -> Result<Gathered<'a>, Fail>
     requires sound { IsSound machine.now }
-    requires small { All (λ f. length f.bytes ≤ 1048576) depot.now }
+    requires small { All (λ f. length f.bytes ≤ max_file_bytes) depot.now }
     requires apart { are_apart depot.now ≡ true }
     ensures { Loads depot.now machine.now ns.now stem.now result }
 {

@@ -8,7 +8,7 @@ use Rattle.std.proofs.lemmas.List.Elements.{filter-append}
 use Rattle.cell_world.specs.declared.refusal.Refusal.{Refusal}
 use Rattle.cell_world.specs.World.{World, Cell}
 use Rattle.cell_world.specs.Coherent.{AreSound}
-use Rattle.cell_world.specs.Gather.{Source, bring, fresh_cells}
+use Rattle.cell_world.specs.Gather.{Source, bring, fresh_cells, grown}
 use Rattle.cell_world.specs.LoadCommand.{append_named, link_fresh, next_load}
 use Rattle.cell_world.specs.Outcome.{◌>>=◌}
 use Rattle.cell_world.specs.Place.{page_table, place_all}
@@ -20,7 +20,7 @@ use Rattle.cell_coherent.proofs.LoadGrown.{all_gathered}
 use Rattle.cell_coherent.proofs.Ready.{append_same}
 use Rattle.cell_coherent.specs.Grown.{In}
 use Rattle.cell_world.specs.Coherent.{IsCoherent}
-use Rattle.cell_load_law.specs.Loading.{ManyTaken, gathered_by, grown, objects_of, placed_after, placed_cells, take_all}
+use Rattle.cell_load_law.specs.Loading.{ManyTaken, gathered_by, objects_of, placed_after, placed_cells, take_all}
 use Rattle.cell_load_law.proofs.Binds.{bind_assoc, bind_err, bind_ok}
 use Rattle.cell_load_law.proofs.Elements.{all-In, filter_all, filter_none}
 use Rattle.cell_load_law.proofs.Placing.{all_is}

@@ -2,7 +2,6 @@
 --     take_runs base table object   where the classes start, each in the lowest run that is free by then, and the page table with them
 --     regions_at starts object      the classes' regions there
 --     take_all base table objects   where the classes of each object start, one object after another
---     grown w cells                 the machine with the cells, which have no places yet
 --     placed_after starts w cells   the machine with the cells in their places
 --     gathered_by sources w ns stem the machine with the cells that a load brings, not placed yet
 use Rattle.std.specs.Prelude.{ℕ, ◌+◌, ◌*◌, ◌/◌, Bool, true, List, [], ◌∷◌, ◌++◌, Some, None, Ok, Err, length, map}
@@ -115,9 +114,6 @@ abbrev pub placed_cells : List Starts → List Cell → List Cell
 placed_cells [] cells = cells
 placed_cells (s ∷ starts) [] = []
 placed_cells (s ∷ starts) (c ∷ cells) = placed_cell s c ∷ placed_cells starts cells
-
-abbrev pub grown : World → List Cell → World
-grown w cells = record w { cells = w.cells ++ cells; next_cell = w.next_cell + length cells }
 
 abbrev pub placed_after : List Starts → World → List Cell → World
 placed_after starts w cells =

@@ -22,7 +22,7 @@ use Rattle.cell_machine.specs.declared.machine.Machine.{Machine}
 use Rattle.cell_machine.specs.Machine.{IsSound, world_of}
 use Rattle.cell_machine.proofs.Joined.{cell_in}
 use Rattle.cell_machine.proofs.Lists.{pairs-map}
-use Rattle.cell_machine.proofs.Low.{is_low, limits_of}
+use Rattle.cell_machine.proofs.Low.{is_low}
 
 module _ (m : Machine) (sound : IsSound m) where
   abbrev w : World
@@ -33,7 +33,7 @@ module _ (m : Machine) (sound : IsSound m) where
 
   -- the space ends far below the numbers of 64 bits
   pub ends_low : w.base + 4096 * w.pages < 2 ^ 63
-  ends_low = let l = limits_of w sound.coherent.ready.limits in let b = l.base in let p = l.pages in omega (arith, b, p)
+  ends_low = let space = sound.coherent.ready.space in omega arith
 
   pub in_order : each_pair (λ (a b : NewCell). nat_lt a.id.0 b.id.0) m.cells.items ≡ true
   in_order =

@@ -1,8 +1,8 @@
 -- Addresses in a machine that can be linked are far below the numbers of 64 bits.
-use Rattle.std.proofs.Common.{◌≡◌, refl, sym, ◌∙◌, ap, arith, ℕ, ◌+◌, ◌*◌, ◌%◌, ◌≤◌, ◌<◌, ◌^◌, Bool, true, false, ◌&&◌, List, [], ◌∷◌, map, length, true≢false}
+use Rattle.std.proofs.Common.{◌≡◌, refl, sym, ◌∙◌, ap, arith, ℕ, ◌+◌, ◌*◌, ◌≤◌, ◌<◌, ◌^◌, Bool, true, false, ◌&&◌, List, [], ◌∷◌, map, true≢false}
 use Rattle.std.specs.Prelude.{Option, Some, None, All, find, option_map, unwrap_or, nat_le, nat_lt, ◌==◌}
 use Rattle.std.specs.List.{list_all}
-use Rattle.std.proofs.lemmas.Bool.{and_parts, leb-true}
+use Rattle.std.proofs.lemmas.Bool.{and_parts}
 use Rattle.std.proofs.lemmas.Bool.Decides.{nat_tests}
 use Rattle.cell_num.specs.Lists.{each_pair, equals}
 use Rattle.cell_object.specs.declared.object.Home.{Home}
@@ -14,7 +14,7 @@ use Rattle.cell_object.specs.Parts.{is_defined, section_of}
 use Rattle.cell_object.specs.Sound.{IsSoundObject, is_known_bind, is_sound_home, is_sound_section, is_sound_symbol}
 use Rattle.cell_world.specs.declared.state.SecPlace.{SecPlace}
 use Rattle.cell_world.specs.World.{World, Cell}
-use Rattle.cell_world.specs.Coherent.{IsLoadable, are_limits_kept, is_placed, stands_by_rule}
+use Rattle.cell_world.specs.Coherent.{IsLoadable, is_placed, stands_by_rule}
 use Rattle.cell_world.specs.declared.layout.Class.TheVariants.{Text, ReadOnly, Writable}
 use Rattle.cell_world.specs.Target.{start_of}
 use Rattle.cell_coherent.specs.Grown.{In}
@@ -23,30 +23,6 @@ use Rattle.cell_coherent.proofs.Elements.{All-In, all-In, found-In}
 use Rattle.cell_coherent.proofs.Inside.{places_lie}
 use Rattle.cell_placed.specs.Low.{IsLow}
 use Rattle.cell_machine.proofs.Lists.{pairs-map, same_names}
-
--- how large a machine is at most
-pub record AreLimits (w : World) : Type 0 where
-  pub cells : length w.cells ≤ 1024
-  pub pages : w.pages ≤ 4096
-  pub base : w.base ≤ 0x7ff_ffff_f000
-
-pub limits_of : (w : World) → are_limits_kept w ≡ true → AreLimits w
-limits_of w h =
-    let a = and_parts _ (nat_le w.base 0x7ff_ffff_f000) h in
-    let b = and_parts _ (nat_le 0x1000 w.base) a.0 in
-    let c = and_parts _ (w.base % 4096 == 0) b.0 in
-    let d = and_parts _ (nat_le w.pages 4096) c.0 in
-    let e = and_parts _ (nat_le 16 w.pages) d.0 in
-    let f = and_parts _ (nat_lt w.swaps w.next_cell) e.0 in
-    let g = and_parts _ (nat_le w.next_task 65536) f.0 in
-    let i = and_parts _ (nat_le w.next_cell 65536) g.0 in
-    let j = and_parts _ (nat_le (length w.tasks) 64) i.0 in
-    let k = and_parts (nat_le (length w.namespaces) 256) (nat_le (length w.cells) 1024) j.0 in
-    record {
-      cells = leb-true (length w.cells) 1024 k.1;
-      pages = leb-true w.pages 4096 d.1;
-      base = leb-true w.base 0x7ff_ffff_f000 a.1;
-    }
 
 section_small : (o : Object) → IsSoundObject o → (n : ℕ) (s : ObjectSection) → section_of o n ≡ Some s → s.size ≤ 16777216
 section_small o sound n s found =

@@ -2,7 +2,8 @@
 
 ghost use Rattle.std.specs.Prelude.{IsTrue, nat_lt, ◌≡◌, ◌==◌, find, option_map};
 ghost use Rattle.cell_num.specs.Lists.{each_pair};
-ghost use Rattle.cell_placed.specs.Before.{AreBefore, number_in};
+ghost use Rattle.cell_world.specs.Before.{AreBefore};
+ghost use Rattle.cell_placed.specs.Keys.{number_in};
 
 use cell_world::NewCell;
 

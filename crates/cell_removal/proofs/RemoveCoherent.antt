@@ -1,14 +1,12 @@
 -- Removing cells into which no cell that stays has a link, and which are no task's root, keeps the machine coherent.
-use Rattle.std.proofs.Common.{◌≡◌, ◌∙◌, ap, arith, ℕ, ◌≤◌, Bool, true, false, List, length}
+use Rattle.std.proofs.Common.{◌≡◌, ◌∙◌, ap, arith, ℕ, Bool, true, false, List}
 use Rattle.std.specs.Prelude.{is_some, not}
-use Rattle.std.proofs.lemmas.Bool.{leb-true, le-leb}
 use Rattle.cell_num.specs.Lists.{holds}
 use Rattle.cell_world.specs.World.{World, Cell, Region, Task}
 use Rattle.cell_world.specs.Relink.{remade}
 use Rattle.cell_world.specs.UnloadCommand.{without_cells}
-use Rattle.cell_world.specs.Coherent.{IsCoherent, IsLoadable, is_supplied, is_fitting, is_in_space, is_placed, is_known_cell, is_sound_task, may_both_stand, has_each_name_once, ends_before, are_limits_kept}
+use Rattle.cell_world.specs.Coherent.{IsCoherent, IsLoadable, is_supplied, is_fitting, is_in_space, is_placed, is_known_cell, is_sound_task, may_both_stand, has_each_name_once, ends_before}
 use Rattle.cell_coherent.proofs.Elements.{In, In-all, All-In, In-All, In-filtered, filter-Passes}
-use Rattle.cell_coherent.proofs.Ready.{LimitParts, limit_parts, limits_from}
 use Rattle.cell_turns.proofs.Changed.{TaskParts, live_parts, task_from}
 use Rattle.cell_turns.proofs.Fixed.{relinked}
 use Rattle.cell_coherent.proofs.Lists.{all-filter, pairs-filter, length-filter_le}
@@ -39,45 +37,35 @@ module _ (w : World) (h : IsCoherent w) (numbers : List ℕ) (closed : Closed w 
       let p : TaskParts w t = live_parts w h t i in
       task_from left t (record { number = p.number; root = ap is_some (cell_same w h numbers t.root (roots t i)) ∙ p.root; registers = p.registers; first = p.first })
 
-  fewer : length left.cells ≤ 1024
-  fewer = omega (arith, length-filter_le stay w.cells, leb-true (length w.cells) 1024 (limit_parts w h.ready.limits).cells)
-
-  limits_left : are_limits_kept left ≡ true
-  limits_left =
-      let l : LimitParts w = limit_parts w h.ready.limits in
-      limits_from left (record {
-        namespaces = l.namespaces;
-        cells = le-leb (length left.cells) 1024 fewer;
-        tasks = l.tasks;
-        next_cell = l.next_cell;
-        next_task = l.next_task;
-        swaps = l.swaps;
-        fewest = l.fewest;
-        most = l.most;
-        aligned = l.aligned;
-        lowest = l.lowest;
-        highest = l.highest;
-      })
-
   pub remove_coherent : IsCoherent left
   remove_coherent = record {
     ready = record {
-      names = pairs-filter (may_both_stand w) stay w.cells h.ready.names;
-      own_names = all-filter has_each_name_once stay w.cells h.ready.own_names;
-      regions = shapes_left w h numbers;
-      in_space = all-filter (is_in_space w) _ w.regions h.ready.in_space;
-      apart = pairs-filter ends_before _ w.regions h.ready.apart;
-      placed = all-filter is_placed stay w.cells h.ready.placed;
-      supplied = In-all (is_supplied left) left.cells (λ c i. let p = was c i in supplied_left w h numbers closed c p.0 p.1);
-      fitting = In-all (is_fitting left) left.cells (λ c i. let p = was c i in fitting_left w h numbers closed c p.0 p.1);
-      spaces = h.ready.spaces;
-      space_names = h.ready.space_names;
-      cell_order = pairs-filter _ stay w.cells h.ready.cell_order;
-      cells = all-filter (is_known_cell w) stay w.cells h.ready.cells;
-      objects = In-All (λ (c : Cell). IsLoadable c.object) left.cells (λ c i. All-In (λ (c : Cell). IsLoadable c.object) w.cells h.ready.objects c (was c i).0);
-      task_order = h.ready.task_order;
-      tasks = In-all (is_sound_task left) w.tasks task_left;
-      limits = limits_left;
+      alone = record {
+        cell_order = pairs-filter _ stay w.cells h.ready.cell_order;
+        placed = all-filter is_placed stay w.cells h.ready.placed;
+        objects = In-All (λ (c : Cell). IsLoadable c.object) left.cells (λ c i. All-In (λ (c : Cell). IsLoadable c.object) w.cells h.ready.objects c (was c i).0);
+      };
+      together = record {
+        names = pairs-filter (may_both_stand w) stay w.cells h.ready.names;
+        own_names = all-filter has_each_name_once stay w.cells h.ready.own_names;
+        cells = all-filter (is_known_cell w) stay w.cells h.ready.cells;
+        supplied = In-all (is_supplied left) left.cells (λ c i. let p = was c i in supplied_left w h numbers closed c p.0 p.1);
+        fitting = In-all (is_fitting left) left.cells (λ c i. let p = was c i in fitting_left w h numbers closed c p.0 p.1);
+      };
+      counted = record { few_cells = omega (arith, length-filter_le stay w.cells, h.ready.few_cells); cell_numbers = h.ready.cell_numbers; swap_numbers = h.ready.swap_numbers };
+      parents = h.ready.parents;
+      memory = record {
+        regions = shapes_left w h numbers;
+        in_space = all-filter (is_in_space w) _ w.regions h.ready.in_space;
+        apart = pairs-filter ends_before _ w.regions h.ready.apart;
+      };
+      running = record {
+        task_order = h.ready.task_order;
+        tasks = In-all (is_sound_task left) w.tasks task_left;
+        few_tasks = h.ready.few_tasks;
+        task_numbers = h.ready.task_numbers;
+      };
+      space = h.ready.space;
     };
     linked = relinked left (links_left w h numbers closed) bytes_left;
   }

@@ -2,7 +2,7 @@
 use Rattle.std.proofs.Common.{◌≡◌, refl, sym, ◌∙◌, ap, subst, arith, ℕ, ◌+◌, ◌-◌, ◌*◌, ◌^◌, ◌≤◌, ◌<◌, inl, inr, Bool, true, false, ◌||◌, List, [], ◌∷◌, length, replicate, Option, Some, None, Ok, Err, min}
 use Rattle.std.specs.Prelude.{◌%◌, All, is_some, nat_le}
 use Rattle.std.specs.List.{list_all}
-use Rattle.std.proofs.lemmas.Bool.{eqb-true, le-leb, or_left, or_right}
+use Rattle.std.proofs.lemmas.Bool.{le-leb, or_left, or_right}
 use Rattle.std.proofs.lemmas.List.{length-replicate}
 use Rattle.cell_world.specs.declared.refusal.Refusal.TheVariants.{Exhausted}
 use Rattle.cell_world.specs.declared.reply.Reply.TheVariants.{Spawn as SpawnDone}
@@ -18,7 +18,6 @@ use Rattle.cell_world.specs.World.{World, Region, cell_of}
 use Rattle.cell_coherent.specs.Clear.{IsClear}
 use Rattle.cell_coherent.proofs.Elements.{All-In, In-all}
 use Rattle.cell_coherent.proofs.Places.{FreeAt, run_at, table_length}
-use Rattle.cell_coherent.proofs.Ready.{limit_parts}
 use Rattle.cell_coherent.proofs.Tables.{run_clear, table_filled}
 use Rattle.cell_mem.specs.State.{IsRoom, MemoryState, mapped, one_more, reserved}
 use Rattle.cell_place.specs.declared.search.NoRun.{NoRun}
@@ -92,7 +91,7 @@ module _ (m : Machine) (sound : IsSound m) where
 
     room : IsRoom (reserved m.memory 1) stack 16384
     room = record {
-      aligned = page_whole w.base run.page (eqb-true (w.base % 4096) 0 (limit_parts w sound.coherent.ready.limits).aligned);
+      aligned = page_whole w.base run.page sound.coherent.ready.space.aligned;
       whole = refl;
       filled = omega arith;
       above = omega arith;

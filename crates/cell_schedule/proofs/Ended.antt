@@ -1,7 +1,7 @@
 -- A machine without one of its tasks, whose stack has been given back, is sound again.
 use Rattle.std.proofs.Common.{◌≡◌, refl, sym, ◌∙◌, ap, ap₂, subst, ℕ, ◌-◌, ◌*◌, ◌^◌, ◌<◌, ◌≤◌, arith, true, false, not, Bool, List, length, map, Some}
 use Rattle.std.specs.Prelude.{◌==◌, filter, is_some}
-use Rattle.std.proofs.lemmas.Bool.{eq-eqb, eqb-true, leb-true}
+use Rattle.std.proofs.lemmas.Bool.{eq-eqb, eqb-true}
 use Rattle.std.proofs.lemmas.List.Filters.{length-filter_both}
 use Rattle.cell_world.specs.declared.state.LinkRow.{LinkRow}
 use Rattle.cell_world.specs.declared.state.Namespace.{Namespace}
@@ -12,7 +12,6 @@ use Rattle.cell_world.specs.Pages.{filled, is_taken_run}
 use Rattle.cell_world.specs.Place.{page_table}
 use Rattle.cell_world.specs.Turn.{without_task}
 use Rattle.cell_coherent.proofs.Elements.{In, found-In, find_there}
-use Rattle.cell_coherent.proofs.Ready.{limit_parts}
 use Rattle.cell_mem.specs.State.{MemoryState, region_from, size_of, unmapped}
 use Rattle.cell_place.specs.Space.{SpaceState}
 use Rattle.cell_space.specs.declared.cell.SpaceCell.{SpaceCell}
@@ -61,7 +60,7 @@ module _ (old : Machine) (sound : IsSound old) (t : Task) (live : task_of (world
 
   pub stack_low : page_of old.space.base t.stack < 4096
   stack_low =
-      let most : old.memory.pages ≤ 4096 = leb-true old.memory.pages 4096 (limit_parts (world_of old) sound.coherent.ready.limits).most in
+      let most = sound.coherent.ready.space.most in
       let page : page_of old.space.base t.stack ≡ page_of old.memory.base t.stack = ap (λ (base : ℕ). page_of base t.stack) sound.base in
       omega (arith, own.fits, most, page)
 

@@ -15,5 +15,4 @@ pub mod Chains
 pub mod Appended
 pub mod Renaming
 pub mod Unclaimed
-pub mod InOrder
 pub mod RisingOrder

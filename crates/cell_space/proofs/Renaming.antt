@@ -10,7 +10,8 @@ use Rattle.cell_space.specs.declared.cell.CellState.TheVariants.{Attached}
 use Rattle.cell_space.specs.declared.cell.SpaceCell.{SpaceCell}
 use Rattle.cell_space.specs.declared.index.Holder.{Holder}
 use Rattle.cell_space.specs.Ahead.{AreAhead}
-use Rattle.cell_space.specs.Before.{AreBefore, number_in}
+use Rattle.cell_world.specs.Before.{AreBefore}
+use Rattle.cell_space.specs.Keys.{number_in}
 use Rattle.cell_space.specs.Hash.{name_hash}
 use Rattle.cell_space.specs.Index.{AreTaken, Grows, IsListed, IsTaken, anywhere, hashes, name_hashes}
 use Rattle.cell_space.specs.Named.{LacksName, cell_numbered, is_in, is_numbered, take_name, with_name}
@@ -18,7 +19,7 @@ use Rattle.cell_space.specs.Rising.{IsRising}
 use Rattle.cell_space.specs.Rows.{has_name}
 use Rattle.cell_space.specs.Spaces.{SpacesState}
 use Rattle.cell_space.proofs.Holding.{whole_more}
-use Rattle.cell_space.proofs.InOrder.{none_there, other_there, this_there}
+use Rattle.cell_world.proofs.InOrder.{none_there, other_there, this_there}
 use Rattle.cell_space.proofs.Rising.{itself, numbered_there, rising-map, same_number}
 use Rattle.cell_space.proofs.RisingOrder.{rising_pairs}
 

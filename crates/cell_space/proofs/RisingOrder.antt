@@ -6,9 +6,9 @@ use Rattle.std.proofs.lemmas.Bool.{and_from, lt-ltb}
 use Rattle.std.proofs.lemmas.List.Elements.{All-head, All-tail}
 use Rattle.cell_num.specs.Lists.{each_pair}
 use Rattle.cell_space.specs.declared.cell.SpaceCell.{SpaceCell}
-use Rattle.cell_space.specs.Before.{number_in}
+use Rattle.cell_space.specs.Keys.{number_in}
 use Rattle.cell_space.specs.Rising.{IsRising}
-use Rattle.cell_space.proofs.InOrder.{before}
+use Rattle.cell_world.proofs.InOrder.{before}
 
 above : (c : SpaceCell) (cells : List SpaceCell) → All (λ d. c.cell.0 < d.cell.0) cells → list_all (before number_in c) cells ≡ true
 above c [] all = refl

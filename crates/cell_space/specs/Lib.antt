@@ -1,7 +1,7 @@
 pub mod Rows
 pub mod Named
 pub mod Rising
-pub mod Before
+pub mod Keys
 pub mod Hash
 pub mod Index
 pub mod Spaces

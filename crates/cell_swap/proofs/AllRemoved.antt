@@ -1,9 +1,8 @@
 -- What the parts of the machine are once the cells have gone from each of them.
 use Rattle.std.proofs.Common.{◌≡◌, refl, sym, ◌∙◌, ap, ap₂, subst, arith, ℕ, ◌+◌, ◌*◌, ◌<◌, ◌^◌, Bool, true, false, not, true≢false, cond, ◌&&◌, ◌||◌, List, [], ◌∷◌, ◌++◌, length, map}
-use Rattle.std.specs.Prelude.{◌==◌, ◌%◌, All, IsTrue, filter, flat_map, is_some, nat_lt, slice_index_or}
-use Rattle.std.proofs.lemmas.Bool.{eqb-true, eq-eqb, leb-true}
+use Rattle.std.specs.Prelude.{◌==◌, All, IsTrue, filter, flat_map, is_some, nat_lt, slice_index_or}
+use Rattle.std.proofs.lemmas.Bool.{eqb-true, eq-eqb}
 use Rattle.cell_coherent.proofs.Elements.{In, In-All, In-map, any-Has, find_there, map-In, none-In}
-use Rattle.cell_coherent.proofs.Ready.{LimitParts, limit_parts}
 use Rattle.cell_commit.specs.Seals.{seal_table}
 use Rattle.cell_graph.specs.Removal.{is_listed, is_outside_use, is_used_outside, links_without, sections_without}
 use Rattle.cell_machine.specs.Machine.{IsSound, field_bytes, keys_of, section_keys, world_of}
@@ -92,16 +91,13 @@ module _ (old : Machine) (sound : IsSound old) (cells : List CellId) where
   starts_are : lost_starts w.cells (numbers cells) ≡ starts
   starts_are = sym (lost_same w.cells (numbers cells)) ∙ ap (λ (cs : List NewCell). lost_starts (all_attached cs) (numbers cells)) sound.joined.placed
 
-  limits : LimitParts w
-  limits = limit_parts w sound.coherent.ready.limits
-
   pub can_leave : CanLeave old.memory starts
   can_leave =
       subst (λ (starts : List ℕ). CanLeave old.memory starts) starts_are
       (let can : CanLeave old.memory (lost_starts w.cells (numbers cells)) = record { there = lost_there w sound.coherent (numbers cells); apart = lost_apart w sound.coherent (numbers cells) } in can)
 
   pub tabled : IsTabled old.memory old.space
-  tabled = record { base = sound.base; table = sound.table; aligned = eqb-true (old.memory.base % 4096) 0 limits.aligned; most = leb-true old.memory.pages 4096 limits.most }
+  tabled = record { base = sound.base; table = sound.table; aligned = sound.coherent.ready.space.aligned; most = sound.coherent.ready.space.most }
 
   -- the places of each cell rise
   pub places_rise : All (λ c. IsTrue (each_pair (λ a b. nat_lt a.section b.section) c.places)) old.cells.items

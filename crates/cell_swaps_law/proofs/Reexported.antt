@@ -1,6 +1,6 @@
 -- A new cell that takes on a name which nobody on a path has keeps the rule of names.
-use Rattle.std.proofs.Common.{◌≡◌, refl, sym, ◌∙◌, ap, subst, ℕ, ◌⊎◌, inl, inr, Bool, true, false, cond, not, ◌&&◌, ◌||◌, List, [], ◌∷◌, ◌++◌, map, length, true≢false, Some, None, append_assoc}
-use Rattle.std.specs.Prelude.{find, nat_lt, nat_le, ◌==◌}
+use Rattle.std.proofs.Common.{◌≡◌, refl, sym, ◌∙◌, ap, subst, arith, ℕ, ◌⊎◌, inl, inr, Bool, true, false, cond, not, ◌&&◌, ◌||◌, List, [], ◌∷◌, ◌++◌, map, length, true≢false, Some, None, append_assoc}
+use Rattle.std.specs.Prelude.{find, nat_lt, ◌==◌}
 use Rattle.std.specs.List.{list_any}
 use Rattle.std.proofs.lemmas.Bool.{and_from, eqb-true, ltb-true}
 use Rattle.std.proofs.lemmas.List.{length-map, map-append}
@@ -190,6 +190,6 @@ module _ (number : ℕ) (a : Alias) where
       known = In-all (is_known_cell after) (map renamed u.cells) (of_map (λ z. is_known_cell after z ≡ true) known_after);
       objects = In-All (λ (z : Cell). IsLoadable z.object) (map renamed u.cells) (of_map (λ z. IsLoadable z.object)
           (λ z i. subst IsLoadable (sym (renamed_same (λ x. x.object) z refl)) (All-In (λ (x : Cell). IsLoadable x.object) u.cells r.objects z i)));
-      few = ap (λ (n : ℕ). nat_le n 1024) (length-map u.cells renamed) ∙ r.few;
+      few = omega (arith, length-map u.cells renamed, r.few);
       last = r.last;
     }

@@ -1,6 +1,6 @@
 -- Cells that a swap puts aside leave the rule of names, the numbers and all that new cells need to find.
 use Rattle.std.proofs.Common.{◌≡◌, refl, sym, ◌∙◌, ap, subst, arith, ℕ, suc, Bool, true, false, not, ◌&&◌, ◌||◌, List, [], ◌++◌, map, length, Option, Some, None}
-use Rattle.std.specs.Prelude.{fold, option_map, is_some, nat_lt, nat_le, ◌==◌, ◌%◌, slice_index}
+use Rattle.std.specs.Prelude.{fold, option_map, is_some, nat_lt, ◌==◌, slice_index}
 use Rattle.std.specs.List.{list_all, list_any}
 use Rattle.std.proofs.lemmas.Bool.{and_parts, and_from, leb-true, le-leb}
 use Rattle.std.proofs.lemmas.List.{length-map}
@@ -79,7 +79,7 @@ module _ (w : World) (h : IsCoherent w) (ns : List ℕ) where
     order = order_aside w h (suc w.swaps) ns;
     known = known;
     objects = In-All (λ (c : Cell). IsLoadable c.object) (map moved w.cells) (λ z m. objects z (In-map moved w.cells z m));
-    few = ap (λ (n : ℕ). nat_le n 1024) (length-map w.cells moved) ∙ r.few;
+    few = omega (arith, length-map w.cells moved, r.few);
     last = r.last;
   }
     where
@@ -114,17 +114,17 @@ module _ (w : World) (h : IsCoherent w) (ns : List ℕ) where
 
   pub aside_base : IsBase aside
   aside_base = record {
-    regions = b.regions ∙ sym shapes_aside;
-    in_space = b.in_space;
-    apart = b.apart;
+    memory = record { regions = b.regions ∙ sym shapes_aside; in_space = b.in_space; apart = b.apart };
     placed = all_put is_placed (λ c. refl) b.placed;
-    spaces = b.spaces;
-    space_names = b.space_names;
     known = known;
-    task_order = b.task_order;
-    tasks = In-all (is_sound_task aside) w.tasks (λ t i. task_still t (all-In (is_sound_task w) w.tasks b.tasks t i));
-    limits = ap (λ (n : ℕ). nat_le (length w.namespaces) 256 && nat_le n 1024 && nat_le (length w.tasks) 64 && nat_le w.next_cell 65536 && nat_le w.next_task 65536 && nat_lt 0 w.next_cell
-        && nat_le 16 w.pages && nat_le w.pages 4096 && (w.base % 4096 == 0) && nat_le 0x1000 w.base && nat_le w.base 0x7ff_ffff_f000) (length-map w.cells moved) ∙ b.limits;
+    parents = b.parents;
+    running = record {
+      task_order = b.task_order;
+      tasks = In-all (is_sound_task aside) w.tasks (λ t i. task_still t (all-In (is_sound_task w) w.tasks b.tasks t i));
+      few_tasks = b.few_tasks;
+      task_numbers = b.task_numbers;
+    };
+    space = b.space;
   }
     where
       b : IsBase w

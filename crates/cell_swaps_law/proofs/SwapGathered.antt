@@ -2,7 +2,7 @@
 use Rattle.std.proofs.Common.{◌≡◌, refl, sym, ◌∙◌, ap, subst, arith, ℕ, suc, ◌+◌, ◌≤◌, ◌<◌, ◌⊎◌, inl, inr, Bool, true, false, ◌&&◌, List, [], ◌∷◌, ◌++◌, map, length, Option, Some, None, Ok, length-append}
 use Rattle.std.specs.Prelude.{filter, fold, option_and_then, slice_get, is_some, nat_le, ◌==◌}
 use Rattle.std.specs.List.{list_all, list_any}
-use Rattle.std.proofs.lemmas.Bool.{and_parts, eqb-true, eq-eqb, leb-true, ltb-true}
+use Rattle.std.proofs.lemmas.Bool.{and_parts, eqb-true, eq-eqb, ltb-true}
 use Rattle.std.proofs.lemmas.List.{map-append}
 use Rattle.cell_num.specs.Lists.{equals}
 use Rattle.cell_world.specs.declared.command.SwapItem.{SwapItem}
@@ -128,7 +128,7 @@ module _ (v : World) (lower : Lower v.namespaces) (known : list_all (is_known_ce
         (good_append sources sound v u f ns u' i t e g.0, omega (arith, g.1, n))
 
     pub brought_going : (u u' : World) → bring sources v.next_cell u ≡ Ok u' → Going u → Going u' × (first_lack u' (fresh_cells v.next_cell u') ≡ None)
-    brought_going u u' e g = brought sources v.next_cell Going append_going 1025 u u' (leb-true (length u.cells) 1024 g.0.0.few) (omega arith) e g
+    brought_going u u' e g = brought sources v.next_cell Going append_going 1025 u u' g.0.0.few (omega arith) e g
 
 -- what an item names
 pub record IsWanted (sources : List Source) (w : World) (want : Wanted) : Type 0 where

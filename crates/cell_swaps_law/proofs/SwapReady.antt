@@ -2,7 +2,7 @@
 use Rattle.std.proofs.Common.{◌≡◌, refl, sym, ◌∙◌, ap, subst, arith, ℕ, suc, ◌+◌, ◌≤◌, ◌<◌, inl, inr, Bool, true, false, cond, not, ◌&&◌, List, [], ◌∷◌, ◌++◌, map, length, true≢false, Option, Some, None, Ok}
 use Rattle.std.specs.Prelude.{find, filter, is_some, is_none, unwrap_or, nat_lt, ◌==◌}
 use Rattle.std.specs.List.{list_all}
-use Rattle.std.proofs.lemmas.Bool.{and_from, eqb-true, eq-eqb, leb-true, ltb-true, lt-ltb}
+use Rattle.std.proofs.lemmas.Bool.{and_from, eqb-true, eq-eqb, leb-true}
 use Rattle.cell_num.specs.Lists.{holds}
 use Rattle.cell_object.specs.declared.object.Entry.{Entry}
 use Rattle.cell_world.specs.declared.command.SwapItem.{SwapItem}
@@ -26,7 +26,7 @@ use Rattle.cell_coherent.proofs.Gathered.{Ranks, Extends}
 use Rattle.cell_coherent.proofs.Places.{Spaced}
 use Rattle.cell_coherent.proofs.PlacedAll.{Placed, all_placed}
 use Rattle.cell_coherent.proofs.Renamed.{provider_bare}
-use Rattle.cell_coherent.proofs.Ready.{IsBase, grown, limit_parts}
+use Rattle.cell_coherent.proofs.Ready.{IsBase, grown}
 use Rattle.cell_coherent.proofs.LoadCoherent.{fresh_is, placed_grows, placed_linkable, placed_ready}
 use Rattle.cell_coherent.proofs.LoadGrown.{placed_attached, placed_regrown}
 use Rattle.cell_coherent.proofs.Present.{some_same}
@@ -230,8 +230,8 @@ module _ (sources : List Source) (sound : AreSound sources) (v : World) (h : IsC
     fitting : (z : Cell) → In z base.cells → is_fitting w z ≡ true
     fitting z m = let c = In-map moved v.cells z m in subst (λ (x : Cell). is_fitting w x ≡ true) (now_is c.0 c.1 ∙ sym c.2) (cell_fits c.0 c.1)
 
-    swaps_below : 0 < length items → nat_lt base.swaps extends.next ≡ true
-    swaps_below some = lt-ltb (suc v.swaps) extends.next (omega (arith, ltb-true v.swaps v.next_cell (limit_parts v h.ready.limits).swaps, gathered.0.1, ap (λ (u : World). u.next_cell) extends.is, all_wants.1, some))
+    swaps_below : 0 < length items → base.swaps < extends.next
+    swaps_below some = omega (arith, h.ready.swap_numbers, gathered.0.1, ap (λ (u : World). u.next_cell) extends.is, all_wants.1, some)
 
     pub swap_ready : 0 < length items → first_misfit w (fresh_cells v.next_cell w) ≡ None → IsReady w
     swap_ready some new_fit = placed_ready base b extends.new extends.next w ranks extends.attached extends.fresh lacks places supplied (swaps_below some) fitting new_fit

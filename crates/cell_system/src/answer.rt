@@ -1,6 +1,7 @@
 //! The answer to a command.
 
 ghost use Rattle.std.specs.Prelude.{◌≡◌, ◌≤◌, All, length, map, true};
+ghost use Rattle.cell_world.specs.Limits.{max_file_bytes};
 ghost use Rattle.cell_depot.specs.Files.{are_apart};
 ghost use Rattle.cell_script.specs.Script.{is_said};
 ghost use Rattle.cell_world.specs.Gather.{source_of};
@@ -29,7 +30,7 @@ pub fn answer(
 ) -> Result<Reply, Fail>
     requires said { is_said command.now ≡ true }
     requires sound { IsSound machine.old }
-    requires small { All (λ f. length f.bytes ≤ 1048576) depot.now }
+    requires small { All (λ f. length f.bytes ≤ max_file_bytes) depot.now }
     requires apart { are_apart depot.now ≡ true }
     ensures { Does (outcome_of (map source_of depot.now) (world_of machine.old) command.now) (stacks_of command.now) machine.old result machine.new }
 {

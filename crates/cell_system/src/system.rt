@@ -2,6 +2,7 @@
 
 ghost use Rattle.std.specs.Prelude.{◌≡◌, ◌≤◌, IfOk, All, length, map, true};
 ghost use Rattle.std.specs.List.{list_all};
+ghost use Rattle.cell_world.specs.Limits.{max_file_bytes, max_files};
 ghost use Rattle.cell_depot.specs.Files.{are_apart};
 ghost use Rattle.cell_script.specs.Script.{is_said};
 ghost use Rattle.cell_depot.specs.ObjectName.{is_object_name};
@@ -32,6 +33,7 @@ impl Model for System {
     ghost use Rattle.std.specs.Prelude.{All, ◌≡◌, ◌≤◌, length, map, true};
     ghost use Rattle.cell_depot.specs.Files.{are_apart};
     ghost use Rattle.cell_machine.specs.Machine.{IsSound, world_of};
+    ghost use Rattle.cell_world.specs.Limits.{max_file_bytes};
     ghost use Rattle.cell_world.specs.Gather.{source_of};
     ghost use Rattle.cell_system.specs.Readings.{AreRead};
     ghost use Rattle.cell_system.specs.State.{State};
@@ -41,15 +43,15 @@ impl Model for System {
 
     ghost view = { λ s. state_of s.depot s.machine };
 
-    ghost invariant = { λ s. IsSound s.machine × AreRead (map source_of s.depot) (world_of s.machine) × All (λ f. length f.bytes ≤ 1048576) s.depot × (are_apart s.depot ≡ true) };
+    ghost invariant = { λ s. IsSound s.machine × AreRead (map source_of s.depot) (world_of s.machine) × All (λ f. length f.bytes ≤ max_file_bytes) s.depot × (are_apart s.depot ≡ true) };
 }
 
 impl System {
     /// A machine without a cell, whose memory is `pages` pages of 4096 bytes from `base` on.
     pub fn new(alloc: Global, base: u64, pages: u32, files: Vec<File>) -> Result<System, AllocError>
         requires space { IsSpace base pages }
-        requires few { length files.items ≤ 1024 }
-        requires small { All (λ f. length f.bytes ≤ 1048576) files.items }
+        requires few { length files.items ≤ max_files }
+        requires small { All (λ f. length f.bytes ≤ max_file_bytes) files.items }
         requires named { list_all (λ f. is_object_name f.name) files.items ≡ true }
         requires apart { are_apart files.items ≡ true }
         ensures { IfOk result (λ s. s ≡ record { files = files.items; machine = record { world = empty_world base pages; patches = 0; maps = 0 } }) }

@@ -11,7 +11,7 @@ use Rattle.cell_coherent.proofs.Distinct.{cell_shapes}
 use Rattle.cell_coherent.proofs.PlacedAll.{Put}
 use Rattle.cell_coherent.proofs.Relinked.{map_twice}
 use Rattle.cell_coherent.proofs.Lists.{pairs_kept}
-use Rattle.cell_turns.proofs.Stacks.{same_task, task_limit, number_limit, limits_with}
+use Rattle.cell_turns.proofs.Stacks.{same_task}
 use Rattle.cell_turns.proofs.Fixed.{remade_fixed, links_fixed, relinked}
 
 -- what is known of each live task
@@ -80,23 +80,23 @@ module _ (w : World) (h : IsCoherent w) (t u : Task) (live : In t w.tasks) (numb
   pub task_coherent : IsCoherent (record w { tasks = with_task u w.tasks })
   task_coherent = record {
     ready = record {
-      names = h.ready.names;
-      own_names = h.ready.own_names;
-      regions = h.ready.regions ∙ ap (λ (v : List Shape). Put [] (flat_map cell_shapes w.cells ++ v)) (sym (map_twice stack_shape put w.tasks ∙ map_same _ _ w.tasks put_stack));
-      in_space = h.ready.in_space;
-      apart = h.ready.apart;
-      placed = h.ready.placed;
-      supplied = h.ready.supplied;
-      fitting = h.ready.fitting;
-      spaces = h.ready.spaces;
-      space_names = h.ready.space_names;
-      cell_order = h.ready.cell_order;
-      cells = h.ready.cells;
-      objects = h.ready.objects;
-      task_order = pairs_kept (λ (a b : Task). nat_lt a.number b.number) (λ (a b : Task). nat_lt a.number b.number) put w.tasks
-          (λ x y i j. ap (λ n. nat_lt n (put y).number) (put_number x) ∙ ap (λ n. nat_lt x.number n) (put_number y)) h.ready.task_order;
-      tasks = In-all (is_sound_task w) (map put w.tasks) (λ y i. sound_all y (In-map put w.tasks y i));
-      limits = limits_with w (map put w.tasks) w.next_task (omega (arith, length-map w.tasks put, task_limit w h)) (number_limit w h) h.ready.limits;
+      alone = h.ready.alone;
+      together = h.ready.together;
+      counted = h.ready.counted;
+      parents = h.ready.parents;
+      memory = record {
+        regions = h.ready.regions ∙ ap (λ (v : List Shape). Put [] (flat_map cell_shapes w.cells ++ v)) (sym (map_twice stack_shape put w.tasks ∙ map_same _ _ w.tasks put_stack));
+        in_space = h.ready.in_space;
+        apart = h.ready.apart;
+      };
+      running = record {
+        task_order = pairs_kept (λ (a b : Task). nat_lt a.number b.number) (λ (a b : Task). nat_lt a.number b.number) put w.tasks
+            (λ x y i j. ap (λ n. nat_lt n (put y).number) (put_number x) ∙ ap (λ n. nat_lt x.number n) (put_number y)) h.ready.task_order;
+        tasks = In-all (is_sound_task w) (map put w.tasks) (λ y i. sound_all y (In-map put w.tasks y i));
+        few_tasks = omega (arith, length-map w.tasks put, h.ready.few_tasks);
+        task_numbers = h.ready.task_numbers;
+      };
+      space = h.ready.space;
     };
     linked = relinked (record w { tasks = with_task u w.tasks }) (links_fixed w h.linked) (remade_fixed w h.linked);
   }

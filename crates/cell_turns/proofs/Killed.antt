@@ -1,5 +1,5 @@
 -- A machine without one of its tasks and that task's stack is coherent again.
-use Rattle.std.proofs.Common.{◌≡◌, refl, sym, ◌∙◌, ap, arith, ◌≤◌, Bool, true, false, List, [], ◌++◌, length, map}
+use Rattle.std.proofs.Common.{◌≡◌, refl, sym, ◌∙◌, ap, arith, Bool, true, false, List, [], ◌++◌, map}
 use Rattle.std.specs.Prelude.{filter, flat_map, ◌==◌, not}
 use Rattle.std.proofs.lemmas.Bool.{eqb-true}
 use Rattle.std.proofs.lemmas.List.Elements.{filter-append}
@@ -11,7 +11,7 @@ use Rattle.cell_coherent.proofs.Distinct.{cell_shapes}
 use Rattle.cell_coherent.proofs.PlacedAll.{Put}
 use Rattle.cell_coherent.proofs.Lists.{all-filter, pairs-filter, filter_same, length-filter_le, map_filter}
 use Rattle.cell_turns.proofs.Shapes.{filter_put}
-use Rattle.cell_turns.proofs.Stacks.{cells_elsewhere, same_test, task_limit, number_limit, limits_with}
+use Rattle.cell_turns.proofs.Stacks.{cells_elsewhere, same_test}
 use Rattle.cell_turns.proofs.Fixed.{remade_fixed, links_fixed, relinked}
 
 module _ (w : World) (h : IsCoherent w) (t : Task) (live : In t w.tasks) where
@@ -35,28 +35,25 @@ module _ (w : World) (h : IsCoherent w) (t : Task) (live : In t w.tasks) where
       ∙ (ap (λ (v : List Shape). v ++ filter other (map stack_shape w.tasks)) (filter_all other (flat_map cell_shapes w.cells) passes)
       ∙ ap (λ (v : List Shape). flat_map cell_shapes w.cells ++ v) (sym (map_filter stack_shape other w.tasks) ∙ ap (map stack_shape) (sym (filter_same _ _ w.tasks (same_test w h t live))))))))
 
-  fewer : length (filter (λ (u : Task). not (u.number == t.number)) w.tasks) ≤ 64
-  fewer = omega (arith, length-filter_le (λ (u : Task). not (u.number == t.number)) w.tasks, task_limit w h)
-
   pub kill_coherent : IsCoherent (without_task w t)
   kill_coherent = record {
     ready = record {
-      names = h.ready.names;
-      own_names = h.ready.own_names;
-      regions = shapes_left;
-      in_space = all-filter (is_in_space w) _ w.regions h.ready.in_space;
-      apart = pairs-filter ends_before _ w.regions h.ready.apart;
-      placed = h.ready.placed;
-      supplied = h.ready.supplied;
-      fitting = h.ready.fitting;
-      spaces = h.ready.spaces;
-      space_names = h.ready.space_names;
-      cell_order = h.ready.cell_order;
-      cells = h.ready.cells;
-      objects = h.ready.objects;
-      task_order = pairs-filter _ _ w.tasks h.ready.task_order;
-      tasks = all-filter (is_sound_task w) _ w.tasks h.ready.tasks;
-      limits = limits_with w _ w.next_task fewer (number_limit w h) h.ready.limits;
+      alone = h.ready.alone;
+      together = h.ready.together;
+      counted = h.ready.counted;
+      parents = h.ready.parents;
+      memory = record {
+        regions = shapes_left;
+        in_space = all-filter (is_in_space w) _ w.regions h.ready.in_space;
+        apart = pairs-filter ends_before _ w.regions h.ready.apart;
+      };
+      running = record {
+        task_order = pairs-filter _ _ w.tasks h.ready.task_order;
+        tasks = all-filter (is_sound_task w) _ w.tasks h.ready.tasks;
+        few_tasks = omega (arith, length-filter_le (λ (u : Task). not (u.number == t.number)) w.tasks, h.ready.few_tasks);
+        task_numbers = h.ready.task_numbers;
+      };
+      space = h.ready.space;
     };
     linked = relinked (without_task w t) (links_fixed w h.linked) (λ r i. remade_fixed w h.linked r (In-filtered _ w.regions r i));
   }

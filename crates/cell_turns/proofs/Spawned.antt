@@ -32,7 +32,7 @@ use Rattle.cell_coherent.proofs.LoadCoherent.{ready_spaced}
 use Rattle.cell_coherent.proofs.Distinct.{cell_shapes}
 use Rattle.cell_coherent.proofs.PlacedAll.{Put}
 use Rattle.cell_turns.proofs.Fixed.{remade_fixed, links_fixed, relinked}
-use Rattle.cell_turns.proofs.Stacks.{long, limits_with}
+use Rattle.cell_turns.proofs.Stacks.{long}
 use Rattle.cell_turns.proofs.Changed.{TaskParts, live_parts, task_from}
 use Rattle.cell_turns.proofs.Bare.{no_image, restored_bare, starts_elsewhere}
 
@@ -120,22 +120,18 @@ module _ (w : World) (h : IsCoherent w) (start : ℕ) (run : start_of_run w 4 �
     pub spawn_coherent : IsCoherent after
     spawn_coherent = record {
       ready = record {
-        names = h.ready.names;
-        own_names = h.ready.own_names;
-        regions = shapes;
-        in_space = spaced.in_space;
-        apart = spaced.apart;
-        placed = h.ready.placed;
-        supplied = h.ready.supplied;
-        fitting = h.ready.fitting;
-        spaces = h.ready.spaces;
-        space_names = h.ready.space_names;
-        cell_order = h.ready.cell_order;
-        cells = h.ready.cells;
-        objects = h.ready.objects;
-        task_order = pairs_push (λ (a b : Task). nat_lt a.number b.number) w.tasks task h.ready.task_order (λ t i. (live_parts w h t i).number);
-        tasks = all_push (is_sound_task after) w.tasks task (In-all (is_sound_task after) w.tasks sound_old) sound_new;
-        limits = limits_with w (w.tasks ++ task ∷ []) (suc w.next_task) (omega (arith, length-append w.tasks (task ∷ []), few)) (omega (arith, free)) h.ready.limits;
+        alone = h.ready.alone;
+        together = h.ready.together;
+        counted = h.ready.counted;
+        parents = h.ready.parents;
+        memory = record { regions = shapes; in_space = spaced.in_space; apart = spaced.apart };
+        running = record {
+          task_order = pairs_push (λ (a b : Task). nat_lt a.number b.number) w.tasks task h.ready.task_order (λ t i. (live_parts w h t i).number);
+          tasks = all_push (is_sound_task after) w.tasks task (In-all (is_sound_task after) w.tasks sound_old) sound_new;
+          few_tasks = omega (arith, length-append w.tasks (task ∷ []), few);
+          task_numbers = omega (arith, free);
+        };
+        space = h.ready.space;
       };
       linked = relinked after (links_fixed w h.linked) (λ r i. remade_at r (In-inserted (new_stack start) r w.regions i));
     }

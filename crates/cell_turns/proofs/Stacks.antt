@@ -1,40 +1,15 @@
 -- Each live task of a coherent machine has a number and a stack of its own, and no region of a cell starts at a stack.
-use Rattle.std.proofs.Common.{◌≡◌, refl, sym, ◌∙◌, ap, subst, arith, ℕ, ◌≤◌, ◌<◌, ◌⊎◌, inl, inr, Bool, true, false, not, List, [], ◌++◌, length, map}
+use Rattle.std.proofs.Common.{◌≡◌, refl, sym, ◌∙◌, ap, subst, arith, ◌<◌, ◌⊎◌, inl, inr, Bool, true, false, not, List, [], ◌++◌, length, map}
 use Rattle.std.specs.Prelude.{flat_map, nat_lt, ◌==◌}
-use Rattle.std.proofs.lemmas.Bool.{eqb-true, eq-eqb, leb-true, ltb-true, le-leb}
+use Rattle.std.proofs.lemmas.Bool.{eqb-true, eq-eqb, ltb-true}
 use Rattle.cell_world.specs.World.{World, Region, Task}
 use Rattle.cell_world.specs.Layout.{permission_of}
 use Rattle.cell_world.specs.declared.layout.Class.TheVariants.{Writable}
-use Rattle.cell_world.specs.Coherent.{IsCoherent, Shape, shape_of, stack_shape, wanted_shapes, are_limits_kept}
+use Rattle.cell_world.specs.Coherent.{IsCoherent, Shape, shape_of, stack_shape, wanted_shapes}
 use Rattle.cell_coherent.proofs.Elements.{In, all-In, map-In, In-map, In-right, pairs-In, pairs-map}
 use Rattle.cell_coherent.proofs.FieldsInside.{In-fold_shape}
 use Rattle.cell_coherent.proofs.Distinct.{start_apart, apart_not, cell_shapes, all_apart, pairs_across, pairs_second}
 use Rattle.cell_coherent.proofs.Places.{whole_region}
-use Rattle.cell_coherent.proofs.Ready.{LimitParts, limit_parts, limits_from}
-
--- the limits, with other tasks and another next number
-pub limits_with : (w : World) (ts : List Task) (m : ℕ) → length ts ≤ 64 → m ≤ 65536 → are_limits_kept w ≡ true → are_limits_kept (record w { tasks = ts; next_task = m }) ≡ true
-limits_with w ts m p q h =
-    let l : LimitParts w = limit_parts w h in
-    limits_from (record w { tasks = ts; next_task = m }) (record {
-      namespaces = l.namespaces;
-      cells = l.cells;
-      tasks = le-leb (length ts) 64 p;
-      next_cell = l.next_cell;
-      next_task = le-leb m 65536 q;
-      swaps = l.swaps;
-      fewest = l.fewest;
-      most = l.most;
-      aligned = l.aligned;
-      lowest = l.lowest;
-      highest = l.highest;
-    })
-
-pub task_limit : (w : World) → IsCoherent w → length w.tasks ≤ 64
-task_limit w h = leb-true (length w.tasks) 64 (limit_parts w h.ready.limits).tasks
-
-pub number_limit : (w : World) → IsCoherent w → w.next_task ≤ 65536
-number_limit w h = leb-true w.next_task 65536 (limit_parts w h.ready.limits).next_task
 
 pub long : (w : World) → IsCoherent w → (r : Region) → In r w.regions → 0 < length r.bytes
 long w h r i = (whole_region w r (all-In _ w.regions h.ready.in_space r i)).2

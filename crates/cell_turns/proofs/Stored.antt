@@ -76,22 +76,17 @@ module _ (w : World) (h : IsCoherent w) (addr : ℕ) (new : List ℕ) (free : (s
     pub store_coherent : IsCoherent (record w { regions = map (λ r. written r addr new) w.regions })
     store_coherent = record {
       ready = record {
-        names = h.ready.names;
-        own_names = h.ready.own_names;
-        regions = keeps_shapes w.regions h.ready.apart addr new may ∙ h.ready.regions;
-        in_space = In-all (is_in_space w) (map (λ r. written r addr new) w.regions) (λ r i. at r (In-map (λ x. written x addr new) w.regions r i));
-        apart = keeps_apart w.regions h.ready.apart addr new may;
-        placed = h.ready.placed;
-        supplied = h.ready.supplied;
-        fitting = h.ready.fitting;
-        spaces = h.ready.spaces;
-        space_names = h.ready.space_names;
-        cell_order = h.ready.cell_order;
-        cells = h.ready.cells;
-        objects = h.ready.objects;
-        task_order = h.ready.task_order;
-        tasks = h.ready.tasks;
-        limits = h.ready.limits;
+        alone = h.ready.alone;
+        together = h.ready.together;
+        counted = h.ready.counted;
+        parents = h.ready.parents;
+        memory = record {
+          regions = keeps_shapes w.regions h.ready.apart addr new may ∙ h.ready.regions;
+          in_space = In-all (is_in_space w) (map (λ r. written r addr new) w.regions) (λ r i. at r (In-map (λ x. written x addr new) w.regions r i));
+          apart = keeps_apart w.regions h.ready.apart addr new may;
+        };
+        running = h.ready.running;
+        space = h.ready.space;
       };
       linked = relinked (record w { regions = map (λ r. written r addr new) w.regions }) (links_fixed w h.linked) (λ r i. again r (In-map (λ x. written x addr new) w.regions r i));
     }

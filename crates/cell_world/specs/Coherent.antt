@@ -2,15 +2,16 @@
 --     IsCoherent w         all of it
 --     IsReady w            all of it, but that memory and links are those of the objects
 --     AreSound sources     each file's object is one that a coherent machine may hold
-use Rattle.std.specs.Prelude.{slice_index, ℕ, suc, ◌+◌, ◌-◌, ◌*◌, ◌%◌, ◌^◌, ◌≡◌, ◌<◌, ◌==◌, nat_lt, nat_le, Bool, true, false, not, ◌&&◌, ◌||◌, IsTrue, List, [], ◌∷◌, ◌++◌, Result, Ok, Err, Some, None, All, is_some, is_none, map, flat_map, fold, length, codes, unwrap_or, if◌then◌else◌}
+use Rattle.std.specs.Prelude.{slice_index, ℕ, suc, ◌+◌, ◌-◌, ◌*◌, ◌%◌, ◌^◌, ◌≡◌, ◌<◌, ◌≤◌, ◌==◌, nat_lt, nat_le, Bool, true, false, not, ◌&&◌, ◌||◌, IsTrue, List, [], ◌∷◌, ◌++◌, Result, Ok, Err, Some, None, All, is_some, is_none, map, flat_map, fold, length, codes, unwrap_or, if◌then◌else◌}
 use Rattle.std.specs.List.{list_any, list_all}
 use Rattle.cell_object.specs.declared.object.Object.{Object}
 use Rattle.cell_object.specs.Bytes.{Broken}
 use Rattle.cell_object.specs.Sound.{IsSoundObject}
 use Rattle.cell_world.specs.declared.state.Namespace.{Namespace}
-use Rattle.cell_world.specs.Limits.{max_namespaces, max_cells, max_tasks, max_cell_number, max_task_number, min_pages, max_pages, min_base, max_base}
+use Rattle.cell_world.specs.Limits.{max_namespaces, max_cells, max_tasks, max_cell_number, max_task_number}
 use Rattle.cell_world.specs.World.{stack_size, World, Cell, Region, Permission, Task, Standing, Attached, Detached, is_attached, cell_of}
 use Rattle.cell_num.specs.Lists.{equals, holds_name, numbered, each_pair}
+use Rattle.cell_world.specs.Pages.{IsSpace}
 use Rattle.cell_world.specs.Names.{are_on_one_path, names_of, needs_of, provider_of, definitions_of}
 use Rattle.cell_world.specs.Target.{start_of}
 use Rattle.cell_world.specs.Field.{misfit_of}
@@ -128,34 +129,68 @@ abbrev pub is_sound_task : World → Task → Bool
 is_sound_task w t =
     nat_lt t.number w.next_task && is_some (cell_of w t.root) && (length t.registers == 32) && (slice_index t.registers 0 == 0)
 
-abbrev pub are_limits_kept : World → Bool
-are_limits_kept w =
-    nat_le (length w.namespaces) max_namespaces && nat_le (length w.cells) max_cells && nat_le (length w.tasks) max_tasks
-    && nat_le w.next_cell (suc max_cell_number) && nat_le w.next_task (suc max_task_number) && nat_lt w.swaps w.next_cell
-    && nat_le min_pages w.pages && nat_le w.pages max_pages
-    && (w.base % 4096 == 0) && nat_le min_base w.base && nat_le w.base max_base
+-- The parts of a machine that a group of facts reads. What leaves those alone hands the group on as it is.
+abbrev pub only_cells : World → World
+only_cells w = record w { links = []; regions = []; tasks = []; base = 0; pages = 0; next_task = 0 }
 
--- all of a coherent machine that linking doesn't make
-pub record IsReady (w : World) : Type 0 where
-  -- on one path a stem and a name belong to one attached cell
+abbrev pub only_regions : World → World
+only_regions w = record w { namespaces = []; links = []; next_cell = 0; next_task = 0; swaps = 0 }
+
+abbrev pub only_tasks : World → World
+only_tasks w = record w { namespaces = []; links = []; regions = []; base = 0; pages = 0; next_cell = 0; swaps = 0 }
+
+-- each cell by itself, in the order of their numbers
+pub record AreSoundCells (cells : List Cell) : Type 0 where
+  pub cell_order : IsTrue (each_pair (λ a b. nat_lt a.id.0 b.id.0) cells)
+  pub placed : IsTrue (list_all is_placed cells)
+  pub objects : All (λ c. IsLoadable c.object) cells
+
+-- the cells among each other and in their namespaces: on one path a stem and a name belong to one attached cell
+pub record AreSoundTogether (w : World) : Type 0 where
   pub names : IsTrue (each_pair (may_both_stand w) w.cells)
   pub own_names : IsTrue (list_all has_each_name_once w.cells)
-  -- the regions are the classes of the cells and the stacks of the tasks, whole pages apart from each other
+  pub cells : IsTrue (list_all (is_known_cell w) w.cells)
+  pub supplied : IsTrue (list_all (is_supplied w) w.cells)
+  pub fitting : IsTrue (list_all (is_fitting w) w.cells)
+
+-- how many cells there are and were, and swaps
+pub record AreCounted (cells : List Cell) (next_cell swaps : ℕ) : Type 0 where
+  pub few_cells : length cells ≤ max_cells
+  pub cell_numbers : next_cell ≤ suc max_cell_number
+  pub swap_numbers : swaps < next_cell
+
+pub record AreSoundSpaces (namespaces : List Namespace) : Type 0 where
+  pub spaces : IsTrue (begins_with_k namespaces && list_all is_sound_parent (numbered namespaces))
+  pub space_names : IsTrue (each_pair (λ a b. not (equals a.name b.name)) namespaces)
+  pub few_spaces : length namespaces ≤ max_namespaces
+
+-- the regions are the classes of the cells and the stacks of the tasks, whole pages apart from each other
+pub record AreSoundRegions (w : World) : Type 0 where
   pub regions : map shape_of w.regions ≡ wanted_shapes w
   pub in_space : IsTrue (list_all (is_in_space w) w.regions)
   pub apart : IsTrue (each_pair ends_before w.regions)
-  pub placed : IsTrue (list_all is_placed w.cells)
-  pub supplied : IsTrue (list_all (is_supplied w) w.cells)
-  pub fitting : IsTrue (list_all (is_fitting w) w.cells)
-  pub spaces : IsTrue (begins_with_k w.namespaces && list_all is_sound_parent (numbered w.namespaces))
-  pub space_names : IsTrue (each_pair (λ a b. not (equals a.name b.name)) w.namespaces)
-  -- cells and tasks stand by their numbers
-  pub cell_order : IsTrue (each_pair (λ a b. nat_lt a.id.0 b.id.0) w.cells)
-  pub cells : IsTrue (list_all (is_known_cell w) w.cells)
-  pub objects : All (λ c. IsLoadable c.object) w.cells
+
+pub record AreSoundTasks (w : World) : Type 0 where
   pub task_order : IsTrue (each_pair (λ a b. nat_lt a.number b.number) w.tasks)
   pub tasks : IsTrue (list_all (is_sound_task w) w.tasks)
-  pub limits : IsTrue (are_limits_kept w)
+  pub few_tasks : length w.tasks ≤ max_tasks
+  pub task_numbers : w.next_task ≤ suc max_task_number
+
+-- all of a coherent machine that linking doesn't make
+pub record IsReady (w : World) : Type 0 where
+  pub alone : AreSoundCells w.cells
+  pub open alone use *
+  pub together : AreSoundTogether (only_cells w)
+  pub open together use *
+  pub counted : AreCounted w.cells w.next_cell w.swaps
+  pub open counted use *
+  pub parents : AreSoundSpaces w.namespaces
+  pub open parents use *
+  pub memory : AreSoundRegions (only_regions w)
+  pub open memory use *
+  pub running : AreSoundTasks (only_tasks w)
+  pub open running use *
+  pub space : IsSpace w.base w.pages
 
 -- memory and links are those of the objects
 pub record IsCoherent (w : World) : Type 0 where

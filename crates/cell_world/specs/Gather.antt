@@ -2,9 +2,10 @@
 --     Source, source_of file      a file of the folder: its name, and what its bytes are read as
 --     depot_files, file_named     the files of a namespace and a stem; the file of a name
 --     append_cell w f ns          w with a cell from the file, attached, or the first refusal
+--     grown w cells               w with these cells behind its own
 --     first_lack w c              the first need of a cell that has no provider
 --     bring sources w cells       append what the cells need, until nothing is lacking
-use Rattle.std.specs.Prelude.{fold, if◌then◌else◌, ℕ, zero, suc, ◌==◌, nat_lt, nat_le, Bool, not, ◌&&◌, ◌||◌, List, [], ◌∷◌, ◌++◌, Option, Some, None, Result, Ok, Err, map, filter, slice_get, length, find, is_none, option_map}
+use Rattle.std.specs.Prelude.{fold, if◌then◌else◌, ℕ, zero, suc, ◌+◌, ◌==◌, nat_lt, nat_le, Bool, not, ◌&&◌, ◌||◌, List, [], ◌∷◌, ◌++◌, Option, Some, None, Result, Ok, Err, map, filter, slice_get, length, find, is_none, option_map}
 use Rattle.std.specs.List.{list_any, before_first, after_first}
 use Rattle.cell_object.specs.declared.object.Object.{Object}
 use Rattle.cell_object.specs.Bytes.{Broken}
@@ -83,6 +84,9 @@ append_cell w f ns = do
   refused_by (option_map (duplicate (stem_of_file f.name)) (clash_stem w ns (stem_of_file f.name)))
   refused_by (clash_among w ns (definitions_of object))
   Ok (record w { cells = w.cells ++ new_cell w ns f object ∷ []; next_cell = suc w.next_cell })
+
+abbrev pub grown : World → List Cell → World
+grown w cells = record w { cells = w.cells ++ cells; next_cell = w.next_cell + length cells }
 
 -- a need of a cell
 pub record Need : Type 0 where

@@ -1,5 +1,6 @@
 pub mod Limits
 pub mod World
+pub mod Before
 pub mod Names
 pub mod Target
 pub mod Memory

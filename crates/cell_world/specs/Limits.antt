@@ -19,12 +19,22 @@ max_tasks = 64
 abbrev pub max_task_number : ℕ
 max_task_number = 65535
 
--- object files, and the bytes of one of them
+-- names in the folder
+abbrev pub max_names : ℕ
+max_names = 65536
+
+-- object files, the bytes of one of them, and of all together
 abbrev pub max_files : ℕ
 max_files = 1024
 
 abbrev pub max_file_bytes : ℕ
 max_file_bytes = 1048576
+
+abbrev pub max_all_bytes : ℕ
+max_all_bytes = 67108864
+
+abbrev pub max_script_bytes : ℕ
+max_script_bytes = 1048576
 
 -- pages of the memory
 abbrev pub min_pages : ℕ

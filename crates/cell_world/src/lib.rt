@@ -16,7 +16,8 @@ pub use fail::Fail;
 pub use file::File;
 pub use layout::{Class, Starts};
 pub use limits::{
-    MAX_CELL_NUMBER, MAX_CELLS, MAX_NAMESPACES, MAX_TASK_NUMBER, MAX_TASKS, PAGE, STACK_PAGES,
+    MAX_ALL_BYTES, MAX_CELL_NUMBER, MAX_CELLS, MAX_FILE_BYTES, MAX_FILES, MAX_NAMES,
+    MAX_NAMESPACES, MAX_SCRIPT_BYTES, MAX_TASK_NUMBER, MAX_TASKS, PAGE, STACK_PAGES,
 };
 pub use refusal::{Many, Refusal};
 pub use reply::{Found, LinkLine, MapCell, MapSection, Reply, TaskLine, TaskRun, TaskState};

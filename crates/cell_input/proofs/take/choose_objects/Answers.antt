@@ -2,6 +2,7 @@ use Rattle.std.proofs.Common.{◌≡◌, ◌<◌, ◌≤◌, List, ℕ, true, fa
 use Rattle.std.specs.Prelude.{bytes_eq}
 use Rattle.std.specs.List.{list_any}
 use Rattle.std.proofs.lemmas.List.{length-map}
+use Rattle.cell_world.specs.Limits.{max_files}
 use Rattle.cell_input.specs.Objects.{objects_of}
 use Rattle.cell_input.proofs.Listing.{many_names, no_script, many_files, few_files}
 use Rattle.cell_input.proofs.OrderedNames.{are_objects}
@@ -25,7 +26,7 @@ returns-then-len-2-clause-objects c =
     let count = length-map c.args.names.items string_bytes in
     let there : list_any (bytes_eq c.args.script.now) names ≡ true = cc in
     let objects : map string_bytes c.in-Ok.objects.keys ≡ objects_of names = c.in-Ok.ensures ∙ ap (λ ns. objects_of (map string_bytes ns)) c.as_slice-2.ensures.value in
-    let many : 1024 < length (objects_of names) = omega (arith, ap length objects, length-map c.in-Ok.objects.keys string_bytes, c.len-2.ensures.len) in
+    let many : max_files < length (objects_of names) = omega (arith, ap length objects, length-map c.in-Ok.objects.keys string_bytes, c.len-2.ensures.len) in
     (many_files c.args.script.now names (omega (arith, count, c.args.names.ok.0)) there many)
 
 pub returns-clause-objects : goal.returns-clause-objects
@@ -34,7 +35,7 @@ returns-clause-objects c =
     let count = length-map c.args.names.items string_bytes in
     let there : list_any (bytes_eq c.args.script.now) names ≡ true = cc in
     let objects : map string_bytes c.in-Ok.objects.keys ≡ objects_of names = c.in-Ok.ensures ∙ ap (λ ns. objects_of (map string_bytes ns)) c.as_slice-2.ensures.value in
-    let few : length (objects_of names) ≤ 1024 = omega (arith, ap length objects, length-map c.in-Ok.objects.keys string_bytes, c.len-2.ensures.len) in
+    let few : length (objects_of names) ≤ max_files = omega (arith, ap length objects, length-map c.in-Ok.objects.keys string_bytes, c.len-2.ensures.len) in
     few_files c.args.script.now names (omega (arith, count, c.args.names.ok.0)) there few ∙ ap Ok (sym objects)
 
 pub returns-clause-chosen : goal.returns-clause-chosen

@@ -1,7 +1,7 @@
 use Rattle.std.proofs.Common.{◌∙◌, sym, ap}
 use Rattle.std.specs.Prelude.{option_map}
-use Rattle.cell_placed.specs.Before.{number_in}
-use Rattle.cell_placed.proofs.InOrder.{none_there, other_there, this_there}
+use Rattle.cell_placed.specs.Keys.{number_in}
+use Rattle.cell_world.proofs.InOrder.{none_there, other_there, this_there}
 use Rattle.cell_placed.proofs.cells.cell_numbered.Goals as goal
 
 pub returns-in_err-cell : goal.returns-in_err-cell

@@ -1,7 +1,7 @@
 use Rattle.std.proofs.Common.{rules, of_calls, nat_lt}
 use Rattle.std.proofs.lemmas.Fn.{always_returns_same}
-use Rattle.cell_placed.specs.Before.{section_in}
-use Rattle.cell_placed.proofs.InOrder.{partitioned}
+use Rattle.cell_placed.specs.Keys.{section_in}
+use Rattle.cell_world.proofs.InOrder.{partitioned}
 use Rattle.cell_placed.proofs.places.places_before.Goals as goal
 
 pub returns : goal.returns

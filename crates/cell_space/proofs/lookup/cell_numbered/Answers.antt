@@ -1,7 +1,7 @@
 use Rattle.std.proofs.Common.{◌∙◌, sym, ap}
 use Rattle.std.specs.Prelude.{option_map}
-use Rattle.cell_space.specs.Before.{number_in}
-use Rattle.cell_space.proofs.InOrder.{none_there, other_there, this_there}
+use Rattle.cell_space.specs.Keys.{number_in}
+use Rattle.cell_world.proofs.InOrder.{none_there, other_there, this_there}
 use Rattle.cell_space.proofs.RisingOrder.{rising_pairs}
 use Rattle.cell_space.proofs.lookup.cell_numbered.Goals as goal
 

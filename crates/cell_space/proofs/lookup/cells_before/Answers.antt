@@ -1,7 +1,7 @@
 use Rattle.std.proofs.Common.{rules, of_calls, nat_lt}
 use Rattle.std.proofs.lemmas.Fn.{always_returns_same}
-use Rattle.cell_space.specs.Before.{number_in}
-use Rattle.cell_space.proofs.InOrder.{partitioned}
+use Rattle.cell_space.specs.Keys.{number_in}
+use Rattle.cell_world.proofs.InOrder.{partitioned}
 use Rattle.cell_space.proofs.RisingOrder.{rising_pairs}
 use Rattle.cell_space.proofs.lookup.cells_before.Goals as goal
 

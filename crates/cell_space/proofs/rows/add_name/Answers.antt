@@ -1,5 +1,6 @@
 use Rattle.std.proofs.Common.{List, arith, subst}
-use Rattle.cell_space.specs.Before.{AreBefore, number_in}
+use Rattle.cell_world.specs.Before.{AreBefore}
+use Rattle.cell_space.specs.Keys.{number_in}
 use Rattle.cell_space.specs.declared.cell.SpaceCell.{SpaceCell}
 use Rattle.cell_space.proofs.Holding.{ok_more}
 use Rattle.cell_space.proofs.Renaming.{name_set, place_inside, place_lacks, place_number_is}

@@ -1,6 +1,7 @@
 use Rattle.std.proofs.Common.{◌∙◌, Bool, List, ap, sym}
 use Rattle.cell_world.specs.World.{Cell}
-use Rattle.cell_gather.specs.Gathering.{grown, renamed}
+use Rattle.cell_world.specs.Gather.{grown}
+use Rattle.cell_gather.specs.Gathering.{renamed}
 use Rattle.cell_gather.specs.Growing.{new_of}
 use Rattle.cell_gather.proofs.Reexports.{renamed_are}
 use Rattle.cell_gather.proofs.load.Load.rename.Goals as goal

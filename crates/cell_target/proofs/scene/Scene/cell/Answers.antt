@@ -1,7 +1,7 @@
 use Rattle.std.proofs.Common.{sym, ◌∙◌, ap}
 use Rattle.std.specs.Prelude.{nat_lt, option_map}
 use Rattle.cell_world.specs.declared.state.NewCell.{NewCell}
-use Rattle.cell_placed.proofs.InOrder.{pairs_front, pairs_back}
+use Rattle.cell_world.proofs.InOrder.{pairs_front, pairs_back}
 use Rattle.cell_target.proofs.Lookups.{in_present, in_fresh}
 use Rattle.cell_target.proofs.scene.Scene.cell.Goals as goal
 

@@ -5,7 +5,7 @@ use Rattle.std.specs.List.{list_all}
 use Rattle.std.proofs.lemmas.Bool.{and_parts, and_from}
 use Rattle.std.proofs.lemmas.Bool.Decides.{nat_tests}
 use Rattle.cell_num.specs.Lists.{each_pair}
-use Rattle.cell_space.specs.Before.{AreBefore}
+use Rattle.cell_world.specs.Before.{AreBefore}
 
 -- both parts of a list whose pairs pass
 module _ {X : Type 0} (test : X → X → Bool) where
