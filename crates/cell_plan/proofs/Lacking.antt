@@ -1,5 +1,5 @@
 -- The first need that nobody provides, by what the spaces answer.
-use Rattle.std.proofs.Common.{◌≡◌, refl, sym, ◌∙◌, ap, ap₂, arith, ℕ, suc, ◌+◌, ◌<◌, ◌≤◌, Bool, true, false, cond, not, List, [], ◌∷◌, map, length, drop, get_or, Bor}
+use Rattle.std.proofs.Common.{◌≡◌, refl, sym, ◌∙◌, ap, ap₂, ℕ, ◌+◌, ◌<◌, ◌≤◌, Bool, true, false, cond, not, List, [], ◌∷◌, map, length, drop, get_or}
 use Rattle.std.specs.Prelude.{Option, Some, None, Ok, Err, filter, find, is_none, option_map, unwrap_or}
 use Rattle.std.proofs.lemmas.List.{drop_more}
 use Rattle.std.proofs.Math.ListN.{drop_of_length-le}
@@ -30,7 +30,7 @@ state_back Attached = refl
 state_back (Detached k) = refl
 
 module _ (w : World) (ahead : AheadState) (is : IsAhead w ahead) (c : NewCell) (s : CellState) where
-  abbrev nobody : List ℕ → Bool
+  abbrev pub nobody : List ℕ → Bool
   nobody name = is_none (provider_for (chain ahead.namespaces c.ns) s name ahead.cells)
 
   abbrev lacks : List ℕ → Bool
@@ -62,38 +62,52 @@ first_first : {X Y : Type 0} (f : X → Y) (a b : Option X) → option_map f (or
 first_first f None b = refl
 first_first f (Some x) b = refl
 
--- one user after the other
-module _ (w : World) (spaces : SpacesState) (old : List ℕ) (users : List NewCell) where
-  abbrev pub lost_from : ℕ → Option Refusal
-  lost_from place = first_lost w (others_in spaces old (drop place users))
+or_none : {X : Type 0} (a : Option X) → or_else a None ≡ a
+or_none None = refl
+or_none (Some x) = refl
 
-  pub lost_end : (place : ℕ) → length users ≤ place → lost_from place ≡ None
-  lost_end place past = ap (λ (cs : List NewCell). first_lost w (others_in spaces old cs)) (drop_of_length-le users {i = place} past)
+module _ (w : World) (spaces : SpacesState) (old : List ℕ) where
+  abbrev pub lost_of : List NewCell → Option Refusal
+  lost_of users = first_lost w (others_in spaces old users)
 
-  module _ (place : ℕ) (c : NewCell) (here : place < length users) (at : c ≡ get_or users place c) where
-    next : drop place users ≡ c ∷ drop (place + 1) users
-    next = drop_more users place c here ∙ ap (λ (x : NewCell). x ∷ drop (place + 1) users) (sym at)
+  abbrev others : Bool → NewCell → List NewCell → List NewCell
+  others b c users = cond (not b) (c ∷ filter (λ x. not (holds old x.id.0)) users) (filter (λ x. not (holds old x.id.0)) users)
 
-    -- an old cell needs nothing
-    pub old_passed : holds old c.id.0 ≡ true → lost_from place ≡ lost_from (place + 1)
-    old_passed e =
-        ap (λ (cs : List NewCell). first_lost w (others_in spaces old cs)) next
-        ∙ ap (λ b. first_lost w (map (as_it_stands spaces) (cond (not b) (c ∷ filter (λ x. not (holds old x.id.0)) (drop (place + 1) users)) (filter (λ x. not (holds old x.id.0)) (drop (place + 1) users))))) e
+  -- an old cell needs nothing
+  pub old_needs_nothing : (c : NewCell) → holds old c.id.0 ≡ true → lost_of (c ∷ []) ≡ None
+  old_needs_nothing c e = ap (λ b. first_lost w (map (as_it_stands spaces) (others b c []))) e
 
-    module _ (stays : holds old c.id.0 ≡ false) (s : CellState) (state : option_map (λ (x : SpaceCell). x.state) (cell_numbered spaces.cells c.id.0) ≡ Some s) where
-      stands : as_it_stands spaces c ≡ in_state c s
-      stands = ap (λ (o : Option CellState). in_state c (unwrap_or o Attached)) state
+  -- another has lost what it needs as it stands
+  pub other_needs : (c : NewCell) → holds old c.id.0 ≡ false → (s : CellState) → option_map (λ (x : SpaceCell). x.state) (cell_numbered spaces.cells c.id.0) ≡ Some s → lost_of (c ∷ []) ≡ lost_by w (in_state c s)
+  other_needs c e s state =
+      ap (λ b. first_lost w (map (as_it_stands spaces) (others b c []))) e
+      ∙ (ap (option_map missing) (or_none (first (lacks_of w (as_it_stands spaces c))))
+      ∙ ap (λ (o : Option CellState). lost_by w (in_state c (unwrap_or o Attached))) state)
 
-      split : lost_from place ≡ or_else (lost_by w (in_state c s)) (lost_from (place + 1))
-      split =
-          ap (λ (cs : List NewCell). first_lost w (others_in spaces old cs)) next
-          ∙ (ap (λ b. first_lost w (map (as_it_stands spaces) (cond (not b) (c ∷ filter (λ x. not (holds old x.id.0)) (drop (place + 1) users)) (filter (λ x. not (holds old x.id.0)) (drop (place + 1) users))))) stays
-          ∙ (first_first missing (first (lacks_of w (as_it_stands spaces c))) (first_lack w (others_in spaces old (drop (place + 1) users)))
-          ∙ ap (λ (d : Cell). or_else (lost_by w d) (lost_from (place + 1))) stands))
+  lost_split : (c : NewCell) (users : List NewCell) → lost_of (c ∷ users) ≡ or_else (lost_of (c ∷ [])) (lost_of users)
+  lost_split c users = go (holds old c.id.0)
+    where
+      go : (b : Bool) → first_lost w (map (as_it_stands spaces) (others b c users)) ≡ or_else (first_lost w (map (as_it_stands spaces) (others b c []))) (lost_of users)
+      go true = refl
+      go false =
+          first_first missing (first (lacks_of w (as_it_stands spaces c))) (first_lack w (others_in spaces old users))
+          ∙ ap (λ (o : Option Refusal). or_else o (lost_of users)) (ap (option_map missing) (sym (or_none (first (lacks_of w (as_it_stands spaces c))))))
 
-      pub covered_passed : lost_by w (in_state c s) ≡ None → lost_from place ≡ lost_from (place + 1)
-      covered_passed e = split ∙ ap (λ (o : Option Refusal). or_else o (lost_from (place + 1))) e
+  -- those that are left decide
+  module _ (users : List NewCell) (place : ℕ) where
+    pub all_covered : length users ≤ place → lost_of users ≡ lost_of (drop place users) → lost_of users ≡ None
+    all_covered past so = so ∙ ap lost_of (drop_of_length-le users {i = place} past)
 
-      pub lost_here : (fail : Fail) → Covers (lost_by w (in_state c s)) (Err fail) → Covers (lost_from place) (Err fail)
-      lost_here (Refused refusal) e = split ∙ ap (λ (o : Option Refusal). or_else o (lost_from (place + 1))) e
-      lost_here OutOfMemory e = tt
+    module _ (here : place < length users) (c : NewCell) (at : c ≡ get_or users place c) (so : lost_of users ≡ lost_of (drop place users)) where
+      next : lost_of users ≡ or_else (lost_of (c ∷ [])) (lost_of (drop (place + 1) users))
+      next =
+          so
+          ∙ (ap lost_of (drop_more users place c here ∙ ap (λ (x : NewCell). x ∷ drop (place + 1) users) (sym at))
+          ∙ lost_split c (drop (place + 1) users))
+
+      pub one_covered : lost_of (c ∷ []) ≡ None → lost_of users ≡ lost_of (drop (place + 1) users)
+      one_covered e = next ∙ ap (λ (o : Option Refusal). or_else o (lost_of (drop (place + 1) users))) e
+
+      pub one_lost : (fail : Fail) → Covers (lost_of (c ∷ [])) (Err fail) → Covers (lost_of users) (Err fail)
+      one_lost (Refused refusal) e = next ∙ ap (λ (o : Option Refusal). or_else o (lost_of (drop (place + 1) users))) e
+      one_lost OutOfMemory e = tt

@@ -1,8 +1,8 @@
 -- Tests and filters of lists, element by element.
-use Rattle.std.proofs.Common.{◌≡◌, ℕ, zero, suc, ◌+◌, ◌<◌, ◌&&◌, Bool, true, false, cond, Some, None, List, [], ◌∷◌, ◌++◌, length, get_or, take, refl, sym, ap, ◌∙◌, arith}
+use Rattle.std.proofs.Common.{◌≡◌, ℕ, zero, suc, ◌+◌, ◌<◌, ◌&&◌, Bool, true, false, cond, Some, None, List, [], ◌∷◌, ◌++◌, length, get_or, take, refl, sym, ap, ◌∙◌, arith, Bor}
 use Rattle.std.specs.Prelude.{◌||◌, filter, map, slice_get}
 use Rattle.std.specs.List.{list_any}
-use Rattle.std.proofs.lemmas.List.{take_more}
+use Rattle.std.proofs.lemmas.List.{get_or-map, length-map, take_more}
 use Rattle.std.proofs.lemmas.List.Elements.{filter_more}
 use Rattle.std.proofs.lemmas.List.Folds.{list_any_more}
 use Rattle.cell_object.specs.declared.object.Entry.{Entry}
@@ -75,3 +75,20 @@ nowhere_out old entries targets q l out = rw out (and_none (is_lost old targets 
     and_none : (b : Bool) → (b && false) ≡ false
     and_none true = refl
     and_none false = refl
+
+-- what a list of references refers to
+pub referred : {X : Type 0} (refs : List (Bor X)) (place : ℕ) (r : Bor X) → place < length refs → r ≡ get_or refs place r → (place < length (map (λ x. x.now) refs)) × (r.now ≡ get_or (map (λ x. x.now) refs) place r.now)
+referred {X = X} refs place r here at =
+    (
+      omega (arith, here, length-map refs (λ (x : Bor X). x.now)),
+      ap (λ (x : Bor X). x.now) at ∙ sym (get_or-map (λ (x : Bor X). x.now) refs place r r.now here),
+    )
+
+-- changes by their fields, and by their values
+pub change_fields : (value : Entry → FieldValue) (fs : List Entry) → map (λ x. x.field) (map (change_by value) fs) ≡ fs
+change_fields value [] = refl
+change_fields value (f ∷ fs) = ap (λ (xs : List Entry). f ∷ xs) (change_fields value fs)
+
+pub change_values : (value : Entry → FieldValue) (fs : List Entry) → map (λ x. x.value) (map (change_by value) fs) ≡ map value fs
+change_values value [] = refl
+change_values value (f ∷ fs) = ap (λ (xs : List FieldValue). value f ∷ xs) (change_values value fs)

@@ -1,13 +1,13 @@
 //! What other cells need once the old ones are put aside.
 
-ghost use Rattle.std.specs.Prelude.{◌≡◌, ◌<◌, All, IfOk, find, is_none, length, map, option_map};
+ghost use Rattle.std.specs.Prelude.{◌≡◌, ◌<◌, ◌∷◌, [], All, IfOk, find, is_none, length, map, option_map};
 ghost use Rattle.cell_space.specs.Spaces.{HasCell};
 ghost use Rattle.cell_target.specs.Scene.{in_state};
 ghost use Rattle.cell_space.specs.Named.{provider_for as provider_among};
 ghost use Rattle.cell_world.specs.Names.{chain};
 ghost use Rattle.cell_world.specs.World.{World};
 ghost use Rattle.cell_world.specs.declared.refusal.Refusal.TheVariants.{Missing};
-ghost use Rattle.cell_plan.specs.Coverage.{Covers, IsAhead, as_it_stands, first_lost, lost_by, others_in};
+ghost use Rattle.cell_plan.specs.Coverage.{Covers, IsAhead, first_lost, lost_by, others_in};
 
 use crate::old::Old;
 use cell_gather::needs;
@@ -52,6 +52,24 @@ fn check_cell(alloc: Global, ahead: &Ahead, cell: &NewCell, state: CellState) ->
     }
 }
 
+/// Sees that each need of a user that isn't old itself has a provider.
+fn check_user(
+    alloc: Global,
+    spaces: &Spaces,
+    ahead: &Ahead,
+    cell: &NewCell,
+    old: &Old,
+) -> Result<(), Fail>
+    requires there { HasCell spaces.now cell.now.id.0 }
+    requires ns { cell.now.ns < length ahead.now.namespaces }
+    ensures { (w : World) → IsAhead w ahead.now → Covers (first_lost w (others_in spaces.now (map (λ c. c.0) old.now.cells.now) (cell.now ∷ []))) result }
+{
+    if old.has(cell.id) {
+        return Ok(());
+    }
+    check_cell(alloc, ahead, cell, spaces.state(cell.id))
+}
+
 /// Sees that each need of the users that aren't old themselves has a provider still. The old cells keep
 /// each other. The first need without one is refused, by cells and then by symbols.
 pub fn check_coverage(
@@ -66,10 +84,7 @@ pub fn check_coverage(
     ensures { (w : World) → IsAhead w ahead.now → Covers (first_lost w (others_in spaces.now (map (λ c. c.0) old.now.cells.now) (map (λ c. c.now) users.now))) result }
 {
     for place in 0..users.len() {
-        let cell = users[place];
-        if !old.has(cell.id) {
-            check_cell(alloc, ahead, cell, spaces.state(cell.id))?;
-        }
+        check_user(alloc, spaces, ahead, users[place], old)?;
     }
     Ok(())
 }

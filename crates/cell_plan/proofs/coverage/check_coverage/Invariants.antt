@@ -1,7 +1,7 @@
-use Rattle.std.proofs.Common.{◌≡◌, map}
+use Rattle.std.proofs.Common.{◌≡◌, drop, map}
 use Rattle.cell_world.specs.World.{World}
 use Rattle.cell_plan.specs.Coverage.{IsAhead}
-use Rattle.cell_plan.proofs.Lacking.{lost_from}
+use Rattle.cell_plan.proofs.Lacking.{lost_of}
 use Rattle.cell_plan.proofs.coverage.check_coverage.Given as goal
 
 -- those that are left decide
@@ -9,5 +9,5 @@ abbrev pub invariant-loop-place : goal.invariant-loop-place
 invariant-loop-place l =
     (w : World)
     → IsAhead w l.ahead
-    → lost_from w l.spaces (map (λ c. c.0) l.old.cells.now) (map (λ c. c.now) l.users) 0
-    ≡ lost_from w l.spaces (map (λ c. c.0) l.old.cells.now) (map (λ c. c.now) l.users) l.place
+    → lost_of w l.spaces (map (λ c. c.0) l.old.cells.now) (map (λ c. c.now) l.users)
+    ≡ lost_of w l.spaces (map (λ c. c.0) l.old.cells.now) (drop l.place (map (λ c. c.now) l.users))
