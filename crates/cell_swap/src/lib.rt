@@ -1,7 +1,9 @@
 //! Taking cells away: first the whole decision, then the removal, which can't fail.
 #![tactic(auto)]
 
+mod asked;
 mod named;
+mod old_cells;
 mod places;
 mod regions;
 mod removal;

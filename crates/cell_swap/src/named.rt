@@ -45,7 +45,7 @@ fn find_cell(spaces: &Spaces, name: &CellName) -> Option<CellId>
 }
 
 /// The number of the cell of that name.
-fn named_cell(alloc: Global, machine: &Machine, name: &CellName) -> Result<CellId, Fail>
+pub fn named_cell(alloc: Global, machine: &Machine, name: &CellName) -> Result<CellId, Fail>
     requires { IsSound machine.now }
     ensures { Follows (λ c. c.0) result (cell_numbered (world_of machine.now) name.now) }
 {
