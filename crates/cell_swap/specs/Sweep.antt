@@ -3,16 +3,20 @@
 --     cells_numbered w names       the numbers of the cells of these names, or the first refusal
 --     aside_in m cells             the machine with the cells put aside
 --     holding_in m cells           what is looked at then
+--     IsOutlook m cells o          holding is read from there
 --     IsSurvey m cells s           s is what is read of it
+--     SomeOutlook, SomeSurvey      the same with some cells put aside
+--     Removes old s removed new    those that nobody keeps by the survey are gone
 --     refusal_of h c               the refusal for the cell, if it is kept
 --     unless_kept kept c           the cell, if it isn't among those that are kept
 --     Sweeps old cells result new  all cells that nobody keeps are gone; or one of the cells is kept, and nothing is changed
-use Rattle.std.specs.Prelude.{ℕ, suc, ◌≡◌, List, [], ◌∷◌, Option, Some, None, Ok, Err, Result, Vec, map, flat_map, if◌then◌else◌}
+use Rattle.std.specs.Prelude.{ℕ, suc, ◌≡◌, IsTrue, List, [], ◌∷◌, Option, Some, None, Ok, Err, Result, Vec, map, flat_map, if◌then◌else◌}
+use Rattle.std.specs.List.{list_all}
 use Rattle.cell_num.specs.Lists.{holds}
 use Rattle.cell_num.specs.declared.ids.CellId.{CellId}
 use Rattle.cell_world.specs.declared.fail.Fail.{Fail}
 use Rattle.cell_world.specs.declared.fail.Fail.TheVariants.{Refused, OutOfMemory}
-use Rattle.cell_hold.specs.Roots.{attached_by, claims_by}
+use Rattle.cell_hold.specs.Roots.{attached_by, claims_by, named_by}
 use Rattle.cell_machine.specs.declared.machine.Machine.{Machine}
 use Rattle.cell_machine.specs.Machine.{world_of}
 use Rattle.cell_machine.specs.Same.{IsSame}
@@ -23,6 +27,7 @@ use Rattle.cell_world.specs.UnloadCommand.{attached_cell, detach, first_held, ga
 use Rattle.cell_world.specs.World.{World}
 use Rattle.cell_world.specs.declared.command.CellName.{CellName}
 use Rattle.cell_world.specs.declared.refusal.Refusal.{Refusal}
+use Rattle.cell_swap.specs.declared.outlook.Outlook.{Outlook}
 use Rattle.cell_swap.specs.declared.survey.Survey.{Survey}
 use Rattle.cell_swap.specs.Removed.{IsRemoved}
 
@@ -44,11 +49,28 @@ refusal_of h c = if holds (kept_in h) c then held_refusal h c else None
 abbrev pub unless_kept : List ℕ → ℕ → List ℕ
 unless_kept kept c = if holds kept c then [] else c ∷ []
 
+pub record IsOutlook (m : Machine) (cells : List CellId) (o : Outlook) : Type 0 where
+  pub sections : o.places ≡ flat_map placed_in (world_of m).cells
+  pub attached : flat_map attached_by o.roots.items ≡ (holding_in m cells).attached
+  pub claims : flat_map (claims_by m.memory.regions) o.roots.items ≡ (holding_in m cells).claims
+  pub present : IsTrue (list_all (λ root. list_all (holds (numbers_of (world_of m).cells)) (named_by root)) o.roots.items)
+
+pub record SomeOutlook (m : Machine) (o : Outlook) : Type 0 where
+  pub aside : List CellId
+  pub is : IsOutlook m aside o
+
 pub record IsSurvey (m : Machine) (cells : List CellId) (s : Survey) : Type 0 where
-  pub sections : s.places ≡ flat_map placed_in (world_of m).cells
-  pub attached : flat_map attached_by s.roots.items ≡ (holding_in m cells).attached
-  pub claims : flat_map (claims_by m.memory.regions) s.roots.items ≡ (holding_in m cells).claims
+  pub outlook : IsOutlook m cells s.outlook
+  pub open outlook use *
   pub kept : map (λ c. c.0) s.kept.items ≡ kept_in (holding_in m cells)
+
+pub record SomeSurvey (m : Machine) (s : Survey) : Type 0 where
+  pub aside : List CellId
+  pub is : IsSurvey m aside s
+
+-- whatever was put aside in the survey
+abbrev pub Removes : Machine → Survey → List CellId → Machine → Type 0
+Removes old s removed new = (aside : List CellId) → IsSurvey old aside s → (map (λ c. c.0) removed ≡ garbage_of (aside_in old aside)) × IsRemoved old removed new
 
 pub record IsSwept (old : Machine) (cells removed : List CellId) (new : Machine) : Type 0 where
   pub free : first_held (holding_in old cells) (map (λ c. c.0) cells) ≡ None

@@ -4,6 +4,7 @@
 mod asked;
 mod named;
 mod old_cells;
+mod outlook;
 mod places;
 mod regions;
 mod removal;

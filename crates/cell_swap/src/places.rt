@@ -1,15 +1,13 @@
-//! The sections of all cells.
+//! The sections of cells.
 
 ghost use Rattle.std.specs.Prelude.{◌≡◌, ◌++◌, IfOk, IsTrue, OnOk, flat_map, nat_lt};
 ghost use Rattle.cell_num.specs.Lists.{each_pair};
 ghost use Rattle.cell_coherent.specs.Grown.{In};
-ghost use Rattle.cell_machine.specs.Machine.{IsSound, world_of};
 ghost use Rattle.cell_world.specs.Kept.{placed_at, placed_in};
 ghost use Rattle.cell_world.specs.World.{attached};
 ghost use Rattle.cell_world.specs.declared.state.NewCell.{NewCell};
 
 use cell_hold::Places;
-use cell_machine::Machine;
 use cell_num::SecKey;
 use cell_object::Section;
 use cell_placed::start_of;
@@ -53,12 +51,17 @@ fn add_cells(cells: &[NewCell], into: &mut Vec<Placed>) -> Result<(), AllocError
     Ok(())
 }
 
-/// The sections of all cells.
-pub fn places(alloc: Global, machine: &Machine) -> Result<Places, AllocError>
-    requires { IsSound machine.now }
-    ensures { IfOk result (λ places. places ≡ flat_map placed_in (world_of machine.now).cells) }
+/// The sections of present cells, and then those of new ones.
+pub fn places_of(
+    alloc: Global,
+    present: &[NewCell],
+    fresh: &[NewCell],
+) -> Result<Places, AllocError>
+    requires { (c : NewCell) → In c (present.now ++ fresh.now) → IsTrue (each_pair (λ a b. nat_lt a.section b.section) c.places) }
+    ensures { IfOk result (λ places. places ≡ flat_map (λ c. placed_in (attached c)) (present.now ++ fresh.now)) }
 {
     let mut sections = Vec::new(alloc);
-    add_cells(&machine.cells, &mut sections)?;
+    add_cells(present, &mut sections)?;
+    add_cells(fresh, &mut sections)?;
     Places::of(alloc, sections)
 }

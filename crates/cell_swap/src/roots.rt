@@ -1,15 +1,11 @@
 //! Where holding begins in a machine.
 
 ghost use Rattle.std.specs.Prelude.{◌≡◌, ◌++◌, IfOk, IsTrue, OnOk, flat_map, map, nat_lt};
-ghost use Rattle.std.specs.List.{list_all};
 ghost use Rattle.cell_coherent.specs.Grown.{In};
-ghost use Rattle.cell_num.specs.Lists.{each_pair, holds};
-ghost use Rattle.cell_hold.specs.Roots.{attached_by, claims_by, named_by};
+ghost use Rattle.cell_num.specs.Lists.{each_pair};
 ghost use Rattle.cell_machine.specs.Machine.{IsSound, world_of};
 ghost use Rattle.cell_swap.specs.Begun.{is_aside, root_of, root_of_task};
-ghost use Rattle.cell_swap.specs.Sweep.{holding_in};
 ghost use Rattle.cell_task.specs.State.{seen_as};
-ghost use Rattle.cell_world.specs.Answer.{numbers_of};
 ghost use Rattle.cell_world.specs.World.{Cell};
 
 use cell_hold::{Root, TaskView};
@@ -84,9 +80,7 @@ fn add_tasks(tasks: &Tasks, into: &mut Vec<Root>) -> Result<(), AllocError>
 /// The attached cells but those that are put aside, and the live tasks.
 pub fn roots(alloc: Global, machine: &Machine, aside: &[CellId]) -> Result<Vec<Root>, AllocError>
     requires { IsSound machine.now }
-    ensures attached { IfOk result (λ roots. flat_map attached_by roots.items ≡ (holding_in machine.now aside.now).attached) }
-    ensures claims { IfOk result (λ roots. flat_map (claims_by machine.now.memory.regions) roots.items ≡ (holding_in machine.now aside.now).claims) }
-    ensures present { IfOk result (λ roots. IsTrue (list_all (λ root. list_all (holds (numbers_of (world_of machine.now).cells)) (named_by root)) roots.items)) }
+    ensures { IfOk result (λ roots. roots.items ≡ flat_map (root_of aside.now) (world_of machine.now).cells ++ map root_of_task machine.now.tasks.tasks) }
 {
     let mut roots = Vec::new(alloc);
     add_cells(machine, aside, &mut roots)?;

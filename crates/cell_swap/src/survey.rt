@@ -1,27 +1,24 @@
 //! What is read of a machine before cells go.
 
-ghost use Rattle.std.specs.Prelude.{◌≡◌, ◌++◌, IfOk, List, OnOk, map};
+ghost use Rattle.std.specs.Prelude.{◌≡◌, ◌≤◌, ◌<◌, ◌+◌, ◌++◌, [], List, length, map, vec_capacity, vec_len};
 ghost use Rattle.cell_machine.specs.Machine.{IsSound};
 ghost use Rattle.cell_num.specs.Lists.{holds};
 ghost use Rattle.cell_space.specs.Joined.{AreJoined};
 ghost use Rattle.cell_num.specs.declared.ids.CellId.{CellId as IdOfCell};
 ghost use Rattle.cell_world.specs.UnloadCommand.{first_held, garbage_of};
 ghost use Rattle.cell_world.specs.declared.refusal.Refusal.TheVariants.{Held};
-ghost use Rattle.cell_swap.specs.Sweep.{IsSurvey, aside_in, holding_in, refusal_of, unless_kept};
+ghost use Rattle.cell_swap.specs.Sweep.{IsOutlook, IsSurvey, SomeOutlook, aside_in, holding_in, refusal_of, unless_kept};
 
-use crate::places::places;
-use crate::roots::roots;
-use cell_hold::{Places, Root, holder_of, kept};
+use crate::outlook::Outlook;
+use cell_hold::{holder_of, kept as list_kept};
 use cell_machine::Machine;
 use cell_num::{CellId, Holder};
 use cell_world::Refusal;
-use std::alloc::{AllocError, Global};
 
-/// The sections, where holding begins, and the cells that are kept, ascending.
+/// Where holding was read from, and the cells that are kept, ascending.
 #[derive(Drop)]
 pub struct Survey {
-    pub places: Places,
-    pub roots: Vec<Root>,
+    pub outlook: Outlook,
     pub kept: Vec<CellId>,
 }
 
@@ -33,20 +30,22 @@ fn held(cell: CellId, holder: Holder) -> Refusal
 }
 
 impl Survey {
-    /// Looks at the machine with the cells put aside.
-    pub fn of(alloc: Global, machine: &Machine, aside: &[CellId]) -> Result<Survey, AllocError>
-        requires { IsSound machine.now }
-        ensures { IfOk result (IsSurvey machine.now aside.now) }
+    /// Reads which cells are kept into a list that is empty and has room for all. This takes no memory.
+    pub fn read(machine: &Machine, outlook: Outlook, mut kept: Vec<CellId>) -> Survey
+        requires sound { IsSound machine.now }
+        requires outlook { SomeOutlook machine.now outlook }
+        requires empty { kept.items ≡ [] }
+        requires room { length machine.now.cells.items ≤ vec_capacity kept }
+        ensures { (aside : List IdOfCell) → IsOutlook machine.now aside outlook.entry → IsSurvey machine.now aside result }
     {
-        let places = places(alloc, machine)?;
-        let roots = roots(alloc, machine, aside)?;
-        let mut cells = Vec::with_capacity(alloc, machine.cells.len())?;
-        kept(&machine.graph, &machine.memory, &places, &roots, &mut cells);
-        Ok(Survey {
-            places,
-            roots,
-            kept: cells,
-        })
+        list_kept(
+            &machine.graph,
+            &machine.memory,
+            &outlook.places,
+            &outlook.roots,
+            &mut kept,
+        );
+        Survey { outlook, kept }
     }
 
     /// Whether the cell is kept.
@@ -66,8 +65,8 @@ impl Survey {
         let holder = holder_of(
             &machine.graph,
             &machine.memory,
-            &self.places,
-            &self.roots,
+            &self.outlook.places,
+            &self.outlook.roots,
             &self.kept,
             cell,
         )?;
@@ -88,26 +87,29 @@ impl Survey {
         None
     }
 
-    /// Adds the cell, if nobody keeps it.
-    fn add_unkept(&self, cell: CellId, into: &mut Vec<CellId>) -> Result<(), AllocError>
-        ensures { OnOk result (map (λ c. c.0) into.new.items ≡ map (λ c. c.0) into.old.items ++ unless_kept (map (λ c. c.0) self.now.kept.items) cell.0) }
+    /// Adds the cell to a list with room for it, if nobody keeps it.
+    fn add_unkept(&self, cell: CellId, into: &mut Vec<CellId>)
+        requires { vec_len into.old < vec_capacity into.old }
+        ensures cells { map (λ c. c.0) into.new.items ≡ map (λ c. c.0) into.old.items ++ unless_kept (map (λ c. c.0) self.now.kept.items) cell.0 }
+        ensures room { vec_capacity into.new ≡ vec_capacity into.old }
+        ensures more { vec_len into.new ≤ vec_len into.old + 1 }
     {
         if self.keeps(cell) {
-            return Ok(());
+            return;
         }
-        into.push(cell)?;
-        Ok(())
+        let _ = into.push(cell);
     }
 
-    /// The cells that nobody keeps, ascending.
-    pub fn unkept(&self, alloc: Global, machine: &Machine) -> Result<Vec<CellId>, AllocError>
-        requires { AreJoined machine.now.cells.items machine.now.spaces.cells }
-        ensures { (aside : List IdOfCell) → IsSurvey machine.now aside self.now → IfOk result (λ cells. map (λ c. c.0) cells.items ≡ garbage_of (aside_in machine.now aside)) }
+    /// Lists the cells that nobody keeps, ascending, in a list that is empty and has room for all. This
+    /// takes no memory.
+    pub fn list_unkept(&self, machine: &Machine, into: &mut Vec<CellId>)
+        requires joined { AreJoined machine.now.cells.items machine.now.spaces.cells }
+        requires empty { into.old.items ≡ [] }
+        requires room { length machine.now.cells.items ≤ vec_capacity into.old }
+        ensures { (aside : List IdOfCell) → IsSurvey machine.now aside self.now → map (λ c. c.0) into.new.items ≡ garbage_of (aside_in machine.now aside) }
     {
-        let mut cells = Vec::new(alloc);
         for place in 0..machine.cells.len() {
-            self.add_unkept(machine.cells[place].id, &mut cells)?;
+            self.add_unkept(machine.cells[place].id, into);
         }
-        Ok(cells)
     }
 }

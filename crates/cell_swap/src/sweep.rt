@@ -1,8 +1,10 @@
 //! Removing what nobody keeps.
 
+ghost use Rattle.std.specs.Prelude.{◌≡◌, ◌≤◌, [], length, vec_capacity};
 ghost use Rattle.cell_machine.specs.Machine.{IsSound};
-ghost use Rattle.cell_swap.specs.Sweep.{Sweeps};
+ghost use Rattle.cell_swap.specs.Sweep.{IsOutlook, IsSwept, Removes, SomeSurvey, Sweeps};
 
+use crate::outlook::Outlook;
 use crate::removal::remove;
 use crate::survey::Survey;
 use cell_machine::Machine;
@@ -10,18 +12,53 @@ use cell_num::CellId;
 use cell_world::Fail;
 use std::alloc::Global;
 
+/// Removes all cells that nobody keeps by the survey, and lists them, ascending, in a list that is
+/// empty and has room for all. This takes no memory.
+fn remove_unkept(machine: &mut Machine, survey: &Survey, removed: &mut Vec<CellId>)
+    requires sound { IsSound machine.old }
+    requires survey { SomeSurvey machine.old survey.now }
+    requires empty { removed.old.items ≡ [] }
+    requires room { length machine.old.cells.items ≤ vec_capacity removed.old }
+    ensures { Removes machine.old survey.now removed.new.items machine.new }
+{
+    survey.list_unkept(machine, removed);
+    remove(machine, removed);
+}
+
 /// Removes all cells that nobody keeps while these are put aside, and answers them, ascending. If
 /// one of these is kept, that is the refusal. All that can fail comes before the first change.
 pub fn sweep(alloc: Global, machine: &mut Machine, aside: &[CellId]) -> Result<Vec<CellId>, Fail>
     requires { IsSound machine.old }
     ensures { Sweeps machine.old aside.now result machine.new }
 {
-    let survey = Survey::of(alloc, machine, aside)?;
+    let outlook = Outlook::of(alloc, machine, aside)?;
+    let kept = Vec::with_capacity(alloc, machine.cells.len())?;
+    let mut removed = Vec::with_capacity(alloc, machine.cells.len())?;
+    let survey = Survey::read(machine, outlook, kept);
     match survey.first_held(machine, aside) {
         Some(refusal) => return Err(Fail::Refused(refusal)),
         None => {}
     }
-    let removed = survey.unkept(alloc, machine)?;
-    remove(machine, &removed);
+    remove_unkept(machine, &survey, &mut removed);
     Ok(removed)
+}
+
+/// Removes all cells that nobody keeps, and lists them, ascending. The lists are empty and have room
+/// for all cells. This takes no memory.
+pub fn sweep_all(
+    machine: &mut Machine,
+    outlook: Outlook,
+    kept: Vec<CellId>,
+    removed: &mut Vec<CellId>,
+)
+    requires sound { IsSound machine.old }
+    requires outlook { IsOutlook machine.old [] outlook }
+    requires empty { kept.items ≡ [] }
+    requires room { length machine.old.cells.items ≤ vec_capacity kept }
+    requires none { removed.old.items ≡ [] }
+    requires room_for_all { length machine.old.cells.items ≤ vec_capacity removed.old }
+    ensures { IsSwept machine.old [] removed.new.items machine.new }
+{
+    let survey = Survey::read(machine, outlook, kept);
+    remove_unkept(machine, &survey, removed);
 }
