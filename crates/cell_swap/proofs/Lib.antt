@@ -15,3 +15,4 @@ pub mod Aside
 pub mod Firsts
 pub mod Surveyed
 pub mod Swept
+pub mod ItemLemmas

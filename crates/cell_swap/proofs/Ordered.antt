@@ -12,7 +12,7 @@ use Rattle.cell_machine.specs.Machine.{IsSound, world_of}
 use Rattle.cell_space.specs.Joined.{placed_of}
 use Rattle.cell_machine.proofs.Looked.{cell_low}
 
-flat-map : (cells : List Cell) → flat_map (λ c. placed_in (attached c)) (map placed_of cells) ≡ flat_map placed_in cells
+pub flat-map : (cells : List Cell) → flat_map (λ c. placed_in (attached c)) (map placed_of cells) ≡ flat_map placed_in cells
 flat-map [] = refl
 flat-map (c ∷ cells) = ap (λ (ps : List Placed). placed_in c ++ ps) (flat-map cells)
 
@@ -21,8 +21,6 @@ module _ (m : Machine) (sound : IsSound m) where
   pub ordered : (c : NewCell) → In c m.cells.items → each_pair (λ a b. nat_lt a.section b.section) c.places ≡ true
   ordered c i = (cell_low m sound c i).ordered
 
-  pub all_there : (cells : List NewCell) → cells ≡ m.cells.items → (none found : List Placed) → none ≡ [] → found ≡ none ++ flat_map (λ c. placed_in (attached c)) cells → found ≡ flat_map placed_in (world_of m).cells
-  all_there cells same none found empty is =
-      is
-      ∙ (ap (λ (ps : List Placed). ps ++ flat_map (λ (c : NewCell). placed_in (attached c)) cells) empty
-      ∙ (ap (flat_map (λ (c : NewCell). placed_in (attached c))) (same ∙ sym sound.joined.placed) ∙ flat-map (world_of m).cells))
+  -- the sections are those of the machine's cells
+  pub all_there : flat_map (λ c. placed_in (attached c)) m.cells.items ≡ flat_map placed_in (world_of m).cells
+  all_there = ap (flat_map (λ (c : NewCell). placed_in (attached c))) (sym sound.joined.placed) ∙ flat-map (world_of m).cells

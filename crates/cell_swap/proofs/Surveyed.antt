@@ -110,12 +110,12 @@ module _ (m : Machine) (aside : List CellId) (s : Survey) (survey : IsSurvey m a
   all_numbers = numbers_of (world_of m).cells
 
   -- the holder that the parts give, as they are handed on, is the holder
-  pub holder_by : (roots : List Root) (kept : List CellId) → roots ≡ s.roots.items → kept ≡ s.kept.items → (c : ℕ) (o : Option Holder)
-      → ((cells : List ℕ) → map (λ c. c.0) kept ≡ kept_in (holding_by cells m.graph m.memory s.places roots) → o ≡ holder_in (holding_by cells m.graph m.memory s.places roots) c)
+  pub holder_by : (roots : List Root) (kept : List CellId) → roots ≡ s.outlook.roots.items → kept ≡ s.kept.items → (c : ℕ) (o : Option Holder)
+      → ((cells : List ℕ) → map (λ c. c.0) kept ≡ kept_in (holding_by cells m.graph m.memory s.outlook.places roots) → o ≡ holder_in (holding_by cells m.graph m.memory s.outlook.places roots) c)
       → o ≡ holder_in (holding_in m aside) c
   holder_by roots kept of_roots of_kept c o e =
-      let seen : holding_by all_numbers m.graph m.memory s.places roots ≡ holding_in m aside =
-      ap (λ (rs : List Root). holding_by all_numbers m.graph m.memory s.places rs) of_roots ∙ holding_seen m aside s.places s.roots.items survey.sections survey.attached survey.claims in
+      let seen : holding_by all_numbers m.graph m.memory s.outlook.places roots ≡ holding_in m aside =
+      ap (λ (rs : List Root). holding_by all_numbers m.graph m.memory s.outlook.places rs) of_roots ∙ holding_seen m aside s.outlook.places s.outlook.roots.items survey.sections survey.attached survey.claims in
       e all_numbers (ap (map (λ (c : CellId). c.0)) of_kept ∙ (survey.kept ∙ ap kept_in (sym seen)))
       ∙ ap (λ (h : Holding). holder_in h c) seen
 

@@ -1,14 +1,12 @@
 //! What a swap asks for.
 
-ghost use Rattle.std.specs.Prelude.{◌≡◌, ◌<◌, IfOk, Some, All, map};
+ghost use Rattle.std.specs.Prelude.{◌≡◌, ◌++◌, ◌∷◌, [], IfOk, OnOk, Some, map};
 ghost use Rattle.cell_machine.specs.Machine.{IsSound, world_of};
 ghost use Rattle.cell_world.specs.Following.{Follows};
 ghost use Rattle.cell_world.specs.Gather.{file_named, source_of};
 ghost use Rattle.cell_world.specs.Outcome.{found};
-ghost use Rattle.cell_world.specs.UnloadCommand.{attached_cell};
 ghost use Rattle.cell_world.specs.declared.refusal.Refusal.TheVariants.{Unknown};
-ghost use Rattle.cell_space.specs.Joined.{placed_of};
-ghost use Rattle.cell_swap.specs.Asking.{AddsWant, Asks};
+ghost use Rattle.cell_swap.specs.Asking.{AddsWant, Asks, old_placed};
 
 use crate::named::named_cell;
 use cell_depot::Depot;
@@ -22,7 +20,7 @@ use std::alloc::{AllocError, Global};
 #[derive(Drop)]
 pub struct Asked {
     pub wants: Vec<Want>,
-    pub old: Vec<CellId>,
+    pub replaced: Vec<CellId>,
 }
 
 /// The name of the cell that an item replaces.
@@ -38,7 +36,7 @@ fn old_name(alloc: Global, item: &SwapItem) -> Result<CellName, AllocError>
 /// The attached cell that an item replaces.
 fn old_cell<'a>(alloc: Global, machine: &'a Machine, item: &SwapItem) -> Result<&'a NewCell, Fail>
     requires { IsSound machine.now }
-    ensures { IsOldCell (world_of machine.now) item.now result }
+    ensures { Follows (λ c. c.now) result (old_placed (world_of machine.now) item.now) }
 {
     let name = old_name(alloc, item)?;
     let number = named_cell(alloc, machine, &name)?;
@@ -83,8 +81,17 @@ impl Asked {
     {
         let old = old_cell(alloc, machine, item)?;
         let file = file_named(alloc, depot, &item.file)?;
-        self.wants.push(want(alloc, old, file)?)?;
-        self.old.push(old.id)?;
+        let want = want(alloc, old, file)?;
+        self.push(want, old.id)?;
+        Ok(())
+    }
+
+    fn push(&mut self, want: Want, old: CellId) -> Result<(), AllocError>
+        ensures wants { OnOk result (self.new.wants.items ≡ self.old.wants.items ++ want ∷ []) }
+        ensures replaced { OnOk result (self.new.replaced.items ≡ self.old.replaced.items ++ old ∷ []) }
+    {
+        self.wants.push(want)?;
+        self.replaced.push(old)?;
         Ok(())
     }
 
@@ -100,7 +107,7 @@ impl Asked {
     {
         let mut asked = Asked {
             wants: Vec::new(alloc),
-            old: Vec::new(alloc),
+            replaced: Vec::new(alloc),
         };
         for item in items {
             asked.add(alloc, depot, machine, item)?;

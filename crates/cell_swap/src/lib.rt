@@ -3,7 +3,6 @@
 
 mod asked;
 mod named;
-mod old_cells;
 mod outlook;
 mod places;
 mod regions;

@@ -55,7 +55,7 @@ impl Outlook {
     ) -> Result<Outlook, AllocError>
         requires { (c : Cell) → In c (present.now ++ fresh.now) → IsTrue (each_pair (λ a b. nat_lt a.section b.section) c.places) }
         ensures places { IfOk result (λ o. o.places ≡ flat_map (λ c. placed_in (attached c)) (present.now ++ fresh.now)) }
-        ensures roots { IfOk result (λ o. o.roots.items ≡ roots.entry.items ++ map (λ c. Attached c.id) fresh.now) }
+        ensures roots { IfOk result (λ o. o.roots.items ≡ roots.items ++ map (λ c. Attached c.id) fresh.now) }
     {
         add_attached(&mut roots, fresh)?;
         let places = places_of(alloc, present, fresh)?;

@@ -10,7 +10,7 @@ ghost use Rattle.cell_world.specs.declared.refusal.Refusal.TheVariants.{Held};
 ghost use Rattle.cell_swap.specs.Sweep.{IsOutlook, IsSurvey, SomeOutlook, aside_in, holding_in, refusal_of, unless_kept};
 
 use crate::outlook::Outlook;
-use cell_hold::{holder_of, kept as list_kept};
+use cell_hold::{holder_of, kept};
 use cell_machine::Machine;
 use cell_num::{CellId, Holder};
 use cell_world::Refusal;
@@ -31,21 +31,24 @@ fn held(cell: CellId, holder: Holder) -> Refusal
 
 impl Survey {
     /// Reads which cells are kept into a list that is empty and has room for all. This takes no memory.
-    pub fn read(machine: &Machine, outlook: Outlook, mut kept: Vec<CellId>) -> Survey
+    pub fn read(machine: &Machine, outlook: Outlook, mut cells: Vec<CellId>) -> Survey
         requires sound { IsSound machine.now }
         requires outlook { SomeOutlook machine.now outlook }
-        requires empty { kept.items ≡ [] }
-        requires room { length machine.now.cells.items ≤ vec_capacity kept }
-        ensures { (aside : List IdOfCell) → IsOutlook machine.now aside outlook.entry → IsSurvey machine.now aside result }
+        requires empty { cells.items ≡ [] }
+        requires room { length machine.now.cells.items ≤ vec_capacity cells }
+        ensures { (aside : List IdOfCell) → IsOutlook machine.now aside outlook → IsSurvey machine.now aside result }
     {
-        list_kept(
+        kept(
             &machine.graph,
             &machine.memory,
             &outlook.places,
             &outlook.roots,
-            &mut kept,
+            &mut cells,
         );
-        Survey { outlook, kept }
+        Survey {
+            outlook,
+            kept: cells,
+        }
     }
 
     /// Whether the cell is kept.
@@ -91,7 +94,7 @@ impl Survey {
     fn add_unkept(&self, cell: CellId, into: &mut Vec<CellId>)
         requires { vec_len into.old < vec_capacity into.old }
         ensures cells { map (λ c. c.0) into.new.items ≡ map (λ c. c.0) into.old.items ++ unless_kept (map (λ c. c.0) self.now.kept.items) cell.0 }
-        ensures room { vec_capacity into.new ≡ vec_capacity into.old }
+        ensures room { vec_capacity into.old ≤ vec_capacity into.new }
         ensures more { vec_len into.new ≤ vec_len into.old + 1 }
     {
         if self.keeps(cell) {

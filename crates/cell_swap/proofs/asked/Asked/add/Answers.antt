@@ -1,0 +1,4 @@
+use Rattle.cell_swap.proofs.asked.Asked.add.Goals as goal
+
+pub returns : goal.returns
+returns c = ?

@@ -1,0 +1,23 @@
+use Rattle.std.proofs.Common.{arith, map}
+use Rattle.std.proofs.lemmas.Result.{err_from_is_err_and}
+use Rattle.cell_world.specs.Gather.{source_of}
+use Rattle.cell_machine.specs.Machine.{world_of}
+use Rattle.cell_swap.proofs.ItemLemmas.{all_asked, item_asked, item_failed, nothing_asked}
+use Rattle.cell_swap.proofs.asked.Asked.of.Goals as goal
+
+pub loop-item-init : goal.loop-item-init
+loop-item-init c = nothing_asked (map source_of c.args.depot.now) (world_of c.args.machine.now) c.args.items.now _ ? ?
+
+pub returns-in_err-add : goal.returns-in_err-add
+returns-in_err-add c =
+    let p = err_from_is_err_and c.from_residual.result c.from_residual.ensures.1 in
+    rw (p.1, p.2)
+    (item_failed (map source_of c.args.depot.now) (world_of c.args.machine.now) c.args.items.now c.loop-item.item-index c.loop-item.asked c.loop-item.invariant (omega arith) c.item-item.result c.item-item.is c.in_err-add.field-0.0 c.add.new.self
+    (c.in_err-add.ensures {u = tt}))
+
+pub loop-item-preserved : goal.loop-item-preserved
+loop-item-preserved c =
+    item_asked (map source_of c.args.depot.now) (world_of c.args.machine.now) c.args.items.now c.loop-item.item-index c.loop-item.asked c.loop-item.invariant (omega arith) c.item-item.result c.item-item.is c.add.new.self (c.in_ok-add.ensures {u = tt})
+
+pub returns : goal.returns
+returns c = all_asked (map source_of c.args.depot.now) (world_of c.args.machine.now) c.args.items.now c.loop-item.item-index c.loop-item.asked c.loop-item.invariant (omega arith)
