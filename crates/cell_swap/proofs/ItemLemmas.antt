@@ -1,6 +1,6 @@
 -- Items looked up, one after another.
 use Rattle.std.proofs.Common.{◌≡◌, refl, sym, ◌∙◌, ap, subst, ℕ, ◌+◌, ◌≤◌, ◌<◌, Bool, true, false, cond, List, [], ◌∷◌, ◌++◌, drop, get_or, length, map}
-use Rattle.std.specs.Prelude.{Option, Some, None, Ok, Err, find, option_map}
+use Rattle.std.specs.Prelude.{Option, Some, None, Ok, Err, find, nat_lt, option_map, ◌==◌, ◌&&◌}
 use Rattle.std.proofs.lemmas.List.{drop_more, map-append}
 use Rattle.std.proofs.Math.ListN.{drop_of_length-le}
 use Rattle.cell_num.specs.declared.ids.CellId.{CellId}
@@ -15,11 +15,19 @@ use Rattle.cell_world.specs.Following.{FailsAs}
 use Rattle.cell_world.specs.Gather.{Source, file_named, source_of}
 use Rattle.cell_world.specs.Outcome.{Outcome, ◌>>=◌, each, found}
 use Rattle.cell_world.specs.SwapCommand.{Wanted, all_wanted, old_numbers, wanted_of}
-use Rattle.cell_world.specs.World.{World, Cell, cell_of}
+use Rattle.cell_world.specs.World.{World, Cell, is_attached, cell_of}
 use Rattle.cell_depot.specs.Files.{has_name}
 use Rattle.cell_gather.specs.declared.want.Want.{Want}
 use Rattle.cell_swap.specs.declared.asked.Asked.{Asked}
-use Rattle.cell_swap.specs.Asking.{AddsWant, AreAsked, AreWantsOf, Asks, HasWant, IsWantOf}
+use Rattle.cell_world.specs.UnloadCommand.{attached_cell, cell_word}
+use Rattle.cell_world.specs.declared.command.CellName.{CellName}
+use Rattle.cell_world.specs.Names.{cell_at, namespace_named}
+use Rattle.cell_num.specs.Lists.{each_pair, equals}
+use Rattle.cell_coherent.specs.Grown.{In}
+use Rattle.cell_coherent.proofs.Elements.{found-In}
+use Rattle.cell_coherent.proofs.Targets.{In-find}
+use Rattle.cell_swap.specs.Sweep.{cell_numbered}
+use Rattle.cell_swap.specs.Asking.{old_placed, AddsWant, AreAsked, AreWantsOf, Asks, HasWant, IsWantOf}
 
 -- a file is found by its name among the sources
 pub file_found : (files : List File) (name : List ℕ) → file_named (map source_of files) name ≡ option_map source_of (find (has_name name) files)
@@ -32,6 +40,126 @@ file_found (f ∷ files) name = go (has_name name f) (file_found files name)
         → cond b (Some (source_of f)) (file_named (map source_of files) name) ≡ option_map source_of (cond b (Some f) (find (has_name name) files))
     go true e = refl
     go false e = e
+
+-- what a lookup by a name's bytes gave
+module _ (files : List File) (name bytes : List ℕ) (same : bytes ≡ name) (o : Option File) (is : o ≡ find (has_name bytes) files) where
+  pub the_file : found (file_named (map source_of files) name) (Unknown name) ≡ (let said : Outcome Source = found (option_map source_of o) (Unknown name) in said)
+  the_file =
+      ap (λ (x : Option Source). found x (Unknown name)) (file_found files name)
+      ∙ (ap (λ (n : List ℕ). found (option_map source_of (find (has_name n) files)) (Unknown name)) (sym same)
+      ∙ ap (λ (x : Option File). found (option_map source_of x) (Unknown name)) (sym is))
+
+found_ok : {A : Type 0} (o : Option A) (r : Refusal) (a : A) → found o r ≡ Ok a → o ≡ Some a
+found_ok None r a e = cc
+found_ok (Some x) r a e = cc
+
+-- the cell that a name names
+module _ (w : World) (order : each_pair (λ (a b : Cell). nat_lt a.id.0 b.id.0) w.cells ≡ true) (name : CellName) where
+  pub attached_in : (c : Cell) → attached_cell w name ≡ Ok c → In c w.cells
+  attached_in c e = go (namespace_named w name.ns) e
+    where
+      go : (o : Option ℕ) → (found o (Unknown (cell_word name)) >>= (λ ns. found (cell_at w ns name.stem) (Unknown (cell_word name)))) ≡ Ok c → In c w.cells
+      go None h = cc
+      go (Some ns) h = (found-In (λ (x : Cell). is_attached x.standing && x.ns == ns && equals x.stem name.stem) w.cells c (found_ok (cell_at w ns name.stem) (Unknown (cell_word name)) c h)).0
+
+  record IsNamed (n : ℕ) : Type 0 where
+    cell : Cell
+    is : attached_cell w name ≡ Ok cell
+    number : cell.id.0 ≡ n
+
+  named_by : (o : Outcome Cell) (n : ℕ) → (o >>= (λ c. Ok c.id.0)) ≡ Ok n → attached_cell w name ≡ o → IsNamed n
+  named_by (Err r) n e same = absurd (refused r n e)
+    where
+      refused : (r : Refusal) (n : ℕ) → (let said : Outcome ℕ = Err r in said) ≡ Ok n → ⊥
+      refused r n e = cc
+  named_by (Ok c) n e same = record { cell = c; is = same; number = as_ok c.id.0 n e }
+    where
+      as_ok : (a b : ℕ) → (let said : Outcome ℕ = Ok a in said) ≡ Ok b → a ≡ b
+      as_ok a b e = cc
+
+  module _ (n : ℕ) (h : cell_numbered w name ≡ Ok n) where
+    named : IsNamed n
+    named = named_by (attached_cell w name) n h refl
+
+    by_number : cell_of w n ≡ Some named.cell
+    by_number = ap (cell_of w) (sym named.number) ∙ In-find w.cells order named.cell (attached_in named.cell named.is)
+
+    module _ (o : Option NewCell) (said : o ≡ option_map (λ c. c.placed) (cell_of w n)) where
+      found_it : o ≡ Some named.cell.placed
+      found_it = said ∙ ap (option_map (λ (c : Cell). c.placed)) by_number
+
+      pub some_cell : o ≡ None → ⊥
+      some_cell none = apart named.cell.placed (sym none ∙ found_it)
+        where
+          apart : (c : NewCell) → (let got : Option NewCell = None in got) ≡ Some c → ⊥
+          apart c e = cc
+
+      pub the_cell : (old : NewCell) → o ≡ Some old → (attached_cell w name >>= (λ c. Ok c.placed)) ≡ Ok old
+      the_cell old is = ap (λ (r : Outcome Cell). r >>= (λ c. Ok c.placed)) named.is ∙ ap (λ (x : NewCell). Ok x) (same named.cell.placed old (sym found_it ∙ is))
+        where
+          same : (a b : NewCell) → Some a ≡ Some b → a ≡ b
+          same a b e = cc
+
+-- a cell and a file that items name
+module _ (sources : List Source) (w : World) (order : each_pair (λ (a b : Cell). nat_lt a.id.0 b.id.0) w.cells ≡ true) (item : SwapItem) where
+  abbrev name : CellName
+  name = record { ns = item.ns; stem = item.stem }
+
+  abbrev with_file : Cell → Outcome Wanted
+  with_file old = found (file_named sources item.file) (Unknown item.file) >>= (λ file. Ok (record { old = old; file = file }))
+
+  pub cell_failed : (fail : Fail) → FailsAs fail (old_placed w item) → FailsAs fail (wanted_of sources w item)
+  cell_failed (Refused r) e = go (attached_cell w name) e
+    where
+      go : (o : Outcome Cell) → (o >>= (λ c. Ok c.placed)) ≡ Err r → (o >>= with_file) ≡ Err r
+      go (Err x) h = cc
+      go (Ok c) h = absurd (apart c.placed h)
+        where
+          apart : (c : NewCell) → (let got : Outcome NewCell = Ok c in got) ≡ Err r → ⊥
+          apart c e = cc
+  cell_failed OutOfMemory e = tt
+
+  record IsOld (old : NewCell) : Type 0 where
+    cell : Cell
+    is : attached_cell w name ≡ Ok cell
+    placed : cell.placed ≡ old
+
+  old_by : (o : Outcome Cell) (old : NewCell) → (o >>= (λ c. Ok c.placed)) ≡ Ok old → attached_cell w name ≡ o → IsOld old
+  old_by (Err r) old e same = absurd (apart e)
+    where
+      apart : (let got : Outcome NewCell = Err r in got) ≡ Ok old → ⊥
+      apart e = cc
+  old_by (Ok c) old e same = record { cell = c; is = same; placed = as_ok c.placed old e }
+    where
+      as_ok : (a b : NewCell) → (let said : Outcome NewCell = Ok a in said) ≡ Ok b → a ≡ b
+      as_ok a b e = cc
+
+  module _ (old : NewCell) (h : old_placed w item ≡ Ok old) where
+    that : IsOld old
+    that = old_by (attached_cell w name) old h refl
+
+    so_far : wanted_of sources w item ≡ with_file that.cell
+    so_far = ap (λ (o : Outcome Cell). o >>= with_file) that.is
+
+    pub file_failed : (fail : Fail) → FailsAs fail (let got : Outcome Source = found (file_named sources item.file) (Unknown item.file) in got) → FailsAs fail (wanted_of sources w item)
+    file_failed (Refused r) e = so_far ∙ ap (λ (o : Outcome Source). o >>= (λ file. let got : Outcome Wanted = Ok (record { old = that.cell; file = file }) in got)) e
+    file_failed OutOfMemory e = tt
+
+    module _ (file : Source) (f : found (file_named sources item.file) (Unknown item.file) ≡ Ok file) where
+      pub has_want : (want : Want) → want ≡ record { ns = old.ns; file = item.file; replaces = Some old.id } → (asked new : Asked) → new.wants.items ≡ asked.wants.items ++ want ∷ [] → new.replaced.items ≡ asked.replaced.items ++ old.id ∷ [] → HasWant sources w item asked new
+      has_want want e asked new wants numbers = record {
+        wanted = record { old = that.cell; file = file };
+        want = want;
+        is = so_far ∙ ap (λ (o : Outcome Source). o >>= (λ file. let got : Outcome Wanted = Ok (record { old = that.cell; file = file }) in got)) f;
+        of = record {
+          present = attached_in w order name that.cell that.is;
+          ns = ap (λ (x : Want). x.ns) e ∙ sym (ap (λ (x : NewCell). x.ns) that.placed);
+          file = ap (λ (x : Want). file_named sources x.file) e ∙ found_ok (file_named sources item.file) (Unknown item.file) file f;
+          replaces = ap (λ (x : Want). x.replaces) e ∙ sym (ap (λ (x : NewCell). Some x.id) that.placed);
+        };
+        wants = wants;
+        numbers = numbers ∙ ap (λ (n : CellId). asked.replaced.items ++ n ∷ []) (sym (ap (λ (x : NewCell). x.id) that.placed));
+      }
 
 are_more : (sources : List Source) (v : World) (all : List Wanted) (wants : List Want) → AreWantsOf sources v all wants → (wanted : Wanted) (want : Want) → IsWantOf sources v wanted want → AreWantsOf sources v (all ++ wanted ∷ []) (wants ++ want ∷ [])
 are_more sources v [] [] are wanted want is = (is, tt)

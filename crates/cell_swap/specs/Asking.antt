@@ -6,7 +6,6 @@
 --     IsOldCell v item result            the attached cell that the item names, by its place, or the refusal
 --     AddsWant sources v item old result new   the same of one item more
 use Rattle.std.specs.Prelude.{◌≡◌, List, [], ◌∷◌, ◌++◌, Some, Result, Ok, Err, map}
-use Rattle.cell_num.specs.declared.ids.CellId.{CellId}
 use Rattle.cell_world.specs.declared.command.SwapItem.{SwapItem}
 use Rattle.cell_world.specs.declared.fail.Fail.{Fail}
 use Rattle.cell_world.specs.Following.{FailsAs}

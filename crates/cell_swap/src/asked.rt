@@ -57,12 +57,12 @@ fn file_named<'a>(alloc: Global, depot: &'a Depot, name: &Name) -> Result<&'a Fi
 }
 
 /// The wanted cell of a file in the place of an old one.
-fn want(alloc: Global, old: &NewCell, file: &File) -> Result<Want, AllocError>
-    ensures { IfOk result (λ want. want ≡ record { ns = old.now.ns; file = file.now.name; replaces = Some old.now.id }) }
+fn want(alloc: Global, old: &NewCell, file: &Name) -> Result<Want, AllocError>
+    ensures { IfOk result (λ want. want ≡ record { ns = old.now.ns; file = file.now; replaces = Some old.now.id }) }
 {
     Ok(Want {
         ns: old.ns,
-        file: file.name.copy(alloc)?,
+        file: file.copy(alloc)?,
         replaces: Some(old.id),
     })
 }
@@ -80,8 +80,8 @@ impl Asked {
         ensures { AddsWant (map source_of depot.now) (world_of machine.now) item.now self.old result self.new }
     {
         let old = old_cell(alloc, machine, item)?;
-        let file = file_named(alloc, depot, &item.file)?;
-        let want = want(alloc, old, file)?;
+        file_named(alloc, depot, &item.file)?;
+        let want = want(alloc, old, &item.file)?;
         self.push(want, old.id)?;
         Ok(())
     }

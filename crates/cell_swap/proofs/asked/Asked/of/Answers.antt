@@ -6,7 +6,7 @@ use Rattle.cell_swap.proofs.ItemLemmas.{all_asked, item_asked, item_failed, noth
 use Rattle.cell_swap.proofs.asked.Asked.of.Goals as goal
 
 pub loop-item-init : goal.loop-item-init
-loop-item-init c = nothing_asked (map source_of c.args.depot.now) (world_of c.args.machine.now) c.args.items.now _ ? ?
+loop-item-init c = nothing_asked (map source_of c.args.depot.now) (world_of c.args.machine.now) c.args.items.now _ c.new.ensures.items c.new-2.ensures.items
 
 pub returns-in_err-add : goal.returns-in_err-add
 returns-in_err-add c =
