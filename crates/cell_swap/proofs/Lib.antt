@@ -16,3 +16,4 @@ pub mod Firsts
 pub mod Surveyed
 pub mod Swept
 pub mod ItemLemmas
+pub mod SwapLanded
