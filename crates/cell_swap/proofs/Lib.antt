@@ -15,3 +15,6 @@ pub mod Aside
 pub mod Firsts
 pub mod Surveyed
 pub mod Swept
+pub mod OldStates
+pub mod Returning
+pub mod OldRivals

@@ -1,13 +1,13 @@
 //! Old cells put aside, and taken back where the swap is refused. This takes no memory.
 
-ghost use Rattle.std.specs.Prelude.{◌≡◌, ◌<◌, ◌+◌, ◌-◌, ◌^◌, ◌==◌, ◌||◌, ◌&&◌, ℕ, Bool, List, Some, false, not, option_map, map};
+ghost use Rattle.std.specs.Prelude.{◌≡◌, ◌==◌, ◌||◌, ◌&&◌, ℕ, Bool, List, Some, not, option_map};
 ghost use Rattle.cell_machine.specs.Machine.{IsSound};
 ghost use Rattle.cell_machine.specs.Same.{IsSame};
 ghost use Rattle.cell_space.specs.Named.{cell_numbered as numbered};
-ghost use Rattle.cell_space.specs.Spaces.{HasCell, HasNoRival};
-ghost use Rattle.cell_space.specs.declared.cell.CellState.TheVariants.{Attached, Detached as IsDetached};
+ghost use Rattle.cell_space.specs.Spaces.{HasCell, HasDetached, HasNoRival};
+ghost use Rattle.cell_space.specs.declared.cell.CellState.TheVariants.{Attached};
 ghost use Rattle.cell_space.specs.declared.cell.SpaceCell.{SpaceCell as Known};
-ghost use Rattle.cell_swap.specs.OldCells.{AreThere, CanReturn, IsAside, IsPut, among};
+ghost use Rattle.cell_swap.specs.OldCells.{AreAttached, AreThere, CanReturn, IsAside, IsPut};
 
 use cell_machine::Machine;
 use cell_num::CellId;
@@ -16,11 +16,12 @@ use cell_space::{CellState, Spaces};
 /// Puts a cell aside, unless it was already, as where two items name it.
 fn put_one_aside(spaces: &mut Spaces, cell: CellId, swap: u32)
     requires there { HasCell spaces.old cell.0 }
-    ensures { (before : List Known) (p : ℕ → Bool) → IsPut before swap p spaces.old.cells → option_map (λ x. x.state) (numbered before cell.0) ≡ Some Attached → IsPut before swap (λ n. p n || n == cell.0) spaces.new.cells }
+    ensures known { (before : List Known) (p : ℕ → Bool) → IsPut before swap p spaces.old.cells → option_map (λ x. x.state) (numbered before cell.0) ≡ Some Attached → IsPut before swap (λ n. p n || n == cell.0) spaces.new.cells }
     ensures namespaces { spaces.new.namespaces ≡ spaces.old.namespaces }
 {
-    if spaces.state(cell) == CellState::Attached {
-        spaces.detach(cell, swap);
+    match spaces.state(cell) {
+        CellState::Attached => spaces.detach(cell, swap),
+        CellState::Detached(_) => {}
     }
 }
 
@@ -40,12 +41,13 @@ pub fn put_aside(machine: &mut Machine, old: &[CellId])
 /// Attaches a cell again, unless it was already.
 fn take_one_back(spaces: &mut Spaces, cell: CellId)
     requires there { HasCell spaces.old cell.0 }
-    requires free { HasNoRival spaces.old cell.0 }
-    ensures { (before : List Known) (k : ℕ) (p : ℕ → Bool) → IsPut before k p spaces.old.cells → option_map (λ x. x.state) (numbered before cell.0) ≡ Some Attached → IsPut before k (λ n. p n && not (n == cell.0)) spaces.new.cells }
+    requires free { HasDetached spaces.old cell.0 → HasNoRival spaces.old cell.0 }
+    ensures known { (before : List Known) (k : ℕ) (p : ℕ → Bool) → IsPut before k p spaces.old.cells → AreAttached before cell.0 → IsPut before k (λ n. p n && not (n == cell.0)) spaces.new.cells }
     ensures namespaces { spaces.new.namespaces ≡ spaces.old.namespaces }
 {
-    if spaces.state(cell) != CellState::Attached {
-        spaces.reattach(cell);
+    match spaces.state(cell) {
+        CellState::Attached => {}
+        CellState::Detached(_) => spaces.reattach(cell),
     }
 }
 
