@@ -17,3 +17,6 @@ pub mod Surveyed
 pub mod Swept
 pub mod ItemLemmas
 pub mod SwapLanded
+pub mod OldStates
+pub mod Returning
+pub mod OldRivals

@@ -3,12 +3,13 @@
 --     IsPut before k p cells   the cells, so many of them put aside
 --     among cells              the test for these cells
 --     IsAside before old m     the machine with the old cells put aside by a swap that is counted, and with other room
+--     AreAttached cells n      the cells of that number are attached
 --     AreThere cells old       they are there, attached
 --     CanReturn m old          the old cells may be attached again in m
-use Rattle.std.specs.Prelude.{◌≡◌, ◌+◌, ℕ, Bool, List, Some, All, map, option_map, if◌then◌else◌}
+use Rattle.std.specs.Prelude.{◌≡◌, ◌+◌, ℕ, Bool, List, Some, All, IsTrue, map, option_map, if◌then◌else◌}
 use Rattle.cell_num.specs.declared.ids.CellId.{CellId}
 use Rattle.cell_num.specs.Lists.{holds}
-use Rattle.cell_space.specs.Named.{cell_numbered}
+use Rattle.cell_space.specs.Named.{cell_numbered, is_numbered}
 use Rattle.cell_space.specs.declared.cell.CellState.TheVariants.{Attached, Detached}
 use Rattle.cell_space.specs.declared.cell.SpaceCell.{SpaceCell}
 use Rattle.cell_machine.specs.declared.machine.Machine.{Machine}
@@ -22,6 +23,10 @@ IsPut before k p cells = cells ≡ map (aside_where k p) before
 
 abbrev pub among : List CellId → ℕ → Bool
 among cells n = holds (map (λ c. c.0) cells) n
+
+-- each cell of that number is attached
+abbrev pub AreAttached : List SpaceCell → ℕ → Type 0
+AreAttached cells n = All (λ c. IsTrue (is_numbered n c) → c.state ≡ Attached) cells
 
 abbrev pub AreThere : List SpaceCell → List CellId → Type 0
 AreThere cells old = All (λ c. option_map (λ x. x.state) (cell_numbered cells c.0) ≡ Some Attached) old

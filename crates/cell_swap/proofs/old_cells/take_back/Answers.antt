@@ -1,0 +1,58 @@
+use Rattle.std.proofs.Common.{◌∙◌, ap, arith, ◌+◌, ◌-◌, ◌<◌, get_or, length}
+use Rattle.cell_num.specs.declared.ids.CellId.{CellId}
+use Rattle.cell_machine.specs.declared.machine.Machine.{Machine}
+use Rattle.cell_swap.proofs.OldRivals.{are_attached, no_rival}
+use Rattle.cell_swap.proofs.Returning.{has_state, left_next, none_left, put_none, put_same, still_aside, told}
+use Rattle.cell_swap.proofs.old_cells.take_back.Goals as goal
+
+pub take_one_back-requires-clause-there : goal.take_one_back-requires-clause-there
+take_one_back-requires-clause-there c =
+    let none : CellId = record { 0 = 0 } in
+    let old = c.args.old.now in
+    let place = c.loop-cell.cell-index in
+    let r = c.requires in
+    let put = told r.before.spaces.cells (r.before.swaps + 1) (still_aside old place) c.loop-cell.machine.spaces.cells (c.loop-cell.invariant.known r)
+    (get_or old place none).0 (r.there place none (omega arith)) in
+    has_state c.loop-cell.machine.spaces.cells (get_or old place none).0 _ put
+
+pub take_one_back-requires-clause-free : goal.take_one_back-requires-clause-free
+take_one_back-requires-clause-free c =
+    let none : CellId = record { 0 = 0 } in
+    let old = c.args.old.now in
+    let place = c.loop-cell.cell-index in
+    let r = c.requires in
+    no_rival r.before r.sound (r.before.swaps + 1) (still_aside old place) c.loop-cell.machine.spaces (c.loop-cell.invariant.namespaces ∙ r.aside.namespaces)
+    (c.loop-cell.invariant.known r) (get_or old place none).0 (r.there place none (omega arith))
+
+pub loop-cell-preserved : goal.loop-cell-preserved
+loop-cell-preserved c =
+    let none : CellId = record { 0 = 0 } in
+    let old = c.args.old.now in
+    let place = c.loop-cell.cell-index in
+    let below : place < length old = omega arith in
+    record {
+      known = λ r. put_same r.before.spaces.cells (r.before.swaps + 1) _ (still_aside old (place + 1)) c.take_one_back.new.spaces.cells (λ n. left_next old place below n)
+          (c.take_one_back.ensures.known r.before.spaces.cells (r.before.swaps + 1) (still_aside old place) (c.loop-cell.invariant.known r)
+          (are_attached r.before r.sound (get_or old place none).0 (r.there place none below)));
+      namespaces = c.take_one_back.ensures.namespaces ∙ c.loop-cell.invariant.namespaces;
+      others = ap (λ (m : Machine). record m { spaces = c.take_one_back.new.spaces }) c.loop-cell.invariant.others;
+    }
+
+pub returns : goal.returns
+returns c r =
+    let old = c.args.old.now in
+    let place = c.loop-cell.cell-index in
+    let same = c.loop-cell.invariant.others in
+    record {
+      cells = ap (λ (x : Machine). x.cells.items) same ∙ r.aside.cells;
+      next = ap (λ (x : Machine). x.next) same ∙ r.aside.next;
+      swaps = ap (λ (x : Machine). x.swaps - 1) same ∙ (ap (λ n. n - 1) r.aside.swaps ∙ omega arith);
+      namespaces = c.loop-cell.invariant.namespaces ∙ r.aside.namespaces;
+      known = put_none r.before.spaces.cells (r.before.swaps + 1) (still_aside old place) c.loop-cell.machine.spaces.cells (λ n. none_left old place n (omega arith)) (c.loop-cell.invariant.known r);
+      space = ap (λ (x : Machine). x.space) same ∙ r.aside.space;
+      spare = r.aside.spare;
+      memory = ap (λ (x : Machine). x.memory) same ∙ r.aside.memory;
+      sections = ap (λ (x : Machine). x.graph.sections) same ∙ r.aside.sections;
+      rows = ap (λ (x : Machine). x.graph.rows) same ∙ r.aside.rows;
+      tasks = ap (λ (x : Machine). x.tasks) same ∙ r.aside.tasks;
+    }
