@@ -3,11 +3,14 @@
 
 mod asked;
 mod named;
+mod old_cells;
 mod outlook;
 mod places;
+mod planning;
 mod regions;
 mod removal;
 mod roots;
+mod standing;
 mod survey;
 mod sweep;
 mod unloading;
