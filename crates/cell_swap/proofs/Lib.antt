@@ -20,3 +20,5 @@ pub mod SwapLanded
 pub mod OldStates
 pub mod Returning
 pub mod OldRivals
+pub mod Began
+pub mod Wanting

@@ -1,8 +1,9 @@
 -- The roots of the live tasks, one after another.
-use Rattle.std.proofs.Common.{◌≡◌, refl, sym, ◌∙◌, ap, arith, ℕ, zero, suc, ◌+◌, ◌⊎◌, inl, inr, true, List, [], ◌∷◌, ◌++◌, map, take, drop, Some, None}
-use Rattle.std.specs.Prelude.{◌==◌, find, nat_lt}
+use Rattle.std.proofs.Common.{◌≡◌, refl, sym, ◌∙◌, ap, ap₂, arith, ℕ, zero, suc, ◌+◌, ◌⊎◌, inl, inr, true, List, [], ◌∷◌, ◌++◌, map, take, drop, Some, None}
+use Rattle.std.specs.Prelude.{◌==◌, find, flat_map, nat_lt}
 use Rattle.std.proofs.lemmas.Bool.{eq-eqb, eqb-true, ltb-true}
-use Rattle.std.proofs.lemmas.List.{append_assoc, map-append}
+use Rattle.std.proofs.lemmas.List.{append-nil, append_assoc, map-append}
+use Rattle.std.proofs.lemmas.List.Concat.{flat_map-append}
 use Rattle.cell_num.specs.Lists.{each_pair}
 use Rattle.cell_world.specs.World.{Task}
 use Rattle.cell_coherent.proofs.Elements.{In, find_there, found-In, pairs-In}
@@ -69,6 +70,18 @@ module _ (ts : List Task) (order : each_pair (λ (a b : Task). nat_lt a.number b
       ∙ (ap (λ (rs : List Root). rs ++ root_of_task u ∷ []) so
       ∙ (append_assoc before (map root_of_task (take n ts)) (root_of_task u ∷ [])
       ∙ ap (λ (rs : List Root). before ++ rs) (roots_next u h))))
+
+  -- the same of what each task gives
+  pub parts_more : {X : Type 0} (f : Task → List X) (u : Task) → Some u ≡ find (λ u. u.number == number) ts → (so_far now : List X) → so_far ≡ flat_map f (take n ts) → now ≡ so_far ++ f u → now ≡ flat_map f (take (n + 1) ts)
+  parts_more {X = X} f u h so_far now so added =
+      let both : Some u ≡ Some next.task = h ∙ turn_found in
+      let same : u ≡ next.task = cc in
+      let one : suc n ≡ n + 1 = omega arith in
+      added
+      ∙ (ap₂ (λ (xs : List X) (v : Task). xs ++ f v) so same
+      ∙ (ap (λ (xs : List X). flat_map f (take n ts) ++ xs) (sym (append-nil (f next.task)))
+      ∙ (sym (flat_map-append f (take n ts) (next.task ∷ []))
+      ∙ (ap (flat_map f) (sym next.more) ∙ ap (λ (k : ℕ). flat_map f (take k ts)) one))))
 
   pub left_more : rest ≡ drop (n + 1) (map (λ t. t.number) ts)
   left_more = let one : suc n ≡ n + 1 = omega arith in next.left ∙ ap (λ (k : ℕ). drop k (map (λ (t : Task). t.number) ts)) one
