@@ -16,7 +16,7 @@ use Rattle.cell_asm.specs.declared.laid.Laid.{Laid}
 use Rattle.cell_asm.specs.declared.symbol.Symbols.{Symbols}
 use Rattle.cell_asm.specs.Places.{is_at, is_in, is_long, is_inside, taken}
 use Rattle.cell_asm.specs.Objects.{part_number, parts_of, pieces_in, target_key, entry_of, entries_from, entries_in, entries}
-use Rattle.cell_asm.specs.Making.{fix_entries, piece_entries, pieces_entries, line_entries, part_entries, number_kept, Numbered}
+use Rattle.cell_asm.specs.Making.{fix_entries, piece_entries, pieces_entries, line_entries, part_entries, Numbered}
 
 fix_is : (symbols : Symbols) (lines : List Laid) (part : Part) (l : Laid) (offset : ℕ) (fix : Option Fix) → Numbered symbols lines
     → fix_entries (part_number lines part) symbols l offset fix ≡ entry_of lines part l offset fix

@@ -1,19 +1,17 @@
 -- One line more behind those that are in their places.
-use Rattle.std.proofs.Common.{◌≡◌, ℕ, ◌+◌, ◌<◌, ◌≤◌, Bool, true, false, ◌||◌, List, [], ◌∷◌, ◌++◌, cond, Some, None, refl, sym, ap, subst, ◌∙◌, arith, append-nil, add-zero, zero-add}
-use Rattle.std.specs.Prelude.{Option, if◌then◌else◌, filter, filter_map, sum_by, count_by}
+use Rattle.std.proofs.Common.{◌≡◌, ℕ, ◌+◌, Bool, true, false, ◌||◌, List, [], ◌∷◌, ◌++◌, cond, Some, None, refl, sym, ap, ◌∙◌, append-nil, add-zero, zero-add}
+use Rattle.std.specs.Prelude.{Option, if◌then◌else◌, filter, sum_by}
 use Rattle.std.specs.List.{list_any, cons_option}
 use Rattle.std.proofs.lemmas.List.Folds.{list_any-append}
 use Rattle.std.proofs.lemmas.List.Sums.{sum_by-append}
 use Rattle.std.proofs.lemmas.List.Elements.{filter-append, filter_map-append}
-use Rattle.cell_num.specs.Lists.{last, or_else, equals}
+use Rattle.cell_num.specs.Lists.{last, or_else}
 use Rattle.cell_asm.specs.declared.statement.Part.{Part}
 use Rattle.cell_asm.specs.declared.statement.Part.TheVariants.{Text, Rodata, Data, Bss}
 use Rattle.cell_asm.specs.declared.statement.Line.{Line}
 use Rattle.cell_asm.specs.declared.laid.Laid.{Laid}
 use Rattle.cell_asm.specs.declared.place.Progress.{Progress}
-use Rattle.cell_asm.specs.declared.kind.AsmKind.{AsmKind}
-use Rattle.cell_asm.specs.Named.{is_named}
-use Rattle.cell_asm.specs.Places.{is_same_part, is_at, is_in, choice, choices, taken, size_in, size_at, makes_label, made_in, has_own, is_label, is_twice, placed, fault_at, fault_by}
+use Rattle.cell_asm.specs.Places.{is_same_part, is_at, is_in, choice, choices, taken, size_in, size_at, makes_label, made_in, has_own, is_twice, placed, fault_at}
 use Rattle.cell_asm.specs.Progress.{size_of, size_chosen, offset_of, twice_of, fault_after, laid_after, Adds, Follows}
 
 size_is : (p : Progress) (before : List Laid) (part : Option Part) → Follows p before → size_chosen p.sizes part ≡ size_at part before

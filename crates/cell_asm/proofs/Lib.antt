@@ -1,8 +1,8 @@
 pub mod Ends
 pub mod Positions
+pub mod Filled
 pub mod Digits
 pub mod Tables
-pub mod Shapes
 pub mod Each
 pub mod LineLemmas
 pub mod NameLemmas

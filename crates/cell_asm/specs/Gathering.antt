@@ -1,5 +1,5 @@
 -- Numbers that are read one after the other, as what has been read so far.
-use Rattle.std.specs.Prelude.{ℕ, List, [], ◌∷◌, ◌++◌, Option, Some, None, Result, Ok, Err}
+use Rattle.std.specs.Prelude.{List, [], ◌∷◌, ◌++◌, Option, Some, None, Result, Ok, Err}
 use Rattle.cell_asm.specs.declared.kind.AsmKind.{AsmKind}
 use Rattle.cell_asm.specs.declared.statement.Piece.{Piece}
 use Rattle.cell_asm.specs.declared.directive.Gathered.{Gathered}

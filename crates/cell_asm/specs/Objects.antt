@@ -1,5 +1,5 @@
 -- The object of the lines in their places: sections, symbols and entries.
-use Rattle.std.specs.Prelude.{ℕ, ◌==◌, ◌+◌, ◌/◌, ◌^◌, max, Bool, true, false, not, List, [], ◌∷◌, ◌++◌, map, codes, decimal, Option, Some, None, if◌then◌else◌, filter, filter_map, flat_map, find, position, fold, replicate}
+use Rattle.std.specs.Prelude.{ℕ, ◌==◌, ◌+◌, ◌/◌, max, Bool, true, false, not, List, [], ◌∷◌, ◌++◌, map, codes, decimal, Option, Some, None, if◌then◌else◌, filter, filter_map, flat_map, find, position, fold, replicate}
 use Rattle.std.specs.List.{list_any, cons_option}
 use Rattle.std.specs.Option.{option_map_or}
 use Rattle.cell_num.specs.Lists.{equals, holds_name}

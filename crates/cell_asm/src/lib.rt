@@ -17,6 +17,7 @@ mod numbering;
 mod operand;
 mod place;
 mod section;
+mod slot;
 mod source;
 mod spot;
 mod statement;
@@ -28,7 +29,9 @@ pub use kind::{AsmFail, AsmKind};
 pub use source::assemble;
 
 // What the definitions speak of, so that laws over them can name it.
+pub use instruction::Fields;
 pub use laid::{Key, Label, Laid};
 pub use mnemonic::{Directive, Mnemonic, Shape, Width};
 pub use operand::{Expression, Immediate, Modifier, Operand};
-pub use statement::{Content, Field, Fix, Line, Part, Piece, Pieces, Reference, Statement, Target};
+pub use slot::{Form, Slot};
+pub use statement::{Content, Field, Fix, Line, Part, Piece, Reference, Statement, Target};

@@ -50,13 +50,6 @@ pub struct Piece<'a> {
     pub second: Option<Fix<'a>>,
 }
 
-/// The instructions of one statement.
-#[derive(Drop)]
-pub enum Pieces<'a> {
-    One(Piece<'a>),
-    Two(Piece<'a>, Piece<'a>),
-}
-
 /// What the bytes of a statement are: instructions, numbers of one or two bytes, or of four or eight.
 #[derive(Clone, Copy, Debug, PartialEq, Eq)]
 pub enum Content {

@@ -15,7 +15,8 @@ use Rattle.cell_asm.specs.Objects.{mentions}
 use Rattle.cell_asm.specs.Assembled.{with_line, placed_line, placed_unless, placed_lines}
 use Rattle.cell_asm.proofs.SourceLemmas.{placed_from, after_fault}
 use Rattle.cell_asm_law.proofs.Tallies.{total, total-append, flat_length, mapped_length}
-use Rattle.cell_asm_law.proofs.NamedLines.{line_names, named_line}
+use Rattle.cell_asm_law.proofs.NamedOperands.{cost}
+use Rattle.cell_asm_law.proofs.ReadLines.{line_names, read_line}
 
 -- WHAT LINES COST, BY THEIR TEXTS
 
@@ -99,14 +100,25 @@ three_times (text ∷ texts) = three_more (room text) (total room texts) (total 
 
 -- LABELS AND NAMES
 
+zero_least : (n : ℕ) → 0 ≤ n
+zero_least n = omega arith
+
 abbrev cost_of : Laid → ℕ
 cost_of l = 2 + length (line_names l.line)
 
-within_three : (n m : ℕ) → n ≤ 1 + m → 2 + n ≤ 3 * (m + 1)
-within_three n m h = omega (arith, h)
+count_le : (ns : List (List ℕ)) → length ns ≤ cost ns
+count_le [] = zero_least 0
+count_le (n ∷ ns) = more (length ns) (cost ns) (length n) (count_le ns)
+  where
+    more : (a b c : ℕ) → a ≤ b → suc a ≤ suc c + b
+    more a b c h = omega (arith, h)
+
+within_three : (n m t : ℕ) → n ≤ m → m ≤ suc t → 2 + n ≤ 3 * (t + 1)
+within_three n m t h k = omega (arith, h, k)
 
 cost_bounded : IsBounded cost_of (λ t. 3 * room t)
-cost_bounded before n text line e = within_three (length (line_names line)) (length text) (named_line text line e).few
+cost_bounded before n text line e =
+    within_three (length (line_names line)) (cost (line_names line)) (length text) (count_le (line_names line)) (read_line text line e).names.few
 
 zero_one : 0 ≤ 1
 zero_one = omega arith

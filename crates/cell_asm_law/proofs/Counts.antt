@@ -20,7 +20,7 @@ use Rattle.cell_asm.specs.Assembled.{placed_lines}
 use Rattle.cell_asm.proofs.PartCounts.{few}
 use Rattle.cell_asm_law.proofs.Growth.{Goes, grows}
 use Rattle.cell_asm_law.proofs.Members.{In, In-filtered}
-use Rattle.cell_asm_law.proofs.PiecesFit.{IsGoodPiece, IsGoodStatement}
+use Rattle.cell_asm_law.proofs.GoodPieces.{IsGoodPiece, IsGoodStatement}
 use Rattle.cell_asm_law.proofs.Standing.{allowed, all_stand}
 use Rattle.cell_asm_law.proofs.InFours.{size_push}
 use Rattle.cell_asm_law.proofs.EntriesFit.{at_part, content_of, covered, wide_of, wide_cons, all_taken, line_entries, statement_pieces}

@@ -18,7 +18,7 @@ use Rattle.cell_asm.specs.Places.{is_in, taken, size_in}
 use Rattle.cell_asm.specs.Objects.{entry_of, entries_from, pieces_in, entries_in}
 use Rattle.cell_asm.specs.Assembled.{placed_lines}
 use Rattle.cell_asm_law.proofs.Members.{In, In-append, In-flat, In-filtered, filter_passes, get-In}
-use Rattle.cell_asm_law.proofs.PiecesFit.{GoodFix, ArePaired, IsGoodPiece, IsGoodStatement}
+use Rattle.cell_asm_law.proofs.GoodPieces.{GoodFix, ArePaired, IsGoodPiece, IsGoodStatement}
 use Rattle.cell_asm_law.proofs.Standing.{all_stand}
 pub use Rattle.cell_asm_law.proofs.StackedLines.{same_part, at_part, Stacked, all_taken, taken_cons, stacked}
 pub use Rattle.cell_asm_law.proofs.LineEntries.{content_of, statement_pieces, zero_least, same_least, covered, IsTaken, statement_taken, IsFrom, wide_of, wide_cons, deeper, of_pieces}

@@ -16,16 +16,17 @@ use Rattle.cell_asm.specs.declared.statement.Statement.{Statement}
 use Rattle.cell_asm.specs.declared.statement.Statement.TheVariants.{Nothing, Choose, Global, Zeros, Align, Bytes}
 use Rattle.cell_asm.specs.Places.{names_made}
 use Rattle.cell_asm.specs.Assembled.{is_upper}
-use Rattle.cell_asm.specs.Instructions.{name}
-use Rattle.cell_asm.specs.Statements.{content, unit}
+use Rattle.cell_asm.specs.Names.{is_name}
+use Rattle.cell_asm.specs.Objects.{target_names}
 use Rattle.cell_asm_law.proofs.Members.{In}
+use Rattle.cell_asm_law.proofs.NamedOperands.{AreNames}
 
 abbrev pub is_code : Content → Bool
 is_code Code = true
 is_code Narrow = false
 is_code Wide = false
 
--- an entry for so many bytes
+-- an entry for so many bytes, of a name
 pub record IsGoodFix (content : Content) (width : ℕ) (f : Fix) : Type 0 where
   pub known : is_known_kind f.kind ≡ true
   pub fits : width_of f.kind ≤ width
@@ -33,6 +34,7 @@ pub record IsGoodFix (content : Content) (width : ℕ) (f : Fix) : Type 0 where
   -- the kinds of instructions stand at instructions alone
   pub code : is_instruction f.kind ≡ is_code content
   pub plain : is_pcrel_lo12 f.kind ≡ true → f.addend ≡ pos 0
+  pub named : AreNames (target_names f.target)
 
 abbrev pub GoodFix : Content → ℕ → Option Fix → Type 0
 GoodFix content width None = Unit {0}
@@ -77,7 +79,7 @@ IsUnit unit = (k : ℕ) × (k ≤ 12) × (unit ≡ 2 ^ k)
 abbrev pub IsGoodStatement : Statement → Type 0
 IsGoodStatement Nothing = Unit {0}
 IsGoodStatement (Choose part) = Unit {0}
-IsGoodStatement (Global name) = Unit {0}
+IsGoodStatement (Global name) = is_name name ≡ true
 IsGoodStatement (Zeros n) = Unit {0}
 IsGoodStatement (Align unit) = IsUnit unit
 IsGoodStatement (Bytes content pieces) = AreGoodPieces content pieces

@@ -21,7 +21,8 @@ use Rattle.cell_asm.specs.Places.{is_at, is_in, choices, gap, taken, takes, may_
 use Rattle.cell_asm.specs.Assembled.{placed_lines}
 use Rattle.cell_asm_law.proofs.Growth.{Goes, grows}
 use Rattle.cell_asm_law.proofs.Members.{In, In-append}
-use Rattle.cell_asm_law.proofs.PiecesFit.{IsGoodStatement, good_line}
+use Rattle.cell_asm_law.proofs.GoodPieces.{IsGoodStatement}
+use Rattle.cell_asm_law.proofs.ReadLines.{read_line}
 use Rattle.cell_asm_law.proofs.Standing.{allowed}
 
 -- WHAT A STATEMENT TAKES
@@ -126,7 +127,7 @@ pushed before new h s l k t = go (In-append before (new ∷ []) l k)
 
 goes : Goes AreFours
 goes before n text line h e f = record {
-  size = ap (λ k. k % 4) (size_push Text before (placed before n line)) ∙ size_by (last (choices before)) before line (allowed before line f).stands (good_line text line e) h.size;
+  size = ap (λ k. k % 4) (size_push Text before (placed before n line)) ∙ size_by (last (choices before)) before line (allowed before line f).stands (read_line text line e).good h.size;
   offsets = pushed before (placed before n line) h.offsets (offset_by (last (choices before)) before h.size);
 }
 

@@ -4,7 +4,6 @@ pub mod Yields
 pub mod GoodPieces
 pub mod InstructionPieces
 pub mod NumberPieces
-pub mod PiecesFit
 pub mod Standing
 pub mod InFours
 pub mod StackedLines
@@ -22,8 +21,7 @@ pub mod Chosen
 pub mod SectionsFit
 pub mod NamesFit
 pub mod NamedOperands
-pub mod NamedInstructions
-pub mod NamedLines
+pub mod ReadLines
 pub mod Held
 pub mod NamedLabels
 pub mod SymbolsFit

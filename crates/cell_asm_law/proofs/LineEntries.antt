@@ -17,7 +17,7 @@ use Rattle.cell_asm.specs.declared.laid.Laid.{Laid}
 use Rattle.cell_asm.specs.Places.{taken, takes}
 use Rattle.cell_asm.specs.Objects.{part_number, symbol_number, target_key, entry_of, entries_from, pieces_in}
 use Rattle.cell_asm_law.proofs.Members.{In, In-append}
-use Rattle.cell_asm_law.proofs.PiecesFit.{is_code, IsGoodFix, GoodFix, ArePaired, IsGoodPiece, AreGoodPieces, IsGoodStatement}
+use Rattle.cell_asm_law.proofs.GoodPieces.{is_code, IsGoodFix, GoodFix, ArePaired, IsGoodPiece, AreGoodPieces, IsGoodStatement}
 
 -- THE PIECES OF ANY STATEMENT
 

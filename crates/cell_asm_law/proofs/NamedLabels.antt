@@ -18,7 +18,7 @@ use Rattle.cell_asm_law.proofs.Members.{In, In-append, In-left, In-flat, In-map}
 use Rattle.cell_asm_law.proofs.Chosen.{part_there}
 use Rattle.cell_asm_law.proofs.Held.{IsHeld, all_held}
 use Rattle.cell_asm_law.proofs.NamesFit.{IsFitName, key_fits}
-use Rattle.cell_asm_law.proofs.NamedLines.{line_names, named_line}
+use Rattle.cell_asm_law.proofs.ReadLines.{line_names, read_line}
 use Rattle.cell_asm_law.proofs.NamedOperands.{AreNames}
 
 -- MENTIONS
@@ -35,7 +35,7 @@ pushed before new h s l k = go (In-append before (new ∷ []) l k)
     go (inr (inr i)) = absurd i
 
 goes : Goes AllNamed
-goes before n text line h e f = pushed before (placed before n line) h (named_line text line e).named
+goes before n text line h e f = pushed before (placed before n line) h (read_line text line e).names.named
 
 lines_named : (source : List ℕ) (lines : List Laid) → placed_lines source ≡ Ok lines → AllNamed lines
 lines_named source lines e = grows AllNamed goes (lines_in source) lines (λ l k. absurd k) e

@@ -27,7 +27,7 @@ use Rattle.cell_asm.specs.Places.{is_in, is_same_part, may_stand, is_made, names
 use Rattle.cell_asm.specs.Objects.{part_number, is_key, target_names, fix_names, statement_names, label_names, mentions, symbols, symbol_number, target_key, entry_of, entries_from, pieces_in, entries_in}
 use Rattle.cell_asm.specs.Assembled.{is_upper, has_upper, is_upper_label, is_lost, is_lost_fix, has_lost, placed_lines}
 use Rattle.cell_asm_law.proofs.Members.{In, In-left, In-right, filter-In, flat-In, find_none, any-In, In-any, In-none}
-use Rattle.cell_asm_law.proofs.PiecesFit.{is_code, IsHeaded}
+use Rattle.cell_asm_law.proofs.GoodPieces.{is_code, IsHeaded}
 use Rattle.cell_asm_law.proofs.Standing.{IsStanding, all_stand}
 use Rattle.cell_asm_law.proofs.EntriesFit.{same_part, at_part, content_of, statement_pieces, statement_taken, IsTaken, Origin, entry_origin, line_entries}
 use Rattle.cell_asm_law.proofs.Unique.{same_key, labels_once}

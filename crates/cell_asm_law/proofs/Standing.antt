@@ -13,7 +13,8 @@ use Rattle.cell_asm.specs.Places.{choices, size_at, taken, is_long, is_twice, ma
 use Rattle.cell_asm.specs.Assembled.{placed_lines}
 use Rattle.cell_asm_law.proofs.Growth.{Goes, grows}
 use Rattle.cell_asm_law.proofs.Members.{In, In-append}
-use Rattle.cell_asm_law.proofs.PiecesFit.{IsGoodStatement, good_line}
+use Rattle.cell_asm_law.proofs.GoodPieces.{IsGoodStatement}
+use Rattle.cell_asm_law.proofs.ReadLines.{read_line}
 
 -- a line that has no fault
 pub record IsAllowed (part : Option Part) (offset : ℕ) (twice : Bool) (line : Line) : Type 0 where
@@ -48,7 +49,7 @@ AllStand lines = (l : Laid) → In l lines → IsStanding l
 one_stands : (before : List Laid) (n : ℕ) (text : List ℕ) (line : Line) → line_of text ≡ Ok line → fault_at before line ≡ None → IsStanding (placed before n line)
 one_stands before n text line e f =
     let a = allowed before line f in
-    record { good = good_line text line e; stands = a.stands; room = a.room }
+    record { good = (read_line text line e).good; stands = a.stands; room = a.room }
 
 pushed : (before : List Laid) (new : Laid) → AllStand before → IsStanding new → AllStand (before ++ new ∷ [])
 pushed before new h s l k = go (In-append before (new ∷ []) l k)

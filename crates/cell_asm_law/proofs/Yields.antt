@@ -1,11 +1,14 @@
 -- What is read, where it is read.
 --     Yields P r        P holds of the value, where there is one
-use Rattle.std.proofs.Common.{◌≡◌, ℕ, List, Result, Ok, Err, Some, None, refl, subst, slice_get}
-use Rattle.std.specs.Prelude.{Option}
+--     Finds P o         the same of an option
+use Rattle.std.proofs.Common.{◌≡◌, Bool, true, false, Result, Ok, Err, Some, None, refl, subst}
+use Rattle.std.specs.Prelude.{Option, option_map, option_and_then, if◌then◌else◌}
+use Rattle.cell_num.specs.Lists.{where_true, or_else}
 use Rattle.cell_asm.specs.declared.kind.AsmKind.{AsmKind}
-use Rattle.cell_asm.specs.declared.operand.Operand.{Operand}
 use Rattle.cell_asm.specs.Faults.{both, with_value}
-use Rattle.cell_asm.specs.Instructions.{wanted, at, exactly, none, one, two, three}
+
+abbrev pub Any : {A : Type 0} → A → Type 0
+Any a = Unit {0}
 
 -- P holds of the value, where there is one
 abbrev pub Yields : {A : Type 0} → (A → Type 0) → Result A AsmKind → Type 0
@@ -22,12 +25,13 @@ yields_both P Q (Ok a) (Err l) h k = tt
 yields_both P Q (Err j) (Ok b) h k = tt
 yields_both P Q (Err j) (Err l) h k = tt
 
-abbrev pub Any : {A : Type 0} → A → Type 0
-Any a = Unit {0}
-
 pub yields_any : {A : Type 0} (r : Result A AsmKind) → Yields Any r
 yields_any (Ok a) = tt
 yields_any (Err k) = tt
+
+pub yields_weaker : {A : Type 0} (P Q : A → Type 0) (r : Result A AsmKind) → ((a : A) → P a → Q a) → Yields P r → Yields Q r
+yields_weaker P Q (Ok a) go h = go a h
+yields_weaker P Q (Err k) go h = tt
 
 same_value : {A : Type 0} (a b : A) (r : Result A AsmKind) → r ≡ Ok a → r ≡ Ok b → a ≡ b
 same_value a b r e f = cc
@@ -36,34 +40,32 @@ pub yields_ok : {A : Type 0} (P : A → Type 0) (r : Result A AsmKind) (x : A) �
 yields_ok P (Ok a) x h e = subst P (same_value a x (Ok a) refl e) h
 yields_ok P (Err k) x h e = absurd cc
 
-yields_wanted : {A : Type 0} (P : A → Type 0) (read : Operand → Result A AsmKind) (o : Option Operand) → ((operand : Operand) → Yields P (read operand)) → Yields P (wanted read o)
-yields_wanted P read None h = tt
-yields_wanted P read (Some operand) h = h operand
+abbrev pub Finds : {A : Type 0} → (A → Type 0) → Option A → Type 0
+Finds P None = Unit {0}
+Finds P (Some a) = P a
 
-pub yields_at : {A : Type 0} (P : A → Type 0) (read : Operand → Result A AsmKind) (place : ℕ) (operands : List Operand) → ((operand : Operand) → Yields P (read operand)) → Yields P (at read place operands)
-yields_at P read place operands h = yields_wanted P read (slice_get operands place) h
+pub finds_any : {A : Type 0} (o : Option A) → Finds Any o
+finds_any None = tt
+finds_any (Some a) = tt
 
-pub yields_none : {B : Type 0} (Q : B → Type 0) (made : B) (operands : List Operand) → Q made → Yields Q (none made operands)
-yields_none Q made operands q = yields_value Any Q (λ _. made) (exactly 0 operands) (λ a h. q) (yields_any (exactly 0 operands))
+pub finds_map : {A B : Type 0} (P : A → Type 0) (Q : B → Type 0) (f : A → B) (o : Option A) → ((a : A) → P a → Q (f a)) → Finds P o → Finds Q (option_map f o)
+finds_map P Q f None go h = tt
+finds_map P Q f (Some a) go h = go a h
 
-pub yields_one : {A B : Type 0} (P : A → Type 0) (Q : B → Type 0) (a : Operand → Result A AsmKind) (make : A → B) (operands : List Operand)
-    → ((o : Operand) → Yields P (a o)) → ((x : A) → P x → Q (make x)) → Yields Q (one a make operands)
-yields_one {A} P Q a make operands pa made =
-    yields_value (λ (p : Unit {0} × A). Any p.0 × P p.1) Q (λ p. make p.1) (both (exactly 1 operands) (at a 0 operands)) (λ p h. made p.1 h.1)
-    (yields_both Any P (exactly 1 operands) (at a 0 operands) (yields_any (exactly 1 operands)) (yields_at P a 0 operands pa))
+pub finds_else : {A : Type 0} (P : A → Type 0) (a b : Option A) → Finds P a → Finds P b → Finds P (or_else a b)
+finds_else P None b h k = k
+finds_else P (Some x) b h k = h
 
-pub yields_two : {A B C : Type 0} (PA : A → Type 0) (PB : B → Type 0) (Q : C → Type 0) (a : Operand → Result A AsmKind) (b : Operand → Result B AsmKind) (make : A → B → C) (operands : List Operand)
-    → ((o : Operand) → Yields PA (a o)) → ((o : Operand) → Yields PB (b o)) → ((x : A) (y : B) → PA x → PB y → Q (make x y)) → Yields Q (two a b make operands)
-yields_two {A} {B} PA PB Q a b make operands pa pb made =
-    yields_value (λ (p : Unit {0} × (A × B)). Any p.0 × (PA p.1.0 × PB p.1.1)) Q (λ p. make p.1.0 p.1.1) (both (exactly 2 operands) (both (at a 0 operands) (at b 1 operands))) (λ p h. made p.1.0 p.1.1 h.1.0 h.1.1)
-    (yields_both Any (λ (p : A × B). PA p.0 × PB p.1) (exactly 2 operands) (both (at a 0 operands) (at b 1 operands)) (yields_any (exactly 2 operands))
-    (yields_both PA PB (at a 0 operands) (at b 1 operands) (yields_at PA a 0 operands pa) (yields_at PB b 1 operands pb)))
+pub finds_where : {A : Type 0} (P : A → Type 0) (b : Bool) (x : A) → (b ≡ true → P x) → Finds P (where_true b x)
+finds_where P true x h = h refl
+finds_where P false x h = tt
 
-pub yields_three : {A B C D : Type 0} (PC : C → Type 0) (Q : D → Type 0) (a : Operand → Result A AsmKind) (b : Operand → Result B AsmKind) (c : Operand → Result C AsmKind) (make : A → B → C → D) (operands : List Operand)
-    → ((o : Operand) → Yields PC (c o)) → ((x : A) (y : B) (z : C) → PC z → Q (make x y z)) → Yields Q (three a b c make operands)
-yields_three {A} {B} {C} PC Q a b c make operands pc made =
-    yields_value (λ (p : Unit {0} × (A × (B × C))). Any p.0 × (Any p.1.0 × (Any p.1.1.0 × PC p.1.1.1))) Q (λ p. make p.1.0 p.1.1.0 p.1.1.1)
-    (both (exactly 3 operands) (both (at a 0 operands) (both (at b 1 operands) (at c 2 operands)))) (λ p h. made p.1.0 p.1.1.0 p.1.1.1 h.1.1.1)
-    (yields_both Any (λ (p : A × (B × C)). Any p.0 × (Any p.1.0 × PC p.1.1)) (exactly 3 operands) (both (at a 0 operands) (both (at b 1 operands) (at c 2 operands))) (yields_any (exactly 3 operands))
-    (yields_both Any (λ (p : B × C). Any p.0 × PC p.1) (at a 0 operands) (both (at b 1 operands) (at c 2 operands)) (yields_any (at a 0 operands))
-    (yields_both Any PC (at b 1 operands) (at c 2 operands) (yields_any (at b 1 operands)) (yields_at PC c 2 operands pc))))
+pub finds_if : {A : Type 0} (P : A → Type 0) (b : Bool) (o p : Option A) → (b ≡ true → Finds P o) → Finds P p → Finds P (if b then o else p)
+finds_if P true o p h k = h refl
+finds_if P false o p h k = k
+
+pub finds_both : {A B C : Type 0} (P : A → Type 0) (R : B → Type 0) (Q : C → Type 0) (f : A → B → C) (a : Option A) (b : Option B)
+    → ((x : A) (y : B) → P x → R y → Q (f x y)) → Finds P a → Finds R b → Finds Q (option_and_then (λ x. option_map (λ y. f x y) b) a)
+finds_both P R Q f None b go h k = tt
+finds_both P R Q f (Some x) None go h k = tt
+finds_both P R Q f (Some x) (Some y) go h k = go x y h k

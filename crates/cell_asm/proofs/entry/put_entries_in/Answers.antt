@@ -1,4 +1,4 @@
-use Rattle.std.proofs.Common.{◌≡◌, ◌<◌, true, length, sym, ap, ◌∙◌, arith}
+use Rattle.std.proofs.Common.{◌<◌, length, sym, ap, ◌∙◌, arith}
 use Rattle.cell_asm.specs.Places.{is_inside}
 use Rattle.cell_asm.proofs.Entered.{all_at, line_fits}
 use Rattle.cell_asm.proofs.entry.put_entries_in.Goals as goal

@@ -1,4 +1,4 @@
-use Rattle.std.proofs.Common.{◌≡◌, ◌<◌, ◌≤◌, length, sym, ap, ◌∙◌, arith}
+use Rattle.std.proofs.Common.{◌<◌, ◌≤◌, length, sym, ap, ◌∙◌, arith}
 use Rattle.cell_asm.specs.Uppers.{fix_lost_by}
 use Rattle.cell_asm.proofs.LabelLemmas.{any_found, any_passed, any_end}
 use Rattle.cell_asm.proofs.label.any_lost.Goals as goal

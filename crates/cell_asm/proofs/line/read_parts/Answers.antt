@@ -1,4 +1,4 @@
-use Rattle.std.proofs.Common.{ℕ, List, Bor, ◌≡◌, ◌<◌, ◌++◌, ◌∷◌, [], length, get_or, Ok, Some, None, ap, sym, ◌∙◌, arith}
+use Rattle.std.proofs.Common.{ℕ, List, Bor, ◌<◌, [], length, get_or, Ok, ap, sym, ◌∙◌, arith}
 use Rattle.std.specs.Prelude.{ok_or}
 use Rattle.cell_asm.specs.declared.kind.AsmKind.TheVariants.{Word}
 use Rattle.cell_asm.specs.Gathering.{more}

@@ -1,4 +1,4 @@
-use Rattle.std.proofs.Common.{◌≡◌, ◌++◌, ◌-◌, replicate}
+use Rattle.std.proofs.Common.{◌≡◌, ◌++◌, ◌-◌}
 use Rattle.cell_num.specs.Bits.{bytes_of}
 use Rattle.cell_asm.proofs.section.put_number.Given as goal
 

@@ -1,4 +1,4 @@
-use Rattle.std.proofs.Common.{ℕ, List, Bor, ◌≡◌, ◌+◌, ◌<◌, ◌++◌, ◌∷◌, [], map, drop, length, get_or, Ok, Err, ap, sym, subst, ◌∙◌, arith}
+use Rattle.std.proofs.Common.{ℕ, List, Bor, ◌≡◌, ◌+◌, ◌<◌, ◌∷◌, [], map, drop, length, get_or, Ok, Err, ap, sym, subst, ◌∙◌, arith}
 use Rattle.std.specs.List.{list_all}
 use Rattle.cell_asm.specs.Placing.{Places}
 use Rattle.cell_asm.specs.Places.{is_inside}
