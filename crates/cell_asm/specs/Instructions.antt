@@ -1,5 +1,5 @@
 -- The bytes of an instruction from its operands, and the entries for them.
---     instruction m operands      the pieces, or the earliest fault of the operands
+--     instruction m operands      its block, or the earliest fault of the operands
 -- An operand that lacks, or one too many, is a fault of the kind Operand; each operand that has a slot is read.
 use Rattle.std.specs.Prelude.{ℕ, ◌+◌, ◌*◌, ◌^◌, List, [], ◌∷◌, Some, None, unwrap_or, ℤ, pos, Result, Ok, Err}
 use Rattle.cell_num.specs.declared.kinds.RelKind.TheVariants as kinds
@@ -17,7 +17,9 @@ use Rattle.cell_asm.specs.declared.slot.Slot.{Slot}
 use Rattle.cell_asm.specs.declared.slot.Slot.TheVariants.{Rd, Rs1, Rs2, Value, Memory, Name, Address}
 use Rattle.cell_asm.specs.declared.instruction.Fields.{Fields}
 use Rattle.cell_asm.specs.declared.statement.Target.TheVariants.{Made}
+use Rattle.cell_asm.specs.declared.block.Block.{Block}
 use Rattle.cell_asm.specs.declared.statement.Piece.{Piece}
+use Rattle.cell_asm.specs.Blocks.{block}
 use Rattle.cell_asm.specs.Faults.{both, with_value}
 use Rattle.cell_asm.specs.Wanted.{register, name, address, value, memory, refers, plain, under}
 
@@ -95,5 +97,5 @@ pieces shapes.Call op f = call f ∷ []
 pieces shapes.LoadAddress op f = piece op f ∷ low_part f.rd ∷ []
 pieces _ op f = piece op f ∷ []
 
-abbrev pub instruction : Mnemonic → List Operand → Result (List Piece) AsmKind
-instruction m operands = with_value (λ fill. pieces m.shape m.op (fill (fixed m.shape))) (filled (slots m.shape) operands)
+abbrev pub instruction : Mnemonic → List Operand → Result Block AsmKind
+instruction m operands = with_value (λ fill. block (pieces m.shape m.op (fill (fixed m.shape)))) (filled (slots m.shape) operands)

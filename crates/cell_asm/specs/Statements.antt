@@ -18,10 +18,12 @@ use Rattle.cell_asm.specs.declared.operand.Operand.{Operand}
 use Rattle.cell_asm.specs.declared.operand.Operand.TheVariants.{Value, Plain}
 use Rattle.cell_asm.specs.declared.statement.Content.{Content}
 use Rattle.cell_asm.specs.declared.statement.Content.TheVariants.{Code, Narrow, Wide}
+use Rattle.cell_asm.specs.declared.block.Block.{Block}
 use Rattle.cell_asm.specs.declared.statement.Piece.{Piece}
 use Rattle.cell_asm.specs.declared.statement.Fix.{Fix}
 use Rattle.cell_asm.specs.declared.statement.Statement.{Statement}
 use Rattle.cell_asm.specs.declared.statement.Statement.TheVariants.{Choose, Global, Zeros, Align, Bytes}
+use Rattle.cell_asm.specs.Blocks.{block}
 use Rattle.cell_asm.specs.Faults.{with_value, each}
 use Rattle.cell_asm.specs.Mnemonics.{directive, mnemonic}
 use Rattle.cell_asm.specs.declared.directive.Layout.{Layout}
@@ -60,9 +62,9 @@ datum w (Plain e) = addressed w (layout_of w).address e
 datum w _ = Err faults.Operand
 
 -- one number or more
-abbrev pub numbers : Width → List Operand → Result (List Piece) AsmKind
+abbrev pub numbers : Width → List Operand → Result Block AsmKind
 numbers w [] = Err faults.Operand
-numbers w (o ∷ operands) = each (map (datum w) (o ∷ operands))
+numbers w (o ∷ operands) = with_value block (each (map (datum w) (o ∷ operands)))
 
 abbrev pub count : Operand → Result ℕ AsmKind
 count (Value (Number (pos n))) = Ok n
@@ -89,13 +91,13 @@ one read make _ = Err faults.Operand
 abbrev pub directed : Directive → List Operand → Result Statement AsmKind
 directed (directives.Choose part) operands = none (Choose part) operands
 directed directives.Global operands = one name (λ n. Global n) operands
-directed (directives.Numbers w) operands = with_value (λ pieces. Bytes (layout_of w).content pieces) (numbers w operands)
+directed (directives.Numbers w) operands = with_value (λ b. Bytes (layout_of w).content b) (numbers w operands)
 directed directives.Zeros operands = one count (λ n. Zeros n) operands
 directed directives.Align operands = one unit (λ n. Align n) operands
 
 abbrev pub instructed : Option Mnemonic → List Operand → Result Statement AsmKind
 instructed None operands = Err faults.Word
-instructed (Some m) operands = with_value (λ pieces. Bytes Code pieces) (instruction m operands)
+instructed (Some m) operands = with_value (λ b. Bytes Code b) (instruction m operands)
 
 abbrev pub worded : Option Directive → Option Mnemonic → List Operand → Result Statement AsmKind
 worded (Some d) m operands = directed d operands

@@ -4,17 +4,19 @@ ghost use Rattle.std.specs.Prelude.{◌≡◌, ◌≤◌, ◌<◌, OnOk};
 ghost use Rattle.cell_asm.specs.Wanted.{fix as fix_of};
 ghost use Rattle.cell_asm.specs.Outcome.{Gives};
 ghost use Rattle.cell_asm.specs.Statements.{layout as layout_by, layout_of as layout_with, stored as stored_of, filled as filled_of, addressed as addressed_of, datum as datum_of, numbers as numbers_of, count as count_of, unit as unit_of, directed as directed_of};
+ghost use Rattle.cell_asm.specs.Blocks.{block};
 ghost use Rattle.cell_asm.specs.Faults.{each, with_value};
 ghost use Rattle.cell_asm.specs.Gathering.{gathered, more};
 ghost use Rattle.cell_num.specs.Bits.{modulo_2};
 
+use crate::block::{Block, Draft};
 use crate::fault::{Stop, earlier, or_stop};
 use crate::kind::AsmKind;
 use crate::mnemonic::{Directive, Width};
 use crate::operand::{Expression, Immediate, Operand};
 use crate::statement::{Content, Fix, Piece, Statement};
 use crate::wanted::{fix, name, named, reference, within};
-use cell_num::{Listed, RelKind};
+use cell_num::RelKind;
 use std::alloc::{AllocError, Global};
 
 /// The most that `.align` takes: pages have 2^12 bytes.
@@ -120,10 +122,10 @@ fn datum<'a>(width: Width, operand: &Operand<'a>) -> Result<Piece<'a>, AsmKind>
     }
 }
 
-/// The pieces so far and one more, or the fault that is answered.
+/// What is read so far, or the fault that is answered.
 #[derive(Drop)]
 struct Gathered<'a> {
-    pieces: Vec<Piece<'a>>,
+    draft: Draft<'a>,
     fault: Option<AsmKind>,
 }
 
@@ -133,7 +135,7 @@ impl<'a> Gathered<'a> {
         ensures { OnOk result (gathered self.new ≡ more (gathered self.old) piece.entry) }
     {
         match piece {
-            Ok(piece) => self.pieces.push(piece)?,
+            Ok(piece) => self.draft.add(piece)?,
             Err(kind) => {
                 self.fault = match self.fault {
                     Some(first) => Some(earlier(first, kind)),
@@ -146,18 +148,14 @@ impl<'a> Gathered<'a> {
 }
 
 /// One number or more.
-fn numbers<'a>(
-    alloc: Global,
-    width: Width,
-    operands: &[Operand<'a>],
-) -> Result<Listed<Piece<'a>>, Stop>
+fn numbers<'a>(alloc: Global, width: Width, operands: &[Operand<'a>]) -> Result<Block<'a>, Stop>
     ensures { Gives result (numbers_of width operands.now) }
 {
     if operands.is_empty() {
         return Err(Stop::Fault(AsmKind::Operand));
     }
     let mut gathered = Gathered {
-        pieces: Vec::new(alloc),
+        draft: Draft::new(alloc),
         fault: None,
     };
     for operand in operands {
@@ -165,7 +163,7 @@ fn numbers<'a>(
     }
     match gathered.fault {
         Some(kind) => Err(Stop::Fault(kind)),
-        None => Ok(Listed::from_vec(gathered.pieces)),
+        None => Ok(gathered.draft.finished()),
     }
 }
 
@@ -202,8 +200,8 @@ pub fn directed<'a>(
     match (directive, operands) {
         (Directive::Choose(part), []) => Ok(Statement::Choose(part)),
         (Directive::Numbers(width), _) => {
-            let pieces = numbers(alloc, width, operands)?;
-            Ok(Statement::Bytes(layout_of(width).content, pieces))
+            let block = numbers(alloc, width, operands)?;
+            Ok(Statement::Bytes(layout_of(width).content, block))
         }
         (Directive::Global, [operand]) => Ok(Statement::Global(or_stop(name(operand))?)),
         (Directive::Zeros, [operand]) => Ok(Statement::Zeros(or_stop(count(operand))?)),

@@ -1,10 +1,12 @@
 //! The words of an instruction from its operands, and the entries for them.
 
 ghost use Rattle.std.specs.Prelude.{◌≡◌, length, IfOk};
+ghost use Rattle.cell_asm.specs.Blocks.{block};
 ghost use Rattle.cell_asm.specs.Faults.{with_value};
 ghost use Rattle.cell_asm.specs.Outcome.{Gives};
-ghost use Rattle.cell_asm.specs.Instructions.{slots as slots_of, fields as fields_of, fixed as fixed_of, put as put_of, filled, word as word_of, piece as piece_of, call as call_of, low_part as low_part_of, pieces as pieces_of, instruction as instruction_of};
+ghost use Rattle.cell_asm.specs.Instructions.{slots as slots_of, fields as fields_of, fixed as fixed_of, put as put_of, filled, word as word_of, piece as piece_of, call as call_of, low_part as low_part_of, pieces, instruction as instruction_of};
 
+use crate::block::{Block, Draft};
 use crate::fault::{Stop, earlier};
 use crate::kind::AsmKind;
 use crate::mnemonic::{Mnemonic, Shape};
@@ -13,7 +15,7 @@ use crate::slot::{Form, Slot};
 use crate::statement::{Field, Fix, Piece, Target};
 use crate::wanted::{address, memory, name, named, plain, register, under, value};
 use cell_isa::{Insn, Op, encode};
-use cell_num::{Listed, RelKind};
+use cell_num::RelKind;
 use std::alloc::{AllocError, Global};
 
 /// ra, the register of return addresses
@@ -188,24 +190,20 @@ fn low_part<'a>(rd: u8) -> Piece<'a>
 }
 
 /// The instructions of a row with these fields.
-fn pieces<'a>(
-    alloc: Global,
-    mnemonic: Mnemonic,
-    fields: Fields<'a>,
-) -> Result<Listed<Piece<'a>>, AllocError>
-    ensures { IfOk result (λ list. list ≡ pieces_of mnemonic.shape mnemonic.op fields.entry) }
+fn code<'a>(alloc: Global, mnemonic: Mnemonic, fields: Fields<'a>) -> Result<Block<'a>, AllocError>
+    ensures { IfOk result (λ b. b ≡ block (pieces mnemonic.shape mnemonic.op fields.entry)) }
 {
-    let mut list = Vec::new(alloc);
+    let mut draft = Draft::new(alloc);
     match mnemonic.shape {
-        Shape::Call => list.push(call(fields))?,
+        Shape::Call => draft.add(call(fields))?,
         Shape::LoadAddress => {
             let rd = fields.rd;
-            list.push(piece(mnemonic.op, fields))?;
-            list.push(low_part(rd))?;
+            draft.add(piece(mnemonic.op, fields))?;
+            draft.add(low_part(rd))?;
         }
-        _ => list.push(piece(mnemonic.op, fields))?,
+        _ => draft.add(piece(mnemonic.op, fields))?,
     }
-    Ok(Listed::from_vec(list))
+    Ok(draft.finished())
 }
 
 /// The instruction of these operands.
@@ -213,12 +211,12 @@ pub fn instruction<'a>(
     alloc: Global,
     mnemonic: Mnemonic,
     operands: &[Operand<'a>],
-) -> Result<Listed<Piece<'a>>, Stop>
+) -> Result<Block<'a>, Stop>
     ensures { Gives result (instruction_of mnemonic operands.now) }
 {
     let shape = mnemonic.shape;
     match fill(slots(shape), operands, fixed(shape)) {
-        Ok(fields) => Ok(pieces(alloc, mnemonic, fields)?),
+        Ok(fields) => Ok(code(alloc, mnemonic, fields)?),
         Err(kind) => Err(Stop::Fault(kind)),
     }
 }

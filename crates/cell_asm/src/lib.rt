@@ -1,6 +1,7 @@
 //! The assembler: a source in, an object or the first fault out.
 #![tactic(auto)]
 
+mod block;
 mod directive;
 mod entry;
 mod fault;
@@ -29,6 +30,7 @@ pub use kind::{AsmFail, AsmKind};
 pub use source::assemble;
 
 // What the definitions speak of, so that laws over them can name it.
+pub use block::{Block, Mark};
 pub use instruction::Fields;
 pub use laid::{Key, Label, Laid};
 pub use mnemonic::{Directive, Mnemonic, Shape, Width};

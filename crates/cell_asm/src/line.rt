@@ -218,6 +218,6 @@ fn instructed<'a>(
     let Some(mnemonic) = mnemonic else {
         return Err(Stop::Fault(AsmKind::Word));
     };
-    let pieces = instruction(alloc, mnemonic, operands)?;
-    Ok(Statement::Bytes(Content::Code, pieces))
+    let block = instruction(alloc, mnemonic, operands)?;
+    Ok(Statement::Bytes(Content::Code, block))
 }
