@@ -13,10 +13,10 @@ use Rattle.cell_asm.proofs.SizesFit.{few_symbols, headers_fit, locals_fit, texts
 use Rattle.cell_asm.proofs.Grouped.{entries_grouped}
 use Rattle.cell_asm.proofs.WritableEntries.{entry_storable, entry_writable}
 
-below_32 : (n : ℕ) → n ≤ 3145731 → n < 2 ^ 32
+below_32 : (n : ℕ) → n ≤ 2290089984 → n < 2 ^ 32
 below_32 n h = omega (arith, h)
 
-lines_writable : (source : List ℕ) (lines : List Laid) → placed_lines source ≡ Ok lines → find (has_lost lines) lines ≡ None → length source ≤ 1048576 → IsWritable (object_of lines)
+lines_writable : (source : List ℕ) (lines : List Laid) → placed_lines source ≡ Ok lines → find (has_lost lines) lines ≡ None → length source < 2 ^ 31 → IsWritable (object_of lines)
 lines_writable source lines read kept h = record {
   sections = sections_fit source lines read;
   symbols = symbols_fit source lines read;
@@ -30,7 +30,7 @@ lines_writable source lines read kept h = record {
   size = size_fits source lines read h;
 }
 
-pub assembled_fits : (source : List ℕ) (o : Object) → assembled source ≡ Ok o → length source ≤ 1048576 → IsWritable o
+pub assembled_fits : (source : List ℕ) (o : Object) → assembled source ≡ Ok o → length source < 2 ^ 31 → IsWritable o
 assembled_fits source o e h =
     let r : IsRead source o = read_lines source o e in
     subst IsWritable (sym r.made) (lines_writable source r.lines r.read r.kept h)

@@ -1,21 +1,42 @@
--- How many labels and names a source has.
---     few_names source lines      three for each byte and three more, at most
-use Rattle.std.proofs.Common.{◌≡◌, ℕ, suc, ◌+◌, ◌*◌, ◌≤◌, Bool, true, false, List, [], ◌∷◌, ◌++◌, length, Result, Ok, Err, Some, None, refl, subst, sym, length-append, arith}
-use Rattle.std.specs.Prelude.{Option, if◌then◌else◌}
+-- How many bytes the names of a source's symbols take.
+--     symbols_cost source lines
+use Rattle.std.proofs.Common.{◌≡◌, ℕ, suc, ◌+◌, ◌*◌, ◌≤◌, Bool, true, false, cond, not, List, [], ◌∷◌, ◌++◌, map, length, codes, Result, Ok, Err, Some, None, inl, inr, refl, subst, sym, ap, ◌∙◌, zero-add, true≢false, arith}
+use Rattle.std.specs.Prelude.{Option, if◌then◌else◌, decimal, filter, flat_map, is_none, sum_by}
+use Rattle.std.proofs.lemmas.Bool.{and_parts}
+use Rattle.std.proofs.lemmas.List.{map-append}
+use Rattle.std.proofs.lemmas.List.Elements.{filter-append}
+use Rattle.std.proofs.lemmas.List.Sums.{sum_by-cons}
+use Rattle.cell_num.specs.Kinds.{is_pcrel_hi20}
 use Rattle.cell_text.specs.Text.{onto, pieces, lines_in}
+use Rattle.cell_object.specs.declared.object.Symbol.{Symbol}
+use Rattle.cell_asm.specs.declared.block.Mark.{Mark}
 use Rattle.cell_asm.specs.declared.kind.AsmKind.{AsmKind}
 use Rattle.cell_asm.specs.declared.statement.Part.{Part}
+use Rattle.cell_asm.specs.declared.statement.Part.TheVariants.{Text}
+use Rattle.cell_asm.specs.declared.statement.Statement.{Statement}
+use Rattle.cell_asm.specs.declared.statement.Statement.TheVariants.{Nothing, Choose, Global, Zeros, Align, Bytes}
 use Rattle.cell_asm.specs.declared.statement.Line.{Line}
 use Rattle.cell_asm.specs.declared.laid.Laid.{Laid}
+use Rattle.cell_asm.specs.declared.laid.Label.{Label}
 use Rattle.cell_asm.specs.declared.laid.Key.{Key}
-use Rattle.cell_asm.specs.declared.laid.Key.TheVariants.{Made}
+use Rattle.cell_asm.specs.declared.laid.Key.TheVariants.{Named, Made}
 use Rattle.cell_asm.specs.Lines.{line_of}
-use Rattle.cell_asm.specs.Places.{placed, fault_at, makes_label, own_key, made_key, keys_of, label, labels_at, labels}
-use Rattle.cell_asm.specs.Objects.{mentions}
+use Rattle.cell_asm.specs.Places.{is_same_part, is_at, is_in, placed, fault_at, is_made, makes_label, may_stand, lays_nothing, taken, size_in, own_key, made_key, keys_of, label, labels_at, labels}
+use Rattle.cell_asm.specs.Objects as objects
+use Rattle.cell_asm.specs.Objects.{marks_in, globals, local_labels, label_names, statement_names, mentions, is_key, holds_key, other_names, key_name, local_symbol, global_symbol, symbols}
 use Rattle.cell_asm.specs.Assembled.{with_line, placed_line, placed_unless, placed_lines}
 use Rattle.cell_asm.proofs.SourceLemmas.{placed_from, after_fault}
-use Rattle.cell_asm.proofs.Tallies.{total, total-append, flat_length, mapped_length}
-use Rattle.cell_asm.proofs.NamedOperands.{cost}
+use Rattle.cell_asm.proofs.Members.{In, In-left, filter-In, any-In, In-any}
+use Rattle.cell_asm.proofs.Tallies.{total, total-append, total-map, total_split, fold_total}
+use Rattle.cell_asm.proofs.NamedOperands.{cost, cost-append}
+use Rattle.cell_asm.proofs.NamesFit.{made_short}
+use Rattle.cell_asm.proofs.GoodBlocks.{is_code}
+use Rattle.cell_asm.proofs.LineEntries.{content_of, statement_marks, statement_taken, none_laid}
+use Rattle.cell_asm.proofs.Standing.{IsStanding, all_stand}
+use Rattle.cell_asm.proofs.Unique.{key_itself}
+use Rattle.cell_asm.proofs.Counts.{section_fits}
+use Rattle.cell_asm.proofs.Paired.{hi20_code, in_labels, made_head}
+use Rattle.cell_asm.proofs.SymbolsFit.{names_apart}
 use Rattle.cell_asm.proofs.ReadLines.{line_names, read_line}
 
 -- WHAT LINES COST, BY THEIR TEXTS
@@ -91,86 +112,170 @@ pieces_room test (b ∷ bs) = pieces_by (test b) b (length bs) (pieces test bs) 
 lines_room : (source : List ℕ) → total room (lines_in source) ≤ length source + 1
 lines_room source = pieces_room _ source
 
-three_more : (r t s : ℕ) → s ≡ 3 * t → 3 * r + s ≡ 3 * (r + t)
-three_more r t s e = omega (arith, e)
+-- NAMES
 
-three_times : (texts : List (List ℕ)) → total (λ t. 3 * room t) texts ≡ 3 * total room texts
-three_times [] = refl
-three_times (text ∷ texts) = three_more (room text) (total room texts) (total (λ t. 3 * room t) texts) (three_times texts)
+cost_flat : {X : Type 0} (g : X → List (List ℕ)) (xs : List X) → cost (flat_map g xs) ≡ total (λ x. cost (g x)) xs
+cost_flat g [] = refl
+cost_flat g (x ∷ xs) = cost-append (g x) (flat_map g xs) ∙ ap (λ n. cost (g x) + n) (cost_flat g xs)
 
--- LABELS AND NAMES
+one_room : (n m : ℕ) → n ≤ suc m → n ≤ m + 1
+one_room n m h = omega (arith, h)
 
-zero_least : (n : ℕ) → 0 ≤ n
-zero_least n = omega arith
+names_by : (a b c d e : ℕ) → a ≡ b → b ≤ 0 + c → c ≤ d + 1 → a ≤ d + 1
+names_by a b c d e p h k = omega (arith, p, h, k)
 
-abbrev cost_of : Laid → ℕ
-cost_of l = 2 + length (line_names l.line)
+-- the names that the lines mention take no more bytes than the source and one
+pub mentions_cost : (source : List ℕ) (lines : List Laid) → placed_lines source ≡ Ok lines → cost (mentions lines) ≤ length source + 1
+mentions_cost source lines e =
+    names_by (cost (mentions lines)) (total (λ l. cost (line_names l.line)) lines) (total room (lines_in source)) (length source) 0
+    (cost_flat (λ l. line_names l.line) lines)
+    (from (λ l. cost (line_names l.line)) room (λ before n text line r. one_room (cost (line_names line)) (length text) (read_line text line r).names.few) [] 1 (lines_in source) lines e)
+    (lines_room source)
 
-count_le : (ns : List (List ℕ)) → length ns ≤ cost ns
-count_le [] = zero_least 0
-count_le (n ∷ ns) = more (length ns) (cost ns) (length n) (count_le ns)
-  where
-    more : (a b c : ℕ) → a ≤ b → suc a ≤ suc c + b
-    more a b c h = omega (arith, h)
+-- LABELS THAT ARE MADE
 
-within_three : (n m t : ℕ) → n ≤ m → m ≤ suc t → 2 + n ≤ 3 * (t + 1)
-within_three n m t h k = omega (arith, h, k)
+abbrev makes : Laid → ℕ
+makes l = if makes_label l.line.statement then 1 else 0
 
-cost_bounded : IsBounded cost_of (λ t. 3 * room t)
-cost_bounded before n text line e =
-    within_three (length (line_names line)) (cost (line_names line)) (length text) (count_le (line_names line)) (read_line text line e).names.few
+-- a label is made at an entry, in .text alone
+record IsMaking (l : Laid) : Type 0 where
+  in_text : is_in Text l ≡ true
+  entered : 1 ≤ length (marks_in l.line.statement)
 
-zero_one : 0 ≤ 1
-zero_one = omega arith
+some_there : (marks : List Mark) (m : Mark) → In m marks → 1 ≤ length marks
+some_there [] m k = absurd k
+some_there (n ∷ marks) m k = omega arith
 
-one_one : 1 ≤ 1
-one_one = omega arith
+made_mark : (s : Statement) → makes_label s ≡ true → (m : Mark) × In m (marks_in s) × (is_made m.fix.target ≡ true)
+made_mark (Bytes content b) t = any-In (λ m. is_made m.fix.target) b.marks t
+made_mark Nothing t = absurd cc
+made_mark (Choose part) t = absurd cc
+made_mark (Global name) t = absurd cc
+made_mark (Zeros n) t = absurd cc
+made_mark (Align unit) t = absurd cc
 
-own_few : (o : Option (List ℕ)) → length (own_key o) ≤ 1
-own_few None = zero_one
-own_few (Some name) = one_one
+in_text_by : (o : Option Part) (line : Line) (m : Mark) → may_stand o line ≡ true → In m (marks_in line.statement) → is_code (content_of line.statement) ≡ true → is_at Text o ≡ true
+in_text_by None line m t k code = absurd (none_laid line.statement m (and_parts (is_none line.label) (lays_nothing line.statement) t).1 k)
+in_text_by (Some part) line m t k code = ap (is_same_part Text) ((statement_taken part line.statement m t k).coded code)
 
-made_few : (b : Bool) (n : ℕ) → length (if b then Made n ∷ [] else []) ≤ 1
-made_few true n = one_one
-made_few false n = zero_one
+making : (l : Laid) → IsStanding l → makes_label l.line.statement ≡ true → IsMaking l
+making l s t =
+    let st : Statement = l.line.statement in
+    let r : (m : Mark) × In m (marks_in st) × (is_made m.fix.target ≡ true) = made_mark st t in
+    let u : (m : Mark) × In m (marks_in st) × (is_pcrel_hi20 m.fix.kind ≡ true) = any-In (λ m. is_pcrel_hi20 m.fix.kind) (marks_in st) (made_head st r.0 s.good r.1 r.2) in
+    record {
+      in_text = in_text_by l.part l.line u.0 s.stands u.1 (sym ((statement_marks st l.offset s.good).fixes u.0 u.1).code ∙ hi20_code u.0.fix.kind u.2);
+      entered = some_there (marks_in st) r.0 r.1;
+    }
 
-both_few : (a b c : ℕ) → c ≡ a + b → a ≤ 1 → b ≤ 1 → c ≤ 2
-both_few a b c e h k = omega (arith, e, h, k)
+many : (m n t : ℕ) → 1 ≤ n → n ≤ 2 * t → 1 ≤ 2 * t
+many m n t h k = omega (arith, h, k)
 
-keys_few : (l : Laid) → length (keys_of l) ≤ 2
-keys_few l =
-    both_few (length (own_key l.line.label)) (length (made_key l.line.statement l.made)) (length (keys_of l)) (length-append (own_key l.line.label) (made_key l.line.statement l.made))
-    (own_few l.line.label) (made_few (makes_label l.line.statement) l.made)
+-- so many labels a line makes in .text
+line_makes : (l : Laid) (b : Bool) → makes_label l.line.statement ≡ b → IsStanding l → (if b then 1 else 0) ≤ 2 * (if is_in Text l then taken l.line.statement l.offset else 0)
+line_makes l true e s =
+    let m : IsMaking l = making l s e in
+    subst (λ c. 1 ≤ 2 * (if c then taken l.line.statement l.offset else 0)) (sym m.in_text)
+    (many 1 (length (marks_in l.line.statement)) (taken l.line.statement l.offset) m.entered (statement_marks l.line.statement l.offset s.good).few)
+line_makes l false e s = omega arith
 
-zero_two : 0 ≤ 2
-zero_two = omega arith
+text_taken : (b : Bool) (l : Laid) (ls : List Laid) → sum_by (λ m. taken m.line.statement m.offset) (cond b (l ∷ ls) ls) ≡ (if b then taken l.line.statement l.offset else 0) + sum_by (λ m. taken m.line.statement m.offset) ls
+text_taken true l ls = sum_by-cons (λ m. taken m.line.statement m.offset) l ls
+text_taken false l ls = sym (zero-add (sum_by (λ m. taken m.line.statement m.offset) ls))
 
-labels_few : (o : Option Part) (offset : ℕ) (keys : List Key) → length keys ≤ 2 → length (labels_at o offset keys) ≤ 2
-labels_few None offset keys h = zero_two
-labels_few (Some part) offset keys h = subst (λ n. n ≤ 2) (sym (mapped_length (label part offset) keys)) h
+makes_more : (a b c d e : ℕ) → a ≤ 2 * b → c ≤ 2 * d → e ≡ b + d → a + c ≤ 2 * e
+makes_more a b c d e h k is = omega (arith, h, k, is)
 
-added : (a b c d e : ℕ) → a ≤ 2 → b + c ≤ d → (a + b) + (e + c) ≤ (2 + e) + d
-added a b c d e h k = omega (arith, h, k)
+makes_few : (ls : List Laid) → ((l : Laid) → In l ls → IsStanding l) → total makes ls ≤ 2 * size_in Text ls
+makes_few [] h = omega arith
+makes_few (l ∷ ls) h =
+    makes_more (makes l) (if is_in Text l then taken l.line.statement l.offset else 0) (total makes ls) (size_in Text ls) (size_in Text (l ∷ ls))
+    (line_makes l (makes_label l.line.statement) refl (h l (inl refl))) (makes_few ls (λ m k. h m (inr k))) (text_taken (is_in Text l) l (filter (is_in Text) ls))
 
-abbrev labels_of : Laid → ℕ
-labels_of l = length (labels_at l.part l.offset (keys_of l))
+-- LOCAL LABELS
 
-abbrev names_of : Laid → ℕ
-names_of l = length (line_names l.line)
+abbrev label_cost : Label → ℕ
+label_cost x = suc (length (key_name x.key))
 
-no_cost : 0 + 0 ≤ 0
-no_cost = omega arith
+module _ (lines : List Laid) where
+  abbrev is_local : Label → Bool
+  is_local x = not (objects.is_global (globals lines) x.key)
 
-both_cost : (lines : List Laid) → total labels_of lines + total names_of lines ≤ total cost_of lines
-both_cost [] = no_cost
-both_cost (l ∷ lines) =
-    added (labels_of l) (total labels_of lines) (total names_of lines) (total cost_of lines) (names_of l) (labels_few l.part l.offset (keys_of l) (keys_few l)) (both_cost lines)
+  -- the name of a LOCAL label
+  abbrev is_own : List ℕ → Bool
+  is_own name = holds_key (local_labels lines) (Named name)
 
-in_all : (a b c d e f g s : ℕ) → a ≡ c → b ≡ d → c + d ≤ e → e ≤ 0 + f → f ≡ 3 * g → g ≤ s + 1 → a + b ≤ 3 * (s + 1)
-in_all a b c d e f g s p q h k r l = omega (arith, p, q, h, k, r, l)
+  own_there : (x : Label) (name : List ℕ) → In x (labels lines) → x.key ≡ Named name → is_local x ≡ true → is_own name ≡ true
+  own_there x name k e t = In-any (λ y. is_key y.key (Named name)) (local_labels lines) x (filter-In is_local (labels lines) x k t) (subst (λ q. is_key q (Named name) ≡ true) (sym e) (key_itself (Named name)))
 
-pub few_names : (source : List ℕ) (lines : List Laid) → placed_lines source ≡ Ok lines → length (labels lines) + length (mentions lines) ≤ 3 * (length source + 1)
-few_names source lines e =
-    in_all (length (labels lines)) (length (mentions lines)) (total labels_of lines) (total names_of lines) (total cost_of lines) (total (λ t. 3 * room t) (lines_in source)) (total room (lines_in source)) (length source)
-    (flat_length (λ l. labels_at l.part l.offset (keys_of l)) lines) (flat_length (λ l. line_names l.line) lines) (both_cost lines)
-    (from cost_of (λ t. 3 * room t) cost_bounded [] 1 (lines_in source) lines e) (three_times (lines_in source)) (lines_room source)
+  own_by : (x : Label) (name : List ℕ) (t p : Bool) → x.key ≡ Named name → (t ≡ true → p ≡ true) → total label_cost (cond t (x ∷ []) []) ≤ cost (cond p (name ∷ []) [])
+  own_by x name true true e h = subst (λ q. suc (length (key_name q)) + 0 ≤ suc (length name) + 0) (sym e) (itself (suc (length name) + 0))
+    where
+      itself : (n : ℕ) → n ≤ n
+      itself n = omega arith
+  own_by x name true false e h = absurd (true≢false (sym (h refl)))
+  own_by x name false p e h = omega arith
+
+  own_cost : (part : Part) (offset : ℕ) (o : Option (List ℕ)) → ((k : Key) → In k (own_key o) → In (label part offset k) (labels lines))
+      → total label_cost (filter is_local (map (label part offset) (own_key o))) ≤ cost (filter is_own (label_names o))
+  own_cost part offset None h = omega arith
+  own_cost part offset (Some name) h =
+      own_by (label part offset (Named name)) name (is_local (label part offset (Named name))) (is_own name) refl (own_there (label part offset (Named name)) name (h (Named name) (inl refl)) refl)
+
+  made_by : (part : Part) (offset n : ℕ) (b : Bool) → total label_cost (filter is_local (map (label part offset) (if b then Made n ∷ [] else []))) ≤ 68 * (if b then 1 else 0)
+  made_by part offset n true = let d : length (codes ".La" ++ decimal n) ≤ 67 = made_short n in omega (arith, d)
+  made_by part offset n false = omega arith
+
+  both_cost : (a b c d e f g : ℕ) → a ≡ b + c → b ≤ d → c ≤ 68 * e → f ≡ d + g → a ≤ f + 68 * e
+  both_cost a b c d e f g p h k q = omega (arith, p, h, k, q)
+
+  none_cost : (a b : ℕ) → 0 ≤ a + 68 * b
+  none_cost a b = omega arith
+
+  line_cost : (o : Option Part) (l : Laid) → ((part : Part) → o ≡ Some part → (k : Key) → In k (keys_of l) → In (label part l.offset k) (labels lines))
+      → total label_cost (filter is_local (labels_at o l.offset (keys_of l))) ≤ cost (filter is_own (line_names l.line)) + 68 * makes l
+  line_cost None l h = none_cost (cost (filter is_own (line_names l.line))) (makes l)
+  line_cost (Some part) l h =
+      let own : List Key = own_key l.line.label in
+      let made : List Key = made_key l.line.statement l.made in
+      both_cost (total label_cost (filter is_local (map (label part l.offset) (own ++ made)))) (total label_cost (filter is_local (map (label part l.offset) own))) (total label_cost (filter is_local (map (label part l.offset) made)))
+      (cost (filter is_own (label_names l.line.label))) (makes l) (cost (filter is_own (line_names l.line))) (cost (filter is_own (statement_names l.line.statement)))
+      (ap (λ xs. total label_cost (filter is_local xs)) (map-append (label part l.offset) own made) ∙ ap (total label_cost) (filter-append is_local (map (label part l.offset) own) (map (label part l.offset) made))
+      ∙ total-append label_cost (filter is_local (map (label part l.offset) own)) (filter is_local (map (label part l.offset) made)))
+      (own_cost part l.offset l.line.label (λ k i. h part refl k (In-left own made k i))) (made_by part l.offset l.made (makes_label l.line.statement))
+      (ap cost (filter-append is_own (label_names l.line.label) (statement_names l.line.statement)) ∙ cost-append (filter is_own (label_names l.line.label)) (filter is_own (statement_names l.line.statement)))
+
+  more_cost : (a b c d e f g h m : ℕ) → a ≡ b + c → b ≤ d + 68 * e → c ≤ f + 68 * g → h ≡ d + f → a ≤ h + 68 * (e + g)
+  more_cost a b c d e f g h m p q r s = omega (arith, p, q, r, s)
+
+  labels_cost : (ls : List Laid) → ((l : Laid) → In l ls → In l lines)
+      → total label_cost (filter is_local (labels ls)) ≤ cost (filter is_own (mentions ls)) + 68 * total makes ls
+  labels_cost [] h = omega arith
+  labels_cost (l ∷ ls) h =
+      more_cost (total label_cost (filter is_local (labels (l ∷ ls)))) (total label_cost (filter is_local (labels_at l.part l.offset (keys_of l)))) (total label_cost (filter is_local (labels ls)))
+      (cost (filter is_own (line_names l.line))) (makes l) (cost (filter is_own (mentions ls))) (total makes ls) (cost (filter is_own (mentions (l ∷ ls)))) 0
+      (ap (total label_cost) (filter-append is_local (labels_at l.part l.offset (keys_of l)) (labels ls)) ∙ total-append label_cost (filter is_local (labels_at l.part l.offset (keys_of l))) (filter is_local (labels ls)))
+      (line_cost l.part l (λ part e k i. in_labels lines l part k (h l (inl refl)) e i)) (labels_cost ls (λ m k. h m (inr k)))
+      (ap cost (filter-append is_own (line_names l.line) (mentions ls)) ∙ cost-append (filter is_own (line_names l.line)) (filter is_own (mentions ls)))
+
+-- ALL SYMBOLS
+
+abbrev pub symbol_cost : Symbol → ℕ
+symbol_cost s = suc (length s.name)
+
+symbols_total : (lines : List Laid) → total symbol_cost (symbols lines) ≡ total label_cost (local_labels lines) + cost (other_names lines)
+symbols_total lines =
+    total-append symbol_cost (map (local_symbol lines) (local_labels lines)) (map (global_symbol lines) (other_names lines))
+    ∙ ap (λ n. n + total symbol_cost (map (global_symbol lines) (other_names lines))) (total-map symbol_cost (local_symbol lines) (local_labels lines))
+    ∙ ap (λ n. total label_cost (local_labels lines) + n) (total-map symbol_cost (global_symbol lines) (other_names lines))
+
+all_cost : (a b c d e f g s m n : ℕ) → a ≡ b + c → b ≤ d + 68 * e → c ≤ 0 + f → d + f ≡ g → g ≤ s + 1 → e ≤ 2 * n → n ≤ 1048576 → a ≤ s + 142606337
+all_cost a b c d e f g s m n p q r t u v w = omega (arith, p, q, r, t, u, v, w)
+
+-- the names of the symbols take no more bytes than the source and what labels that are made take
+pub symbols_cost : (source : List ℕ) (lines : List Laid) → placed_lines source ≡ Ok lines → total symbol_cost (symbols lines) ≤ length source + 142606337
+symbols_cost source lines e =
+    all_cost (total symbol_cost (symbols lines)) (total label_cost (local_labels lines)) (cost (other_names lines)) (cost (filter (is_own lines) (mentions lines))) (total makes lines) (cost (filter (λ n. not (is_own lines n)) (mentions lines)))
+    (cost (mentions lines)) (length source) 0 (size_in Text lines) (symbols_total lines) (labels_cost lines lines (λ l k. k))
+    (fold_total names_apart (λ n. suc (length n)) [] (filter (λ n. not (is_own lines n)) (mentions lines))) (total_split (λ n. suc (length n)) (is_own lines) (mentions lines))
+    (mentions_cost source lines e) (makes_few lines (all_stand source lines e)) (section_fits source lines Text e)

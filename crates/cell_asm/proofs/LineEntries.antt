@@ -16,7 +16,7 @@ use Rattle.cell_asm.specs.declared.statement.Content.TheVariants.{Code, Narrow, 
 use Rattle.cell_asm.specs.declared.statement.Statement.{Statement}
 use Rattle.cell_asm.specs.declared.statement.Statement.TheVariants.{Nothing, Choose, Global, Zeros, Align, Bytes}
 use Rattle.cell_asm.specs.declared.laid.Laid.{Laid}
-use Rattle.cell_asm.specs.Places.{taken, takes}
+use Rattle.cell_asm.specs.Places.{taken, takes, lays_nothing}
 use Rattle.cell_asm.specs.Objects.{part_number, symbol_number, target_key, marks_in, entry_of, entries_of}
 use Rattle.cell_asm.proofs.Members.{In, In-map}
 use Rattle.cell_asm.proofs.GoodBlocks.{is_code, IsGoodFix, AreApart, AllApart, AreMarks, no_marks, IsGoodStatement}
@@ -60,6 +60,15 @@ statement_taken part (Global name) m t k = absurd k
 statement_taken part (Zeros n) m t k = absurd k
 statement_taken part (Align unit) m t k = absurd k
 statement_taken part (Bytes content b) m t k = bytes_taken part content b t
+
+-- what lays nothing has no entries
+pub none_laid : (s : Statement) (m : Mark) → lays_nothing s ≡ true → In m (marks_in s) → ⊥
+none_laid Nothing m e k = k
+none_laid (Choose part) m e k = k
+none_laid (Global name) m e k = k
+none_laid (Zeros n) m e k = k
+none_laid (Align unit) m e k = k
+none_laid (Bytes content b) m e k = true≢false (sym e)
 
 -- THE ENTRIES OF A LINE
 

@@ -17,7 +17,8 @@ use Rattle.cell_asm.proofs.Growth.{Goes, grows}
 use Rattle.cell_asm.proofs.Members.{In, In-append, In-left, In-flat, In-map}
 use Rattle.cell_asm.proofs.Chosen.{part_there}
 use Rattle.cell_asm.proofs.Held.{IsHeld, all_held}
-use Rattle.cell_asm.proofs.NamesFit.{IsFitName, key_fits}
+use Rattle.cell_object.specs.Writable.{IsPlain}
+use Rattle.cell_asm.proofs.NamesFit.{key_fits}
 use Rattle.cell_asm.proofs.ReadLines.{line_names, read_line}
 use Rattle.cell_asm.proofs.NamedOperands.{AreNames}
 
@@ -50,7 +51,7 @@ all_named source lines e n k =
 pub record IsFitLabel (lines : List Laid) (l : Label) : Type 0 where
   pub chosen : list_any (is_same_part l.part) (parts_of lines) ≡ true
   pub inside : l.offset ≤ size_in l.part lines
-  pub name : IsFitName (key_name l.key)
+  pub name : IsPlain (key_name l.key)
 
 -- the name of a key is the label of its line
 own_named : (o : Option (List ℕ)) (key : Key) (name : List ℕ) → In key (own_key o) → key ≡ Named name → In name (label_names o)

@@ -85,12 +85,8 @@ first_three true false c d e f h = absurd cc
 first_three false b c d e f h = absurd cc
 
 -- a name that a symbol can have
-pub record IsFitName (name : List ℕ) : Type 0 where
-  pub plain : IsPlain name
-  pub short : length name ≤ 1024
-
 pub record IsGoodName (name : List ℕ) : Type 0 where
-  pub fits : IsFitName name
+  pub plain : IsPlain name
   pub some : 1 ≤ length name
   pub good : is_global_name name ≡ true
 
@@ -102,9 +98,8 @@ name_fits name e =
     let p : (nat_lt 0 (length name) ≡ true) × (nat_le (length name) 1024 ≡ true) × (list_all is_name_byte name ≡ true) =
     first_three (nat_lt 0 (length name)) (nat_le (length name) 1024) (list_all is_name_byte name) (not (begins_with_digit name)) (not (begins name (codes ".La"))) (not (ends name (codes ":"))) e in
     let some : 0 < length name = ltb-true 0 (length name) p.0 in
-    let short : length name ≤ 1024 = leb-true (length name) 1024 p.1 in
     record {
-      fits = record { plain = plain_bytes name p.2; short = short };
+      plain = plain_bytes name p.2;
       some = omega (arith, some);
       good = global_name_by (nat_le 1 (length name)) (nat_le (length name) 1024) (list_all object_names.is_name_byte name) (le-leb 1 (length name) (omega (arith, some))) p.1 (printing name p.2);
     }
@@ -148,11 +143,12 @@ decimal_short : (n : ℕ) → IsShort 64 [] (decimal n)
 unfolding digits
 decimal_short n = digits_short 64 10 false n [] refl
 
-pub made_fits : (n : ℕ) → IsFitName (codes ".La" ++ decimal n)
-made_fits n =
-    let d : IsShort 64 [] (decimal n) = decimal_short n in
-    record { plain = d.0; short = omega (arith, d.1) }
+pub made_fits : (n : ℕ) → IsPlain (codes ".La" ++ decimal n)
+made_fits n = (decimal_short n).0
 
-pub key_fits : (key : Key) → ((name : List ℕ) → key ≡ Named name → is_name name ≡ true) → IsFitName (key_name key)
-key_fits (Named name) h = (name_fits name (h name refl)).fits
+pub made_short : (n : ℕ) → length (codes ".La" ++ decimal n) ≤ 67
+made_short n = let d : length (decimal n) ≤ 64 + 0 = (decimal_short n).1 in omega (arith, d)
+
+pub key_fits : (key : Key) → ((name : List ℕ) → key ≡ Named name → is_name name ≡ true) → IsPlain (key_name key)
+key_fits (Named name) h = (name_fits name (h name refl)).plain
 key_fits (Made n) h = made_fits n

@@ -34,35 +34,45 @@ use Rattle.cell_asm.proofs.EntriesFit.{Origin, entry_origin}
 use Rattle.cell_asm.proofs.Unique.{same_key, labels_once}
 use Rattle.cell_asm.proofs.SymbolPlaces.{has_symbol, mentioned_there, made_there, one_less, label_symbol}
 
--- the kinds that name the label of another entry are of instructions
+-- the kinds that name the label of another entry, and that entry's, are of instructions
+label_code : (kind : RelKind) → (is_pcrel_lo12 kind || is_pcrel_hi20 kind) ≡ true → is_instruction kind ≡ true
+label_code Abs32 e = absurd cc
+label_code Abs64 e = absurd cc
+label_code Branch e = refl
+label_code Jal e = refl
+label_code Call e = refl
+label_code CallPlt e = refl
+label_code GotHi20 e = refl
+label_code PcrelHi20 e = refl
+label_code PcrelLo12I e = refl
+label_code PcrelLo12S e = refl
+label_code Hi20 e = refl
+label_code Lo12I e = refl
+label_code Lo12S e = refl
+label_code Add8 e = absurd cc
+label_code Add16 e = absurd cc
+label_code Add32 e = absurd cc
+label_code Add64 e = absurd cc
+label_code Sub8 e = absurd cc
+label_code Sub16 e = absurd cc
+label_code Sub32 e = absurd cc
+label_code Sub64 e = absurd cc
+label_code Sub6 e = absurd cc
+label_code Set6 e = absurd cc
+label_code Set8 e = absurd cc
+label_code Set16 e = absurd cc
+label_code Set32 e = absurd cc
+label_code Pcrel32 e = absurd cc
+
 lo12_code : (kind : RelKind) → is_pcrel_lo12 kind ≡ true → is_instruction kind ≡ true
-lo12_code Abs32 e = absurd cc
-lo12_code Abs64 e = absurd cc
-lo12_code Branch e = refl
-lo12_code Jal e = refl
-lo12_code Call e = refl
-lo12_code CallPlt e = refl
-lo12_code GotHi20 e = refl
-lo12_code PcrelHi20 e = refl
-lo12_code PcrelLo12I e = refl
-lo12_code PcrelLo12S e = refl
-lo12_code Hi20 e = refl
-lo12_code Lo12I e = refl
-lo12_code Lo12S e = refl
-lo12_code Add8 e = absurd cc
-lo12_code Add16 e = absurd cc
-lo12_code Add32 e = absurd cc
-lo12_code Add64 e = absurd cc
-lo12_code Sub8 e = absurd cc
-lo12_code Sub16 e = absurd cc
-lo12_code Sub32 e = absurd cc
-lo12_code Sub64 e = absurd cc
-lo12_code Sub6 e = absurd cc
-lo12_code Set6 e = absurd cc
-lo12_code Set8 e = absurd cc
-lo12_code Set16 e = absurd cc
-lo12_code Set32 e = absurd cc
-lo12_code Pcrel32 e = absurd cc
+lo12_code kind e = label_code kind (ap (λ b. b || is_pcrel_hi20 kind) e)
+
+pub hi20_code : (kind : RelKind) → is_pcrel_hi20 kind ≡ true → is_instruction kind ≡ true
+hi20_code kind e = label_code kind (either (is_pcrel_lo12 kind) (is_pcrel_hi20 kind) e)
+  where
+    either : (a b : Bool) → b ≡ true → (a || b) ≡ true
+    either true b h = refl
+    either false b h = h
 
 -- THE ENTRY OF THE UPPER PART
 
@@ -123,7 +133,7 @@ second_false true b e t = e
 second_false false b e t = absurd (true≢false (sym t))
 
 -- the keys of lines are those of labels
-in_labels : (lines : List Laid) (l : Laid) (part : Part) (k : Key) → In l lines → l.part ≡ Some part → In k (keys_of l) → In (label part l.offset k) (labels lines)
+pub in_labels : (lines : List Laid) (l : Laid) (part : Part) (k : Key) → In l lines → l.part ≡ Some part → In k (keys_of l) → In (label part l.offset k) (labels lines)
 in_labels lines l part k i p h = flat-In (λ m. labels_at m.part m.offset (keys_of m)) lines l (label part l.offset k) i (subst (λ o. In (label part l.offset k) (labels_at o l.offset (keys_of l))) (sym p) (mapped (keys_of l) h))
   where
     mapped : (ks : List Key) → In k ks → In (label part l.offset k) (map (label part l.offset) ks)
@@ -157,7 +167,7 @@ makes_by (Zeros n) m k e = absurd k
 makes_by (Align unit) m k e = absurd k
 makes_by (Bytes content b) m k e = In-any (λ x. is_made x.fix.target) b.marks m k e
 
-made_head : (s : Statement) (m : Mark) → IsGoodStatement s → In m (marks_in s) → is_made m.fix.target ≡ true → any_upper (marks_in s) ≡ true
+pub made_head : (s : Statement) (m : Mark) → IsGoodStatement s → In m (marks_in s) → is_made m.fix.target ≡ true → any_upper (marks_in s) ≡ true
 made_head Nothing m g k e = absurd k
 made_head (Choose part) m g k e = absurd k
 made_head (Global other) m g k e = absurd k

@@ -1,7 +1,7 @@
 -- The tables of an assembled source's image aren't too large, and there aren't too many headers.
 --     headers_fit, locals_fit, texts_fit, names_fit, size_fits
-use Rattle.std.proofs.Common.{◌≡◌, ℕ, suc, ◌+◌, ◌-◌, ◌*◌, ◌%◌, ◌^◌, ◌<◌, ◌≤◌, Bool, List, [], ◌∷◌, ◌++◌, map, length, replicate, codes, Ok, refl, sym, ap, subst, ◌∙◌, ◌⊎◌, inl, inr, length-append, arith, lit≤}
-use Rattle.std.specs.Prelude.{filter, flat_map, not, ◌==◌}
+use Rattle.std.proofs.Common.{◌≡◌, ℕ, suc, ◌+◌, ◌-◌, ◌*◌, ◌%◌, ◌^◌, ◌<◌, ◌≤◌, List, [], ◌∷◌, ◌++◌, map, length, replicate, codes, Ok, refl, sym, ap, subst, ◌∙◌, ◌⊎◌, inl, inr, length-append, arith, lit≤}
+use Rattle.std.specs.Prelude.{filter, flat_map, ◌==◌}
 use Rattle.std.proofs.lemmas.List.{length-replicate}
 use Rattle.cell_num.specs.Lists.{numbered_from}
 use Rattle.cell_object.specs.declared.object.Section.{Section}
@@ -19,22 +19,16 @@ use Rattle.cell_object.specs.Image.{own_row, symtab_row, strtab_row, shstrtab_ro
 use Rattle.cell_asm.specs.declared.statement.Part.{Part}
 use Rattle.cell_asm.specs.declared.statement.Part.TheVariants.{Text, Rodata, Data, Bss}
 use Rattle.cell_asm.specs.declared.laid.Laid.{Laid}
-use Rattle.cell_asm.specs.declared.laid.Key.TheVariants.{Named}
-use Rattle.cell_asm.specs.declared.laid.Label.{Label}
-use Rattle.cell_asm.specs.Places.{labels}
-use Rattle.cell_asm.specs.Objects as objects
-use Rattle.cell_asm.specs.Objects.{parts_of, part_name, section_of, sections, globals, local_labels, mentions, holds_key, other_names, local_symbol, global_symbol, symbols, entries, object_of}
+use Rattle.cell_asm.specs.Objects.{parts_of, part_name, section_of, sections, local_labels, other_names, local_symbol, global_symbol, symbols, entries, object_of}
 use Rattle.cell_asm.specs.Assembled.{placed_lines}
 use Rattle.cell_asm.proofs.PartCounts.{few}
 use Rattle.cell_object.specs.Writable.{IsWhole}
 use Rattle.cell_asm.proofs.Members.{In, In-append, In-filtered, In-map}
-use Rattle.cell_asm.proofs.Tallies.{total, total-append, total_times, flat_length, mapped_length, filter_le, fold_length}
+use Rattle.cell_asm.proofs.Tallies.{total, total-append, total_times, total_le, total-map, flat_length, mapped_length, filter_le}
 use Rattle.cell_asm.proofs.SectionsFit.{section_whole}
 use Rattle.cell_asm.proofs.Counts.{few_entries}
-use Rattle.cell_asm.proofs.NamesFit.{name_fits}
-use Rattle.cell_asm.proofs.NamedLabels.{labels_fit}
-use Rattle.cell_asm.proofs.SymbolsFit.{locals_count, names_apart, others_named}
-use Rattle.cell_asm.proofs.Costs.{few_names}
+use Rattle.cell_asm.proofs.SymbolsFit.{locals_count}
+use Rattle.cell_asm.proofs.Costs.{symbol_cost, symbols_cost}
 
 le_trans : (a b c : ℕ) → a ≤ b → b ≤ c → a ≤ c
 le_trans a b c h k = omega (arith, h, k)
@@ -77,37 +71,29 @@ headers_fit lines =
     (length-append (map own_row (with_before (sections lines))) (symtab_row o ∷ strtab_row o ∷ shstrtab_row o ∷ map (table_row o) (with_before (relocated (sections lines) (entries lines)))))
     (subst (λ n. n ≤ 4) (sym own) (few_sections lines)) (subst (λ n. n ≤ 4) (sym tables) (few_tables lines))
 
-locals_few : (lines : List Laid) → length (local_labels lines) ≤ length (labels lines)
-locals_few lines = filter_le (λ l. not (objects.is_global (globals lines) l.key)) (labels lines)
-
-abbrev is_other : List Laid → List ℕ → Bool
-is_other lines name = not (holds_key (local_labels lines) (Named name))
-
-no_more : (a b c : ℕ) → a ≤ 0 + b → b ≤ c → a ≤ c
-no_more a b c h k = omega (arith, h, k)
-
-others_few : (lines : List Laid) → length (other_names lines) ≤ length (mentions lines)
-others_few lines =
-    no_more (length (other_names lines)) (length (filter (is_other lines) (mentions lines))) (length (mentions lines)) (fold_length names_apart [] (filter (is_other lines) (mentions lines))) (filter_le (is_other lines) (mentions lines))
-
 symbols_number : (lines : List Laid) → length (symbols lines) ≡ length (local_labels lines) + length (other_names lines)
 symbols_number lines =
     length-append (map (local_symbol lines) (local_labels lines)) (map (global_symbol lines) (other_names lines))
     ∙ ap (λ n. n + length (map (global_symbol lines) (other_names lines))) (mapped_length (local_symbol lines) (local_labels lines))
     ∙ ap (λ n. length (local_labels lines) + n) (mapped_length (global_symbol lines) (other_names lines))
 
-counted : (a b c d e s : ℕ) → e ≡ a + b → a ≤ c → b ≤ d → c + d ≤ 3 * (s + 1) → s ≤ 1048576 → e ≤ 3145731
-counted a b c d e s p h k l m = omega (arith, p, h, k, l, m)
+count_le : (ss : List Symbol) → length ss ≤ total symbol_cost ss
+count_le [] = omega arith
+count_le (s ∷ ss) = more (length ss) (total symbol_cost ss) (length s.name) (count_le ss)
+  where
+    more : (a b c : ℕ) → a ≤ b → suc a ≤ suc c + b
+    more a b c h = omega (arith, h)
 
-pub few_symbols : (source : List ℕ) (lines : List Laid) → placed_lines source ≡ Ok lines → length source ≤ 1048576 → length (symbols lines) ≤ 3145731
-few_symbols source lines e h =
-    counted (length (local_labels lines)) (length (other_names lines)) (length (labels lines)) (length (mentions lines)) (length (symbols lines)) (length source)
-    (symbols_number lines) (locals_few lines) (others_few lines) (few_names source lines e) h
+few_by : (a b s : ℕ) → a ≤ b → b ≤ s + 142606337 → s < 2 ^ 31 → a ≤ 2290089984
+few_by a b s h k l = omega (arith, h, k, l)
 
-locals_by : (a b c s : ℕ) → a ≡ b → s ≡ b + c → s ≤ 3145731 → a + 1 < 2 ^ 32
+pub few_symbols : (source : List ℕ) (lines : List Laid) → placed_lines source ≡ Ok lines → length source < 2 ^ 31 → length (symbols lines) ≤ 2290089984
+few_symbols source lines e h = few_by (length (symbols lines)) (total symbol_cost (symbols lines)) (length source) (count_le (symbols lines)) (symbols_cost source lines e) h
+
+locals_by : (a b c s : ℕ) → a ≡ b → s ≡ b + c → s ≤ 2290089984 → a + 1 < 2 ^ 32
 locals_by a b c s e f h = omega (arith, e, f, h)
 
-pub locals_fit : (source : List ℕ) (lines : List Laid) → placed_lines source ≡ Ok lines → length source ≤ 1048576 → local_count (object_of lines) + 1 < 2 ^ 32
+pub locals_fit : (source : List ℕ) (lines : List Laid) → placed_lines source ≡ Ok lines → length source < 2 ^ 31 → local_count (object_of lines) + 1 < 2 ^ 32
 locals_fit source lines e h =
     locals_by (local_count (object_of lines)) (length (local_labels lines)) (length (other_names lines)) (length (symbols lines)) (locals_count lines) (symbols_number lines) (few_symbols source lines e h)
 
@@ -133,30 +119,25 @@ table_le m names h =
     table_by (length (flat_map string names)) (length names) (m + 1)
     (subst (λ n. n ≤ (m + 1) * length names) (sym (flat_length string names)) (total_times (λ n. length (string n)) (m + 1) names (λ n k. string_le m n (h n k))))
 
-symbol_short : (source : List ℕ) (lines : List Laid) (s : Symbol) → placed_lines source ≡ Ok lines → In s (symbols lines) → length s.name ≤ 1024
-symbol_short source lines s e k = go (In-append (map (local_symbol lines) (local_labels lines)) (map (global_symbol lines) (other_names lines)) s k)
+-- a name and the zero behind it
+string_cost : (name : List ℕ) → length (string name) ≤ suc (length name)
+string_cost name = grind_le (length (string name)) (length name) (string_le (length name) name (itself (length name)))
   where
-    go : In s (map (local_symbol lines) (local_labels lines)) ⊎ In s (map (global_symbol lines) (other_names lines)) → length s.name ≤ 1024
-    go (inl i) =
-        let r : (l : Label) × In l (local_labels lines) × (s ≡ local_symbol lines l) = In-map (local_symbol lines) (local_labels lines) s i in
-        subst (λ t. length t.name ≤ 1024) (sym r.2) (labels_fit source lines e r.0 (In-filtered (λ l. not (objects.is_global (globals lines) l.key)) (labels lines) r.0 r.1)).name.short
-    go (inr i) =
-        let r : (name : List ℕ) × In name (other_names lines) × (s ≡ global_symbol lines name) = In-map (global_symbol lines) (other_names lines) s i in
-        subst (λ t. length t.name ≤ 1024) (sym r.2) (name_fits r.0 (others_named source lines e r.0 r.1)).fits.short
+    itself : (n : ℕ) → n ≤ n
+    itself n = omega arith
 
-symbols_short : (source : List ℕ) (lines : List Laid) → placed_lines source ≡ Ok lines → AreShort 1024 (map (λ s. s.name) (symbols lines))
-symbols_short source lines e n k =
-    let r : (s : Symbol) × In s (symbols lines) × (n ≡ s.name) = In-map (λ s. s.name) (symbols lines) n k in
-    subst (λ m. length m ≤ 1024) (sym r.2) (symbol_short source lines r.0 e r.1)
+    grind_le : (a n : ℕ) → a ≤ n + 1 → a ≤ suc n
+    grind_le a n h = omega (arith, h)
 
-texts_by : (t n k : ℕ) → t ≤ 1 + 1025 * n → n ≡ k → k ≤ 3145731 → t < 2 ^ 32
-texts_by t n k h e l = omega (arith, h, e, l)
+texts_by : (t u v k s : ℕ) → t ≡ u → u ≤ v → v ≡ k → k ≤ s + 142606337 → s < 2 ^ 31 → suc t < 2 ^ 32
+texts_by t u v k s e h f l m = omega (arith, e, h, f, l, m)
 
-pub texts_fit : (source : List ℕ) (lines : List Laid) → placed_lines source ≡ Ok lines → length source ≤ 1048576 → length (symbol_strings (object_of lines)) < 2 ^ 32
-unfolding symbol_strings
+pub texts_fit : (source : List ℕ) (lines : List Laid) → placed_lines source ≡ Ok lines → length source < 2 ^ 31 → length (symbol_strings (object_of lines)) < 2 ^ 32
+unfolding symbol_strings string_table
 texts_fit source lines e h =
-    texts_by (length (string_table (map (λ s. s.name) (symbols lines)))) (length (map (λ s. s.name) (symbols lines))) (length (symbols lines))
-    (table_le 1024 (map (λ s. s.name) (symbols lines)) (symbols_short source lines e)) (mapped_length (λ s. s.name) (symbols lines)) (few_symbols source lines e h)
+    let names : List (List ℕ) = map (λ s. s.name) (symbols lines) in
+    texts_by (length (flat_map string names)) (total (λ n. length (string n)) names) (total (λ n. suc (length n)) names) (total symbol_cost (symbols lines)) (length source)
+    (flat_length string names) (total_le (λ n. length (string n)) (λ n. suc (length n)) names (λ n k. string_cost n)) (total-map (λ n. suc (length n)) (λ (s : Symbol). s.name) (symbols lines)) (symbols_cost source lines e) h
 
 -- THE NAMES OF SECTIONS
 
@@ -281,10 +262,10 @@ entry_count e = refl
 same_le : (a b : ℕ) → a ≡ b → a ≤ b
 same_le a b e = omega (arith, e)
 
-symbols_by : (a b c : ℕ) → a ≡ 24 + b → b ≤ 24 * c → c ≤ 3145731 → a ≤ 75497568
+symbols_by : (a b c : ℕ) → a ≡ 24 + b → b ≤ 24 * c → c ≤ 2290089984 → a ≤ 54962159640
 symbols_by a b c e h k = omega (arith, e, h, k)
 
-symbols_short_part : (source : List ℕ) (lines : List Laid) → placed_lines source ≡ Ok lines → length source ≤ 1048576 → length (symbols_part (object_of lines)) ≤ 75497568
+symbols_short_part : (source : List ℕ) (lines : List Laid) → placed_lines source ≡ Ok lines → length source < 2 ^ 31 → length (symbols_part (object_of lines)) ≤ 54962159640
 unfolding symbols_part
 symbols_short_part source lines e h =
     symbols_by (length (replicate 24 0 ++ flat_map (symbol_part_bytes (symtab_number (object_of lines))) (with_before (symbols lines)))) (length (flat_map (symbol_part_bytes (symtab_number (object_of lines))) (with_before (symbols lines)))) (length (symbols lines))
@@ -336,19 +317,19 @@ all_parts lines =
     (total-append (λ p. length (padded p)) (parts_before_tables (object_of lines)) (tables_of lines)
     ∙ ap (λ n. n + taken_by (tables_of lines)) (total-append (λ p. length (padded p)) (parts.contents (sections lines)) (symbols_part (object_of lines) ∷ []))))
 
-all_below : (a b c d e t l m k : ℕ) → t ≡ (((a + b) + c) + d) + e → a ≤ (16777216 + 8) * l → l ≤ 4 → b ≤ (75497568 + 8) * 1 → c ≤ (3221225472 + 8) * m → m ≤ 4 → d ≤ (4294967296 + 8) * 1 → e ≤ (4294967296 + 8) * 1 → k ≡ t → 64 + k < 2 ^ 64
+all_below : (a b c d e t l m k : ℕ) → t ≡ (((a + b) + c) + d) + e → a ≤ (16777216 + 8) * l → l ≤ 4 → b ≤ (54962159640 + 8) * 1 → c ≤ (3221225472 + 8) * m → m ≤ 4 → d ≤ (4294967296 + 8) * 1 → e ≤ (4294967296 + 8) * 1 → k ≡ t → 64 + k < 2 ^ 64
 all_below a b c d e t l m k p ha hl hb hc hm hd he q = omega (arith, p, ha, hl, hb, hc, hm, hd, he, q)
 
 below_32 : (n : ℕ) → n < 2 ^ 32 → n ≤ 4294967296
 below_32 n h = omega (arith, h)
 
-pub size_fits : (source : List ℕ) (lines : List Laid) → placed_lines source ≡ Ok lines → length source ≤ 1048576 → offset_after (parts.parts (object_of lines)) < 2 ^ 64
+pub size_fits : (source : List ℕ) (lines : List Laid) → placed_lines source ≡ Ok lines → length source < 2 ^ 31 → offset_after (parts.parts (object_of lines)) < 2 ^ 64
 size_fits source lines e h =
     all_below (taken_by (parts.contents (sections lines))) (taken_by (symbols_part (object_of lines) ∷ [])) (taken_by (tables_of lines)) (taken_by (symbol_strings (object_of lines) ∷ [])) (taken_by (section_strings (object_of lines) ∷ []))
     (taken_by (parts.parts (object_of lines))) (length (parts.contents (sections lines))) (length (tables_of lines)) (length (flat_map padded (parts.parts (object_of lines))))
     (all_parts lines)
     (parts_le 16777216 (parts.contents (sections lines)) (contents_short lines (section_whole source lines e))) (subst (λ n. n ≤ 4) (sym (mapped_length content (sections lines))) (few_sections lines))
-    (one_part 75497568 (symbols_part (object_of lines)) (symbols_short_part source lines e h))
+    (one_part 54962159640 (symbols_part (object_of lines)) (symbols_short_part source lines e h))
     (parts_le 3221225472 (tables_of lines) (tables_few lines (few_entries source lines e))) (subst (λ n. n ≤ 4) (sym (mapped_length (table (entries lines)) (relocated (sections lines) (entries lines)))) (few_tables lines))
     (one_part 4294967296 (symbol_strings (object_of lines)) (below_32 (length (symbol_strings (object_of lines))) (texts_fit source lines e h)))
     (one_part 4294967296 (section_strings (object_of lines)) (below_32 (length (section_strings (object_of lines))) (names_fit lines)))

@@ -105,7 +105,7 @@ local_fits : (source : List ℕ) (lines : List Laid) (k : ℕ) (l : Label) → p
 local_fits source lines k l e h =
     let fit : IsFitLabel lines l = labels_fit source lines e l (In-filtered (λ m. not (objects.is_global (globals lines) m.key)) (labels lines) l (get-In (local_labels lines) k l h)) in
     record {
-      name = fit.name.plain;
+      name = fit.name;
       first = λ less. refl;
       last = λ more. not_last k (length (local_labels lines)) (local_count (object_of lines)) (get_below (local_labels lines) k l h) (locals_count lines) more;
       sort = refl;
@@ -188,7 +188,7 @@ global_fits source lines k j name e place h =
     let good : IsGoodName name = name_fits name (others_named source lines e name (get-In (other_names lines) j name h)) in
     let known : (l : Label) → label_named lines name ≡ Some l → In l (labels lines) = λ l is. (found-In (λ m. is_key m.key (Named name)) (labels lines) l is).0 in
     record {
-      name = good.fits.plain;
+      name = good.plain;
       first = λ less.
           not_first k j (length (map (local_symbol lines) (local_labels lines))) (local_count (object_of lines)) (length (local_labels lines)) place (mapped_length (local_symbol lines) (local_labels lines)) (locals_count lines) less;
       last = λ more. refl;

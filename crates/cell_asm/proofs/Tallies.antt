@@ -3,7 +3,7 @@
 --     total f xs                         the sum of f over the elements
 --     AreApart t xs                      no element passes the test of one before it
 --     adds t xs x                        the element behind the others, unless one of them passes its test
-use Rattle.std.proofs.Common.{◌≡◌, ℕ, zero, suc, ◌+◌, ◌*◌, ◌<◌, ◌≤◌, Bool, true, false, cond, ◌||◌, List, [], ◌∷◌, ◌++◌, map, length, take, drop, Some, slice_get, refl, sym, ap, subst, ◌∙◌, ◌⊎◌, inl, inr, length-append, zero-add, suc-add, arith}
+use Rattle.std.proofs.Common.{◌≡◌, ℕ, zero, suc, ◌+◌, ◌*◌, ◌<◌, ◌≤◌, Bool, true, false, cond, not, ◌||◌, List, [], ◌∷◌, ◌++◌, map, length, take, drop, Some, slice_get, refl, sym, ap, subst, ◌∙◌, ◌⊎◌, inl, inr, length-append, zero-add, suc-add, arith}
 use Rattle.std.specs.Prelude.{if◌then◌else◌, filter, flat_map, fold, sum_by}
 use Rattle.std.specs.List.{list_any}
 use Rattle.std.proofs.lemmas.Bool.{or_parts, or_left, or_right}
@@ -113,6 +113,16 @@ module _ {X : Type 0} where
   sum_is_total f [] = refl
   sum_is_total f (x ∷ xs) = sum_by-cons f x xs ∙ ap (λ n. f x + n) (sum_is_total f xs)
 
+module _ {X : Type 0} (f : X → ℕ) (p : X → Bool) where
+  total_by : (b : Bool) (x : X) (ys ns : List X) (n : ℕ) → total f ys + total f ns ≡ n → total f (cond b (x ∷ ys) ys) + total f (cond (not b) (x ∷ ns) ns) ≡ f x + n
+  total_by true x ys ns n e = omega (arith, e)
+  total_by false x ys ns n e = omega (arith, e)
+
+  -- those that pass and those that don't
+  pub total_split : (xs : List X) → total f (filter p xs) + total f (filter (λ x. not (p x)) xs) ≡ total f xs
+  total_split [] = refl
+  total_split (x ∷ xs) = total_by (p x) x (filter p xs) (filter (λ y. not (p y)) xs) (total f xs) (total_split xs)
+
 module _ {X Y : Type 0} where
   pub flat_length : (g : X → List Y) (xs : List X) → length (flat_map g xs) ≡ total (λ x. length (g x)) xs
   flat_length g [] = refl
@@ -127,12 +137,6 @@ module _ {X Y : Type 0} where
   mapped_length g (x ∷ xs) = ap suc (mapped_length g xs)
 
 -- ELEMENTS THAT A TEST TELLS APART
-
-pushed_length : (a b c : ℕ) → a ≤ b + c → a ≤ b + suc c
-pushed_length a b c h = omega (arith, h)
-
-added_length : (a n m b : ℕ) → m ≡ n + 1 → a ≤ m + b → a ≤ n + suc b
-added_length a n m b e h = omega (arith, e, h)
 
 module _ {X : Type 0} (t : X → X → Bool) where
   -- no element passes the test of one before it
@@ -186,13 +190,13 @@ module _ {X : Type 0} (t : X → X → Bool) where
   fold_In xs [] y k = inl k
   fold_In xs (x ∷ more) y k = rest_In xs more x y (fold_In (adds xs x) more y k)
 
-  adds_length : (xs : List X) (x : X) (b : Bool) (a n : ℕ) → a ≤ length (if b then xs else xs ++ x ∷ []) + n → a ≤ length xs + suc n
-  adds_length xs x true a n h = pushed_length a (length xs) n h
-  adds_length xs x false a n h = added_length a (length xs) (length (xs ++ x ∷ [])) n (length-append xs (x ∷ [])) h
+  adds_total : (f : X → ℕ) (xs : List X) (x : X) (b : Bool) (a n : ℕ) → a ≤ total f (if b then xs else xs ++ x ∷ []) + n → a ≤ total f xs + (f x + n)
+  adds_total f xs x true a n h = omega (arith, h)
+  adds_total f xs x false a n h = omega (arith, h, total-append f xs (x ∷ []))
 
-  pub fold_length : (xs more : List X) → length (fold adds xs more) ≤ length xs + length more
-  fold_length xs [] = omega arith
-  fold_length xs (x ∷ more) = adds_length xs x (list_any (t x) xs) (length (fold adds (adds xs x) more)) (length more) (fold_length (adds xs x) more)
+  pub fold_total : (f : X → ℕ) (xs more : List X) → total f (fold adds xs more) ≤ total f xs + total f more
+  fold_total f xs [] = omega arith
+  fold_total f xs (x ∷ more) = adds_total f xs x (list_any (t x) xs) (total f (fold adds (adds xs x) more)) (total f more) (fold_total f (adds xs x) more)
 
   adds_keeps : (xs : List X) (x : X) (p : X → Bool) (b : Bool) → list_any p xs ≡ true → list_any p (if b then xs else xs ++ x ∷ []) ≡ true
   adds_keeps xs x p true h = h

@@ -35,7 +35,7 @@ use std::alloc::{AllocError, Global};
 pub fn assemble(alloc: Global, source: &[u8]) -> Result<Object, AsmFail>
     requires { length source.now < 2 ^ 31 }
     ensures object { Assembles result (assembled source.now) }
-    ensures writable { length source.now ≤ 1048576 → IfOk result IsWritable }
+    ensures writable { IfOk result IsWritable }
 {
     let texts = lines(alloc, source)?;
     let placed = place_lines(alloc, &texts)?;

@@ -14,9 +14,9 @@ object-requires-clause-room c =
     subst (All HasRoom) (sym c.as_slice.ensures) (rooms c.args.source.now c.in_ok-placed.placed.lines placed)
 
 pub returns-clause-writable : goal.returns-clause-writable
-returns-clause-writable c = λ short.
+returns-clause-writable c =
     let placed = ap placed_texts (sym c.in_ok-texts.ensures.lines) ∙ ap (λ (ts : List (Bor (List ℕ))). placed_texts (map (λ t. t.now) ts)) (sym c.deref.ensures.value) ∙ c.in_ok-placed.ensures.0 in
     writable_all c.object.result c.args.source.now
     (goes_all c.object.result c.in_ok-placed.placed.lines (lines_in c.args.source.now) c.args.source.now refl placed
     (subst (λ (ls : List Laid). Assembles c.object.result (object_unless ls (find (has_lost ls) ls))) c.as_slice.ensures c.object.ensures))
-    short
+    c.requires
