@@ -1,6 +1,6 @@
 -- How many bytes the names of a source's symbols take.
 --     symbols_cost source lines
-use Rattle.std.proofs.Common.{◌≡◌, ℕ, suc, ◌+◌, ◌*◌, ◌≤◌, Bool, true, false, cond, not, List, [], ◌∷◌, ◌++◌, map, length, codes, Result, Ok, Err, Some, None, inl, inr, refl, subst, sym, ap, ◌∙◌, zero-add, true≢false, arith}
+use Rattle.std.proofs.Common.{◌≡◌, ℕ, suc, ◌+◌, ◌*◌, ◌≤◌, Bool, true, false, cond, not, List, [], ◌∷◌, ◌++◌, map, length, codes, Ok, Some, None, inl, inr, refl, subst, sym, ap, ◌∙◌, zero-add, true≢false, arith}
 use Rattle.std.specs.Prelude.{Option, if◌then◌else◌, decimal, filter, flat_map, is_none, sum_by}
 use Rattle.std.proofs.lemmas.Bool.{and_parts}
 use Rattle.std.proofs.lemmas.List.{map-append}
@@ -10,7 +10,6 @@ use Rattle.cell_num.specs.Kinds.{is_pcrel_hi20}
 use Rattle.cell_text.specs.Text.{onto, pieces, lines_in}
 use Rattle.cell_object.specs.declared.object.Symbol.{Symbol}
 use Rattle.cell_asm.specs.declared.block.Mark.{Mark}
-use Rattle.cell_asm.specs.declared.kind.AsmKind.{AsmKind}
 use Rattle.cell_asm.specs.declared.statement.Part.{Part}
 use Rattle.cell_asm.specs.declared.statement.Part.TheVariants.{Text}
 use Rattle.cell_asm.specs.declared.statement.Statement.{Statement}
@@ -20,12 +19,11 @@ use Rattle.cell_asm.specs.declared.laid.Laid.{Laid}
 use Rattle.cell_asm.specs.declared.laid.Label.{Label}
 use Rattle.cell_asm.specs.declared.laid.Key.{Key}
 use Rattle.cell_asm.specs.declared.laid.Key.TheVariants.{Named, Made}
-use Rattle.cell_asm.specs.Lines.{line_of}
-use Rattle.cell_asm.specs.Places.{is_same_part, is_at, is_in, placed, fault_at, is_made, makes_label, may_stand, lays_nothing, taken, size_in, own_key, made_key, keys_of, label, labels_at, labels}
+use Rattle.cell_asm.specs.Places.{is_same_part, is_at, is_in, placed, is_made, makes_label, may_stand, lays_nothing, taken, size_in, own_key, made_key, keys_of, label, labels_at, labels}
 use Rattle.cell_asm.specs.Objects as objects
 use Rattle.cell_asm.specs.Objects.{marks_in, globals, local_labels, label_names, statement_names, mentions, is_key, holds_key, other_names, key_name, local_symbol, global_symbol, symbols}
-use Rattle.cell_asm.specs.Assembled.{with_line, placed_line, placed_unless, placed_lines}
-use Rattle.cell_asm.proofs.SourceLemmas.{placed_from, after_fault}
+use Rattle.cell_asm.specs.Assembled.{placed_lines}
+use Rattle.cell_asm.proofs.Growth.{GoesOn, grows_with}
 use Rattle.cell_asm.proofs.Members.{In, In-left, filter-In, any-In, In-any}
 use Rattle.cell_asm.proofs.Tallies.{total, total-append, total-map, total_split, fold_total}
 use Rattle.cell_asm.proofs.NamedOperands.{cost, cost-append}
@@ -38,47 +36,6 @@ use Rattle.cell_asm.proofs.Counts.{section_fits}
 use Rattle.cell_asm.proofs.Paired.{hi20_code, in_labels, made_head}
 use Rattle.cell_asm.proofs.SymbolsFit.{names_apart}
 use Rattle.cell_asm.proofs.ReadLines.{line_names, read_line}
-
--- WHAT LINES COST, BY THEIR TEXTS
-
-not_both : (fault : ℕ × AsmKind) (lines : List Laid) (r : Result (List Laid) (ℕ × AsmKind)) → r ≡ Err fault → r ≡ Ok lines → {P : Type 0} → P
-not_both fault lines r e f = absurd cc
-
-same_lines : (a b : List Laid) (r : Result (List Laid) (ℕ × AsmKind)) → r ≡ Ok a → r ≡ Ok b → a ≡ b
-same_lines a b r e f = cc
-
-nothing_more : (a : ℕ) → a ≤ a + 0
-nothing_more a = omega arith
-
-one_more : (t a b c d n : ℕ) → t ≤ b + n → b ≡ a + (c + 0) → c ≤ d → t ≤ a + (d + n)
-one_more t a b c d n h e k = omega (arith, h, e, k)
-
--- a line that is read costs no more than its text allows
-abbrev IsBounded : (Laid → ℕ) → (List ℕ → ℕ) → Type 0
-IsBounded cost bound = (before : List Laid) (n : ℕ) (text : List ℕ) (line : Line) → line_of text ≡ Ok line → cost (placed before n line) ≤ bound text
-
-module _ (cost : Laid → ℕ) (bound : List ℕ → ℕ) (bounded : IsBounded cost bound) where
-  -- what follows the line
-  abbrev Rest : List Laid → ℕ → List ℕ → List (List ℕ) → List Laid → Type 0
-  Rest before n text texts lines =
-      (l : Laid) → cost l ≤ bound text → placed_from (Ok (before ++ l ∷ [])) (suc n) texts ≡ Ok lines → total cost lines ≤ total cost before + (bound text + total bound texts)
-
-  by_fault : (before : List Laid) (n : ℕ) (text : List ℕ) (texts : List (List ℕ)) (lines : List Laid) (line : Line) (o : Option AsmKind) → Rest before n text texts lines
-      → line_of text ≡ Ok line → placed_from (with_line before n (placed_unless before n line o)) (suc n) texts ≡ Ok lines → total cost lines ≤ total cost before + (bound text + total bound texts)
-  by_fault before n text texts lines line None rest read e = rest (placed before n line) (bounded before n text line read) e
-  by_fault before n text texts lines line (Some k) rest read e = not_both (n, k) lines _ (after_fault (n, k) (suc n) texts) e
-
-  by_line : (before : List Laid) (n : ℕ) (text : List ℕ) (texts : List (List ℕ)) (lines : List Laid) (r : Result Line AsmKind) → Rest before n text texts lines
-      → line_of text ≡ r → placed_from (with_line before n (placed_line before n r)) (suc n) texts ≡ Ok lines → total cost lines ≤ total cost before + (bound text + total bound texts)
-  by_line before n text texts lines (Ok line) rest read e = by_fault before n text texts lines line (fault_at before line) rest read e
-  by_line before n text texts lines (Err k) rest read e = not_both (n, k) lines _ (after_fault (n, k) (suc n) texts) e
-
-  from : (before : List Laid) (n : ℕ) (texts : List (List ℕ)) (lines : List Laid) → placed_from (Ok before) n texts ≡ Ok lines → total cost lines ≤ total cost before + total bound texts
-  from before n [] lines e = subst (λ ls. total cost ls ≤ total cost before + 0) (same_lines before lines (Ok before) refl e) (nothing_more (total cost before))
-  from before n (text ∷ texts) lines e =
-      by_line before n text texts lines (line_of text)
-      (λ l q h. one_more (total cost lines) (total cost before) (total cost (before ++ l ∷ [])) (cost l) (bound text) (total bound texts) (from (before ++ l ∷ []) (suc n) texts lines h) (total-append cost before (l ∷ [])) q)
-      refl e
 
 -- THE TEXTS OF A SOURCE
 
@@ -118,19 +75,25 @@ cost_flat : {X : Type 0} (g : X → List (List ℕ)) (xs : List X) → cost (fla
 cost_flat g [] = refl
 cost_flat g (x ∷ xs) = cost-append (g x) (flat_map g xs) ∙ ap (λ n. cost (g x) + n) (cost_flat g xs)
 
-one_room : (n m : ℕ) → n ≤ suc m → n ≤ m + 1
-one_room n m h = omega (arith, h)
+more_room : (a b c d n m : ℕ) → a ≡ b + (n + 0) → b ≤ c → n ≤ suc m → d ≡ c + ((m + 1) + 0) → a ≤ d
+more_room a b c d n m p h k q = omega (arith, p, h, k, q)
 
-names_by : (a b c d e : ℕ) → a ≡ b → b ≤ 0 + c → c ≤ d + 1 → a ≤ d + 1
-names_by a b c d e p h k = omega (arith, p, h, k)
+names_by : (a b c d : ℕ) → a ≡ b → b ≤ c → c ≤ d + 1 → a ≤ d + 1
+names_by a b c d p h k = omega (arith, p, h, k)
+
+abbrev names_cost : Laid → ℕ
+names_cost l = cost (line_names l.line)
+
+goes : GoesOn (λ done ls. total names_cost ls ≤ total room done)
+goes done before n text line h e f =
+    more_room (total names_cost (before ++ placed before n line ∷ [])) (total names_cost before) (total room done) (total room (done ++ text ∷ [])) (cost (line_names line)) (length text)
+    (total-append names_cost before (placed before n line ∷ [])) h (read_line text line e).names.few (total-append room done (text ∷ []))
 
 -- the names that the lines mention take no more bytes than the source and one
 pub mentions_cost : (source : List ℕ) (lines : List Laid) → placed_lines source ≡ Ok lines → cost (mentions lines) ≤ length source + 1
 mentions_cost source lines e =
-    names_by (cost (mentions lines)) (total (λ l. cost (line_names l.line)) lines) (total room (lines_in source)) (length source) 0
-    (cost_flat (λ l. line_names l.line) lines)
-    (from (λ l. cost (line_names l.line)) room (λ before n text line r. one_room (cost (line_names line)) (length text) (read_line text line r).names.few) [] 1 (lines_in source) lines e)
-    (lines_room source)
+    names_by (cost (mentions lines)) (total names_cost lines) (total room (lines_in source)) (length source) (cost_flat (λ l. line_names l.line) lines)
+    (grows_with (λ done ls. total names_cost ls ≤ total room done) goes (lines_in source) lines (omega arith) e) (lines_room source)
 
 -- LABELS THAT ARE MADE
 

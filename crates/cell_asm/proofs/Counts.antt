@@ -14,7 +14,7 @@ use Rattle.cell_object.specs.declared.object.Entry.{Entry}
 use Rattle.cell_asm.specs.Places.{is_at, is_in, is_long, largest, choices, taken, size_in, size_at, placed}
 use Rattle.cell_asm.specs.Objects.{parts_of, entry_of, entries_of, entries_in, entries, marks_in}
 use Rattle.cell_asm.specs.Assembled.{placed_lines}
-use Rattle.cell_asm.proofs.PartCounts.{few}
+use Rattle.cell_asm.proofs.Parts.{few}
 use Rattle.cell_asm.proofs.Growth.{Goes, grows}
 use Rattle.cell_asm.proofs.Members.{In, In-filtered}
 use Rattle.cell_asm.proofs.GoodBlocks.{IsGoodStatement}
@@ -26,7 +26,7 @@ use Rattle.cell_asm.proofs.LineEntries.{statement_marks}
 
 -- THE SIZE OF A SECTION
 
-not_past : (m n : ℕ) → nat_lt m n ≡ false → n ≤ m
+pub not_past : (m n : ℕ) → nat_lt m n ≡ false → n ≤ m
 not_past m n e = grind (arith, nat_tests)
 
 no_more : (n m : ℕ) → n ≤ m → n + 0 ≤ m
@@ -52,7 +52,7 @@ least n = omega arith
 pub section_fits : (source : List ℕ) (lines : List Laid) (part : Part) → placed_lines source ≡ Ok lines → size_in part lines ≤ largest part
 section_fits source lines part e = grows (Fits part) (goes part) (lines_in source) lines (least (largest part)) e
 
-largest_most : (part : Part) → largest part ≤ 16777216
+pub largest_most : (part : Part) → largest part ≤ 16777216
 largest_most Text = omega arith
 largest_most Rodata = omega arith
 largest_most Data = omega arith

@@ -7,12 +7,12 @@ use Rattle.std.proofs.lemmas.List.Sums.{sum_by-append}
 use Rattle.std.proofs.lemmas.List.Elements.{filter-append, filter_map-append}
 use Rattle.cell_num.specs.Lists.{last, or_else}
 use Rattle.cell_asm.specs.declared.statement.Part.{Part}
-use Rattle.cell_asm.specs.declared.statement.Part.TheVariants.{Text, Rodata, Data, Bss}
 use Rattle.cell_asm.specs.declared.statement.Line.{Line}
 use Rattle.cell_asm.specs.declared.laid.Laid.{Laid}
 use Rattle.cell_asm.specs.declared.place.Progress.{Progress}
-use Rattle.cell_asm.specs.Places.{is_same_part, is_at, is_in, choice, choices, taken, size_in, size_at, makes_label, made_in, has_own, is_twice, placed, fault_at}
+use Rattle.cell_asm.specs.Places.{is_at, is_in, choice, choices, taken, size_in, size_at, makes_label, made_in, has_own, is_twice, placed, fault_at}
 use Rattle.cell_asm.specs.Progress.{size_of, size_chosen, offset_of, twice_of, fault_after, laid_after, Adds, Follows}
+use Rattle.cell_asm.proofs.Parts.{same_part}
 
 size_is : (p : Progress) (before : List Laid) (part : Option Part) → Follows p before → size_chosen p.sizes part ≡ size_at part before
 size_is p before None h = refl
@@ -66,24 +66,6 @@ turned false false = refl
 
 own_more : (q : List ℕ) (before : List Laid) (l : Laid) → list_any (has_own q) (before ++ l ∷ []) ≡ (has_own q l || list_any (has_own q) before)
 own_more q before l = list_any-append (has_own q) before (l ∷ []) ∙ turned (list_any (has_own q) before) (has_own q l)
-
-same_part : (p q : Part) → is_same_part p q ≡ true → p ≡ q
-same_part Text Text e = refl
-same_part Text Rodata e = absurd cc
-same_part Text Data e = absurd cc
-same_part Text Bss e = absurd cc
-same_part Rodata Text e = absurd cc
-same_part Rodata Rodata e = refl
-same_part Rodata Data e = absurd cc
-same_part Rodata Bss e = absurd cc
-same_part Data Text e = absurd cc
-same_part Data Rodata e = absurd cc
-same_part Data Data e = refl
-same_part Data Bss e = absurd cc
-same_part Bss Text e = absurd cc
-same_part Bss Rodata e = absurd cc
-same_part Bss Data e = absurd cc
-same_part Bss Bss e = refl
 
 -- where a line stands in a section, its offset is the section's size
 stands_at : (part : Part) (before : List Laid) (o : Option Part) → is_at part o ≡ true → size_at o before ≡ size_in part before

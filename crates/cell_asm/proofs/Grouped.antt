@@ -3,78 +3,29 @@
 --     entries_of_part      its entries are those with its number
 --     entries_grouped      all entries are those of the first section, of the second, and so on
 use Rattle.std.proofs.Common.{◌≡◌, ℕ, zero, suc, ◌+◌, ◌<◌, ◌==◌, Bool, true, false, ◌||◌, not, cond, List, [], ◌∷◌, ◌++◌, inl, inr, map, length, slice_get, Ok, Some, None, refl, sym, ap, ◌∙◌, append-nil, one-add, true≢false, arith}
-use Rattle.std.specs.Prelude.{if◌then◌else◌, nat_lt, filter, flat_map, fold}
+use Rattle.std.specs.Prelude.{nat_lt, filter, flat_map}
 use Rattle.std.specs.Option.{option_map_or}
-use Rattle.std.specs.List.{list_any, position_or_len}
+use Rattle.std.specs.List.{IsDistinct, AllByRecursion, list_any, position_or_len}
 use Rattle.std.proofs.lemmas.Bool.Decides.{nat_tests}
 use Rattle.std.proofs.lemmas.List.Elements.{filter-append}
 use Rattle.cell_num.specs.Lists.{numbered_from}
 use Rattle.cell_object.specs.declared.object.Entry.{Entry}
 use Rattle.cell_object.specs.ImageParts.{entries_for}
 use Rattle.cell_asm.specs.declared.statement.Part.{Part}
-use Rattle.cell_asm.specs.declared.statement.Part.TheVariants.{Text, Rodata, Data, Bss}
 use Rattle.cell_asm.specs.declared.laid.Laid.{Laid}
-use Rattle.cell_asm.specs.Places.{is_same_part, choices}
-use Rattle.cell_asm.specs.Objects.{adds_part, parts_of, part_number, section_of, sections, entries_in, entries}
+use Rattle.cell_asm.specs.Places.{is_same_part}
+use Rattle.cell_asm.specs.Objects.{parts_of, part_number, section_of, sections, entries_in, entries}
 use Rattle.cell_asm.specs.Assembled.{placed_lines}
 use Rattle.cell_asm.proofs.Members.{In}
-use Rattle.cell_asm.proofs.StackedLines.{same_part}
+use Rattle.std.proofs.lemmas.Map.Keys.{IsDistinct-head, IsDistinct-tail}
+use Rattle.cell_asm.proofs.Parts.{same_part, part_itself, parts_distinct}
 use Rattle.cell_asm.proofs.EntriesFit.{entry_origin}
 
 -- THE SECTIONS ARE APART
 
-abbrev Differ : List Part → Type 0
-Differ [] = Unit {0}
-Differ (p ∷ parts) = (list_any (is_same_part p) parts ≡ false) × Differ parts
-
-same_itself : (p : Part) → is_same_part p p ≡ true
-same_itself Text = refl
-same_itself Rodata = refl
-same_itself Data = refl
-same_itself Bss = refl
-
-turned : (p q : Part) (b : Bool) → is_same_part p q ≡ b → is_same_part q p ≡ b
-turned p q true e = ap (λ x. is_same_part x p) (sym (same_part p q e)) ∙ same_itself p
-turned p q false e = by_test (is_same_part q p) refl
-  where
-    by_test : (b : Bool) → is_same_part q p ≡ b → is_same_part q p ≡ false
-    by_test true t = absurd (true≢false (sym (same_itself p) ∙ ap (is_same_part p) (sym (same_part q p t)) ∙ e))
-    by_test false t = t
-
-either_none : (a b : Bool) → a ≡ false → b ≡ false → (a || b) ≡ false
-either_none true b e f = absurd (true≢false e)
-either_none false b e f = f
-
-first_none : (a b : Bool) → (a || b) ≡ false → a ≡ false
-first_none true b e = absurd (true≢false e)
-first_none false b e = refl
-
-second_none : (a b : Bool) → (a || b) ≡ false → b ≡ false
-second_none true b e = absurd (true≢false e)
-second_none false b e = e
-
-push_none : (p : Part) (parts : List Part) (q : Part) → list_any (is_same_part p) parts ≡ false → is_same_part p q ≡ false → list_any (is_same_part p) (parts ++ q ∷ []) ≡ false
-push_none p [] q e f = either_none (is_same_part p q) false f refl
-push_none p (r ∷ parts) q e f =
-    either_none (is_same_part p r) (list_any (is_same_part p) (parts ++ q ∷ [])) (first_none (is_same_part p r) (list_any (is_same_part p) parts) e)
-    (push_none p parts q (second_none (is_same_part p r) (list_any (is_same_part p) parts) e) f)
-
-differ_push : (parts : List Part) (q : Part) → Differ parts → list_any (is_same_part q) parts ≡ false → Differ (parts ++ q ∷ [])
-differ_push [] q d e = (refl, tt)
-differ_push (p ∷ parts) q d e = (
-  push_none p parts q d.0 (turned q p false (first_none (is_same_part q p) (list_any (is_same_part q) parts) e)),
-  differ_push parts q d.1 (second_none (is_same_part q p) (list_any (is_same_part q) parts) e),
-)
-
-added : (parts : List Part) (q : Part) (b : Bool) → list_any (is_same_part q) parts ≡ b → Differ parts → Differ (if b then parts else parts ++ q ∷ [])
-added parts q true e d = d
-added parts q false e d = differ_push parts q d e
-
-differ : (parts more : List Part) → Differ parts → Differ (fold adds_part parts more)
-differ parts [] d = d
-differ parts (q ∷ more) d = differ (adds_part parts q) more (added parts q (list_any (is_same_part q) parts) refl d)
-
--- THEIR NUMBERS
+none_same : (p : Part) (parts : List Part) → AllByRecursion (λ q. is_same_part p q ≡ false) parts → list_any (is_same_part p) parts ≡ false
+none_same p [] h = refl
+none_same p (q ∷ parts) h = ap (λ b. b || list_any (is_same_part p) parts) h.0 ∙ none_same p parts h.1
 
 -- the n-th of the list is the first of its kind there
 place_by : (p q : Part) (parts : List Part) (n : ℕ) (b : Bool) → is_same_part q p ≡ b → b ≡ false → position_or_len (is_same_part q) parts ≡ n
@@ -84,7 +35,7 @@ place_by p q parts n false e f h = one-add (position_or_len (is_same_part q) par
 
 get_any : (parts : List Part) (n : ℕ) (q : Part) → slice_get parts n ≡ Some q → list_any (is_same_part q) parts ≡ true
 get_any [] n q e = absurd cc
-get_any (p ∷ parts) zero q e = go (is_same_part q p) (ap (is_same_part q) (same_some p q e) ∙ same_itself q)
+get_any (p ∷ parts) zero q e = go (is_same_part q p) (ap (is_same_part q) (same_some p q e) ∙ part_itself q)
   where
     same_some : (x y : Part) → Some x ≡ Some y → x ≡ y
     same_some x y h = cc
@@ -105,14 +56,14 @@ not_first p q parts e t = go (is_same_part q p) refl
     go true h = absurd (true≢false (sym t ∙ ap (λ x. list_any (is_same_part x) parts) (same_part q p h) ∙ e))
     go false h = h
 
-place_is : (parts : List Part) (n : ℕ) (q : Part) → Differ parts → slice_get parts n ≡ Some q → position_or_len (is_same_part q) parts ≡ n
+place_is : (parts : List Part) (n : ℕ) (q : Part) → IsDistinct is_same_part parts → slice_get parts n ≡ Some q → position_or_len (is_same_part q) parts ≡ n
 place_is [] n q d e = absurd cc
-place_is (p ∷ parts) zero q d e = ap (λ b. cond (not b) (1 + position_or_len (is_same_part q) parts) 0) (ap (is_same_part q) (same_some p q e) ∙ same_itself q)
+place_is (p ∷ parts) zero q d e = ap (λ b. cond (not b) (1 + position_or_len (is_same_part q) parts) 0) (ap (is_same_part q) (same_some p q e) ∙ part_itself q)
   where
     same_some : (x y : Part) → Some x ≡ Some y → x ≡ y
     same_some x y h = cc
 place_is (p ∷ parts) (suc n) q d e =
-    place_by p q parts n (is_same_part q p) refl (not_first p q parts d.0 (get_any parts n q e)) (place_is parts n q d.1 e)
+    place_by p q parts n (is_same_part q p) refl (not_first p q parts (none_same p parts (IsDistinct-head is_same_part p parts d)) (get_any parts n q e)) (place_is parts n q (IsDistinct-tail is_same_part p parts d) e)
 
 get_below : (parts : List Part) (n : ℕ) (q : Part) → slice_get parts n ≡ Some q → n < length parts
 get_below [] n q e = absurd cc
@@ -136,7 +87,7 @@ number_by parts n m q e h =
 pub part_numbered : (lines : List Laid) (n : ℕ) (part : Part) → slice_get (parts_of lines) n ≡ Some part → part_number lines part ≡ n + 1
 part_numbered lines n part e =
     let parts = parts_of lines in
-    number_by parts n (position_or_len (is_same_part part) parts) part (place_is parts n part (differ [] (choices lines) tt) e) (get_below parts n part e)
+    number_by parts n (position_or_len (is_same_part part) parts) part (place_is parts n part (parts_distinct lines) e) (get_below parts n part e)
 
 -- THE ENTRIES WITH A NUMBER
 

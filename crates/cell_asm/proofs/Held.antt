@@ -13,7 +13,7 @@ use Rattle.cell_asm.specs.Assembled.{placed_lines}
 use Rattle.cell_asm.proofs.Growth.{Goes, grows}
 use Rattle.cell_asm.proofs.Members.{In, In-append, In-left}
 use Rattle.cell_asm.proofs.InFours.{size_push}
-use Rattle.cell_asm.proofs.Chosen.{itself}
+use Rattle.cell_asm.proofs.Parts.{part_itself}
 
 pub record IsHeld (lines : List Laid) (part : Part) (l : Laid) : Type 0 where
   pub chosen : In part (choices lines)
@@ -41,7 +41,7 @@ one_more n t = omega arith
 at_itself : (part : Part) (before : List Laid) (s : Statement)
     → size_in part before + taken s (size_in part before) ≤ size_in part before + cond (is_same_part part part) (taken s (size_in part before)) 0
 at_itself part before s =
-    subst (λ b. size_in part before + taken s (size_in part before) ≤ size_in part before + cond b (taken s (size_in part before)) 0) (sym (itself part)) (one_more (size_in part before) (taken s (size_in part before)))
+    subst (λ b. size_in part before + taken s (size_in part before) ≤ size_in part before + cond b (taken s (size_in part before)) 0) (sym (part_itself part)) (one_more (size_in part before) (taken s (size_in part before)))
 
 new_inside : (part : Part) (o : Option Part) (before : List Laid) (s : Statement) → o ≡ Some part
     → size_at o before + taken s (size_at o before) ≤ size_in part before + cond (is_at part o) (taken s (size_at o before)) 0

@@ -96,7 +96,7 @@ name_good m (operands.Memory i base) h = tt
 
 -- FIELDS
 
-abbrev fix_names : Option Fix → List (List ℕ)
+abbrev pub fix_names : Option Fix → List (List ℕ)
 fix_names None = []
 fix_names (Some f) = target_names f.target
 

@@ -14,7 +14,7 @@ pub mod KeyMaps
 pub mod KeyPlaces
 pub mod Mentioned
 pub mod Listing
-pub mod PartCounts
+pub mod Parts
 pub mod Entered
 mod Rows
 pub mod Growth

@@ -33,7 +33,7 @@ use Rattle.cell_asm.proofs.Members.{In, In-left, In-right, any-In}
 use Rattle.cell_asm.proofs.Yields.{Yields, yields_value, yields_both, Any, yields_any}
 use Rattle.cell_asm.proofs.NamedOperands.{AreNames, IsNamed, cost, cost-append, no_names, more_names, expression_names, operand_names, all_names}
 use Rattle.cell_asm.proofs.GoodBlocks.{is_code, IsGoodFix, IsSound, Fits, ArePaired, IsGoodPiece, block_sound}
-use Rattle.cell_asm.proofs.InstructionPieces.{zero_fits, IsGoodReference, refers_good, reference_good, not_low, IsFewBlock}
+use Rattle.cell_asm.proofs.InstructionPieces.{zero_fits, IsGoodReference, refers_good, reference_good, not_low, fix_names, IsFewBlock}
 
 -- the entry of a number, at which nothing of instructions stands
 record IsData (content : Content) (f : Fix) : Type 0 where
@@ -41,14 +41,10 @@ record IsData (content : Content) (f : Fix) : Type 0 where
   lower : is_pcrel_hi20 f.kind ≡ false
   own : is_made f.target ≡ false
 
-abbrev names_at : Option Fix → List (List ℕ)
-names_at None = []
-names_at (Some f) = target_names f.target
-
 -- a number in a list, and its names
 record IsDatum (w : Width) (m : ℕ) (p : Piece) : Type 0 where
   good : IsGoodPiece (IsData (layout_of w).content) (layout_of w).content p
-  few : cost (names_at p.fix) + cost (names_at p.second) ≤ m
+  few : cost (fix_names p.fix) + cost (fix_names p.second) ≤ m
 
 -- the kind of an entry at a number
 record IsNumberKind (w : Width) (kind : RelKind) : Type 0 where
@@ -91,7 +87,7 @@ number_fix w m kind r k g = (
 )
 
 filled_good : (w : Width) (m value : ℕ) (first second : Option Fix) → Fits (IsData (layout_of w).content) (layout_of w).bytes first → Fits (IsData (layout_of w).content) (layout_of w).bytes second
-    → ArePaired first second → cost (names_at first) + cost (names_at second) ≤ m → IsDatum w m (filled w value first second)
+    → ArePaired first second → cost (fix_names first) + cost (fix_names second) ≤ m → IsDatum w m (filled w value first second)
 filled_good w m value first second f s p l = record { good = record { low = (laid_out w).low; in_fours = (laid_out w).fours; first = f; second = s; pair = p }; few = l }
 
 difference_good : (w : Width) (m : ℕ) (a b : List ℕ) → IsNamed m (a ∷ b ∷ []) → IsDatum w m (filled w 0 (Some (fix (layout_of w).add (refers a (pos 0)))) (Some (fix (layout_of w).sub (refers b (pos 0)))))
@@ -138,10 +134,10 @@ datum_good w m (Memory i base) h = tt
 -- numbers, which take so many names
 record AreData (w : Width) (m : ℕ) (pieces : List Piece) : Type 0 where
   each_is : (p : Piece) → In p pieces → IsGoodPiece (IsData (layout_of w).content) (layout_of w).content p
-  few : total (λ p. cost (names_at p.fix) + cost (names_at p.second)) pieces ≤ m
+  few : total (λ p. cost (fix_names p.fix) + cost (fix_names p.second)) pieces ≤ m
 
 more_data : (w : Width) (k m n : ℕ) (p : Piece) (pieces : List Piece) → n ≡ k + m → IsDatum w k p → AreData w m pieces → AreData w n (p ∷ pieces)
-more_data w k m n p pieces e d h = record { each_is = all; few = both_few (cost (names_at p.fix) + cost (names_at p.second)) (total (λ p. cost (names_at p.fix) + cost (names_at p.second)) pieces) d.few h.few }
+more_data w k m n p pieces e d h = record { each_is = all; few = both_few (cost (fix_names p.fix) + cost (fix_names p.second)) (total (λ p. cost (fix_names p.fix) + cost (fix_names p.second)) pieces) d.few h.few }
   where
     all : (q : Piece) → In q (p ∷ pieces) → IsGoodPiece (IsData (layout_of w).content) (layout_of w).content q
     all q (inl is) = subst (IsGoodPiece (IsData (layout_of w).content) (layout_of w).content) (sym is) d.good
@@ -166,24 +162,24 @@ data_good w (o ∷ os) h =
 abbrev names_of : List Mark → List (List ℕ)
 names_of marks = flat_map (λ x. target_names x.fix.target) marks
 
-mark_cost : (at : ℕ) (o : Option Fix) → cost (names_of (marks_at at o)) ≡ cost (names_at o)
+mark_cost : (at : ℕ) (o : Option Fix) → cost (names_of (marks_at at o)) ≡ cost (fix_names o)
 mark_cost at None = refl
 mark_cost at (Some f) = ap cost (append-nil (target_names f.target))
 
-piece_cost : (b : Block) (p : Piece) → cost (names_of (appended b p).marks) ≡ cost (names_of b.marks) + (cost (names_at p.fix) + cost (names_at p.second))
+piece_cost : (b : Block) (p : Piece) → cost (names_of (appended b p).marks) ≡ cost (names_of b.marks) + (cost (fix_names p.fix) + cost (fix_names p.second))
 piece_cost b p =
     let at : ℕ = length b.bytes in
     ap cost (flat_map-append (λ x. target_names x.fix.target) b.marks (marks_at at p.fix ++ marks_at at p.second))
     ∙ cost-append (names_of b.marks) (names_of (marks_at at p.fix ++ marks_at at p.second))
     ∙ ap (λ n. cost (names_of b.marks) + n)
     (ap cost (flat_map-append (λ x. target_names x.fix.target) (marks_at at p.fix) (marks_at at p.second)) ∙ cost-append (names_of (marks_at at p.fix)) (names_of (marks_at at p.second))
-    ∙ ap (λ n. n + cost (names_of (marks_at at p.second))) (mark_cost at p.fix) ∙ ap (λ n. cost (names_at p.fix) + n) (mark_cost at p.second))
+    ∙ ap (λ n. n + cost (names_of (marks_at at p.second))) (mark_cost at p.fix) ∙ ap (λ n. cost (fix_names p.fix) + n) (mark_cost at p.second))
 
-block_cost : (b : Block) (ps : List Piece) (n m : ℕ) → cost (names_of b.marks) ≤ n → total (λ p. cost (names_at p.fix) + cost (names_at p.second)) ps ≤ m → cost (names_of (fold appended b ps).marks) ≤ n + m
+block_cost : (b : Block) (ps : List Piece) (n m : ℕ) → cost (names_of b.marks) ≤ n → total (λ p. cost (fix_names p.fix) + cost (fix_names p.second)) ps ≤ m → cost (names_of (fold appended b ps).marks) ≤ n + m
 block_cost b [] n m h k = omega (arith, h)
 block_cost b (p ∷ ps) n m h k =
-    let one : ℕ = cost (names_at p.fix) + cost (names_at p.second) in
-    let rest : ℕ = total (λ p. cost (names_at p.fix) + cost (names_at p.second)) ps in
+    let one : ℕ = cost (fix_names p.fix) + cost (fix_names p.second) in
+    let rest : ℕ = total (λ p. cost (fix_names p.fix) + cost (fix_names p.second)) ps in
     go one rest (block_cost (appended b p) ps (n + one) rest (subst (λ x. x ≤ n + one) (sym (piece_cost b p)) (more (cost (names_of b.marks)) one h)) (omega arith)) k
   where
     more : (a c : ℕ) → a ≤ n → a + c ≤ n + c

@@ -28,7 +28,8 @@ use Rattle.cell_asm.specs.Assembled.{has_upper, is_upper_label, is_lost, is_lost
 use Rattle.cell_asm.proofs.Members.{map-In, In, In-right, filter-In, flat-In, find_none, any-In, In-any, In-none}
 use Rattle.cell_asm.proofs.GoodBlocks.{is_code, any_upper, IsGoodStatement}
 use Rattle.cell_asm.proofs.Standing.{IsStanding, all_stand}
-use Rattle.cell_asm.proofs.StackedLines.{same_part, at_part}
+use Rattle.cell_asm.proofs.Parts.{same_part}
+use Rattle.cell_asm.proofs.StackedLines.{at_part}
 use Rattle.cell_asm.proofs.LineEntries.{content_of, statement_taken, IsTaken}
 use Rattle.cell_asm.proofs.EntriesFit.{Origin, entry_origin}
 use Rattle.cell_asm.proofs.Unique.{same_key, labels_once}

@@ -2,8 +2,7 @@
 --     rooms source lines
 use Rattle.std.proofs.Common.{◌≡◌, ◌≤◌, ◌<◌, ◌+◌, ◌^◌, ℕ, zero, suc, true, false, List, [], ◌∷◌, Ok, Err, length, Some, None, inl, inr, refl, arith}
 use Rattle.std.specs.declared.result.Result.{Result}
-use Rattle.std.specs.Prelude.{Option, IfOk, All, is_none, nat_lt}
-use Rattle.std.proofs.lemmas.Bool.Decides.{nat_tests}
+use Rattle.std.specs.Prelude.{Option, IfOk, All, is_none}
 use Rattle.std.proofs.lemmas.Bool.{and_parts}
 use Rattle.cell_num.specs.Kinds.{width_of}
 use Rattle.cell_asm.specs.declared.statement.Part.{Part}
@@ -19,6 +18,7 @@ use Rattle.cell_asm.specs.Assembled.{placed_lines, assembled, Assembles}
 use Rattle.cell_asm.specs.Making.{HasRoom}
 use Rattle.cell_asm.proofs.Members.{In}
 use Rattle.cell_asm.proofs.GoodBlocks.{IsGoodStatement}
+use Rattle.cell_asm.proofs.Counts.{not_past}
 use Rattle.cell_asm.proofs.LineEntries.{statement_marks, none_laid}
 use Rattle.cell_asm.proofs.AssembledFits.{assembled_fits}
 use Rattle.cell_asm.proofs.Standing.{IsStanding, all_stand}
@@ -27,9 +27,6 @@ all_of : {X : Type 0} (P : X → Type 0) (xs : List X) → ((x : X) → In x xs 
 all_of P [] h k d lt = absurd (omega (arith, lt))
 all_of P (x ∷ xs) h zero d lt = h x (inl refl)
 all_of P (x ∷ xs) h (suc k) d lt = all_of P xs (λ y i. h y (inr i)) k d (omega (arith, lt))
-
-not_past : (m n : ℕ) → nat_lt m n ≡ false → n ≤ m
-not_past m n e = grind (arith, nat_tests)
 
 not_long : (part : Part) (n : ℕ) → is_long (Some part) n ≡ false → n ≤ 16777216
 not_long Bss n e = not_past 16777216 n e

@@ -7,29 +7,11 @@ use Rattle.std.proofs.lemmas.List.Sums.{sum_by-cons}
 use Rattle.cell_num.specs.Lists.{last}
 use Rattle.cell_text.specs.Text.{lines_in}
 use Rattle.cell_asm.specs.declared.statement.Part.{Part}
-use Rattle.cell_asm.specs.declared.statement.Part.TheVariants.{Text, Rodata, Data, Bss}
 use Rattle.cell_asm.specs.declared.laid.Laid.{Laid}
-use Rattle.cell_asm.specs.Places.{is_at, is_in, is_same_part, choices, taken, size_in, size_at, placed}
+use Rattle.cell_asm.specs.Places.{is_at, is_in, choices, taken, size_in, size_at, placed}
 use Rattle.cell_asm.specs.Assembled.{placed_lines}
 use Rattle.cell_asm.proofs.Growth.{Goes, grows}
-
-pub same_part : (p q : Part) → is_same_part p q ≡ true → p ≡ q
-same_part Text Text e = refl
-same_part Text Rodata e = absurd cc
-same_part Text Data e = absurd cc
-same_part Text Bss e = absurd cc
-same_part Rodata Text e = absurd cc
-same_part Rodata Rodata e = refl
-same_part Rodata Data e = absurd cc
-same_part Rodata Bss e = absurd cc
-same_part Data Text e = absurd cc
-same_part Data Rodata e = absurd cc
-same_part Data Data e = refl
-same_part Data Bss e = absurd cc
-same_part Bss Text e = absurd cc
-same_part Bss Rodata e = absurd cc
-same_part Bss Data e = absurd cc
-same_part Bss Bss e = refl
+use Rattle.cell_asm.proofs.Parts.{same_part}
 
 pub at_part : (part : Part) (o : Option Part) → is_at part o ≡ true → o ≡ Some part
 at_part part None e = absurd cc

@@ -27,7 +27,7 @@ use Rattle.cell_asm.specs.Objects.{parts_of, part_number, number_in, section_of,
 use Rattle.cell_asm.specs.Assembled.{placed_lines}
 use Rattle.cell_asm.proofs.Members.{In, In-filtered, found-In, get-In}
 use Rattle.cell_asm.proofs.Tallies.{get_below, get_split, get_map, take_behind, mapped_length, AreApart, fold_apart, fold_In, before_fails}
-use Rattle.cell_asm.proofs.StackedLines.{same_part}
+use Rattle.cell_asm.proofs.Parts.{same_part}
 use Rattle.cell_asm.proofs.Grouped.{part_numbered}
 use Rattle.cell_asm.proofs.Counts.{section_small}
 use Rattle.cell_asm.proofs.NamesFit.{IsGoodName, name_fits}

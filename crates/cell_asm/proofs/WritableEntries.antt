@@ -2,7 +2,7 @@
 --     entry_storable       IsStorable of each
 --     entry_writable       IsWritableEntry of each entry of a section
 use Rattle.std.proofs.Common.{◌≡◌, ℕ, zero, suc, ◌+◌, ◌%◌, ◌^◌, ◌<◌, ◌≤◌, ◌==◌, Bool, true, false, ◌&&◌, ◌||◌, not, List, [], ◌∷◌, map, length, take, slice_get, Ok, Some, None, refl, sym, ap, subst, ◌∙◌, true≢false, arith}
-use Rattle.std.specs.Prelude.{nat_lt, find, FitsSigned}
+use Rattle.std.specs.Prelude.{find, FitsSigned}
 use Rattle.std.specs.Int.{w64}
 use Rattle.std.proofs.lemmas.Bool.Decides.{nat_tests}
 use Rattle.cell_num.specs.Kinds.{width_of, is_instruction}
@@ -22,21 +22,13 @@ use Rattle.cell_asm.specs.Assembled.{has_lost, placed_lines}
 use Rattle.cell_asm.proofs.Members.{In, In-flat, get-In}
 use Rattle.cell_asm.proofs.Standing.{IsStanding, all_stand}
 use Rattle.cell_asm.proofs.InFours.{in_fours}
+use Rattle.cell_asm.proofs.Counts.{not_past, largest_most}
 use Rattle.cell_asm.proofs.StackedLines.{at_part}
 use Rattle.cell_asm.proofs.LineEntries.{content_of, IsTaken}
 use Rattle.cell_asm.proofs.EntriesFit.{Origin, entry_origin, entry_high, entries_apart, apart_take}
 use Rattle.cell_asm.proofs.SymbolPlaces.{number_small, number_usable}
 use Rattle.cell_asm.proofs.Paired.{line_taken, entry_paired}
 use Rattle.cell_asm.proofs.Grouped.{entries_of_part}
-
-not_past : (m n : ℕ) → nat_lt m n ≡ false → n ≤ m
-not_past m n e = grind (arith, nat_tests)
-
-largest_most : (part : Part) → largest part ≤ 16777216
-largest_most Text = omega arith
-largest_most Rodata = omega arith
-largest_most Data = omega arith
-largest_most Bss = omega arith
 
 below_end : (at w o t most : ℕ) → at + w ≤ o + t → o + t ≤ most → most ≤ 16777216 → at < 2 ^ 32
 below_end at w o t most a b c = omega arith

@@ -114,7 +114,7 @@ fn object(alloc: Global, lines: &[Laid<'_>], sizes: &Sizes) -> Result<Object, As
 }
 
 /// The object of lines that refer to labels alone.
-#[tactic(auto, using(crate::proofs::PartCounts::few))]
+#[tactic(auto, using(crate::proofs::Parts::few))]
 fn whole_object<'a>(
     alloc: Global,
     lines: &[Laid<'a>],
