@@ -31,10 +31,9 @@ use Rattle.cell_asm.proofs.NamesFit.{made_short}
 use Rattle.cell_asm.proofs.GoodBlocks.{is_code}
 use Rattle.cell_asm.proofs.LineEntries.{content_of, statement_marks, statement_taken, none_laid}
 use Rattle.cell_asm.proofs.Standing.{IsStanding, all_stand}
-use Rattle.cell_asm.proofs.Unique.{key_itself}
+use Rattle.cell_asm.proofs.Unique.{names_apart, key_itself}
 use Rattle.cell_asm.proofs.Counts.{section_fits}
 use Rattle.cell_asm.proofs.Paired.{hi20_code, in_labels, made_head}
-use Rattle.cell_asm.proofs.SymbolsFit.{names_apart}
 use Rattle.cell_asm.proofs.ReadLines.{line_names, read_line}
 
 -- THE TEXTS OF A SOURCE

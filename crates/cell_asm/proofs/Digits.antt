@@ -52,9 +52,6 @@ held_step m r d radix = elim (held_is m) [
   ]
 ]
 
-pub held_small : (n : ℕ) → held n < 0x10000000000000004
-held_small n = elim (held_is n) [ inl p ↦ rw p.1 (omega (arith, p.0)) | inr p ↦ rw p.1 (omega arith) ]
-
 -- a decimal digit is a hex digit
 digit_is_hex : (b : ℕ) → is_ascii_digit b ≡ true → is_hex_digit b ≡ true
 digit_is_hex b e = rw e refl

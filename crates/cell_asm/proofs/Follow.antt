@@ -10,8 +10,8 @@ use Rattle.cell_asm.specs.declared.statement.Part.{Part}
 use Rattle.cell_asm.specs.declared.statement.Line.{Line}
 use Rattle.cell_asm.specs.declared.laid.Laid.{Laid}
 use Rattle.cell_asm.specs.declared.place.Progress.{Progress}
-use Rattle.cell_asm.specs.Places.{is_at, is_in, choice, choices, taken, size_in, size_at, makes_label, made_in, has_own, is_twice, placed, fault_at}
-use Rattle.cell_asm.specs.Progress.{size_of, size_chosen, offset_of, twice_of, fault_after, laid_after, Adds, Follows}
+use Rattle.cell_asm.specs.Places.{is_at, is_in, choice, choices, taken, size_in, size_at, makes_label, made_in, has_own, is_twice, placed}
+use Rattle.cell_asm.specs.Progress.{size_of, size_chosen, offset_of, twice_of, laid_after, Adds, Follows}
 use Rattle.cell_asm.proofs.Parts.{same_part}
 
 size_is : (p : Progress) (before : List Laid) (part : Option Part) → Follows p before → size_chosen p.sizes part ≡ size_at part before
@@ -24,9 +24,6 @@ offset_is p before h = ap (size_chosen p.sizes) h.chosen ∙ size_is p before (l
 twice_is : (p : Progress) (before : List Laid) (name : Option (List ℕ)) → Follows p before → twice_of p name ≡ is_twice before name
 twice_is p before None h = refl
 twice_is p before (Some name) h = h.names name
-
-pub fault_is : (p : Progress) (before : List Laid) (line : Line) → Follows p before → fault_after p line ≡ fault_at before line
-fault_is p before line h = rw (offset_is p before h, twice_is p before line.label h, h.chosen) refl
 
 pub laid_is : (p : Progress) (before : List Laid) (n : ℕ) (line : Line) → Follows p before → laid_after p n line ≡ placed before n line
 laid_is p before n line h = rw (offset_is p before h, h.made, h.chosen) refl

@@ -3,12 +3,12 @@
 --     mentioned_there, made_there     each name that is mentioned has a symbol, and each label that is made
 --     label_symbol                    the symbol of a label's key has its section and its offset
 use Rattle.std.proofs.Common.{◌≡◌, ℕ, zero, suc, ◌+◌, ◌-◌, ◌<◌, ◌≤◌, ◌==◌, Bool, true, false, ◌||◌, not, cond, List, [], ◌∷◌, ◌++◌, ◌⊎◌, inl, inr, map, length, slice_get, Some, None, refl, sym, ap, subst, ◌∙◌, one-add, true≢false, arith}
-use Rattle.std.specs.Prelude.{Option, if◌then◌else◌, nat_lt, filter, find, fold, position}
+use Rattle.std.specs.Prelude.{Option, nat_lt, filter, find, fold, position}
 use Rattle.std.specs.Option.{option_map_or}
 use Rattle.std.specs.List.{list_any, position_or_len}
 use Rattle.std.proofs.lemmas.Bool.{and_right}
 use Rattle.std.proofs.lemmas.Bool.Decides.{nat_tests}
-use Rattle.cell_num.specs.Lists.{equals, holds_name}
+use Rattle.cell_num.specs.Lists.{equals}
 use Rattle.cell_object.specs.declared.object.Symbol.{Symbol}
 use Rattle.cell_object.specs.declared.object.Home.TheVariants.{Inside}
 use Rattle.cell_object.specs.Relocations.{is_unusable_symbol, is_unusable}
@@ -19,7 +19,8 @@ use Rattle.cell_asm.specs.declared.laid.Key.TheVariants.{Named, Made}
 use Rattle.cell_asm.specs.Places.{labels}
 use Rattle.cell_asm.specs.Objects.{part_number, is_key, is_global, globals, local_labels, holds_key, mentions, adds_name, other_names, label_named, home_at, local_symbol, global_symbol, symbols, symbol_keys, symbol_number}
 use Rattle.cell_asm.proofs.Members.{In, In-left, In-right, In-filtered, filter-In, found-In, find_there, any-In, In-any, map-In}
-use Rattle.cell_asm.proofs.Unique.{same_name, same_key, key_itself}
+use Rattle.cell_asm.proofs.Tallies.{fold_there}
+use Rattle.cell_asm.proofs.Unique.{names_apart, name_itself, same_name, same_key, key_itself}
 
 -- THE PLACE OF THE FIRST THAT PASSES
 
@@ -199,24 +200,10 @@ number_usable lines key = usable_by lines key (has_symbol lines key) refl
 
 -- WHICH KEYS HAVE ONE
 
-added_there : (names : List (List ℕ)) (y x : List ℕ) (b : Bool) → In x names → In x (if b then names else names ++ y ∷ [])
-added_there names y x true h = h
-added_there names y x false h = In-left names (y ∷ []) x h
-
-kept : (names more : List (List ℕ)) (x : List ℕ) → In x names → In x (fold adds_name names more)
-kept names [] x h = h
-kept names (y ∷ more) x h = kept (adds_name names y) more x (added_there names y x (holds_name names y) h)
-
-added_itself : (names : List (List ℕ)) (y : List ℕ) (b : Bool) → holds_name names y ≡ b → In y (if b then names else names ++ y ∷ [])
-added_itself names y true e =
-    let r : (x : List ℕ) × In x names × (equals x y ≡ true) = any-In (λ other. equals other y) names e in
-    subst (λ n. In n names) (same_name r.0 y r.2) r.1
-added_itself names y false e = In-right names (y ∷ []) y (inl refl)
-
-all_added : (names more : List (List ℕ)) (x : List ℕ) → In x more → In x (fold adds_name names more)
-all_added names [] x h = absurd h
-all_added names (y ∷ more) x (inl e) = kept (adds_name names y) more x (subst (λ n. In n (adds_name names y)) (sym e) (added_itself names y (holds_name names y) refl))
-all_added names (y ∷ more) x (inr h) = all_added (adds_name names y) more x h
+all_added : (more : List (List ℕ)) (x : List ℕ) → In x more → In x (fold adds_name [] more)
+all_added more x h =
+    let r : (y : List ℕ) × In y (fold adds_name [] more) × (equals y x ≡ true) = any-In (names_apart x) (fold adds_name [] more) (fold_there names_apart name_itself [] more x h) in
+    subst (λ n. In n (fold adds_name [] more)) (same_name r.0 x r.2) r.1
 
 local_there : (lines : List Laid) (l : Label) → In l (local_labels lines) → has_symbol lines l.key ≡ true
 local_there lines l h =
@@ -233,7 +220,7 @@ mentioned_by lines name true e h =
     ap (has_symbol lines) (sym (same_key r.0.key (Named name) r.2)) ∙ local_there lines r.0 r.1
 mentioned_by lines name false e h =
     other_there lines name
-    (all_added [] (filter (λ n. not (holds_key (local_labels lines) (Named n))) (mentions lines)) name
+    (all_added (filter (λ n. not (holds_key (local_labels lines) (Named n))) (mentions lines)) name
     (filter-In (λ n. not (holds_key (local_labels lines) (Named n))) (mentions lines) name h (ap not e)))
 
 pub mentioned_there : (lines : List Laid) (name : List ℕ) → In name (mentions lines) → has_symbol lines (Named name) ≡ true

@@ -27,6 +27,7 @@ use Rattle.cell_asm.specs.Objects.{parts_of, part_number, number_in, section_of,
 use Rattle.cell_asm.specs.Assembled.{placed_lines}
 use Rattle.cell_asm.proofs.Members.{In, In-filtered, found-In, get-In}
 use Rattle.cell_asm.proofs.Tallies.{get_below, get_split, get_map, take_behind, mapped_length, AreApart, fold_apart, fold_In, before_fails}
+use Rattle.cell_asm.proofs.Unique.{names_apart}
 use Rattle.cell_asm.proofs.Parts.{same_part}
 use Rattle.cell_asm.proofs.Grouped.{part_numbered}
 use Rattle.cell_asm.proofs.Counts.{section_small}
@@ -117,10 +118,6 @@ local_fits source lines k l e h =
     }
 
 -- GLOBAL SYMBOLS
-
--- the name is of another
-abbrev pub names_apart : List ℕ → List ℕ → Bool
-names_apart name other = equals other name
 
 others_apart : (lines : List Laid) → AreApart names_apart (other_names lines)
 others_apart lines = fold_apart names_apart [] (filter (λ name. not (holds_key (local_labels lines) (Named name))) (mentions lines)) tt

@@ -10,6 +10,7 @@ use Rattle.std.proofs.lemmas.List.Concat.{flat_map-append}
 use Rattle.std.proofs.lemmas.List.Folds.{list_any-append}
 use Rattle.std.proofs.lemmas.List.Sums.{sum_by-append}
 use Rattle.cell_text.specs.Text.{lines_in}
+use Rattle.cell_num.specs.Lists.{equals}
 use Rattle.cell_asm.specs.declared.statement.Part.{Part}
 use Rattle.cell_asm.specs.declared.statement.Line.{Line}
 use Rattle.cell_asm.specs.declared.laid.Laid.{Laid}
@@ -24,6 +25,10 @@ use Rattle.cell_asm.proofs.Members.{In, In-append, In-map}
 use Rattle.cell_asm.proofs.Standing.{allowed}
 
 -- KEYS
+
+-- the name is of another
+abbrev pub names_apart : List ℕ → List ℕ → Bool
+names_apart name other = equals other name
 
 pub same_name : (a b : List ℕ) → bytes_eq a b ≡ true → a ≡ b
 same_name a b e = (bytes_eq-Decides a b).0 e
