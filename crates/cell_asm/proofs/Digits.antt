@@ -1,6 +1,6 @@
 -- Numbers of 2^64 and more, held by their remainder by 4.
-use Rattle.std.proofs.Common.{◌≡◌, ◌⊎◌, inl, inr, ℕ, ◌+◌, ◌*◌, ◌%◌, ◌^◌, ◌<◌, ◌≤◌, Bool, true, false, List, [], ◌∷◌, ◌++◌, take, get_or, length, refl, sym, ap, ◌∙◌, arith}
-use Rattle.std.specs.Prelude.{nat_lt, ◌&&◌, if◌then◌else◌, nat_le, ◌||◌}
+use Rattle.std.proofs.Common.{◌≡◌, ◌⊎◌, inl, inr, ℕ, ◌+◌, ◌*◌, ◌%◌, ◌<◌, ◌≤◌, Bool, true, false, List, [], ◌∷◌, ◌++◌, take, get_or, length, refl, sym, ap, ◌∙◌, arith}
+use Rattle.std.specs.Prelude.{nat_lt, if◌then◌else◌}
 use Rattle.std.specs.List.{list_all}
 use Rattle.std.specs.Char.{digit_value, is_ascii_digit}
 use Rattle.std.specs.Str.Parse.{digits_value, digits_value_after}
@@ -51,9 +51,6 @@ held_step m r d radix = elim (held_is m) [
     | inr e ↦ rw (p.1, e) (sixteen m d p.0)
   ]
 ]
-
-pub held_small : (n : ℕ) → held n < 0x10000000000000004
-held_small n = elim (held_is n) [ inl p ↦ rw p.1 (omega (arith, p.0)) | inr p ↦ rw p.1 (omega arith) ]
 
 -- a decimal digit is a hex digit
 digit_is_hex : (b : ℕ) → is_ascii_digit b ≡ true → is_hex_digit b ≡ true

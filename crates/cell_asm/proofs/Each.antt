@@ -1,12 +1,15 @@
 -- Values that are read one after the other, and the earliest of their faults.
-use Rattle.std.proofs.Common.{◌≡◌, ℕ, zero, suc, ◌<◌, ◌≤◌, ◌+◌, Bool, true, false, List, [], ◌∷◌, ◌++◌, map, length, get_or, take, Result, Ok, Err, Some, None, refl, sym, ap, ◌∙◌, arith}
+use Rattle.std.proofs.Common.{◌≡◌, ℕ, zero, suc, ◌<◌, ◌+◌, Bool, true, false, List, [], ◌∷◌, ◌++◌, map, length, get_or, take, Result, Ok, Err, Some, None, refl, sym, ap, ◌∙◌, arith}
 use Rattle.std.specs.Prelude.{nat_le, if◌then◌else◌, Option, ok_or}
 use Rattle.std.proofs.lemmas.Bool.Decides.{nat_tests}
 use Rattle.std.proofs.lemmas.List.{take_more, map-append}
 use Rattle.cell_asm.specs.declared.kind.AsmKind.{AsmKind}
 use Rattle.cell_asm.specs.declared.kind.AsmKind.TheVariants.{Word}
 use Rattle.cell_asm.specs.Faults.{rank, earlier, both, with_value, each}
+use Rattle.cell_asm.specs.declared.statement.Piece.{Piece}
+use Rattle.cell_asm.specs.Blocks.{appended, empty, block}
 use Rattle.cell_asm.specs.Gathering.{more}
+use Rattle.std.proofs.lemmas.List.Sums.{fold-append}
 
 earlier_first : (j k : AsmKind) → nat_le (rank j) (rank k) ≡ true → earlier j k ≡ j
 earlier_first j k e = ap (λ b. if b then j else k) e
@@ -35,8 +38,12 @@ by_tests j k l false false p q =
 pub earlier_assoc : (j k l : AsmKind) → earlier j (earlier k l) ≡ earlier (earlier j k) l
 earlier_assoc j k l = by_tests j k l (nat_le (rank j) (rank k)) (nat_le (rank k) (rank l)) refl refl
 
+-- a list, and one more behind it
+abbrev pub listed : {A : Type 0} → Result (List A) AsmKind → Result A AsmKind → Result (List A) AsmKind
+listed items item = with_value (λ p. p.0 ++ p.1 ∷ []) (both items item)
+
 moved : {A : Type 0} (y : Result A AsmKind) (r : Result (List A) AsmKind) (x : Result A AsmKind)
-    → with_value (λ p. p.0 ∷ p.1) (both y (more r x)) ≡ more (with_value (λ p. p.0 ∷ p.1) (both y r)) x
+    → with_value (λ p. p.0 ∷ p.1) (both y (listed r x)) ≡ listed (with_value (λ p. p.0 ∷ p.1) (both y r)) x
 moved (Ok y) (Ok r) (Ok x) = refl
 moved (Ok y) (Ok r) (Err l) = refl
 moved (Ok y) (Err k) (Ok x) = refl
@@ -46,20 +53,31 @@ moved (Err j) (Ok r) (Err l) = refl
 moved (Err j) (Err k) (Ok x) = refl
 moved (Err j) (Err k) (Err l) = ap Err (earlier_assoc j k l)
 
-first : {A : Type 0} (x : Result A AsmKind) → each (x ∷ []) ≡ more (Ok []) x
+first : {A : Type 0} (x : Result A AsmKind) → each (x ∷ []) ≡ listed (Ok []) x
 first (Ok x) = refl
 first (Err k) = refl
 
 -- one more behind the others
-pub each-push : {A : Type 0} (xs : List (Result A AsmKind)) (x : Result A AsmKind) → each (xs ++ x ∷ []) ≡ more (each xs) x
+pub each-push : {A : Type 0} (xs : List (Result A AsmKind)) (x : Result A AsmKind) → each (xs ++ x ∷ []) ≡ listed (each xs) x
 each-push [] x = first x
 each-push (y ∷ ys) x = ap (λ r. with_value (λ p. p.0 ∷ p.1) (both y r)) (each-push ys x) ∙ moved y (each ys) x
 
-pub each_more : {X A : Type 0} (f : X → Result A AsmKind) (xs : List X) (i : ℕ) (d : X) → i < length xs → each (map f (take (i + 1) xs)) ≡ more (each (map f (take i xs))) (f (get_or xs i d))
+pub each_more : {X A : Type 0} (f : X → Result A AsmKind) (xs : List X) (i : ℕ) (d : X) → i < length xs → each (map f (take (i + 1) xs)) ≡ listed (each (map f (take i xs))) (f (get_or xs i d))
 each_more f xs i d lt =
     ap (λ ys. each (map f ys)) (take_more xs i d lt)
     ∙ ap each (map-append f (take i xs) (get_or xs i d ∷ []))
     ∙ each-push (map f (take i xs)) (f (get_or xs i d))
+
+block-push : (r : Result (List Piece) AsmKind) (x : Result Piece AsmKind) → with_value block (listed r x) ≡ more (with_value block r) x
+block-push (Ok r) (Ok x) = ap Ok (fold-append appended empty r (x ∷ []))
+block-push (Ok r) (Err k) = refl
+block-push (Err j) (Ok x) = refl
+block-push (Err j) (Err k) = refl
+
+-- one piece more, and the block
+pub block_more : {X : Type 0} (f : X → Result Piece AsmKind) (xs : List X) (i : ℕ) (d : X) → i < length xs
+    → with_value block (each (map f (take (i + 1) xs))) ≡ more (with_value block (each (map f (take i xs)))) (f (get_or xs i d))
+block_more f xs i d lt = ap (with_value block) (each_more f xs i d lt) ∙ block-push (each (map f (take i xs))) (f (get_or xs i d))
 
 nothing_before : (n : ℕ) → nat_le 0 n ≡ true
 nothing_before n = grind (arith, nat_tests)

@@ -1,20 +1,18 @@
 -- One line more behind those that are in their places.
-use Rattle.std.proofs.Common.{◌≡◌, ℕ, ◌+◌, ◌<◌, ◌≤◌, Bool, true, false, ◌||◌, List, [], ◌∷◌, ◌++◌, cond, Some, None, refl, sym, ap, subst, ◌∙◌, arith, append-nil, add-zero, zero-add}
-use Rattle.std.specs.Prelude.{Option, if◌then◌else◌, filter, filter_map, sum_by, count_by}
+use Rattle.std.proofs.Common.{◌≡◌, ℕ, ◌+◌, Bool, true, false, ◌||◌, List, [], ◌∷◌, ◌++◌, cond, Some, None, refl, sym, ap, ◌∙◌, append-nil, add-zero, zero-add}
+use Rattle.std.specs.Prelude.{Option, if◌then◌else◌, filter, sum_by}
 use Rattle.std.specs.List.{list_any, cons_option}
 use Rattle.std.proofs.lemmas.List.Folds.{list_any-append}
 use Rattle.std.proofs.lemmas.List.Sums.{sum_by-append}
 use Rattle.std.proofs.lemmas.List.Elements.{filter-append, filter_map-append}
-use Rattle.cell_num.specs.Lists.{last, or_else, equals}
+use Rattle.cell_num.specs.Lists.{last, or_else}
 use Rattle.cell_asm.specs.declared.statement.Part.{Part}
-use Rattle.cell_asm.specs.declared.statement.Part.TheVariants.{Text, Rodata, Data, Bss}
 use Rattle.cell_asm.specs.declared.statement.Line.{Line}
 use Rattle.cell_asm.specs.declared.laid.Laid.{Laid}
 use Rattle.cell_asm.specs.declared.place.Progress.{Progress}
-use Rattle.cell_asm.specs.declared.kind.AsmKind.{AsmKind}
-use Rattle.cell_asm.specs.Named.{is_named}
-use Rattle.cell_asm.specs.Places.{is_same_part, is_at, is_in, choice, choices, taken, size_in, size_at, makes_label, made_in, has_own, is_label, is_twice, placed, fault_at, fault_by}
-use Rattle.cell_asm.specs.Progress.{size_of, size_chosen, offset_of, twice_of, fault_after, laid_after, Adds, Follows}
+use Rattle.cell_asm.specs.Places.{is_at, is_in, choice, choices, taken, size_in, size_at, makes_label, made_in, has_own, is_twice, placed}
+use Rattle.cell_asm.specs.Progress.{size_of, size_chosen, offset_of, twice_of, laid_after, Adds, Follows}
+use Rattle.cell_asm.proofs.Parts.{same_part}
 
 size_is : (p : Progress) (before : List Laid) (part : Option Part) → Follows p before → size_chosen p.sizes part ≡ size_at part before
 size_is p before None h = refl
@@ -26,9 +24,6 @@ offset_is p before h = ap (size_chosen p.sizes) h.chosen ∙ size_is p before (l
 twice_is : (p : Progress) (before : List Laid) (name : Option (List ℕ)) → Follows p before → twice_of p name ≡ is_twice before name
 twice_is p before None h = refl
 twice_is p before (Some name) h = h.names name
-
-pub fault_is : (p : Progress) (before : List Laid) (line : Line) → Follows p before → fault_after p line ≡ fault_at before line
-fault_is p before line h = rw (offset_is p before h, twice_is p before line.label h, h.chosen) refl
 
 pub laid_is : (p : Progress) (before : List Laid) (n : ℕ) (line : Line) → Follows p before → laid_after p n line ≡ placed before n line
 laid_is p before n line h = rw (offset_is p before h, h.made, h.chosen) refl
@@ -68,24 +63,6 @@ turned false false = refl
 
 own_more : (q : List ℕ) (before : List Laid) (l : Laid) → list_any (has_own q) (before ++ l ∷ []) ≡ (has_own q l || list_any (has_own q) before)
 own_more q before l = list_any-append (has_own q) before (l ∷ []) ∙ turned (list_any (has_own q) before) (has_own q l)
-
-same_part : (p q : Part) → is_same_part p q ≡ true → p ≡ q
-same_part Text Text e = refl
-same_part Text Rodata e = absurd cc
-same_part Text Data e = absurd cc
-same_part Text Bss e = absurd cc
-same_part Rodata Text e = absurd cc
-same_part Rodata Rodata e = refl
-same_part Rodata Data e = absurd cc
-same_part Rodata Bss e = absurd cc
-same_part Data Text e = absurd cc
-same_part Data Rodata e = absurd cc
-same_part Data Data e = refl
-same_part Data Bss e = absurd cc
-same_part Bss Text e = absurd cc
-same_part Bss Rodata e = absurd cc
-same_part Bss Data e = absurd cc
-same_part Bss Bss e = refl
 
 -- where a line stands in a section, its offset is the section's size
 stands_at : (part : Part) (before : List Laid) (o : Option Part) → is_at part o ≡ true → size_at o before ≡ size_in part before

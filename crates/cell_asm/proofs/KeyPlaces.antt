@@ -1,6 +1,6 @@
 -- The places of keys in a list, after one more key.
-use Rattle.std.proofs.Common.{◌≡◌, ℕ, suc, ◌+◌, ◌<◌, ◌≤◌, ◌==◌, Bool, true, false, not, cond, ◌||◌, List, [], ◌∷◌, ◌++◌, length, map, take, get_or, find, Some, None, refl, ap, sym, ◌∙◌, add-zero, suc-add, arith}
-use Rattle.std.specs.Prelude.{Option, option_map, is_some, nat_lt, position}
+use Rattle.std.proofs.Common.{◌≡◌, ℕ, suc, ◌+◌, ◌<◌, ◌≤◌, ◌==◌, Bool, true, false, not, cond, ◌||◌, List, [], ◌∷◌, ◌++◌, length, take, get_or, find, Some, None, refl, ap, sym, ◌∙◌, add-zero, suc-add, arith}
+use Rattle.std.specs.Prelude.{Option, option_map, is_some, nat_lt}
 use Rattle.std.specs.Option.{option_map_or, option_or, unwrap_or}
 use Rattle.std.specs.List.{list_any, position_or_len}
 use Rattle.std.proofs.lemmas.Bool.Decides.{nat_tests}

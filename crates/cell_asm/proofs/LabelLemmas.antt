@@ -1,6 +1,5 @@
 -- The labels of the lines, and the names of those at instructions with %pcrel_hi.
-use Rattle.std.proofs.Common.{◌≡◌, ◌||◌, ◌&&◌, ◌==◌, ℕ, ◌+◌, ◌<◌, ◌≤◌, Bool, true, false, List, [], ◌∷◌, ◌++◌, not, cond, find, length, get_or, take, drop, Some, None, refl, sym, ap, ◌∙◌, append-nil, drop_of_length-le, nat_cmp}
-use Rattle.std.specs.Prelude.{Option}
+use Rattle.std.proofs.Common.{◌≡◌, ◌||◌, ◌&&◌, ◌==◌, ℕ, ◌+◌, ◌<◌, ◌≤◌, Bool, true, false, List, [], ◌∷◌, ◌++◌, not, cond, find, length, get_or, take, drop, Some, refl, sym, ap, ◌∙◌, append-nil, drop_of_length-le, nat_cmp}
 use Rattle.std.specs.List.{list_any}
 use Rattle.std.proofs.lemmas.List.{take_more, drop_more}
 use Rattle.std.proofs.lemmas.List.Concat.{flat_map-append}
@@ -10,14 +9,14 @@ use Rattle.std.specs.BTreeSet.{BTreeSet, contains}
 use Rattle.cell_asm.specs.declared.statement.Part.TheVariants.{Text}
 use Rattle.cell_asm.specs.declared.laid.Key.TheVariants.{Named}
 use Rattle.cell_num.specs.Kinds.{is_pcrel_lo12}
-use Rattle.cell_asm.specs.declared.statement.Fix.{Fix}
+use Rattle.cell_asm.specs.declared.block.Mark.{Mark}
 use Rattle.cell_asm.specs.declared.statement.Target.{Target}
 use Rattle.cell_asm.specs.declared.statement.Target.TheVariants.{Named as Name, Made as NoName}
 use Rattle.cell_asm.specs.declared.names_taken.Names.{Names}
 use Rattle.cell_asm.specs.Named.{is_named}
-use Rattle.cell_asm.specs.Objects.{is_key, pieces_in}
-use Rattle.cell_asm.specs.Assembled.{has_upper, is_upper_label, is_lost, is_lost_fix, has_lost}
-use Rattle.cell_asm.specs.Uppers.{is_upper_at, target_lost_by, fix_lost_by, lost_by}
+use Rattle.cell_asm.specs.Objects.{is_key, marks_in}
+use Rattle.cell_asm.specs.Assembled.{has_upper, is_upper_label, is_lost, is_lost_mark, has_lost}
+use Rattle.cell_asm.specs.Uppers.{is_upper_at, target_lost_by, mark_lost_by, lost_by}
 use Rattle.cell_asm.specs.Places.{is_in, is_same_part, labels, labels_at, keys_of}
 
 -- one line more
@@ -60,9 +59,8 @@ target_is : (names : Names) (lines : List Laid) (t : Target) → Knows names lin
 target_is names lines NoName k = refl
 target_is names lines (Name name) k = ap not (k name)
 
-fix_is : (names : Names) (lines : List Laid) (fix : Option Fix) → Knows names lines → fix_lost_by names fix ≡ is_lost_fix lines fix
-fix_is names lines None k = refl
-fix_is names lines (Some f) k = ap (λ b. is_pcrel_lo12 f.kind && b) (target_is names lines f.target k)
+mark_is : (names : Names) (lines : List Laid) (m : Mark) → Knows names lines → mark_lost_by names m ≡ is_lost_mark lines m
+mark_is names lines m k = ap (λ b. is_pcrel_lo12 m.fix.kind && b) (target_is names lines m.fix.target k)
 
 find_same : {X : Type 0} (p q : X → Bool) (xs : List X) → ((x : X) → p x ≡ q x) → find p xs ≡ find q xs
 find_same p q [] same = refl
@@ -76,7 +74,7 @@ pub lost_is : (names : Names) (lines : List Laid) (offsets : BTreeSet ℕ)
 lost_is names lines offsets at named =
     let knows : Knows names lines = λ q. named q ∙ uppers_known lines offsets q at in
     find_same (lost_by names) (has_lost lines) lines
-    (λ l. same_any (λ p. fix_lost_by names p.fix) (λ p. is_lost_fix lines p.fix) (pieces_in l.line.statement) (λ p. fix_is names lines p.fix knows))
+    (λ l. same_any (mark_lost_by names) (is_lost_mark lines) (marks_in l.line.statement) (λ m. mark_is names lines m knows))
 
 -- the elements that are left, and whether one passes
 pub any_found : {X : Type 0} (p : X → Bool) (xs : List X) (i : ℕ) (d : X) → i < length xs → p (get_or xs i d) ≡ true → list_any p (drop i xs) ≡ true
@@ -87,3 +85,5 @@ any_passed p xs i d lt e = sym (ap (list_any p) (drop_more xs i d lt) ∙ ap (λ
 
 pub any_end : {X : Type 0} (p : X → Bool) (xs : List X) (i : ℕ) → length xs ≤ i → list_any p (drop i xs) ≡ false
 any_end p xs i h = ap (list_any p) (drop_of_length-le xs h)
+
+pub ruleset any_left = (any_found, any_passed, any_end)

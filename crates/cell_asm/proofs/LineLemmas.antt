@@ -1,12 +1,11 @@
 -- A line, from its parts.
-use Rattle.std.proofs.Common.{ℕ, List, [], ◌∷◌, Bor, ◌≡◌, ◌==◌, Bool, true, false, map, length, Result, Ok, Err, Some, None, refl, sym, ap, ◌∙◌}
-use Rattle.std.specs.Prelude.{Option, if◌then◌else◌, nat_le}
+use Rattle.std.proofs.Common.{ℕ, List, [], ◌∷◌, Bor, ◌≡◌, ◌==◌, true, false, map, length, Result, Ok, Err, None, refl, sym, ap, ◌∙◌}
+use Rattle.std.specs.Prelude.{Option, if◌then◌else◌}
 use Rattle.std.specs.List.{slice_split}
 use Rattle.cell_asm.specs.declared.kind.AsmKind.{AsmKind}
 use Rattle.cell_asm.specs.declared.kind.AsmKind.TheVariants.{Word}
 use Rattle.cell_asm.specs.declared.statement.Statement.{Statement}
-use Rattle.cell_asm.specs.declared.statement.Line.{Line}
-use Rattle.cell_asm.specs.Faults.{both, with_value, each, rank, earlier}
+use Rattle.cell_asm.specs.Faults.{both, with_value, each}
 use Rattle.cell_asm.specs.Lines.{spelled, trimmed, operand_texts, statement_in, read_with, first_word, after_word, has_label, label_name, labelled, line_in}
 use Rattle.cell_asm.specs.Statements.{statement}
 use Rattle.cell_asm.proofs.Each.{word_earlier}

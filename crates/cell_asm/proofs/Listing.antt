@@ -1,10 +1,8 @@
 -- The list of symbols, symbol by symbol.
-use Rattle.std.proofs.Common.{◌≡◌, ℕ, suc, ◌+◌, ◌<◌, Bool, true, false, not, List, [], ◌∷◌, ◌++◌, length, take, get_or, map, is_some, Some, None, refl, sym, ap, subst, ◌∙◌, append-nil, append_assoc}
-use Rattle.std.specs.Prelude.{Option, if◌then◌else◌, flat_map, fold}
+use Rattle.std.proofs.Common.{◌≡◌, ℕ, suc, ◌+◌, Bool, true, false, not, List, [], ◌∷◌, ◌++◌, length, map, is_some, refl, sym, ap, subst, ◌∙◌, append_assoc}
+use Rattle.std.specs.Prelude.{Option, if◌then◌else◌}
 use Rattle.std.specs.Option.{option_map_or}
-use Rattle.std.proofs.lemmas.List.{take_more, map-append}
-use Rattle.std.proofs.lemmas.List.Sums.{fold-append}
-use Rattle.std.proofs.lemmas.List.Concat.{flat_map-append}
+use Rattle.std.proofs.lemmas.List.{map-append}
 use Rattle.cell_num.specs.Lists.{or_else, where_true}
 use Rattle.cell_object.specs.declared.object.Symbol.{Symbol}
 use Rattle.cell_asm.specs.declared.statement.Part.{Part}
@@ -96,18 +94,6 @@ mention_by old new parts spots locals list names name n spot e same at h more =
 pub same_names : (s : Symbols) (parts : List Part) (spots : Spots) (locals : List Key) (list : List Symbol) (ns ms : List (List ℕ)) → ns ≡ ms
     → Mentions s parts spots locals list ns → Mentions s parts spots locals list ms
 same_names s parts spots locals list ns ms e h = subst (λ xs. Mentions s parts spots locals list xs) e h
-
--- what is folded over lists that elements give, one element more
-pub fold_more : {X A B : Type 0} (f : B → A → B) (b : B) (g : X → List A) (xs : List X) (i : ℕ) (d : X) → i < length xs
-    → fold f b (flat_map g (take (i + 1) xs)) ≡ fold f (fold f b (flat_map g (take i xs))) (g (get_or xs i d))
-fold_more f b g xs i d lt =
-    ap (λ ls. fold f b (flat_map g ls)) (take_more xs i d lt)
-    ∙ ap (fold f b) (flat_map-append g (take i xs) (get_or xs i d ∷ []))
-    ∙ fold-append f b (flat_map g (take i xs)) (g (get_or xs i d) ++ [])
-    ∙ ap (fold f (fold f b (flat_map g (take i xs)))) (append-nil (g (get_or xs i d)))
-
-pub fold_both : {A B : Type 0} (f : B → A → B) (b : B) (xs ys : List A) → fold f (fold f b xs) ys ≡ fold f b (xs ++ ys)
-fold_both f b xs ys = sym (fold-append f b xs ys)
 
 abbrev made : List ℕ → Bind → Home → ℕ → Symbol
 made name bind home value = record { name = name; bind = bind; sort = NoType; home = home; value = value; size = 0 }

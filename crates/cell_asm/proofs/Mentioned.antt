@@ -1,12 +1,11 @@
 -- The names of symbols, as they are mentioned one after the other.
 use Rattle.std.proofs.Common.{◌≡◌, ℕ, ◌+◌, ◌<◌, Bool, true, false, ◌||◌, not, List, [], ◌∷◌, ◌++◌, cond, length, take, get_or, map, Some, None, refl, sym, ap, subst, ◌∙◌, append-nil}
-use Rattle.std.specs.Prelude.{Option, option_map, if◌then◌else◌, filter, filter_map, flat_map, fold, find}
+use Rattle.std.specs.Prelude.{Option, option_map, if◌then◌else◌, filter, fold}
 use Rattle.std.specs.Option.{option_map_or, unwrap_or}
 use Rattle.std.specs.List.{list_any, cons_option}
 use Rattle.std.specs.Str.{bytes_eq}
 use Rattle.std.proofs.lemmas.List.{take_more, map-append}
 use Rattle.std.proofs.lemmas.List.Folds.{list_any-append}
-use Rattle.std.proofs.lemmas.List.Sums.{fold-append}
 use Rattle.std.proofs.lemmas.List.Elements.{filter-append, filter_map-append}
 use Rattle.cell_num.specs.Lists.{equals, holds_name}
 use Rattle.cell_object.specs.declared.object.Symbol.{Symbol}
@@ -24,7 +23,7 @@ use Rattle.cell_asm.specs.declared.spot.Spots.{Spots}
 use Rattle.cell_asm.specs.declared.symbol.Symbols.{Symbols}
 use Rattle.cell_asm.specs.Named.{is_named}
 use Rattle.cell_asm.specs.Places.{labels}
-use Rattle.cell_asm.specs.Objects.{is_key, is_global, globals, global_name, local_labels, holds_key, adds_name, other_names, mentions, parts_of, home_at, label_named, number_in, symbol, global_symbol, local_symbol, symbols, symbol_keys, symbol_number}
+use Rattle.cell_asm.specs.Objects.{is_key, is_global, globals, global_name, local_labels, holds_key, adds_name, other_names, mentions, parts_of, home_at, label_named, number_in, symbol, global_symbol, local_symbol, symbols, symbol_keys}
 use Rattle.cell_asm.specs.Numberings.{number_of, place_among, has_key, keys_with, mentioned, spot_of, spot_at, spot_among, home_in, other_in, local_in, Lists, Mentions}
 use Rattle.cell_asm.specs.Making.{declares, is_global_in, locals_in, Locals, Numbered}
 use Rattle.cell_asm.proofs.KeyMaps.{turned}

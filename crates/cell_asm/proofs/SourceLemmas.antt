@@ -1,10 +1,7 @@
 -- The lines of a source, one after the other.
-use Rattle.std.proofs.Common.{ℕ, suc, ◌+◌, ◌<◌, List, [], ◌∷◌, ◌++◌, ◌≡◌, Bool, true, ◌&&◌, map, length, drop, get_or, Bor, Result, Ok, Err, refl, sym, ap, subst, ◌∙◌, add-one, ◌≤◌, ◌^◌, find, option_map, Option, Some, None, arith}
+use Rattle.std.proofs.Common.{ℕ, suc, ◌+◌, ◌<◌, List, [], ◌∷◌, ◌++◌, ◌≡◌, map, length, drop, get_or, Bor, Result, Ok, Err, refl, sym, ap, subst, ◌∙◌, add-one, ◌≤◌, ◌^◌, find, option_map, Option, Some, None, arith}
 use Rattle.std.specs.Prelude.{fold}
-use Rattle.std.specs.List.{list_all}
 use Rattle.std.proofs.lemmas.List.{drop_more}
-use Rattle.std.proofs.lemmas.List.Folds.{list_all-append}
-use Rattle.cell_asm.specs.Places.{is_inside}
 use Rattle.cell_num.specs.Lists.{numbered_from}
 use Rattle.cell_asm.specs.declared.kind.AsmKind.{AsmKind}
 use Rattle.cell_asm.specs.declared.kind.AsmKind.TheVariants.{Label}
@@ -47,13 +44,6 @@ stopped OutOfMemory n before text texts all g e = tt
 -- the texts that are left
 pub dropped : (texts : List (Bor (List ℕ))) (i : ℕ) (d : Bor (List ℕ)) → i < length texts → map (λ text. text.now) (drop i texts) ≡ (get_or texts i d).now ∷ map (λ text. text.now) (drop (i + 1) texts)
 dropped texts i d lt = ap (map (λ text. text.now)) (drop_more texts i d lt)
-
-both_true : (a b : Bool) → a ≡ true → b ≡ true → (a && (b && true)) ≡ true
-both_true a b e f = rw (e, f) refl
-
--- one line more within its section
-pub one_inside : (before : List Laid) (l : Laid) → list_all is_inside before ≡ true → is_inside l ≡ true → list_all is_inside (before ++ l ∷ []) ≡ true
-one_inside before l all one = list_all-append is_inside before (l ∷ []) ∙ both_true (list_all is_inside before) (is_inside l) all one
 
 mapped_length : {X Y : Type 0} (f : X → Y) (xs : List X) → length (map f xs) ≡ length xs
 mapped_length f [] = refl

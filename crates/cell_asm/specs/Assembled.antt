@@ -13,14 +13,14 @@ use Rattle.cell_asm.specs.declared.kind.AsmFail.TheVariants.{Fault, OutOfMemory}
 use Rattle.cell_asm.specs.declared.statement.Part.TheVariants.{Text}
 use Rattle.cell_asm.specs.declared.statement.Target.{Target}
 use Rattle.cell_asm.specs.declared.statement.Target.TheVariants.{Named, Made}
-use Rattle.cell_asm.specs.declared.statement.Fix.{Fix}
+use Rattle.cell_asm.specs.declared.block.Mark.{Mark}
 use Rattle.cell_asm.specs.declared.statement.Line.{Line}
 use Rattle.cell_asm.specs.declared.laid.Laid.{Laid}
 use Rattle.cell_asm.specs.declared.laid.Label.{Label}
 use Rattle.cell_asm.specs.declared.laid.Key.TheVariants as keys
 use Rattle.cell_asm.specs.Lines.{line_of}
 use Rattle.cell_asm.specs.Places.{is_in, is_same_part, placed, fault_at, labels}
-use Rattle.cell_asm.specs.Objects.{pieces_in, is_key, object_of}
+use Rattle.cell_asm.specs.Objects.{marks_in, is_key, object_of}
 
 -- a line of the source in its place, or what is wrong with it there
 abbrev pub placed_unless : List Laid → ℕ → Line → Option AsmKind → Result Laid AsmKind
@@ -48,13 +48,9 @@ placed_texts texts = fold add_line (Ok []) (numbered_from 1 texts)
 abbrev pub placed_lines : List ℕ → Result (List Laid) (ℕ × AsmKind)
 placed_lines source = placed_texts (lines_in source)
 
--- %pcrel_hi: the entry is one of the upper part
-abbrev pub is_upper : Option Fix → Bool
-is_upper None = false
-is_upper (Some f) = is_pcrel_hi20 f.kind
-
+-- an instruction with %pcrel_hi
 abbrev pub has_upper : Laid → Bool
-has_upper l = list_any (λ p. is_upper p.fix) (pieces_in l.line.statement)
+has_upper l = list_any (λ m. is_pcrel_hi20 m.fix.kind) (marks_in l.line.statement)
 
 -- the label stands in .text at an instruction with %pcrel_hi
 abbrev pub is_upper_label : List Laid → Label → Bool
@@ -66,12 +62,11 @@ abbrev pub is_lost : List Laid → Target → Bool
 is_lost lines Made = false
 is_lost lines (Named name) = not (list_any (λ l. is_key l.key (keys.Named name) && is_upper_label lines l) (labels lines))
 
-abbrev pub is_lost_fix : List Laid → Option Fix → Bool
-is_lost_fix lines None = false
-is_lost_fix lines (Some f) = is_pcrel_lo12 f.kind && is_lost lines f.target
+abbrev pub is_lost_mark : List Laid → Mark → Bool
+is_lost_mark lines m = is_pcrel_lo12 m.fix.kind && is_lost lines m.fix.target
 
 abbrev pub has_lost : List Laid → Laid → Bool
-has_lost lines l = list_any (λ p. is_lost_fix lines p.fix) (pieces_in l.line.statement)
+has_lost lines l = list_any (is_lost_mark lines) (marks_in l.line.statement)
 
 -- the object, unless a line refers to a label that is none
 abbrev pub object_unless : List Laid → Option Laid → Result Object (ℕ × AsmKind)

@@ -1,18 +1,24 @@
 -- Numbers that are read one after the other, as what has been read so far.
-use Rattle.std.specs.Prelude.{ℕ, List, [], ◌∷◌, ◌++◌, Option, Some, None, Result, Ok, Err}
+use Rattle.std.specs.Prelude.{Option, Some, None, Result, Ok, Err}
 use Rattle.cell_asm.specs.declared.kind.AsmKind.{AsmKind}
 use Rattle.cell_asm.specs.declared.statement.Piece.{Piece}
+use Rattle.cell_asm.specs.declared.block.Draft.{Draft}
+use Rattle.cell_asm.specs.declared.block.Block.{Block}
 use Rattle.cell_asm.specs.declared.directive.Gathered.{Gathered}
+use Rattle.cell_asm.specs.Blocks.{appended}
 use Rattle.cell_asm.specs.Faults.{both, with_value}
 
-abbrev pub unless : List Piece → Option AsmKind → Result (List Piece) AsmKind
-unless pieces None = Ok pieces
-unless pieces (Some kind) = Err kind
+abbrev pub drafted : Draft → Block
+drafted d = record { bytes = d.bytes.items; marks = d.marks.items }
 
--- the pieces so far, or the fault that is answered
-abbrev pub gathered : Gathered → Result (List Piece) AsmKind
-gathered g = unless g.pieces.items g.fault
+abbrev pub unless : Block → Option AsmKind → Result Block AsmKind
+unless b None = Ok b
+unless b (Some kind) = Err kind
+
+-- the block so far, or the fault that is answered
+abbrev pub gathered : Gathered → Result Block AsmKind
+gathered g = unless (drafted g.draft) g.fault
 
 -- one more, behind the others
-abbrev pub more : {A : Type 0} → Result (List A) AsmKind → Result A AsmKind → Result (List A) AsmKind
-more items item = with_value (λ p. p.0 ++ p.1 ∷ []) (both items item)
+abbrev pub more : Result Block AsmKind → Result Piece AsmKind → Result Block AsmKind
+more b piece = with_value (λ p. appended p.0 p.1) (both b piece)

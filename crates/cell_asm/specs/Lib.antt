@@ -5,6 +5,8 @@ pub mod Numbers
 pub mod Names
 pub mod Operands
 pub mod Mnemonics
+pub mod Blocks
+pub mod Wanted
 pub mod Instructions
 pub mod Statements
 pub mod Gathering

@@ -1,12 +1,11 @@
 -- The parts of an object, by what they are made of.
 --     Numbered symbols lines      the symbols have the numbers that the definition gives them
-use Rattle.std.specs.Prelude.{◌≡◌, ℕ, ◌+◌, Bool, false, not, List, [], ◌∷◌, ◌++◌, map, Option, Some, None, filter, flat_map}
+use Rattle.std.specs.Prelude.{◌≡◌, ℕ, ◌+◌, ◌<◌, ◌^◌, All, Bool, false, not, List, map, filter, flat_map}
 use Rattle.std.specs.Option.{unwrap_or}
 use Rattle.std.specs.Str.{bytes_eq}
 use Rattle.cell_object.specs.declared.object.Entry.{Entry}
 use Rattle.cell_asm.specs.declared.statement.Part.{Part}
-use Rattle.cell_asm.specs.declared.statement.Fix.{Fix}
-use Rattle.cell_asm.specs.declared.statement.Piece.{Piece}
+use Rattle.cell_asm.specs.declared.block.Mark.{Mark}
 use Rattle.cell_asm.specs.declared.statement.Statement.{Statement}
 use Rattle.cell_asm.specs.declared.statement.Statement.TheVariants.{Global}
 use Rattle.cell_asm.specs.declared.laid.Laid.{Laid}
@@ -17,7 +16,7 @@ use Rattle.cell_asm.specs.declared.names_taken.Names.{Names}
 use Rattle.cell_asm.specs.declared.symbol.Symbols.{Symbols}
 use Rattle.cell_asm.specs.Named.{is_named}
 use Rattle.cell_asm.specs.Places.{is_in}
-use Rattle.cell_asm.specs.Objects.{fix_names, label_names, statement_names, symbol_number, target_key, pieces_in, number_in}
+use Rattle.cell_asm.specs.Objects.{symbol_number, target_key, marks_in, number_in}
 use Rattle.cell_asm.specs.Numberings.{number_of, local_in, Lists}
 
 -- the statement makes the name GLOBAL
@@ -38,35 +37,23 @@ abbrev pub Locals : Symbols → List Part → Names → List Label → Type 0
 Locals symbols parts names labels =
     Lists symbols (map (λ l. l.key) (locals_in names labels)) (map (local_in parts) (locals_in names labels))
 
--- the names that a piece and a line mention
-abbrev pub piece_names : Piece → List (List ℕ)
-piece_names p = fix_names p.fix ++ fix_names p.second
-
-abbrev pub line_names : Laid → List (List ℕ)
-line_names l = label_names l.line.label ++ statement_names l.line.statement
-
 abbrev pub number_kept : Symbols → Key → ℕ
 number_kept symbols key = unwrap_or (number_of symbols.numbers key) 0
 
 abbrev pub Numbered : Symbols → List Laid → Type 0
 Numbered symbols lines = (key : Key) → number_kept symbols key ≡ symbol_number lines key
 
--- the entries of a fix, of a piece, of pieces and of a line in a section with that number
-abbrev pub fix_entries : ℕ → Symbols → Laid → ℕ → Option Fix → List Entry
-fix_entries section symbols l offset None = []
-fix_entries section symbols l offset (Some f) =
-    record { section = section; offset = offset; kind = f.kind; symbol = number_kept symbols (target_key l f.target); addend = f.addend } ∷ []
+-- the offsets of its entries are numbers of 32 bits
+abbrev pub HasRoom : Laid → Type 0
+HasRoom l = All (λ m. l.offset + m.at < 2 ^ 32) (marks_in l.line.statement)
 
-abbrev pub piece_entries : ℕ → Symbols → Laid → ℕ → Piece → List Entry
-piece_entries section symbols l offset p = fix_entries section symbols l offset p.fix ++ fix_entries section symbols l offset p.second
-
-abbrev pub pieces_entries : ℕ → Symbols → Laid → ℕ → List Piece → List Entry
-pieces_entries section symbols l offset [] = []
-pieces_entries section symbols l offset (p ∷ pieces) =
-    piece_entries section symbols l offset p ++ pieces_entries section symbols l (offset + p.width) pieces
+-- an entry, and those of a line, in a section with that number
+abbrev pub mark_entry : ℕ → Symbols → Laid → Mark → Entry
+mark_entry section symbols l m =
+    record { section = section; offset = l.offset + m.at; kind = m.fix.kind; symbol = number_kept symbols (target_key l m.fix.target); addend = m.fix.addend }
 
 abbrev pub line_entries : ℕ → Symbols → Laid → List Entry
-line_entries section symbols l = pieces_entries section symbols l l.offset (pieces_in l.line.statement)
+line_entries section symbols l = map (mark_entry section symbols l) (marks_in l.line.statement)
 
 -- the entries of a section
 abbrev pub part_entries : List Part → Symbols → List Laid → Part → List Entry

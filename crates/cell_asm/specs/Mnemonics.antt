@@ -26,17 +26,17 @@ directives =
 abbrev pub directive : List ℕ → Option Directive
 directive text = row_of directives text
 
-abbrev pub row : List ℕ → Op → Shape → List ℕ × Mnemonic
-row text op shape = (text, record { op = op; shape = shape })
+abbrev pub row : List ℕ → Op → Shape → List ℕ × (Op × Shape)
+row text op shape = (text, (op, shape))
 
 -- what stands for instructions of another spelling
-abbrev pub shorthands : List (List ℕ × Mnemonic)
+abbrev pub shorthands : List (List ℕ × (Op × Shape))
 shorthands =
     row (codes "nop") Addi (Alone (pos 0)) ∷ row (codes "mv") Addi Move ∷ row (codes "li") Addi LoadNumber
     ∷ row (codes "ret") Jalr Return ∷ row (codes "j") Jal JumpTo
     ∷ row (codes "call") Auipc Call ∷ row (codes "la") Auipc LoadAddress ∷ []
 
-abbrev pub jumps : List (List ℕ × Mnemonic)
+abbrev pub jumps : List (List ℕ × (Op × Shape))
 jumps =
     row (codes "lui") Lui Upper ∷ row (codes "auipc") Auipc UpperPcrel
     ∷ row (codes "jal") Jal Jump ∷ row (codes "jalr") Jalr Load
@@ -44,13 +44,13 @@ jumps =
     ∷ row (codes "bge") Bge Branch ∷ row (codes "bltu") Bltu Branch ∷ row (codes "bgeu") Bgeu Branch
     ∷ row (codes "fence") Fence (Alone (pos 255)) ∷ row (codes "ecall") Ecall (Alone (pos 0)) ∷ row (codes "ebreak") Ebreak (Alone (pos 0)) ∷ []
 
-abbrev pub transfers : List (List ℕ × Mnemonic)
+abbrev pub transfers : List (List ℕ × (Op × Shape))
 transfers =
     row (codes "lb") Lb Load ∷ row (codes "lh") Lh Load ∷ row (codes "lw") Lw Load ∷ row (codes "ld") Ld Load
     ∷ row (codes "lbu") Lbu Load ∷ row (codes "lhu") Lhu Load ∷ row (codes "lwu") Lwu Load
     ∷ row (codes "sb") Sb Store ∷ row (codes "sh") Sh Store ∷ row (codes "sw") Sw Store ∷ row (codes "sd") Sd Store ∷ []
 
-abbrev pub with_number : List (List ℕ × Mnemonic)
+abbrev pub with_number : List (List ℕ × (Op × Shape))
 with_number =
     row (codes "addi") Addi Immediate ∷ row (codes "slti") Slti Immediate ∷ row (codes "sltiu") Sltiu Immediate
     ∷ row (codes "xori") Xori Immediate ∷ row (codes "ori") Ori Immediate ∷ row (codes "andi") Andi Immediate
@@ -58,7 +58,7 @@ with_number =
     ∷ row (codes "slli") Slli Shift ∷ row (codes "srli") Srli Shift ∷ row (codes "srai") Srai Shift
     ∷ row (codes "slliw") Slliw ShiftWord ∷ row (codes "srliw") Srliw ShiftWord ∷ row (codes "sraiw") Sraiw ShiftWord ∷ []
 
-abbrev pub with_registers : List (List ℕ × Mnemonic)
+abbrev pub with_registers : List (List ℕ × (Op × Shape))
 with_registers =
     row (codes "add") Add Registers ∷ row (codes "sub") Sub Registers ∷ row (codes "sll") Sll Registers
     ∷ row (codes "slt") Slt Registers ∷ row (codes "sltu") Sltu Registers ∷ row (codes "xor") Xor Registers
@@ -66,15 +66,15 @@ with_registers =
     ∷ row (codes "addw") Addw Registers ∷ row (codes "subw") Subw Registers ∷ row (codes "sllw") Sllw Registers
     ∷ row (codes "srlw") Srlw Registers ∷ row (codes "sraw") Sraw Registers ∷ []
 
-abbrev pub products : List (List ℕ × Mnemonic)
+abbrev pub products : List (List ℕ × (Op × Shape))
 products =
     row (codes "mul") Mul Registers ∷ row (codes "mulh") Mulh Registers ∷ row (codes "mulhsu") Mulhsu Registers ∷ row (codes "mulhu") Mulhu Registers
     ∷ row (codes "div") Div Registers ∷ row (codes "divu") Divu Registers ∷ row (codes "rem") Rem Registers ∷ row (codes "remu") Remu Registers
     ∷ row (codes "mulw") Mulw Registers ∷ row (codes "divw") Divw Registers ∷ row (codes "divuw") Divuw Registers
     ∷ row (codes "remw") Remw Registers ∷ row (codes "remuw") Remuw Registers ∷ []
 
-abbrev pub mnemonics : List (List ℕ × Mnemonic)
+abbrev pub mnemonics : List (List ℕ × (Op × Shape))
 mnemonics = shorthands ++ (jumps ++ (transfers ++ (with_number ++ (with_registers ++ products))))
 
 abbrev pub mnemonic : List ℕ → Option Mnemonic
-mnemonic text = row_of mnemonics text
+mnemonic text = option_map (λ p. record { op = p.0; shape = p.1 }) (row_of mnemonics text)

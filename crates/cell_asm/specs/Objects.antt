@@ -1,5 +1,5 @@
 -- The object of the lines in their places: sections, symbols and entries.
-use Rattle.std.specs.Prelude.{ℕ, ◌==◌, ◌+◌, ◌/◌, ◌^◌, max, Bool, true, false, not, List, [], ◌∷◌, ◌++◌, map, codes, decimal, Option, Some, None, if◌then◌else◌, filter, filter_map, flat_map, find, position, fold, replicate}
+use Rattle.std.specs.Prelude.{ℕ, ◌==◌, ◌+◌, ◌/◌, max, Bool, true, false, not, List, [], ◌∷◌, ◌++◌, map, codes, decimal, Option, Some, None, if◌then◌else◌, filter, filter_map, flat_map, find, position, fold, replicate}
 use Rattle.std.specs.List.{list_any, cons_option}
 use Rattle.std.specs.Option.{option_map_or}
 use Rattle.cell_num.specs.Lists.{equals, holds_name}
@@ -20,8 +20,7 @@ use Rattle.cell_asm.specs.declared.statement.Part.{Part}
 use Rattle.cell_asm.specs.declared.statement.Part.TheVariants.{Text, Rodata, Data, Bss}
 use Rattle.cell_asm.specs.declared.statement.Target.{Target}
 use Rattle.cell_asm.specs.declared.statement.Target.TheVariants as targets
-use Rattle.cell_asm.specs.declared.statement.Fix.{Fix}
-use Rattle.cell_asm.specs.declared.statement.Piece.{Piece}
+use Rattle.cell_asm.specs.declared.block.Mark.{Mark}
 use Rattle.cell_asm.specs.declared.statement.Statement.{Statement}
 use Rattle.cell_asm.specs.declared.statement.Statement.TheVariants.{Global, Zeros, Align, Bytes}
 use Rattle.cell_asm.specs.declared.laid.Laid.{Laid}
@@ -78,7 +77,7 @@ padding _ n = replicate n 0
 abbrev pub bytes_at : Part → ℕ → Statement → List ℕ
 bytes_at part offset (Zeros n) = replicate n 0
 bytes_at part offset (Align unit) = padding part (gap unit offset)
-bytes_at part offset (Bytes content pieces) = flat_map (λ p. bytes_of p.width p.value) pieces
+bytes_at part offset (Bytes content b) = b.bytes
 bytes_at part offset _ = []
 
 abbrev pub contents : Part → List Laid → List ℕ
@@ -132,13 +131,9 @@ abbrev pub target_names : Target → List (List ℕ)
 target_names (targets.Named name) = name ∷ []
 target_names targets.Made = []
 
-abbrev pub fix_names : Option Fix → List (List ℕ)
-fix_names None = []
-fix_names (Some f) = target_names f.target
-
 abbrev pub statement_names : Statement → List (List ℕ)
 statement_names (Global name) = name ∷ []
-statement_names (Bytes content pieces) = flat_map (λ p. fix_names p.fix ++ fix_names p.second) pieces
+statement_names (Bytes content b) = flat_map (λ m. target_names m.fix.target) b.marks
 statement_names _ = []
 
 abbrev pub label_names : Option (List ℕ) → List (List ℕ)
@@ -205,28 +200,25 @@ abbrev pub target_key : Laid → Target → Key
 target_key l (targets.Named name) = Named name
 target_key l targets.Made = Made l.made
 
-abbrev pub entry_of : List Laid → Part → Laid → ℕ → Option Fix → List Entry
-entry_of lines part l offset None = []
-entry_of lines part l offset (Some f) =
+abbrev pub entry_of : List Laid → Part → Laid → Mark → Entry
+entry_of lines part l m =
     record {
       section = part_number lines part;
-      offset = offset;
-      kind = f.kind;
-      symbol = symbol_number lines (target_key l f.target);
-      addend = f.addend;
-    } ∷ []
+      offset = l.offset + m.at;
+      kind = m.fix.kind;
+      symbol = symbol_number lines (target_key l m.fix.target);
+      addend = m.fix.addend;
+    }
 
-abbrev pub entries_from : List Laid → Part → Laid → ℕ → List Piece → List Entry
-entries_from lines part l offset [] = []
-entries_from lines part l offset (p ∷ pieces) =
-    entry_of lines part l offset p.fix ++ (entry_of lines part l offset p.second ++ entries_from lines part l (offset + p.width) pieces)
+abbrev pub marks_in : Statement → List Mark
+marks_in (Bytes content b) = b.marks
+marks_in _ = []
 
-abbrev pub pieces_in : Statement → List Piece
-pieces_in (Bytes content pieces) = pieces
-pieces_in _ = []
+abbrev pub entries_of : List Laid → Part → Laid → List Entry
+entries_of lines part l = map (entry_of lines part l) (marks_in l.line.statement)
 
 abbrev pub entries_in : List Laid → Part → List Entry
-entries_in lines part = flat_map (λ l. entries_from lines part l l.offset (pieces_in l.line.statement)) (filter (is_in part) lines)
+entries_in lines part = flat_map (entries_of lines part) (filter (is_in part) lines)
 
 abbrev pub entries : List Laid → List Entry
 entries lines = flat_map (entries_in lines) (parts_of lines)

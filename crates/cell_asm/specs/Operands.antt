@@ -2,7 +2,7 @@
 --     expression text       NAME, NAME+N, NAME-N or NAME-NAME
 --     immediate text        a number, or %word(EXPR)
 --     operand text          one of these, or I(reg)
-use Rattle.std.specs.Prelude.{ℕ, Bool, ◌||◌, ◌==◌, ◌-◌, List, [], ◌∷◌, take, drop, length, codes, Option, Some, None, option_map, option_and_then, if◌then◌else◌, neg_ℤ, find, bytes_eq}
+use Rattle.std.specs.Prelude.{ℕ, Bool, ◌||◌, ◌==◌, ◌-◌, List, [], ◌∷◌, take, drop, length, codes, Option, Some, None, option_map, option_and_then, if◌then◌else◌, neg_ℤ}
 use Rattle.std.specs.List.{position_or_len, before_last, after_last}
 use Rattle.cell_num.specs.Lists.{where_true, or_else}
 use Rattle.cell_asm.specs.declared.operand.Expression.{Expression}
@@ -13,6 +13,7 @@ use Rattle.cell_asm.specs.declared.operand.Immediate.{Immediate}
 use Rattle.cell_asm.specs.declared.operand.Immediate.TheVariants.{Number, Modified}
 use Rattle.cell_asm.specs.declared.operand.Operand.{Operand}
 use Rattle.cell_asm.specs.declared.operand.Operand.TheVariants.{Value, Plain, Memory}
+use Rattle.cell_asm.specs.Mnemonics.{row_of}
 use Rattle.cell_asm.specs.Numbers.{number}
 use Rattle.cell_asm.specs.Names.{is_name, register, ends}
 
@@ -38,7 +39,7 @@ abbrev pub modifiers : List (List ℕ × Modifier)
 modifiers = (codes "%hi", Hi) ∷ (codes "%lo", Lo) ∷ (codes "%pcrel_hi", PcrelHi) ∷ (codes "%pcrel_lo", PcrelLo) ∷ []
 
 abbrev pub modifier : List ℕ → Option Modifier
-modifier text = option_map (λ row. row.1) (find (λ row. bytes_eq text row.0) modifiers)
+modifier text = row_of modifiers text
 
 -- The last parenthesis that opens: what stands before it, and what stands between it and the one that ends the text.
 abbrev pub is_open : ℕ → Bool

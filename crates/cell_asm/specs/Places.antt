@@ -1,7 +1,7 @@
 -- Where a line stands, by the lines before it; and what is wrong with it there.
 --     placed before n line      the line with its number, section and offset
 --     fault_at before line      the first of Section, Twice, Long that it has there
-use Rattle.std.specs.Prelude.{ℕ, ◌+◌, ◌-◌, ◌%◌, ◌^◌, nat_lt, nat_le, ◌==◌, Bool, true, false, not, ◌&&◌, List, [], ◌∷◌, ◌++◌, map, Option, Some, None, is_none, if◌then◌else◌, filter, filter_map, flat_map, sum_by, count_by}
+use Rattle.std.specs.Prelude.{ℕ, ◌+◌, ◌-◌, ◌%◌, nat_lt, nat_le, ◌==◌, Bool, true, false, not, ◌&&◌, List, [], ◌∷◌, ◌++◌, map, Option, Some, None, is_none, if◌then◌else◌, filter, filter_map, flat_map, sum_by, count_by, length}
 use Rattle.std.specs.List.{list_any}
 use Rattle.cell_num.specs.Lists.{equals, last, where_true, or_else}
 use Rattle.cell_asm.specs.declared.kind.AsmKind.{AsmKind}
@@ -11,7 +11,6 @@ use Rattle.cell_asm.specs.declared.statement.Part.TheVariants.{Text, Rodata, Dat
 use Rattle.cell_asm.specs.declared.statement.Content.TheVariants.{Code, Narrow}
 use Rattle.cell_asm.specs.declared.statement.Target.{Target}
 use Rattle.cell_asm.specs.declared.statement.Target.TheVariants.{Named as Name, Made}
-use Rattle.cell_asm.specs.declared.statement.Fix.{Fix}
 use Rattle.cell_asm.specs.declared.statement.Statement.{Statement}
 use Rattle.cell_asm.specs.declared.statement.Statement.TheVariants.{Nothing, Choose, Global, Zeros, Align, Bytes}
 use Rattle.cell_asm.specs.declared.statement.Line.{Line}
@@ -51,7 +50,7 @@ gap unit offset = if offset % unit == 0 then 0 else unit - offset % unit
 abbrev pub taken : Statement → ℕ → ℕ
 taken (Zeros n) offset = n
 taken (Align unit) offset = gap unit offset
-taken (Bytes content pieces) offset = sum_by (λ p. p.width) pieces
+taken (Bytes content b) offset = length b.bytes
 taken _ offset = 0
 
 -- how many bytes the lines lay in a section
@@ -67,12 +66,8 @@ abbrev pub is_made : Target → Bool
 is_made Made = true
 is_made (Name name) = false
 
-abbrev pub names_made : Option Fix → Bool
-names_made None = false
-names_made (Some f) = is_made f.target
-
 abbrev pub makes_label : Statement → Bool
-makes_label (Bytes content pieces) = list_any (λ p. names_made p.fix) pieces
+makes_label (Bytes content b) = list_any (λ m. is_made m.fix.target) b.marks
 makes_label _ = false
 
 abbrev pub made_in : List Laid → ℕ
@@ -109,10 +104,10 @@ labels lines = flat_map (λ l. labels_at l.part l.offset (keys_of l)) lines
 abbrev pub takes : Part → Statement → Bool
 takes Text (Zeros n) = n % 4 == 0
 takes Text (Align unit) = nat_le 4 unit
-takes Text (Bytes Narrow pieces) = false
-takes Rodata (Bytes Code pieces) = false
-takes Data (Bytes Code pieces) = false
-takes Bss (Bytes content pieces) = false
+takes Text (Bytes Narrow b) = false
+takes Rodata (Bytes Code b) = false
+takes Data (Bytes Code b) = false
+takes Bss (Bytes content b) = false
 takes part statement = true
 
 -- a statement that lays nothing needs no section
@@ -153,10 +148,6 @@ fault_by part offset twice line =
     or_else (where_true (not (may_stand part line)) Section)
     (or_else (where_true twice Twice)
     (where_true (is_long part (offset + taken line.statement offset)) Long))
-
--- the section has room for the bytes of the line
-abbrev pub is_inside : Laid → Bool
-is_inside l = not (is_long l.part (l.offset + taken l.line.statement l.offset))
 
 abbrev pub fault_at : List Laid → Line → Option AsmKind
 fault_at before line =

@@ -1,6 +1,5 @@
 -- The lines in their places as a function returns them.
-use Rattle.std.specs.Prelude.{◌≡◌, ℕ, true, List, Result, Ok, Err}
-use Rattle.std.specs.List.{list_all}
+use Rattle.std.specs.Prelude.{◌≡◌, ℕ, List, Result, Ok, Err}
 use Rattle.cell_asm.specs.declared.kind.AsmKind.{AsmKind}
 use Rattle.cell_asm.specs.declared.kind.AsmFail.{AsmFail}
 use Rattle.cell_asm.specs.declared.kind.AsmFail.TheVariants.{Fault, OutOfMemory}
@@ -9,12 +8,12 @@ use Rattle.cell_asm.specs.declared.fault.Stop.TheVariants.{Fault as Stopped, Out
 use Rattle.cell_asm.specs.declared.statement.Part.{Part}
 use Rattle.cell_asm.specs.declared.laid.Laid.{Laid}
 use Rattle.cell_asm.specs.declared.source.Placed.{Placed}
-use Rattle.cell_asm.specs.Places.{size_in, is_inside}
+use Rattle.cell_asm.specs.Places.{size_in}
 use Rattle.cell_asm.specs.Progress.{size_of}
 
--- the lines, with the sizes of their sections, each within its section's limit; or the first line with a fault; or memory was wanting
+-- the lines, with the sizes of their sections; or the first line with a fault; or memory was wanting
 abbrev pub Places : Result Placed AsmFail → Result (List Laid) (ℕ × AsmKind) → Type 0
-Places (Ok p) said = (said ≡ Ok p.lines) × ((part : Part) → size_of p.sizes part ≡ size_in part p.lines) × (list_all is_inside p.lines ≡ true)
+Places (Ok p) said = (said ≡ Ok p.lines) × ((part : Part) → size_of p.sizes part ≡ size_in part p.lines)
 Places (Err (Fault line kind)) said = said ≡ Err (line, kind)
 Places (Err OutOfMemory) said = Unit {0}
 

@@ -18,55 +18,36 @@ use Rattle.cell_asm.specs.declared.operand.Operand.{Operand}
 use Rattle.cell_asm.specs.declared.operand.Operand.TheVariants.{Value, Plain}
 use Rattle.cell_asm.specs.declared.statement.Content.{Content}
 use Rattle.cell_asm.specs.declared.statement.Content.TheVariants.{Code, Narrow, Wide}
+use Rattle.cell_asm.specs.declared.block.Block.{Block}
 use Rattle.cell_asm.specs.declared.statement.Piece.{Piece}
 use Rattle.cell_asm.specs.declared.statement.Fix.{Fix}
-use Rattle.cell_asm.specs.declared.statement.Pieces.{Pieces}
-use Rattle.cell_asm.specs.declared.statement.Pieces.TheVariants.{One, Two}
 use Rattle.cell_asm.specs.declared.statement.Statement.{Statement}
 use Rattle.cell_asm.specs.declared.statement.Statement.TheVariants.{Choose, Global, Zeros, Align, Bytes}
+use Rattle.cell_asm.specs.Blocks.{block}
 use Rattle.cell_asm.specs.Faults.{with_value, each}
 use Rattle.cell_asm.specs.Mnemonics.{directive, mnemonic}
-use Rattle.cell_asm.specs.Instructions.{none, one, name, within, reference, refers, fix, instruction}
+use Rattle.cell_asm.specs.declared.directive.Layout.{Layout}
+use Rattle.cell_asm.specs.Wanted.{name, within, reference, refers, fix}
+use Rattle.cell_asm.specs.Instructions.{instruction}
 
-abbrev pub bytes_in : Width → ℕ
-bytes_in Byte = 1
-bytes_in Half = 2
-bytes_in Word = 4
-bytes_in Quad = 8
+-- how many bytes a number has, and the kinds of its entries: an address, which one or two bytes don't hold, and the two of a difference
+abbrev pub layout : ℕ → Content → Option RelKind → RelKind → RelKind → Layout
+layout bytes content address add sub = record { bytes = bytes; content = content; address = address; add = add; sub = sub }
 
--- the kind of an address; one or two bytes hold none
-abbrev pub address_kind : Width → Option RelKind
-address_kind Byte = None
-address_kind Half = None
-address_kind Word = Some kinds.Abs32
-address_kind Quad = Some kinds.Abs64
-
-abbrev pub add_kind : Width → RelKind
-add_kind Byte = kinds.Add8
-add_kind Half = kinds.Add16
-add_kind Word = kinds.Add32
-add_kind Quad = kinds.Add64
-
-abbrev pub sub_kind : Width → RelKind
-sub_kind Byte = kinds.Sub8
-sub_kind Half = kinds.Sub16
-sub_kind Word = kinds.Sub32
-sub_kind Quad = kinds.Sub64
-
-abbrev pub content : Width → Content
-content Byte = Narrow
-content Half = Narrow
-content Word = Wide
-content Quad = Wide
+abbrev pub layout_of : Width → Layout
+layout_of Byte = layout 1 Narrow None kinds.Add8 kinds.Sub8
+layout_of Half = layout 2 Narrow None kinds.Add16 kinds.Sub16
+layout_of Word = layout 4 Wide (Some kinds.Abs32) kinds.Add32 kinds.Sub32
+layout_of Quad = layout 8 Wide (Some kinds.Abs64) kinds.Add64 kinds.Sub64
 
 -- a number that fits as a signed or as an unsigned one
 abbrev pub stored : Width → ℤ → Result ℕ AsmKind
 stored w n =
-    let bits = 8 * bytes_in w in
+    let bits = 8 * (layout_of w).bytes in
     with_value (modulo_2 bits) (within (negsuc (2 ^ (bits - 1) - 1)) (pos (2 ^ bits - 1)) n)
 
 abbrev pub filled : Width → ℕ → Option Fix → Option Fix → Piece
-filled w value first second = record { width = bytes_in w; value = value; fix = first; second = second }
+filled w value first second = record { width = (layout_of w).bytes; value = value; fix = first; second = second }
 
 -- the address of an expression, where there is a kind for it
 abbrev pub addressed : Width → Option RelKind → Expression → Result Piece AsmKind
@@ -76,14 +57,14 @@ addressed w (Some kind) e = with_value (λ r. filled w 0 (Some (fix kind r)) Non
 -- one of a list of numbers: a number, an address, or the difference of two
 abbrev pub datum : Width → Operand → Result Piece AsmKind
 datum w (Value (Number n)) = with_value (λ value. filled w value None None) (stored w n)
-datum w (Plain (Difference m n)) = Ok (filled w 0 (Some (fix (add_kind w) (refers m (pos 0)))) (Some (fix (sub_kind w) (refers n (pos 0)))))
-datum w (Plain e) = addressed w (address_kind w) e
+datum w (Plain (Difference m n)) = Ok (filled w 0 (Some (fix (layout_of w).add (refers m (pos 0)))) (Some (fix (layout_of w).sub (refers n (pos 0)))))
+datum w (Plain e) = addressed w (layout_of w).address e
 datum w _ = Err faults.Operand
 
 -- one number or more
-abbrev pub numbers : Width → List Operand → Result (List Piece) AsmKind
+abbrev pub numbers : Width → List Operand → Result Block AsmKind
 numbers w [] = Err faults.Operand
-numbers w (o ∷ operands) = each (map (datum w) (o ∷ operands))
+numbers w (o ∷ operands) = with_value block (each (map (datum w) (o ∷ operands)))
 
 abbrev pub count : Operand → Result ℕ AsmKind
 count (Value (Number (pos n))) = Ok n
@@ -98,20 +79,25 @@ unit_of (Err kind) = Err kind
 abbrev pub unit : Operand → Result ℕ AsmKind
 unit o = unit_of (count o)
 
+-- no operand, or one; another count is a fault of the kind Operand, and so no fault of what is read here comes before it
+abbrev pub none : Statement → List Operand → Result Statement AsmKind
+none made [] = Ok made
+none made _ = Err faults.Operand
+
+abbrev pub one : {A : Type 0} → (Operand → Result A AsmKind) → (A → Statement) → List Operand → Result Statement AsmKind
+one read make (o ∷ []) = with_value make (read o)
+one read make _ = Err faults.Operand
+
 abbrev pub directed : Directive → List Operand → Result Statement AsmKind
 directed (directives.Choose part) operands = none (Choose part) operands
 directed directives.Global operands = one name (λ n. Global n) operands
-directed (directives.Numbers w) operands = with_value (λ pieces. Bytes (content w) pieces) (numbers w operands)
+directed (directives.Numbers w) operands = with_value (λ b. Bytes (layout_of w).content b) (numbers w operands)
 directed directives.Zeros operands = one count (λ n. Zeros n) operands
 directed directives.Align operands = one unit (λ n. Align n) operands
 
-abbrev pub listed : Pieces → List Piece
-listed (One p) = p ∷ []
-listed (Two p q) = p ∷ q ∷ []
-
 abbrev pub instructed : Option Mnemonic → List Operand → Result Statement AsmKind
 instructed None operands = Err faults.Word
-instructed (Some m) operands = with_value (λ pieces. Bytes Code (listed pieces)) (instruction m operands)
+instructed (Some m) operands = with_value (λ b. Bytes Code b) (instruction m operands)
 
 abbrev pub worded : Option Directive → Option Mnemonic → List Operand → Result Statement AsmKind
 worded (Some d) m operands = directed d operands

@@ -1,5 +1,5 @@
 -- The names of labels at instructions with %pcrel_hi, as a set.
-use Rattle.std.specs.Prelude.{◌&&◌, ℕ, Bool, false, not, List, Option, Some, None}
+use Rattle.std.specs.Prelude.{◌&&◌, ℕ, Bool, false, not, List}
 use Rattle.std.specs.Ordering.{nat_cmp}
 use Rattle.std.specs.BTreeSet.{BTreeSet, contains}
 use Rattle.std.specs.List.{list_any}
@@ -9,12 +9,12 @@ use Rattle.cell_asm.specs.declared.laid.Label.{Label}
 use Rattle.cell_asm.specs.declared.laid.Key.TheVariants.{Named}
 use Rattle.cell_asm.specs.declared.statement.Part.TheVariants.{Text}
 use Rattle.cell_asm.specs.Named.{is_named}
-use Rattle.cell_asm.specs.declared.statement.Fix.{Fix}
+use Rattle.cell_asm.specs.declared.block.Mark.{Mark}
 use Rattle.cell_asm.specs.declared.statement.Target.{Target}
 use Rattle.cell_asm.specs.declared.statement.Target.TheVariants.{Named as Name, Made}
 use Rattle.cell_num.specs.Kinds.{is_pcrel_lo12}
 use Rattle.cell_asm.specs.Places.{is_same_part}
-use Rattle.cell_asm.specs.Objects.{is_key, pieces_in}
+use Rattle.cell_asm.specs.Objects.{is_key, marks_in}
 
 -- the label has that name, and stands in `.text` at one of these offsets
 abbrev pub is_upper_at : BTreeSet ℕ → List ℕ → Label → Bool
@@ -25,9 +25,8 @@ abbrev pub target_lost_by : Names → Target → Bool
 target_lost_by names Made = false
 target_lost_by names (Name name) = not (is_named names name)
 
-abbrev pub fix_lost_by : Names → Option Fix → Bool
-fix_lost_by names None = false
-fix_lost_by names (Some f) = is_pcrel_lo12 f.kind && target_lost_by names f.target
+abbrev pub mark_lost_by : Names → Mark → Bool
+mark_lost_by names m = is_pcrel_lo12 m.fix.kind && target_lost_by names m.fix.target
 
 abbrev pub lost_by : Names → Laid → Bool
-lost_by names l = list_any (λ p. fix_lost_by names p.fix) (pieces_in l.line.statement)
+lost_by names l = list_any (mark_lost_by names) (marks_in l.line.statement)

@@ -1,15 +1,15 @@
 //! The relocation entries of an object.
 
-ghost use Rattle.std.specs.Prelude.{◌≡◌, ◌≤◌, ◌<◌, ◌+◌, ◌^◌, ◌++◌, true, filter, flat_map, length, sum_by, IfOk, OnOk};
-ghost use Rattle.std.specs.List.{list_all};
-ghost use Rattle.cell_asm.specs.Places.{is_in as stands_in, is_inside};
-ghost use Rattle.cell_asm.specs.Objects.{parts_of, pieces_in as pieces_of, target_key as key_of, entries as entries_of};
-ghost use Rattle.cell_asm.specs.Making.{Numbered, fix_entries, piece_entries, pieces_entries, line_entries, part_entries};
+ghost use Rattle.std.specs.Prelude.{◌≡◌, ◌≤◌, ◌<◌, ◌+◌, ◌^◌, ◌++◌, true, filter, flat_map, map, length, All, IfOk, OnOk};
+ghost use Rattle.cell_asm.specs.Places.{is_in as stands_in};
+ghost use Rattle.cell_asm.specs.Objects.{parts_of, target_key as key_of, entries as entries_of};
+ghost use Rattle.cell_asm.specs.Making.{HasRoom, Numbered, mark_entry, line_entries, part_entries};
 
-use crate::label::pieces_in;
+use crate::block::Mark;
+use crate::label::marks_in;
 use crate::laid::{Key, Laid};
 use crate::section::{is_in, part_number};
-use crate::statement::{Fix, Part, Piece, Target};
+use crate::statement::{Part, Target};
 use crate::symbol::Symbols;
 use cell_num::Listed;
 use cell_object::Entry;
@@ -24,7 +24,7 @@ pub fn entries<'a>(
 ) -> Result<Listed<Entry>, AllocError>
     requires few { length parts.now ≤ 4 }
     requires parts { parts.now ≡ parts_of lines.now }
-    requires inside { list_all is_inside lines.now ≡ true }
+    requires room { All HasRoom lines.now }
     requires numbers { Numbered symbols.now lines.now }
     ensures { IfOk result (λ entries. entries ≡ entries_of lines.now) }
 {
@@ -41,7 +41,7 @@ fn put_entries<'a>(
     parts: &[Part],
 ) -> Result<(), AllocError>
     requires few { length parts.now ≤ 4 }
-    requires inside { list_all is_inside lines.now ≡ true }
+    requires room { All HasRoom lines.now }
     ensures { OnOk result (entries.new.items ≡ entries.old.items ++ flat_map (part_entries parts.now symbols.now lines.now) parts.now) }
 {
     for part in parts {
@@ -58,7 +58,7 @@ fn put_entries_in<'a>(
     part: Part,
     section: u16,
 ) -> Result<(), AllocError>
-    requires inside { list_all is_inside lines.now ≡ true }
+    requires room { All HasRoom lines.now }
     ensures { OnOk result (entries.new.items ≡ entries.old.items ++ flat_map (line_entries section symbols.now) (filter (stands_in part) lines.now)) }
 {
     for laid in lines {
@@ -76,70 +76,45 @@ fn put_entries_of<'a>(
     symbols: &Symbols<'a>,
     section: u16,
 ) -> Result<(), AllocError>
-    requires { laid.now.offset + sum_by (λ p. p.width) (pieces_of laid.now.line.statement) < 2 ^ 32 }
+    requires { HasRoom laid.now }
     ensures { OnOk result (entries.new.items ≡ entries.old.items ++ line_entries section symbols.now laid.now) }
 {
-    put_pieces(
+    put_marks(
         entries,
         laid,
         symbols,
         section,
-        pieces_in(&laid.line.statement),
+        marks_in(&laid.line.statement),
     )
 }
 
-fn put_pieces<'a>(
+fn put_marks<'a>(
     entries: &mut Vec<Entry>,
     laid: &Laid<'a>,
     symbols: &Symbols<'a>,
     section: u16,
-    pieces: &[Piece<'a>],
+    marks: &[Mark<'a>],
 ) -> Result<(), AllocError>
-    requires { laid.now.offset + sum_by (λ p. p.width) pieces.now < 2 ^ 32 }
-    ensures { OnOk result (entries.new.items ≡ entries.old.items ++ pieces_entries section symbols.now laid.now laid.now.offset pieces.now) }
+    requires { All (λ m. laid.now.offset + m.at < 2 ^ 32) marks.now }
+    ensures { OnOk result (entries.new.items ≡ entries.old.items ++ map (mark_entry section symbols.now laid.now) marks.now) }
 {
-    let mut offset = laid.offset;
-    for piece in pieces {
-        put_piece(entries, laid, symbols, section, offset, piece)?;
-        offset += u32::from(piece.width);
+    for mark in marks {
+        entries.push(entry(laid, symbols, section, mark))?;
     }
     Ok(())
 }
 
-fn put_piece<'a>(
-    entries: &mut Vec<Entry>,
-    laid: &Laid<'a>,
-    symbols: &Symbols<'a>,
-    section: u16,
-    offset: u32,
-    piece: &Piece<'a>,
-) -> Result<(), AllocError>
-    ensures { OnOk result (entries.new.items ≡ entries.old.items ++ piece_entries section symbols.now laid.now offset piece.now) }
+fn entry<'a>(laid: &Laid<'a>, symbols: &Symbols<'a>, section: u16, mark: &Mark<'a>) -> Entry
+    requires { laid.now.offset + mark.now.at < 2 ^ 32 }
+    ensures { result ≡ mark_entry section symbols.now laid.now mark.now }
 {
-    put_entry(entries, laid, symbols, section, offset, &piece.fix)?;
-    put_entry(entries, laid, symbols, section, offset, &piece.second)
-}
-
-fn put_entry<'a>(
-    entries: &mut Vec<Entry>,
-    laid: &Laid<'a>,
-    symbols: &Symbols<'a>,
-    section: u16,
-    offset: u32,
-    fix: &Option<Fix<'a>>,
-) -> Result<(), AllocError>
-    ensures { OnOk result (entries.new.items ≡ entries.old.items ++ fix_entries section symbols.now laid.now offset fix.now) }
-{
-    if let Some(fix) = fix {
-        entries.push(Entry {
-            section,
-            offset,
-            kind: fix.kind,
-            symbol: symbols.number(&target_key(laid, &fix.target)),
-            addend: fix.addend,
-        })?;
+    Entry {
+        section,
+        offset: laid.offset + mark.at as u32,
+        kind: mark.fix.kind,
+        symbol: symbols.number(&target_key(laid, &mark.fix.target)),
+        addend: mark.fix.addend,
     }
-    Ok(())
 }
 
 fn target_key<'a>(laid: &Laid<'a>, target: &Target<'a>) -> Key<'a>

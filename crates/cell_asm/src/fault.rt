@@ -3,7 +3,7 @@
 ghost use Rattle.std.specs.Prelude.{◌≡◌, ◌<◌};
 ghost use Rattle.cell_asm.specs.declared.fault.Stop.TheVariants.{OutOfMemory};
 ghost use Rattle.cell_asm.specs.Outcome.{Gives};
-ghost use Rattle.cell_asm.specs.Faults.{rank as rank_of, earlier as earlier_of, both as both_of};
+ghost use Rattle.cell_asm.specs.Faults.{rank as rank_of, earlier as earlier_of};
 
 use crate::kind::AsmKind;
 use std::alloc::{AllocError, AllocFailed};
@@ -55,21 +55,6 @@ pub fn earlier(first: AsmKind, second: AsmKind) -> AsmKind
         first
     } else {
         second
-    }
-}
-
-/// Both values, or the fault that is answered.
-pub fn both<A: Drop, B: Drop>(
-    a: Result<A, AsmKind>,
-    b: Result<B, AsmKind>,
-) -> Result<(A, B), AsmKind>
-    ensures { result ≡ both_of a b }
-{
-    match (a, b) {
-        (Ok(a), Ok(b)) => Ok((a, b)),
-        (Ok(_), Err(kind)) => Err(kind),
-        (Err(kind), Ok(_)) => Err(kind),
-        (Err(first), Err(second)) => Err(earlier(first, second)),
     }
 }
 

@@ -1,25 +1,123 @@
 //! The words of an instruction from its operands, and the entries for them.
 
-ghost use Rattle.std.specs.Prelude.{◌≡◌, ◌<◌, pos};
-ghost use Rattle.cell_asm.specs.declared.mnemonic.Shape.TheVariants as shapes;
-ghost use Rattle.cell_asm.specs.Instructions.{word as word_of, piece as piece_of, single as single_of, call as call_of, load_address as load_address_of, pieces_of as pieces, instruction as instruction_of, refers};
-ghost use Rattle.cell_isa.specs.declared.insn.Op.{Op};
+ghost use Rattle.std.specs.Prelude.{◌≡◌, length, IfOk};
+ghost use Rattle.cell_asm.specs.Blocks.{block};
+ghost use Rattle.cell_asm.specs.Faults.{with_value};
+ghost use Rattle.cell_asm.specs.Outcome.{Gives};
+ghost use Rattle.cell_asm.specs.Instructions.{slots as slots_of, fields as fields_of, fixed as fixed_of, put as put_of, filled, word as word_of, piece as piece_of, call as call_of, low_part as low_part_of, pieces, instruction as instruction_of};
 
-use crate::fault::both;
+use crate::block::{Block, Draft};
+use crate::fault::{Stop, earlier};
 use crate::kind::AsmKind;
 use crate::mnemonic::{Mnemonic, Shape};
 use crate::operand::Operand;
-use crate::statement::{Field, Fix, Piece, Pieces, Reference, Target};
-use crate::text::Text;
-use crate::wanted::{
-    LEAST_LOW, MOST_LOW, address, exactly, fix, low_operand, memory, name, number_from, operand_at,
-    plain, register, under, upper, upper_pcrel,
-};
+use crate::slot::{Form, Slot};
+use crate::statement::{Field, Fix, Piece, Target};
+use crate::wanted::{address, memory, name, named, plain, register, under, value};
 use cell_isa::{Insn, Op, encode};
 use cell_num::RelKind;
+use std::alloc::{AllocError, Global};
 
 /// ra, the register of return addresses
 const RA: u8 = 1;
+
+/// The fields of an instruction.
+#[derive(Drop)]
+pub struct Fields<'a> {
+    pub rd: u8,
+    pub rs1: u8,
+    pub rs2: u8,
+    pub field: Field<'a>,
+}
+
+/// What the operands of an instruction fill, in their order.
+fn slots(shape: Shape) -> &'static [Slot]
+    ensures { result.now ≡ slots_of shape }
+{
+    match shape {
+        Shape::Registers => &[Slot::Rd, Slot::Rs1, Slot::Rs2],
+        Shape::Immediate => &[Slot::Rd, Slot::Rs1, Slot::Value(Form::Low)],
+        Shape::Shift => &[Slot::Rd, Slot::Rs1, Slot::Value(Form::Shift)],
+        Shape::ShiftWord => &[Slot::Rd, Slot::Rs1, Slot::Value(Form::ShiftWord)],
+        Shape::Load => &[Slot::Rd, Slot::Memory(Form::Low)],
+        Shape::Store => &[Slot::Rs2, Slot::Memory(Form::LowStore)],
+        Shape::Branch => &[Slot::Rs1, Slot::Rs2, Slot::Name(RelKind::Branch)],
+        Shape::Jump => &[Slot::Rd, Slot::Name(RelKind::Jal)],
+        Shape::Upper => &[Slot::Rd, Slot::Value(Form::Upper)],
+        Shape::UpperPcrel => &[Slot::Rd, Slot::Value(Form::UpperPcrel)],
+        Shape::Move => &[Slot::Rd, Slot::Rs1],
+        Shape::LoadNumber => &[Slot::Rd, Slot::Value(Form::Small)],
+        Shape::Alone(_) | Shape::Return => &[],
+        Shape::JumpTo => &[Slot::Name(RelKind::Jal)],
+        Shape::Call => &[Slot::Address(RelKind::CallPlt)],
+        Shape::LoadAddress => &[Slot::Rd, Slot::Address(RelKind::PcrelHi20)],
+    }
+}
+
+fn unfilled<'a>(rd: u8, rs1: u8, number: i32) -> Fields<'a>
+    ensures { result ≡ fields_of rd rs1 number }
+{
+    Fields {
+        rd,
+        rs1,
+        rs2: 0,
+        field: plain(number),
+    }
+}
+
+/// What stands in the fields that no operand fills.
+fn fixed<'a>(shape: Shape) -> Fields<'a>
+    ensures { result ≡ fixed_of shape }
+{
+    match shape {
+        Shape::Alone(number) => unfilled(0, 0, number),
+        Shape::Return => unfilled(0, RA, 0),
+        Shape::Call => unfilled(RA, 0, 0),
+        _ => unfilled(0, 0, 0),
+    }
+}
+
+/// The fields with what an operand puts in its slot.
+fn put<'a>(slot: Slot, operand: &Operand<'a>, mut fields: Fields<'a>) -> Result<Fields<'a>, AsmKind>
+    ensures { result ≡ with_value (λ put. put fields.entry) (put_of slot operand.now) }
+{
+    match slot {
+        Slot::Rd => fields.rd = register(operand)?,
+        Slot::Rs1 => fields.rs1 = register(operand)?,
+        Slot::Rs2 => fields.rs2 = register(operand)?,
+        Slot::Value(form) => fields.field = value(form, operand)?,
+        Slot::Memory(form) => {
+            let (field, base) = memory(form, operand)?;
+            fields.field = field;
+            fields.rs1 = base;
+        }
+        Slot::Name(kind) => fields.field = under(kind, named(&name(operand)?)),
+        Slot::Address(kind) => fields.field = under(kind, address(operand)?),
+    }
+    Ok(fields)
+}
+
+/// The fields with what the operands put in their slots. All that have one are read, for the
+/// earliest fault.
+fn fill<'a>(
+    slots: &[Slot],
+    operands: &[Operand<'a>],
+    start: Fields<'a>,
+) -> Result<Fields<'a>, AsmKind>
+    ensures { result ≡ with_value (λ fill. fill start.entry) (filled slots.now operands.now) }
+{
+    match (slots, operands) {
+        ([], []) => Ok(start),
+        ([slot, slots @ ..], [operand, operands @ ..]) => match put(*slot, operand, start) {
+            Ok(more) => fill(slots, operands, more),
+            Err(kind) => match fill(slots, operands, unfilled(0, 0, 0)) {
+                Ok(_) => Err(kind),
+                Err(other) => Err(earlier(kind, other)),
+            },
+        },
+        _ => Err(AsmKind::Operand),
+    }
+}
 
 /// The word of an instruction. Each that is asked for has one.
 #[tactic(auto, unfolding(crate::specs::Instructions::word))]
@@ -36,9 +134,15 @@ fn word(op: Op, rd: u8, rs1: u8, rs2: u8, imm: i32) -> u32
     encode(&insn).unwrap_or(0)
 }
 
-fn piece<'a>(op: Op, rd: u8, rs1: u8, rs2: u8, field: Field<'a>) -> Piece<'a>
-    ensures { result ≡ piece_of op rd rs1 rs2 field.entry }
+fn piece<'a>(op: Op, fields: Fields<'a>) -> Piece<'a>
+    ensures { result ≡ piece_of op fields.entry }
 {
+    let Fields {
+        rd,
+        rs1,
+        rs2,
+        field,
+    } = fields;
     let Field { number, fix } = field;
     Piece {
         width: 4,
@@ -48,286 +152,71 @@ fn piece<'a>(op: Op, rd: u8, rs1: u8, rs2: u8, field: Field<'a>) -> Piece<'a>
     }
 }
 
-fn single<'a>(op: Op, rd: u8, rs1: u8, rs2: u8, field: Field<'a>) -> Pieces<'a>
-    ensures { result ≡ single_of op rd rs1 rs2 field.entry }
+/// auipc rd,0 and jalr rd,0(rd) under one entry
+fn call<'a>(fields: Fields<'a>) -> Piece<'a>
+    ensures { result ≡ call_of fields.entry }
 {
-    Pieces::One(piece(op, rd, rs1, rs2, field))
+    let high = u64::from(word(Op::Auipc, fields.rd, 0, 0, 0));
+    let low = u64::from(word(Op::Jalr, fields.rd, fields.rd, 0, 0));
+    Piece {
+        width: 8,
+        value: high + 0x1_0000_0000 * low,
+        fix: fields.field.fix,
+        second: None,
+    }
+}
+
+/// addi rd,rd,0, whose entry names the label that is made at the auipc before it
+fn low_part<'a>(rd: u8) -> Piece<'a>
+    ensures { result ≡ low_part_of rd }
+{
+    let fix = Fix {
+        kind: RelKind::PcrelLo12I,
+        target: Target::Made,
+        addend: 0,
+    };
+    piece(
+        Op::Addi,
+        Fields {
+            rd,
+            rs1: rd,
+            rs2: 0,
+            field: Field {
+                number: 0,
+                fix: Some(fix),
+            },
+        },
+    )
+}
+
+/// The instructions of a row with these fields.
+fn code<'a>(alloc: Global, mnemonic: Mnemonic, fields: Fields<'a>) -> Result<Block<'a>, AllocError>
+    ensures { IfOk result (λ b. b ≡ block (pieces mnemonic.shape mnemonic.op fields.entry)) }
+{
+    let mut draft = Draft::new(alloc);
+    match mnemonic.shape {
+        Shape::Call => draft.add(call(fields))?,
+        Shape::LoadAddress => {
+            let rd = fields.rd;
+            draft.add(piece(mnemonic.op, fields))?;
+            draft.add(low_part(rd))?;
+        }
+        _ => draft.add(piece(mnemonic.op, fields))?,
+    }
+    Ok(draft.finished())
 }
 
 /// The instruction of these operands.
-pub fn instruction<'a>(mnemonic: Mnemonic, operands: &[Operand<'a>]) -> Result<Pieces<'a>, AsmKind>
-    ensures { result ≡ instruction_of mnemonic operands.now }
+pub fn instruction<'a>(
+    alloc: Global,
+    mnemonic: Mnemonic,
+    operands: &[Operand<'a>],
+) -> Result<Block<'a>, Stop>
+    ensures { Gives result (instruction_of mnemonic operands.now) }
 {
-    let op = mnemonic.op;
-    match mnemonic.shape {
-        Shape::Registers => registers(op, operands),
-        Shape::Immediate => immediate(op, operands),
-        Shape::Shift => shift(op, operands),
-        Shape::ShiftWord => shift_word(op, operands),
-        Shape::Load => load(op, operands),
-        Shape::Store => store(op, operands),
-        Shape::Branch => branch(op, operands),
-        Shape::Jump => jump(op, operands),
-        Shape::Upper => upper_number(op, operands),
-        Shape::UpperPcrel => upper_number_pcrel(op, operands),
-        Shape::Alone(number) => alone(op, number, operands),
-        Shape::Move => copy(op, operands),
-        Shape::LoadNumber => load_number(op, operands),
-        Shape::Return => back(op, operands),
-        Shape::JumpTo => jump_to(op, operands),
-        Shape::Call => call(operands),
-        Shape::LoadAddress => load_address(operands),
+    let shape = mnemonic.shape;
+    match fill(slots(shape), operands, fixed(shape)) {
+        Ok(fields) => Ok(code(alloc, mnemonic, fields)?),
+        Err(kind) => Err(Stop::Fault(kind)),
     }
-}
-
-/// `rd,rs1,rs2`
-fn registers<'a>(op: Op, operands: &[Operand<'a>]) -> Result<Pieces<'a>, AsmKind>
-    ensures { result ≡ pieces shapes.Registers op operands.now }
-{
-    let rd = register(operand_at(operands, 0));
-    let rs1 = register(operand_at(operands, 1));
-    let rs2 = register(operand_at(operands, 2));
-    match both(exactly(3, operands), both(rd, both(rs1, rs2))) {
-        Ok((_, (rd, (rs1, rs2)))) => Ok(single(op, rd, rs1, rs2, plain(0))),
-        Err(kind) => Err(kind),
-    }
-}
-
-/// `rd,rs1,I`
-fn immediate<'a>(op: Op, operands: &[Operand<'a>]) -> Result<Pieces<'a>, AsmKind>
-    ensures { result ≡ pieces shapes.Immediate op operands.now }
-{
-    let rd = register(operand_at(operands, 0));
-    let rs1 = register(operand_at(operands, 1));
-    let field = low_operand(operand_at(operands, 2));
-    match both(exactly(3, operands), both(rd, both(rs1, field))) {
-        Ok((_, (rd, (rs1, field)))) => Ok(single(op, rd, rs1, 0, field)),
-        Err(kind) => Err(kind),
-    }
-}
-
-/// `rd,rs1,N` with N from 0 to 63
-fn shift<'a>(op: Op, operands: &[Operand<'a>]) -> Result<Pieces<'a>, AsmKind>
-    ensures { result ≡ pieces shapes.Shift op operands.now }
-{
-    let rd = register(operand_at(operands, 0));
-    let rs1 = register(operand_at(operands, 1));
-    let by = number_from(0, 63, operand_at(operands, 2));
-    match both(exactly(3, operands), both(rd, both(rs1, by))) {
-        Ok((_, (rd, (rs1, by)))) => Ok(single(op, rd, rs1, 0, plain(by as i32))),
-        Err(kind) => Err(kind),
-    }
-}
-
-/// `rd,rs1,N` with N from 0 to 31
-fn shift_word<'a>(op: Op, operands: &[Operand<'a>]) -> Result<Pieces<'a>, AsmKind>
-    ensures { result ≡ pieces shapes.ShiftWord op operands.now }
-{
-    let rd = register(operand_at(operands, 0));
-    let rs1 = register(operand_at(operands, 1));
-    let by = number_from(0, 31, operand_at(operands, 2));
-    match both(exactly(3, operands), both(rd, both(rs1, by))) {
-        Ok((_, (rd, (rs1, by)))) => Ok(single(op, rd, rs1, 0, plain(by as i32))),
-        Err(kind) => Err(kind),
-    }
-}
-
-/// `rd,I(rs1)`
-fn load<'a>(op: Op, operands: &[Operand<'a>]) -> Result<Pieces<'a>, AsmKind>
-    ensures { result ≡ pieces shapes.Load op operands.now }
-{
-    let rd = register(operand_at(operands, 0));
-    let place = memory(RelKind::Lo12I, RelKind::PcrelLo12I, operand_at(operands, 1));
-    match both(exactly(2, operands), both(rd, place)) {
-        Ok((_, (rd, (field, rs1)))) => Ok(single(op, rd, rs1, 0, field)),
-        Err(kind) => Err(kind),
-    }
-}
-
-/// `rs2,I(rs1)`
-fn store<'a>(op: Op, operands: &[Operand<'a>]) -> Result<Pieces<'a>, AsmKind>
-    ensures { result ≡ pieces shapes.Store op operands.now }
-{
-    let rs2 = register(operand_at(operands, 0));
-    let place = memory(RelKind::Lo12S, RelKind::PcrelLo12S, operand_at(operands, 1));
-    match both(exactly(2, operands), both(rs2, place)) {
-        Ok((_, (rs2, (field, rs1)))) => Ok(single(op, 0, rs1, rs2, field)),
-        Err(kind) => Err(kind),
-    }
-}
-
-/// A name and no number.
-fn named<'a>(name: Text<'a>) -> Reference<'a>
-    ensures { result ≡ refers name.entry (pos 0) }
-{
-    Reference { name, addend: 0 }
-}
-
-/// `rs1,rs2,NAME`
-fn branch<'a>(op: Op, operands: &[Operand<'a>]) -> Result<Pieces<'a>, AsmKind>
-    ensures { result ≡ pieces shapes.Branch op operands.now }
-{
-    let rs1 = register(operand_at(operands, 0));
-    let rs2 = register(operand_at(operands, 1));
-    let target = name(operand_at(operands, 2));
-    match both(exactly(3, operands), both(rs1, both(rs2, target))) {
-        Ok((_, (rs1, (rs2, target)))) => {
-            let field = under(RelKind::Branch, named(target));
-            Ok(single(op, 0, rs1, rs2, field))
-        }
-        Err(kind) => Err(kind),
-    }
-}
-
-/// `rd,NAME`
-fn jump<'a>(op: Op, operands: &[Operand<'a>]) -> Result<Pieces<'a>, AsmKind>
-    ensures { result ≡ pieces shapes.Jump op operands.now }
-{
-    let rd = register(operand_at(operands, 0));
-    let target = name(operand_at(operands, 1));
-    match both(exactly(2, operands), both(rd, target)) {
-        Ok((_, (rd, target))) => {
-            let field = under(RelKind::Jal, named(target));
-            Ok(single(op, rd, 0, 0, field))
-        }
-        Err(kind) => Err(kind),
-    }
-}
-
-/// `rd,U` or `rd,%hi(E)`
-fn upper_number<'a>(op: Op, operands: &[Operand<'a>]) -> Result<Pieces<'a>, AsmKind>
-    ensures { result ≡ pieces shapes.Upper op operands.now }
-{
-    let rd = register(operand_at(operands, 0));
-    let field = upper(operand_at(operands, 1));
-    match both(exactly(2, operands), both(rd, field)) {
-        Ok((_, (rd, field))) => Ok(single(op, rd, 0, 0, field)),
-        Err(kind) => Err(kind),
-    }
-}
-
-/// `rd,U` or `rd,%pcrel_hi(E)`
-fn upper_number_pcrel<'a>(op: Op, operands: &[Operand<'a>]) -> Result<Pieces<'a>, AsmKind>
-    ensures { result ≡ pieces shapes.UpperPcrel op operands.now }
-{
-    let rd = register(operand_at(operands, 0));
-    let field = upper_pcrel(operand_at(operands, 1));
-    match both(exactly(2, operands), both(rd, field)) {
-        Ok((_, (rd, field))) => Ok(single(op, rd, 0, 0, field)),
-        Err(kind) => Err(kind),
-    }
-}
-
-/// No operand; the instruction has this immediate.
-fn alone<'a>(op: Op, number: i32, operands: &[Operand<'a>]) -> Result<Pieces<'a>, AsmKind>
-    ensures { result ≡ pieces (shapes.Alone number) op operands.now }
-{
-    match exactly(0, operands) {
-        Ok(()) => Ok(single(op, 0, 0, 0, plain(number))),
-        Err(kind) => Err(kind),
-    }
-}
-
-/// `rd,rs`
-fn copy<'a>(op: Op, operands: &[Operand<'a>]) -> Result<Pieces<'a>, AsmKind>
-    ensures { result ≡ pieces shapes.Move op operands.now }
-{
-    let rd = register(operand_at(operands, 0));
-    let rs = register(operand_at(operands, 1));
-    match both(exactly(2, operands), both(rd, rs)) {
-        Ok((_, (rd, rs))) => Ok(single(op, rd, rs, 0, plain(0))),
-        Err(kind) => Err(kind),
-    }
-}
-
-/// `rd,N`
-fn load_number<'a>(op: Op, operands: &[Operand<'a>]) -> Result<Pieces<'a>, AsmKind>
-    ensures { result ≡ pieces shapes.LoadNumber op operands.now }
-{
-    let rd = register(operand_at(operands, 0));
-    let number = number_from(LEAST_LOW, MOST_LOW, operand_at(operands, 1));
-    match both(exactly(2, operands), both(rd, number)) {
-        Ok((_, (rd, number))) => Ok(single(op, rd, 0, 0, plain(number as i32))),
-        Err(kind) => Err(kind),
-    }
-}
-
-/// No operand: a jump to the return address.
-fn back<'a>(op: Op, operands: &[Operand<'a>]) -> Result<Pieces<'a>, AsmKind>
-    ensures { result ≡ pieces shapes.Return op operands.now }
-{
-    match exactly(0, operands) {
-        Ok(()) => Ok(single(op, 0, RA, 0, plain(0))),
-        Err(kind) => Err(kind),
-    }
-}
-
-/// `NAME`
-fn jump_to<'a>(op: Op, operands: &[Operand<'a>]) -> Result<Pieces<'a>, AsmKind>
-    ensures { result ≡ pieces shapes.JumpTo op operands.now }
-{
-    let target = name(operand_at(operands, 0));
-    match both(exactly(1, operands), target) {
-        Ok((_, target)) => {
-            let field = under(RelKind::Jal, named(target));
-            Ok(single(op, 0, 0, 0, field))
-        }
-        Err(kind) => Err(kind),
-    }
-}
-
-/// `E`
-fn call<'a>(operands: &[Operand<'a>]) -> Result<Pieces<'a>, AsmKind>
-    ensures { (op : Op) → result ≡ pieces shapes.Call op operands.now }
-{
-    let target = address(operand_at(operands, 0));
-    match both(exactly(1, operands), target) {
-        Ok((_, target)) => Ok(call_of_address(target)),
-        Err(kind) => Err(kind),
-    }
-}
-
-/// auipc ra,0 and jalr ra,0(ra) under one entry
-fn call_of_address<'a>(target: Reference<'a>) -> Pieces<'a>
-    ensures { result ≡ call_of target.entry }
-{
-    let high = u64::from(word(Op::Auipc, RA, 0, 0, 0));
-    let low = u64::from(word(Op::Jalr, RA, RA, 0, 0));
-    Pieces::One(Piece {
-        width: 8,
-        value: high + 0x1_0000_0000 * low,
-        fix: Some(fix(RelKind::CallPlt, target)),
-        second: None,
-    })
-}
-
-/// `rd,E`
-fn load_address<'a>(operands: &[Operand<'a>]) -> Result<Pieces<'a>, AsmKind>
-    ensures { (op : Op) → result ≡ pieces shapes.LoadAddress op operands.now }
-{
-    let rd = register(operand_at(operands, 0));
-    let target = address(operand_at(operands, 1));
-    match both(exactly(2, operands), both(rd, target)) {
-        Ok((_, (rd, target))) => Ok(load_of_address(rd, target)),
-        Err(kind) => Err(kind),
-    }
-}
-
-/// auipc rd,0 and addi rd,rd,0, whose entry names the label that is made at the first
-fn load_of_address<'a>(rd: u8, target: Reference<'a>) -> Pieces<'a>
-    ensures { result ≡ load_address_of rd target.entry }
-{
-    let high = under(RelKind::PcrelHi20, target);
-    let low = Field {
-        number: 0,
-        fix: Some(Fix {
-            kind: RelKind::PcrelLo12I,
-            target: Target::Made,
-            addend: 0,
-        }),
-    };
-    Pieces::Two(
-        piece(Op::Auipc, rd, 0, 0, high),
-        piece(Op::Addi, rd, rd, 0, low),
-    )
 }

@@ -6,15 +6,17 @@ ghost use Rattle.std.specs.Ordering.{nat_cmp};
 ghost use Rattle.std.specs.BTreeSet.{contains};
 ghost use Rattle.cell_asm.specs.Named.{is_named};
 ghost use Rattle.cell_asm.specs.Places.{is_same_part, is_in, keys_of, labels_at, labels as labels_of};
-ghost use Rattle.cell_asm.specs.Objects.{pieces_in as pieces_of};
-ghost use Rattle.cell_asm.specs.Assembled.{is_upper, has_upper as upper_in, has_lost as lost_in};
-ghost use Rattle.cell_asm.specs.Uppers.{is_upper_at, target_lost_by, fix_lost_by, lost_by};
+ghost use Rattle.cell_num.specs.Kinds.{is_pcrel_hi20 as pcrel_hi20};
+ghost use Rattle.cell_asm.specs.Objects.{marks_in as marks_of};
+ghost use Rattle.cell_asm.specs.Assembled.{has_upper as upper_in, has_lost as lost_in};
+ghost use Rattle.cell_asm.specs.Uppers.{is_upper_at, target_lost_by, mark_lost_by, lost_by};
 ghost use Rattle.cell_asm.specs.declared.statement.Part.TheVariants as parts;
 
+use crate::block::Mark;
 use crate::laid::{Key, Label, Laid};
 use crate::names_taken::Names;
 use crate::place::makes_label;
-use crate::statement::{Fix, Part, Piece, Statement, Target};
+use crate::statement::{Part, Statement, Target};
 use cell_num::{is_pcrel_hi20, is_pcrel_lo12};
 use std::alloc::{AllocError, Global};
 use std::collections::BTreeSet;
@@ -54,11 +56,11 @@ fn put_labels<'a>(labels: &mut Vec<Label<'a>>, laid: &Laid<'a>) -> Result<(), Al
     Ok(())
 }
 
-pub fn pieces_in<'b, 'a>(statement: &'b Statement<'a>) -> &'b [Piece<'a>]
-    ensures { result.now ≡ pieces_of statement.now }
+pub fn marks_in<'b, 'a>(statement: &'b Statement<'a>) -> &'b [Mark<'a>]
+    ensures { result.now ≡ marks_of statement.now }
 {
     match statement {
-        Statement::Bytes(_, pieces) => pieces.as_slice(),
+        Statement::Bytes(_, block) => block.marks.as_slice(),
         _ => &[],
     }
 }
@@ -105,22 +107,13 @@ fn upper_offsets(alloc: Global, lines: &[Laid<'_>]) -> Result<BTreeSet<u32>, All
 fn is_upper_in_text(laid: &Laid<'_>) -> bool
     ensures { result ≡ (is_in parts.Text laid.now && upper_in laid.now) }
 {
-    matches!(laid.part, Some(Part::Text)) && has_upper(pieces_in(&laid.line.statement))
+    matches!(laid.part, Some(Part::Text)) && has_upper(marks_in(&laid.line.statement))
 }
 
-fn has_upper(pieces: &[Piece<'_>]) -> bool
-    ensures { result ≡ list_any (λ p. is_upper p.fix) pieces.now }
+fn has_upper(marks: &[Mark<'_>]) -> bool
+    ensures { result ≡ list_any (λ m. pcrel_hi20 m.fix.kind) marks.now }
 {
-    pieces.iter().any(|piece| is_upper(&piece.fix))
-}
-
-fn is_upper(fix: &Option<Fix<'_>>) -> bool
-    ensures { result ≡ is_upper fix.now }
-{
-    match fix {
-        Some(fix) => is_pcrel_hi20(fix.kind),
-        None => false,
-    }
+    marks.iter().any(|mark| is_pcrel_hi20(mark.fix.kind))
 }
 
 /// The names of the labels in `.text` at these offsets.
@@ -164,27 +157,25 @@ fn is_text(part: Part) -> bool
 fn has_lost<'a>(names: &Names<'a>, laid: &Laid<'a>) -> bool
     ensures { result ≡ lost_by names.now laid.now }
 {
-    any_lost(names, pieces_in(&laid.line.statement))
+    any_lost(names, marks_in(&laid.line.statement))
 }
 
-fn any_lost<'a>(names: &Names<'a>, pieces: &[Piece<'a>]) -> bool
-    ensures { result ≡ list_any (λ p. fix_lost_by names.now p.fix) pieces.now }
+#[tactic(auto, using(crate::proofs::LabelLemmas::any_left))]
+fn any_lost<'a>(names: &Names<'a>, marks: &[Mark<'a>]) -> bool
+    ensures { result ≡ list_any (mark_lost_by names.now) marks.now }
 {
-    for piece in pieces {
-        if is_lost_fix(names, &piece.fix) {
+    for mark in marks {
+        if is_lost_mark(names, mark) {
             return true;
         }
     }
     false
 }
 
-fn is_lost_fix<'a>(names: &Names<'a>, fix: &Option<Fix<'a>>) -> bool
-    ensures { result ≡ fix_lost_by names.now fix.now }
+fn is_lost_mark<'a>(names: &Names<'a>, mark: &Mark<'a>) -> bool
+    ensures { result ≡ mark_lost_by names.now mark.now }
 {
-    match fix {
-        Some(fix) => is_pcrel_lo12(fix.kind) && is_lost(names, &fix.target),
-        None => false,
-    }
+    is_pcrel_lo12(mark.fix.kind) && is_lost(names, &mark.fix.target)
 }
 
 fn is_lost<'a>(names: &Names<'a>, target: &Target<'a>) -> bool

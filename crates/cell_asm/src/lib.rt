@@ -1,6 +1,7 @@
 //! The assembler: a source in, an object or the first fault out.
 #![tactic(auto)]
 
+mod block;
 mod directive;
 mod entry;
 mod fault;
@@ -17,6 +18,7 @@ mod numbering;
 mod operand;
 mod place;
 mod section;
+mod slot;
 mod source;
 mod spot;
 mod statement;
@@ -28,7 +30,10 @@ pub use kind::{AsmFail, AsmKind};
 pub use source::assemble;
 
 // What the definitions speak of, so that laws over them can name it.
+pub use block::{Block, Mark};
+pub use instruction::Fields;
 pub use laid::{Key, Label, Laid};
 pub use mnemonic::{Directive, Mnemonic, Shape, Width};
 pub use operand::{Expression, Immediate, Modifier, Operand};
-pub use statement::{Content, Field, Fix, Line, Part, Piece, Pieces, Reference, Statement, Target};
+pub use slot::{Form, Slot};
+pub use statement::{Content, Field, Fix, Line, Part, Piece, Reference, Statement, Target};

@@ -5,7 +5,7 @@ ghost use Rattle.std.specs.List.{prefix_len, suffix_len, slice_split};
 ghost use Rattle.cell_asm.specs.Faults.{each};
 ghost use Rattle.cell_asm.specs.Outcome.{Gives};
 ghost use Rattle.cell_asm.specs.Lines.{is_blank as blank, is_inked as inked, trimmed as trimmed_of, code_of as code_of_line, first_word as first_word_of, after_word as after_word_of, operand_texts, spelled, statement_in as statement_in_text, has_label as labelled, label_name, line_of};
-ghost use Rattle.cell_asm.specs.Statements.{statement as statement_of, instructed as instructed_of, listed as listed_of};
+ghost use Rattle.cell_asm.specs.Statements.{statement as statement_of, instructed as instructed_of};
 
 use crate::directive::directed;
 use crate::fault::Stop;
@@ -14,7 +14,7 @@ use crate::kind::AsmKind;
 use crate::mnemonic::{Mnemonic, read_directive, read_mnemonic};
 use crate::names::is_name;
 use crate::operand::{Operand, read_operand};
-use crate::statement::{Content, Line, Piece, Pieces, Statement};
+use crate::statement::{Content, Line, Statement};
 use crate::text::Text;
 use cell_num::Listed;
 use std::alloc::{AllocError, Global};
@@ -218,25 +218,6 @@ fn instructed<'a>(
     let Some(mnemonic) = mnemonic else {
         return Err(Stop::Fault(AsmKind::Word));
     };
-    match instruction(mnemonic, operands) {
-        Ok(pieces) => {
-            let pieces = listed(alloc, pieces)?;
-            Ok(Statement::Bytes(Content::Code, pieces))
-        }
-        Err(kind) => Err(Stop::Fault(kind)),
-    }
-}
-
-fn listed<'a>(alloc: Global, pieces: Pieces<'a>) -> Result<Listed<Piece<'a>>, AllocError>
-    ensures { IfOk result (λ list. list ≡ listed_of pieces.entry) }
-{
-    let mut list = Vec::new(alloc);
-    match pieces {
-        Pieces::One(piece) => list.push(piece)?,
-        Pieces::Two(first, second) => {
-            list.push(first)?;
-            list.push(second)?;
-        }
-    }
-    Ok(Listed::from_vec(list))
+    let block = instruction(alloc, mnemonic, operands)?;
+    Ok(Statement::Bytes(Content::Code, block))
 }

@@ -1,7 +1,7 @@
 //! The words that a statement begins with.
 
 ghost use Rattle.std.specs.Prelude.{◌≡◌, map, bytes_eq, option_map, find};
-ghost use Rattle.cell_asm.specs.Mnemonics.{mnemonic as mnemonic_of, directive as directive_of, row_of};
+ghost use Rattle.cell_asm.specs.Mnemonics.{mnemonics, mnemonic as mnemonic_of, directive as directive_of, row_of};
 
 use crate::statement::Part;
 use cell_isa::Op;
@@ -88,95 +88,96 @@ static DIRECTIVES: [(&[u8], Directive); 11] = [
 
 /// The instructions, and what is short for some. RISC-V unprivileged manual, "RV32/64G Instruction
 /// Set Listings"
-static MNEMONICS: [(&[u8], Op, Shape); 72] = [
-    (b"nop", Op::Addi, Shape::Alone(0)),
-    (b"mv", Op::Addi, Shape::Move),
-    (b"li", Op::Addi, Shape::LoadNumber),
-    (b"ret", Op::Jalr, Shape::Return),
-    (b"j", Op::Jal, Shape::JumpTo),
-    (b"call", Op::Auipc, Shape::Call),
-    (b"la", Op::Auipc, Shape::LoadAddress),
-    (b"lui", Op::Lui, Shape::Upper),
-    (b"auipc", Op::Auipc, Shape::UpperPcrel),
-    (b"jal", Op::Jal, Shape::Jump),
-    (b"jalr", Op::Jalr, Shape::Load),
-    (b"beq", Op::Beq, Shape::Branch),
-    (b"bne", Op::Bne, Shape::Branch),
-    (b"blt", Op::Blt, Shape::Branch),
-    (b"bge", Op::Bge, Shape::Branch),
-    (b"bltu", Op::Bltu, Shape::Branch),
-    (b"bgeu", Op::Bgeu, Shape::Branch),
-    (b"fence", Op::Fence, Shape::Alone(255)),
-    (b"ecall", Op::Ecall, Shape::Alone(0)),
-    (b"ebreak", Op::Ebreak, Shape::Alone(0)),
-    (b"lb", Op::Lb, Shape::Load),
-    (b"lh", Op::Lh, Shape::Load),
-    (b"lw", Op::Lw, Shape::Load),
-    (b"ld", Op::Ld, Shape::Load),
-    (b"lbu", Op::Lbu, Shape::Load),
-    (b"lhu", Op::Lhu, Shape::Load),
-    (b"lwu", Op::Lwu, Shape::Load),
-    (b"sb", Op::Sb, Shape::Store),
-    (b"sh", Op::Sh, Shape::Store),
-    (b"sw", Op::Sw, Shape::Store),
-    (b"sd", Op::Sd, Shape::Store),
-    (b"addi", Op::Addi, Shape::Immediate),
-    (b"slti", Op::Slti, Shape::Immediate),
-    (b"sltiu", Op::Sltiu, Shape::Immediate),
-    (b"xori", Op::Xori, Shape::Immediate),
-    (b"ori", Op::Ori, Shape::Immediate),
-    (b"andi", Op::Andi, Shape::Immediate),
-    (b"addiw", Op::Addiw, Shape::Immediate),
-    (b"slli", Op::Slli, Shape::Shift),
-    (b"srli", Op::Srli, Shape::Shift),
-    (b"srai", Op::Srai, Shape::Shift),
-    (b"slliw", Op::Slliw, Shape::ShiftWord),
-    (b"srliw", Op::Srliw, Shape::ShiftWord),
-    (b"sraiw", Op::Sraiw, Shape::ShiftWord),
-    (b"add", Op::Add, Shape::Registers),
-    (b"sub", Op::Sub, Shape::Registers),
-    (b"sll", Op::Sll, Shape::Registers),
-    (b"slt", Op::Slt, Shape::Registers),
-    (b"sltu", Op::Sltu, Shape::Registers),
-    (b"xor", Op::Xor, Shape::Registers),
-    (b"srl", Op::Srl, Shape::Registers),
-    (b"sra", Op::Sra, Shape::Registers),
-    (b"or", Op::Or, Shape::Registers),
-    (b"and", Op::And, Shape::Registers),
-    (b"addw", Op::Addw, Shape::Registers),
-    (b"subw", Op::Subw, Shape::Registers),
-    (b"sllw", Op::Sllw, Shape::Registers),
-    (b"srlw", Op::Srlw, Shape::Registers),
-    (b"sraw", Op::Sraw, Shape::Registers),
-    (b"mul", Op::Mul, Shape::Registers),
-    (b"mulh", Op::Mulh, Shape::Registers),
-    (b"mulhsu", Op::Mulhsu, Shape::Registers),
-    (b"mulhu", Op::Mulhu, Shape::Registers),
-    (b"div", Op::Div, Shape::Registers),
-    (b"divu", Op::Divu, Shape::Registers),
-    (b"rem", Op::Rem, Shape::Registers),
-    (b"remu", Op::Remu, Shape::Registers),
-    (b"mulw", Op::Mulw, Shape::Registers),
-    (b"divw", Op::Divw, Shape::Registers),
-    (b"divuw", Op::Divuw, Shape::Registers),
-    (b"remw", Op::Remw, Shape::Registers),
-    (b"remuw", Op::Remuw, Shape::Registers),
+static MNEMONICS: [(&[u8], (Op, Shape)); 72] = [
+    (b"nop", (Op::Addi, Shape::Alone(0))),
+    (b"mv", (Op::Addi, Shape::Move)),
+    (b"li", (Op::Addi, Shape::LoadNumber)),
+    (b"ret", (Op::Jalr, Shape::Return)),
+    (b"j", (Op::Jal, Shape::JumpTo)),
+    (b"call", (Op::Auipc, Shape::Call)),
+    (b"la", (Op::Auipc, Shape::LoadAddress)),
+    (b"lui", (Op::Lui, Shape::Upper)),
+    (b"auipc", (Op::Auipc, Shape::UpperPcrel)),
+    (b"jal", (Op::Jal, Shape::Jump)),
+    (b"jalr", (Op::Jalr, Shape::Load)),
+    (b"beq", (Op::Beq, Shape::Branch)),
+    (b"bne", (Op::Bne, Shape::Branch)),
+    (b"blt", (Op::Blt, Shape::Branch)),
+    (b"bge", (Op::Bge, Shape::Branch)),
+    (b"bltu", (Op::Bltu, Shape::Branch)),
+    (b"bgeu", (Op::Bgeu, Shape::Branch)),
+    (b"fence", (Op::Fence, Shape::Alone(255))),
+    (b"ecall", (Op::Ecall, Shape::Alone(0))),
+    (b"ebreak", (Op::Ebreak, Shape::Alone(0))),
+    (b"lb", (Op::Lb, Shape::Load)),
+    (b"lh", (Op::Lh, Shape::Load)),
+    (b"lw", (Op::Lw, Shape::Load)),
+    (b"ld", (Op::Ld, Shape::Load)),
+    (b"lbu", (Op::Lbu, Shape::Load)),
+    (b"lhu", (Op::Lhu, Shape::Load)),
+    (b"lwu", (Op::Lwu, Shape::Load)),
+    (b"sb", (Op::Sb, Shape::Store)),
+    (b"sh", (Op::Sh, Shape::Store)),
+    (b"sw", (Op::Sw, Shape::Store)),
+    (b"sd", (Op::Sd, Shape::Store)),
+    (b"addi", (Op::Addi, Shape::Immediate)),
+    (b"slti", (Op::Slti, Shape::Immediate)),
+    (b"sltiu", (Op::Sltiu, Shape::Immediate)),
+    (b"xori", (Op::Xori, Shape::Immediate)),
+    (b"ori", (Op::Ori, Shape::Immediate)),
+    (b"andi", (Op::Andi, Shape::Immediate)),
+    (b"addiw", (Op::Addiw, Shape::Immediate)),
+    (b"slli", (Op::Slli, Shape::Shift)),
+    (b"srli", (Op::Srli, Shape::Shift)),
+    (b"srai", (Op::Srai, Shape::Shift)),
+    (b"slliw", (Op::Slliw, Shape::ShiftWord)),
+    (b"srliw", (Op::Srliw, Shape::ShiftWord)),
+    (b"sraiw", (Op::Sraiw, Shape::ShiftWord)),
+    (b"add", (Op::Add, Shape::Registers)),
+    (b"sub", (Op::Sub, Shape::Registers)),
+    (b"sll", (Op::Sll, Shape::Registers)),
+    (b"slt", (Op::Slt, Shape::Registers)),
+    (b"sltu", (Op::Sltu, Shape::Registers)),
+    (b"xor", (Op::Xor, Shape::Registers)),
+    (b"srl", (Op::Srl, Shape::Registers)),
+    (b"sra", (Op::Sra, Shape::Registers)),
+    (b"or", (Op::Or, Shape::Registers)),
+    (b"and", (Op::And, Shape::Registers)),
+    (b"addw", (Op::Addw, Shape::Registers)),
+    (b"subw", (Op::Subw, Shape::Registers)),
+    (b"sllw", (Op::Sllw, Shape::Registers)),
+    (b"srlw", (Op::Srlw, Shape::Registers)),
+    (b"sraw", (Op::Sraw, Shape::Registers)),
+    (b"mul", (Op::Mul, Shape::Registers)),
+    (b"mulh", (Op::Mulh, Shape::Registers)),
+    (b"mulhsu", (Op::Mulhsu, Shape::Registers)),
+    (b"mulhu", (Op::Mulhu, Shape::Registers)),
+    (b"div", (Op::Div, Shape::Registers)),
+    (b"divu", (Op::Divu, Shape::Registers)),
+    (b"rem", (Op::Rem, Shape::Registers)),
+    (b"remu", (Op::Remu, Shape::Registers)),
+    (b"mulw", (Op::Mulw, Shape::Registers)),
+    (b"divw", (Op::Divw, Shape::Registers)),
+    (b"divuw", (Op::Divuw, Shape::Registers)),
+    (b"remw", (Op::Remw, Shape::Registers)),
+    (b"remuw", (Op::Remuw, Shape::Registers)),
 ];
 
 /// The directive of that word.
 pub fn read_directive(text: &[u8]) -> Option<Directive>
     ensures { result ≡ directive_of text.now }
 {
-    directive_in(&DIRECTIVES, text)
+    row_in(&DIRECTIVES, text)
 }
 
-fn directive_in(rows: &[(&[u8], Directive)], text: &[u8]) -> Option<Directive>
+/// What stands in the row with that word.
+pub fn row_in<T: Copy>(rows: &[(&[u8], T)], text: &[u8]) -> Option<T>
     ensures { result ≡ row_of (map (λ row. (row.0.now, row.1)) rows.now) text.now }
 {
-    find_directive(rows, text)
+    find_row(rows, text)
 }
 
-fn find_directive(rows: &[(&[u8], Directive)], text: &[u8]) -> Option<Directive>
+fn find_row<T: Copy>(rows: &[(&[u8], T)], text: &[u8]) -> Option<T>
     ensures { result ≡ option_map (λ row. row.1) (find (λ row. bytes_eq text.now row.0.now) rows.now) }
 {
     rows.iter().find(|row| text == row.0).map(|row| row.1)
@@ -186,20 +187,12 @@ fn find_directive(rows: &[(&[u8], Directive)], text: &[u8]) -> Option<Directive>
 pub fn read_mnemonic(text: &[u8]) -> Option<Mnemonic>
     ensures { result ≡ mnemonic_of text.now }
 {
-    mnemonic_in(&MNEMONICS, text)
+    let (op, shape) = mnemonic_row(text)?;
+    Some(Mnemonic { op, shape })
 }
 
-fn mnemonic_in(rows: &[(&[u8], Op, Shape)], text: &[u8]) -> Option<Mnemonic>
-    ensures { result ≡ row_of (map (λ row. (row.0.now, record { op = row.1; shape = row.2 })) rows.now) text.now }
+fn mnemonic_row(text: &[u8]) -> Option<(Op, Shape)>
+    ensures { result ≡ row_of mnemonics text.now }
 {
-    find_mnemonic(rows, text)
-}
-
-fn find_mnemonic(rows: &[(&[u8], Op, Shape)], text: &[u8]) -> Option<Mnemonic>
-    ensures { result ≡ option_map (λ row. record { op = row.1; shape = row.2 }) (find (λ row. bytes_eq text.now row.0.now) rows.now) }
-{
-    rows.iter().find(|row| text == row.0).map(|row| Mnemonic {
-        op: row.1,
-        shape: row.2,
-    })
+    row_in(&MNEMONICS, text)
 }

@@ -4,6 +4,7 @@ ghost use Rattle.std.specs.Prelude.{◌≡◌, ◌-◌, ◌≤◌, not, length};
 ghost use Rattle.std.specs.List.{position_or_len, suffix_len};
 ghost use Rattle.cell_asm.specs.Operands.{expression as expression_of, with_rest as with_rest_of, less as less_of, is_sign as sign, modifier as modifier_of, immediate as immediate_of, operand as operand_of, modified as modified_of, memory as memory_of, front as front_of, inside as inside_of, is_open as opens};
 
+use crate::mnemonic::row_in;
 use crate::names::{is_name, register};
 use crate::number::number;
 use crate::text::Text;
@@ -86,20 +87,18 @@ fn modified<'a>(text: &'a [u8]) -> Option<Immediate<'a>>
     Some(Immediate::Modified(modifier, of))
 }
 
+/// The parts of an address.
+static MODIFIERS: [(&[u8], Modifier); 4] = [
+    (b"%hi", Modifier::Hi),
+    (b"%lo", Modifier::Lo),
+    (b"%pcrel_hi", Modifier::PcrelHi),
+    (b"%pcrel_lo", Modifier::PcrelLo),
+];
+
 fn read_modifier(text: &[u8]) -> Option<Modifier>
     ensures { result ≡ modifier_of text.now }
 {
-    if text == b"%hi".as_slice() {
-        Some(Modifier::Hi)
-    } else if text == b"%lo".as_slice() {
-        Some(Modifier::Lo)
-    } else if text == b"%pcrel_hi".as_slice() {
-        Some(Modifier::PcrelHi)
-    } else if text == b"%pcrel_lo".as_slice() {
-        Some(Modifier::PcrelLo)
-    } else {
-        None
-    }
+    row_in(&MODIFIERS, text)
 }
 
 /// What stands before the last `(`.

@@ -5,16 +5,17 @@ ghost use Rattle.std.specs.List.{list_any};
 ghost use Rattle.cell_asm.specs.Assembled.{placed_line};
 ghost use Rattle.cell_asm.specs.Named.{is_named};
 ghost use Rattle.cell_asm.specs.Outcome.{Gives};
-ghost use Rattle.cell_asm.specs.Places.{is_same_part, is_label, is_inside, gap as gap_of, taken as taken_of, names_made as makes_name, makes_label as label_made, may_stand as may_stand_of, takes as takes_of, lays_nothing as lays_none, is_long as long_of};
+ghost use Rattle.cell_asm.specs.Places.{is_same_part, is_label, gap as gap_of, taken as taken_of, is_made, makes_label as label_made, may_stand as may_stand_of, takes as takes_of, lays_nothing as lays_none, is_long as long_of};
 ghost use Rattle.cell_asm.specs.Progress.{size_of, offset_of, twice_of, fault_after, laid_after, Adds, Follows};
 ghost use Rattle.cell_asm.specs.declared.laid.Laid.{Laid as LaidValue};
 ghost use Rattle.cell_asm.specs.declared.statement.Part.{Part as PartValue};
 
+use crate::block::Mark;
 use crate::fault::Stop;
 use crate::kind::AsmKind;
 use crate::laid::Laid;
 use crate::names_taken::Names;
-use crate::statement::{Content, Fix, Line, Part, Piece, Statement, Target};
+use crate::statement::{Content, Line, Part, Statement, Target};
 use crate::text::Text;
 use std::alloc::{AllocError, Global};
 
@@ -90,7 +91,6 @@ impl<'a> Progress<'a> {
         ensures line { (before : List LaidValue) → Follows self.old before → Gives result (placed_line before number (Ok line.entry)) }
         ensures goes_on { (before : List LaidValue) → Follows self.old before → IfOk result (λ l. Follows self.new (before ++ l ∷ [])) }
         ensures made { self.new.made ≤ number }
-        ensures inside { IfOk result (λ l. is_inside l ≡ true) }
     {
         if let Some(kind) = self.fault_at(&line) {
             return Err(Stop::Fault(kind));
@@ -227,7 +227,7 @@ fn taken(statement: &Statement<'_>, offset: u32) -> u128
     match statement {
         Statement::Zeros(count) => *count,
         Statement::Align(unit) => u128::from(gap(*unit, offset)),
-        Statement::Bytes(_, pieces) => width_of(pieces.as_slice()),
+        Statement::Bytes(_, block) => block.bytes.as_slice().len() as u128,
         _ => 0,
     }
 }
@@ -244,39 +244,22 @@ pub fn gap(unit: u16, offset: u32) -> u32
     }
 }
 
-fn width_of(pieces: &[Piece<'_>]) -> u128
-    ensures { result ≡ sum_by (λ p. p.width) pieces.now }
-{
-    let mut width = 0;
-    for piece in pieces {
-        width += u128::from(piece.width);
-    }
-    width
-}
-
 /// Whether the statement makes a label.
 pub fn makes_label(statement: &Statement<'_>) -> bool
     ensures { result ≡ label_made statement.now }
 {
     match statement {
-        Statement::Bytes(_, pieces) => make_label(pieces.as_slice()),
+        Statement::Bytes(_, block) => make_label(block.marks.as_slice()),
         _ => false,
     }
 }
 
-fn make_label(pieces: &[Piece<'_>]) -> bool
-    ensures { result ≡ list_any (λ p. makes_name p.fix) pieces.now }
+fn make_label(marks: &[Mark<'_>]) -> bool
+    ensures { result ≡ list_any (λ m. is_made m.fix.target) marks.now }
 {
-    pieces.iter().any(|piece| names_made(&piece.fix))
-}
-
-fn names_made(fix: &Option<Fix<'_>>) -> bool
-    ensures { result ≡ makes_name fix.now }
-{
-    match fix {
-        Some(fix) => matches!(fix.target, Target::Made),
-        None => false,
-    }
+    marks
+        .iter()
+        .any(|mark| matches!(mark.fix.target, Target::Made))
 }
 
 fn is_long(part: Option<Part>, size: u128) -> bool

@@ -8,9 +8,10 @@ ghost use Rattle.cell_asm.specs.Progress.{size_of};
 ghost use Rattle.cell_asm.specs.Objects.{adds_part, adds_choice, parts_of as parts_chosen, number_in, part_name as name_of, fill_of as fill_with, may_write as writes, alignment as alignment_of, alignment_asked as alignment_wanted, first_alignment as alignment_first, padding, bytes_at, contents as contents_of, section_of, sections as sections_of};
 ghost use Rattle.cell_asm.specs.declared.statement.Part.{Part as PartValue};
 
+use crate::block::put_number;
 use crate::laid::Laid;
 use crate::place::{Sizes, gap};
-use crate::statement::{Part, Piece, Statement};
+use crate::statement::{Part, Statement};
 use cell_num::{Bytes, Listed};
 use cell_object::{Fill, Section};
 use std::alloc::{AllocError, Global};
@@ -227,7 +228,7 @@ fn put_statement(
     match statement {
         Statement::Zeros(count) => put_zeros(bytes, *count),
         Statement::Align(unit) => put_padding(bytes, part, gap(*unit, offset)),
-        Statement::Bytes(_, pieces) => put_pieces(bytes, pieces.as_slice()),
+        Statement::Bytes(_, block) => bytes.extend_from_slice(block.bytes.as_slice()),
         _ => Ok(()),
     }
 }
@@ -258,28 +259,6 @@ fn put_nops(bytes: &mut Vec<u8>, count: u32) -> Result<(), AllocError>
 {
     for _ in 0..count {
         put_number(bytes, 4, NOP)?;
-    }
-    Ok(())
-}
-
-fn put_pieces(bytes: &mut Vec<u8>, pieces: &[Piece<'_>]) -> Result<(), AllocError>
-    ensures { OnOk result (bytes.new.items ≡ bytes.old.items ++ flat_map (λ p. bytes_of p.width p.value) pieces.now) }
-{
-    for piece in pieces {
-        put_number(bytes, piece.width, piece.value)?;
-    }
-    Ok(())
-}
-
-/// Appends so many bytes of a number, the lowest first.
-#[tactic(auto, using(crate::proofs::SectionLemmas::numbers))]
-fn put_number(bytes: &mut Vec<u8>, width: u8, value: u64) -> Result<(), AllocError>
-    ensures { OnOk result (bytes.new.items ≡ bytes.old.items ++ bytes_of width value) }
-{
-    let mut rest = value;
-    for _ in 0..width {
-        bytes.push((rest % 256) as u8)?;
-        rest /= 256;
     }
     Ok(())
 }

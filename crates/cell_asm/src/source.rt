@@ -1,13 +1,14 @@
 //! A source from its bytes to its object.
 
-ghost use Rattle.std.specs.Prelude.{◌≡◌, ◌^◌, ◌<◌, ◌≤◌, true, [], ◌∷◌, ◌++◌, List, map, find, length, IfOk};
-ghost use Rattle.std.specs.List.{list_all};
+ghost use Rattle.std.specs.Prelude.{◌≡◌, ◌^◌, ◌<◌, ◌≤◌, All, [], ◌∷◌, ◌++◌, List, map, find, length, IfOk};
+ghost use Rattle.cell_object.specs.Writable.{IsWritable};
+ghost use Rattle.cell_asm.specs.Making.{HasRoom};
 ghost use Rattle.cell_asm.specs.Assembled.{placed_line, placed_texts, has_lost, object_unless, assembled, Assembles};
 ghost use Rattle.cell_asm.specs.Lines.{line_of};
 ghost use Rattle.cell_asm.specs.Outcome.{Gives};
 ghost use Rattle.cell_asm.specs.Placing.{Places, failure};
 ghost use Rattle.cell_asm.specs.Objects.{object_of};
-ghost use Rattle.cell_asm.specs.Places.{is_inside, size_in, labels as labels_of};
+ghost use Rattle.cell_asm.specs.Places.{size_in, labels as labels_of};
 ghost use Rattle.cell_asm.specs.Progress.{size_of, Follows};
 ghost use Rattle.cell_asm.specs.declared.statement.Part.{Part as PartValue};
 ghost use Rattle.cell_asm.specs.declared.laid.Laid.{Laid as LaidValue};
@@ -33,7 +34,8 @@ use std::alloc::{AllocError, Global};
 #[tactic(auto, using(crate::proofs::SourceLemmas::wholes))]
 pub fn assemble(alloc: Global, source: &[u8]) -> Result<Object, AsmFail>
     requires { length source.now < 2 ^ 31 }
-    ensures { Assembles result (assembled source.now) }
+    ensures object { Assembles result (assembled source.now) }
+    ensures writable { IfOk result IsWritable }
 {
     let texts = lines(alloc, source)?;
     let placed = place_lines(alloc, &texts)?;
@@ -88,7 +90,6 @@ fn place_line<'a>(
     ensures line { (before : List LaidValue) → Follows progress.old before → Gives result (placed_line before number (line_of text.now)) }
     ensures goes_on { (before : List LaidValue) → Follows progress.old before → IfOk result (λ l. Follows progress.new (before ++ l ∷ [])) }
     ensures made { progress.new.made ≤ number }
-    ensures inside { IfOk result (λ l. is_inside l ≡ true) }
 {
     let line = read_line(alloc, text)?;
     progress.place(number, line)
@@ -98,7 +99,7 @@ fn place_line<'a>(
 #[tactic(auto, using(crate::proofs::SourceLemmas::answers))]
 fn object(alloc: Global, lines: &[Laid<'_>], sizes: &Sizes) -> Result<Object, AsmFail>
     requires sizes { (part : PartValue) → size_of sizes.now part ≡ size_in part lines.now }
-    requires inside { list_all is_inside lines.now ≡ true }
+    requires room { All HasRoom lines.now }
     ensures { Assembles result (object_unless lines.now (find (has_lost lines.now) lines.now)) }
 {
     let labels = labels(alloc, lines)?;
@@ -113,7 +114,7 @@ fn object(alloc: Global, lines: &[Laid<'_>], sizes: &Sizes) -> Result<Object, As
 }
 
 /// The object of lines that refer to labels alone.
-#[tactic(auto, using(crate::proofs::PartCounts::few))]
+#[tactic(auto, using(crate::proofs::Parts::few))]
 fn whole_object<'a>(
     alloc: Global,
     lines: &[Laid<'a>],
@@ -122,7 +123,7 @@ fn whole_object<'a>(
 ) -> Result<Object, AllocError>
     requires labels { labels.now ≡ labels_of lines.now }
     requires sizes { (part : PartValue) → size_of sizes.now part ≡ size_in part lines.now }
-    requires inside { list_all is_inside lines.now ≡ true }
+    requires room { All HasRoom lines.now }
     ensures { IfOk result (λ object. object ≡ object_of lines.now) }
 {
     let parts = parts_of(alloc, lines)?;

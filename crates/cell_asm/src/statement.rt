@@ -1,7 +1,8 @@
 //! What a line says.
 
+use crate::block::Block;
 use crate::text::Text;
-use cell_num::{Listed, RelKind};
+use cell_num::RelKind;
 
 /// The sections that a source can choose.
 #[derive(Clone, Copy, Debug, PartialEq, Eq)]
@@ -50,13 +51,6 @@ pub struct Piece<'a> {
     pub second: Option<Fix<'a>>,
 }
 
-/// The instructions of one statement.
-#[derive(Drop)]
-pub enum Pieces<'a> {
-    One(Piece<'a>),
-    Two(Piece<'a>, Piece<'a>),
-}
-
 /// What the bytes of a statement are: instructions, numbers of one or two bytes, or of four or eight.
 #[derive(Clone, Copy, Debug, PartialEq, Eq)]
 pub enum Content {
@@ -75,7 +69,7 @@ pub enum Statement<'a> {
     Zeros(u128),
     /// Bytes up to a multiple of that many.
     Align(u16),
-    Bytes(Content, Listed<Piece<'a>>),
+    Bytes(Content, Block<'a>),
 }
 
 /// A line: its label and its statement.

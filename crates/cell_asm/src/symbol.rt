@@ -5,22 +5,22 @@ ghost use Rattle.std.specs.Option.{option_map_or};
 ghost use Rattle.cell_num.specs.Lists.{holds_name};
 ghost use Rattle.cell_asm.specs.Named.{is_named};
 ghost use Rattle.cell_asm.specs.Places.{labels as labels_of};
-ghost use Rattle.cell_asm.specs.Objects.{key_name as name_of, globals as globals_of, target_names, fix_names, label_names, statement_names, mentions as mentions_of, parts_of, symbol as symbol_of, symbols as symbols_of};
+ghost use Rattle.cell_asm.specs.Objects.{key_name as name_of, globals as globals_of, target_names, statement_names, mentions as mentions_of, parts_of, symbol as symbol_of, symbols as symbols_of};
 ghost use Rattle.cell_asm.specs.Numberings.{number_of, Lists, Mentions, mentioned, home_in};
-ghost use Rattle.cell_asm.specs.Making.{declares, is_global_in, Locals, piece_names, line_names, number_kept, Numbered};
+ghost use Rattle.cell_asm.specs.Making.{declares, is_global_in, Locals, number_kept, Numbered};
 ghost use Rattle.cell_object.specs.declared.object.Bind.TheVariants as binds;
 ghost use Rattle.cell_asm.specs.declared.laid.Key.{Key as KeyValue};
 ghost use Rattle.cell_asm.specs.declared.laid.Key.TheVariants as keys;
 ghost use Rattle.cell_asm.specs.declared.laid.Label.{Label as LabelValue};
 ghost use Rattle.cell_object.specs.declared.object.Symbol.{Symbol as SymbolValue};
 
-use crate::label::pieces_in;
+use crate::block::Mark;
 use crate::laid::{Key, Label, Laid};
 use crate::names_taken::Names;
 use crate::numbering::Numbering;
 use crate::section::part_number;
 use crate::spot::{Spot, Spots};
-use crate::statement::{Fix, Part, Piece, Statement, Target};
+use crate::statement::{Part, Statement, Target};
 use crate::text::Text;
 use cell_num::{Bytes, Listed};
 use cell_object::{Bind, Home, Sort, Symbol};
@@ -51,7 +51,8 @@ pub fn make_symbols<'a>(
     let spots = Spots::of(alloc, labels)?;
     let mut symbols = Symbols::new(alloc);
     symbols.add_locals(alloc, labels, &globals, parts)?;
-    symbols.mention_lines(alloc, lines, &spots, parts)?;
+    let names = mentions(alloc, lines)?;
+    symbols.mention_names(alloc, names.as_slice(), &spots, parts)?;
     Ok(symbols)
 }
 
@@ -71,6 +72,43 @@ fn add_global<'a>(names: &mut Names<'a>, statement: &Statement<'a>) -> Result<()
 {
     if let Statement::Global(name) = statement {
         names.add(name.bytes())?;
+    }
+    Ok(())
+}
+
+/// The names that the lines mention, in order.
+fn mentions<'a>(alloc: Global, lines: &[Laid<'a>]) -> Result<Listed<Text<'a>>, AllocError>
+    ensures { IfOk result (λ names. names ≡ mentions_of lines.now) }
+{
+    let mut names = Vec::new(alloc);
+    for laid in lines {
+        if let Some(name) = &laid.line.label {
+            names.push(name.again())?;
+        }
+        put_names(&mut names, &laid.line.statement)?;
+    }
+    Ok(Listed::from_vec(names))
+}
+
+/// Appends the names that a statement mentions.
+fn put_names<'a>(names: &mut Vec<Text<'a>>, statement: &Statement<'a>) -> Result<(), AllocError>
+    ensures { OnOk result (names.new.items ≡ names.old.items ++ statement_names statement.now) }
+{
+    match statement {
+        Statement::Global(name) => names.push(name.again())?,
+        Statement::Bytes(_, block) => put_targets(names, block.marks.as_slice())?,
+        _ => (),
+    }
+    Ok(())
+}
+
+fn put_targets<'a>(names: &mut Vec<Text<'a>>, marks: &[Mark<'a>]) -> Result<(), AllocError>
+    ensures { OnOk result (names.new.items ≡ names.old.items ++ flat_map (λ m. target_names m.fix.target) marks.now) }
+{
+    for mark in marks {
+        if let Target::Named(name) = &mark.fix.target {
+            names.push(name.again())?;
+        }
     }
     Ok(())
 }
@@ -196,119 +234,20 @@ impl<'a> Symbols<'a> {
     }
 
     /// The names that are mentioned and no LOCAL label.
-    fn mention_lines(
+    fn mention_names(
         &mut self,
         alloc: Global,
-        lines: &[Laid<'a>],
+        names: &[Text<'a>],
         spots: &Spots<'a>,
         parts: &[Part],
     ) -> Result<(), AllocError>
         requires { length parts.now ≤ 4 }
-        ensures { OnOk result ((locals : List KeyValue) → (list : List SymbolValue) → Mentions self.old parts.now spots.now locals list [] → Mentions self.new parts.now spots.now locals list (fold (mentioned locals) [] (mentions_of lines.now))) }
+        ensures { OnOk result ((locals : List KeyValue) → (list : List SymbolValue) → Mentions self.old parts.now spots.now locals list [] → Mentions self.new parts.now spots.now locals list (fold (mentioned locals) [] names.now)) }
     {
-        for laid in lines {
-            self.mention_line(alloc, laid, spots, parts)?;
+        for name in names {
+            self.mention(alloc, name, spots, parts)?;
         }
         Ok(())
-    }
-
-    fn mention_line(
-        &mut self,
-        alloc: Global,
-        laid: &Laid<'a>,
-        spots: &Spots<'a>,
-        parts: &[Part],
-    ) -> Result<(), AllocError>
-        requires { length parts.now ≤ 4 }
-        ensures { OnOk result ((locals : List KeyValue) → (list : List SymbolValue) → (names : List (List ℕ)) → Mentions self.old parts.now spots.now locals list names → Mentions self.new parts.now spots.now locals list (fold (mentioned locals) names (line_names laid.now))) }
-    {
-        self.mention_label(alloc, &laid.line.label, spots, parts)?;
-        self.mention_statement(alloc, &laid.line.statement, spots, parts)?;
-        Ok(())
-    }
-
-    fn mention_label(
-        &mut self,
-        alloc: Global,
-        label: &Option<Text<'a>>,
-        spots: &Spots<'a>,
-        parts: &[Part],
-    ) -> Result<(), AllocError>
-        requires { length parts.now ≤ 4 }
-        ensures { OnOk result ((locals : List KeyValue) → (list : List SymbolValue) → (names : List (List ℕ)) → Mentions self.old parts.now spots.now locals list names → Mentions self.new parts.now spots.now locals list (fold (mentioned locals) names (label_names label.now))) }
-    {
-        match label {
-            Some(name) => self.mention(alloc, name, spots, parts),
-            None => Ok(()),
-        }
-    }
-
-    fn mention_statement(
-        &mut self,
-        alloc: Global,
-        statement: &Statement<'a>,
-        spots: &Spots<'a>,
-        parts: &[Part],
-    ) -> Result<(), AllocError>
-        requires { length parts.now ≤ 4 }
-        ensures { OnOk result ((locals : List KeyValue) → (list : List SymbolValue) → (names : List (List ℕ)) → Mentions self.old parts.now spots.now locals list names → Mentions self.new parts.now spots.now locals list (fold (mentioned locals) names (statement_names statement.now))) }
-    {
-        match statement {
-            Statement::Global(name) => self.mention(alloc, name, spots, parts),
-            Statement::Bytes(_, pieces) => {
-                self.mention_pieces(alloc, pieces.as_slice(), spots, parts)
-            }
-            _ => Ok(()),
-        }
-    }
-
-    fn mention_pieces(
-        &mut self,
-        alloc: Global,
-        pieces: &[Piece<'a>],
-        spots: &Spots<'a>,
-        parts: &[Part],
-    ) -> Result<(), AllocError>
-        requires { length parts.now ≤ 4 }
-        ensures { OnOk result ((locals : List KeyValue) → (list : List SymbolValue) → (names : List (List ℕ)) → Mentions self.old parts.now spots.now locals list names → Mentions self.new parts.now spots.now locals list (fold (mentioned locals) names (flat_map piece_names pieces.now))) }
-    {
-        for piece in pieces {
-            self.mention_fix(alloc, &piece.fix, spots, parts)?;
-            self.mention_fix(alloc, &piece.second, spots, parts)?;
-        }
-        Ok(())
-    }
-
-    fn mention_fix(
-        &mut self,
-        alloc: Global,
-        fix: &Option<Fix<'a>>,
-        spots: &Spots<'a>,
-        parts: &[Part],
-    ) -> Result<(), AllocError>
-        requires { length parts.now ≤ 4 }
-        ensures { OnOk result ((locals : List KeyValue) → (list : List SymbolValue) → (names : List (List ℕ)) → Mentions self.old parts.now spots.now locals list names → Mentions self.new parts.now spots.now locals list (fold (mentioned locals) names (fix_names fix.now))) }
-    {
-        match fix {
-            Some(fix) => self.mention_target(alloc, &fix.target, spots, parts),
-            None => Ok(()),
-        }
-    }
-
-    fn mention_target(
-        &mut self,
-        alloc: Global,
-        target: &Target<'a>,
-        spots: &Spots<'a>,
-        parts: &[Part],
-    ) -> Result<(), AllocError>
-        requires { length parts.now ≤ 4 }
-        ensures { OnOk result ((locals : List KeyValue) → (list : List SymbolValue) → (names : List (List ℕ)) → Mentions self.old parts.now spots.now locals list names → Mentions self.new parts.now spots.now locals list (fold (mentioned locals) names (target_names target.now))) }
-    {
-        match target {
-            Target::Named(name) => self.mention(alloc, name, spots, parts),
-            Target::Made => Ok(()),
-        }
     }
 
     /// Whether the name has no symbol yet.

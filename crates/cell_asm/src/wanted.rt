@@ -1,47 +1,31 @@
-//! What an instruction or a directive wants of an operand. An operand that lacks is a fault.
+//! What is wanted of one operand.
 
-ghost use Rattle.std.specs.Prelude.{◌≡◌, ◌≤◌, ◌<◌, ◌≤ℤ◌, pos, negsuc, slice_get, option_copied, IfOk, length};
-ghost use Rattle.cell_asm.specs.Instructions.{wanted as wanted_of, exactly as exactly_of, register as register_of, name as name_of, within as within_of, number_from as number_from_of, reference as reference_of, address as address_of, plain as plain_of, under as under_of, fix as fix_of, low_part as low_part_of, low_operand as low_operand_of, memory as memory_of, upper as upper_of, upper_pcrel as upper_pcrel_of};
+ghost use Rattle.std.specs.Prelude.{◌≡◌, ◌≤◌, ◌<◌, ◌≤ℤ◌, pos, negsuc, IfOk, if◌then◌else◌};
+ghost use Rattle.cell_num.specs.Kinds.{is_pcrel_lo12 as pcrel_lo12};
+ghost use Rattle.cell_asm.specs.Wanted.{register as register_of, name as name_of, within as within_of, refers, reference as reference_of, address as address_of, plain as plain_of, fix as fix_of, under as under_of, fitting as fitting_of, part_kind as part_kind_of, labelled as labelled_of, part as part_of, immediate as immediate_of, value as value_of, memory as memory_of};
 
 use crate::kind::AsmKind;
 use crate::names;
 use crate::operand::{Expression, Immediate, Modifier, Operand};
+use crate::slot::Form;
 use crate::statement::{Field, Fix, Reference, Target};
 use crate::text::Text;
-use cell_num::RelKind;
+use cell_num::{RelKind, is_pcrel_lo12};
 
 /// Twelve bits hold a number from -2048 to 2047.
-pub const LEAST_LOW: i128 = -0x800;
+const LEAST_LOW: i128 = -0x800;
 
-pub const MOST_LOW: i128 = 0x7ff;
+const MOST_LOW: i128 = 0x7ff;
 
 /// Twenty bits hold a number up to this one.
 const MOST_UPPER: i128 = 0xf_ffff;
 
-/// The operand at a place.
-pub fn operand_at<'o, 'a>(operands: &'o [Operand<'a>], place: usize) -> Option<&'o Operand<'a>>
-    ensures { option_copied result ≡ slice_get operands.now place }
-{
-    operands.get(place)
-}
-
-/// There are so many operands.
-pub fn exactly(count: usize, operands: &[Operand<'_>]) -> Result<(), AsmKind>
-    ensures { result ≡ exactly_of count operands.now }
-{
-    if operands.len() == count {
-        Ok(())
-    } else {
-        Err(AsmKind::Operand)
-    }
-}
-
-pub fn register(operand: Option<&Operand<'_>>) -> Result<u8, AsmKind>
-    ensures number { result ≡ wanted_of register_of (option_copied operand.entry) }
-    ensures small { IfOk result (λ r. r < 32) }
+/// A register, below 32.
+pub fn register(operand: &Operand<'_>) -> Result<u8, AsmKind>
+    ensures { result ≡ register_of operand.now }
 {
     match operand {
-        Some(Operand::Plain(Expression::Name(name))) => match names::register(name.bytes()) {
+        Operand::Plain(Expression::Name(name)) => match names::register(name.bytes()) {
             Some(register) => Ok(register),
             None => Err(AsmKind::Word),
         },
@@ -49,11 +33,21 @@ pub fn register(operand: Option<&Operand<'_>>) -> Result<u8, AsmKind>
     }
 }
 
-pub fn name<'a>(operand: Option<&Operand<'a>>) -> Result<Text<'a>, AsmKind>
-    ensures { result ≡ wanted_of name_of (option_copied operand.entry) }
+/// A name and no number.
+pub fn named<'a>(name: &Text<'a>) -> Reference<'a>
+    ensures { result ≡ refers name.now (pos 0) }
+{
+    Reference {
+        name: name.again(),
+        addend: 0,
+    }
+}
+
+pub fn name<'a>(operand: &Operand<'a>) -> Result<Text<'a>, AsmKind>
+    ensures { result ≡ name_of operand.now }
 {
     match operand {
-        Some(Operand::Plain(Expression::Name(name))) => Ok(name.again()),
+        Operand::Plain(Expression::Name(name)) => Ok(name.again()),
         _ => Err(AsmKind::Operand),
     }
 }
@@ -71,26 +65,12 @@ pub fn within(least: i128, most: i128, number: i128) -> Result<i128, AsmKind>
     }
 }
 
-/// A number from `least` to `most`.
-pub fn number_from(least: i128, most: i128, operand: Option<&Operand<'_>>) -> Result<i128, AsmKind>
-    ensures number { result ≡ wanted_of (number_from_of least most) (option_copied operand.entry) }
-    ensures least { IfOk result (λ n. least ≤ℤ n) }
-    ensures most { IfOk result (λ n. n ≤ℤ most) }
-{
-    match operand {
-        Some(Operand::Value(Immediate::Number(number))) => within(least, most, *number),
-        _ => Err(AsmKind::Operand),
-    }
-}
-
+/// `NAME`, `NAME+N` or `NAME-N`
 pub fn reference<'a>(expression: &Expression<'a>) -> Result<Reference<'a>, AsmKind>
     ensures { result ≡ reference_of expression.now }
 {
     match expression {
-        Expression::Name(name) => Ok(Reference {
-            name: name.again(),
-            addend: 0,
-        }),
+        Expression::Name(name) => Ok(named(name)),
         Expression::Sum(name, by) => {
             let addend = within(i128::from(i64::MIN), i128::from(i64::MAX), *by)?;
             Ok(Reference {
@@ -102,12 +82,11 @@ pub fn reference<'a>(expression: &Expression<'a>) -> Result<Reference<'a>, AsmKi
     }
 }
 
-/// `NAME`, `NAME+N` or `NAME-N`
-pub fn address<'a>(operand: Option<&Operand<'a>>) -> Result<Reference<'a>, AsmKind>
-    ensures { result ≡ wanted_of address_of (option_copied operand.entry) }
+pub fn address<'a>(operand: &Operand<'a>) -> Result<Reference<'a>, AsmKind>
+    ensures { result ≡ address_of operand.now }
 {
     match operand {
-        Some(Operand::Plain(expression)) => reference(expression),
+        Operand::Plain(expression) => reference(expression),
         _ => Err(AsmKind::Operand),
     }
 }
@@ -141,87 +120,81 @@ pub fn under<'a>(kind: RelKind, reference: Reference<'a>) -> Field<'a>
     }
 }
 
-/// A number of 12 bits, `%lo(E)` or `%pcrel_lo(NAME)`, with the kinds of their entries.
-fn low_part<'a>(
-    lo: RelKind,
-    by_label: RelKind,
-    immediate: &Immediate<'a>,
-) -> Result<Field<'a>, AsmKind>
-    ensures { result ≡ low_part_of lo by_label immediate.now }
+/// The number, where it fits.
+fn fitting(form: Form, number: i128) -> Result<i32, AsmKind>
+    ensures { result ≡ fitting_of form number }
+{
+    match form {
+        Form::Upper | Form::UpperPcrel => Ok(within(0, MOST_UPPER, number)? as i32),
+        Form::Shift => Ok(within(0, 63, number)? as i32),
+        Form::ShiftWord => Ok(within(0, 31, number)? as i32),
+        Form::Low | Form::LowStore | Form::Small => {
+            Ok(within(LEAST_LOW, MOST_LOW, number)? as i32)
+        }
+    }
+}
+
+/// The kind of the entry for a part of an address.
+fn part_kind(form: Form, modifier: Modifier) -> Option<RelKind>
+    ensures { result ≡ part_kind_of form modifier }
+{
+    match (form, modifier) {
+        (Form::Low, Modifier::Lo) => Some(RelKind::Lo12I),
+        (Form::Low, Modifier::PcrelLo) => Some(RelKind::PcrelLo12I),
+        (Form::LowStore, Modifier::Lo) => Some(RelKind::Lo12S),
+        (Form::LowStore, Modifier::PcrelLo) => Some(RelKind::PcrelLo12S),
+        (Form::Upper, Modifier::Hi) => Some(RelKind::Hi20),
+        (Form::UpperPcrel, Modifier::PcrelHi) => Some(RelKind::PcrelHi20),
+        _ => None,
+    }
+}
+
+/// A label alone, as `%pcrel_lo` takes it.
+fn labelled<'a>(expression: &Expression<'a>) -> Result<Reference<'a>, AsmKind>
+    ensures { result ≡ labelled_of expression.now }
+{
+    match expression {
+        Expression::Name(name) => Ok(named(name)),
+        _ => Err(AsmKind::Operand),
+    }
+}
+
+fn part<'a>(kind: Option<RelKind>, expression: &Expression<'a>) -> Result<Field<'a>, AsmKind>
+    ensures { result ≡ part_of kind expression.now }
+{
+    match kind {
+        Some(kind) if is_pcrel_lo12(kind) => Ok(under(kind, labelled(expression)?)),
+        Some(kind) => Ok(under(kind, reference(expression)?)),
+        None => Err(AsmKind::Operand),
+    }
+}
+
+fn immediate<'a>(form: Form, immediate: &Immediate<'a>) -> Result<Field<'a>, AsmKind>
+    ensures { result ≡ immediate_of form immediate.now }
 {
     match immediate {
-        Immediate::Number(number) => {
-            let number = within(LEAST_LOW, MOST_LOW, *number)?;
-            Ok(plain(number as i32))
-        }
-        Immediate::Modified(Modifier::Lo, expression) => Ok(under(lo, reference(expression)?)),
-        Immediate::Modified(Modifier::PcrelLo, Expression::Name(name)) => {
-            let label = Reference {
-                name: name.again(),
-                addend: 0,
-            };
-            Ok(under(by_label, label))
-        }
-        Immediate::Modified(_, _) => Err(AsmKind::Operand),
+        Immediate::Number(number) => Ok(plain(fitting(form, *number)?)),
+        Immediate::Modified(modifier, expression) => part(part_kind(form, *modifier), expression),
     }
 }
 
-/// The immediate of `rd,rs1,I`
-pub fn low_operand<'a>(operand: Option<&Operand<'a>>) -> Result<Field<'a>, AsmKind>
-    ensures { result ≡ wanted_of low_operand_of (option_copied operand.entry) }
+pub fn value<'a>(form: Form, operand: &Operand<'a>) -> Result<Field<'a>, AsmKind>
+    ensures { result ≡ value_of form operand.now }
 {
     match operand {
-        Some(Operand::Value(immediate)) => {
-            low_part(RelKind::Lo12I, RelKind::PcrelLo12I, immediate)
-        }
+        Operand::Value(value) => immediate(form, value),
         _ => Err(AsmKind::Operand),
     }
 }
 
-/// `I(rs1)`, with the kinds of its entries: the field, and the register.
-pub fn memory<'a>(
-    lo: RelKind,
-    by_label: RelKind,
-    operand: Option<&Operand<'a>>,
-) -> Result<(Field<'a>, u8), AsmKind>
-    ensures { result ≡ wanted_of (memory_of lo by_label) (option_copied operand.entry) }
+/// `I(rs1)`: the field, and the register.
+pub fn memory<'a>(form: Form, operand: &Operand<'a>) -> Result<(Field<'a>, u8), AsmKind>
+    ensures { result ≡ memory_of form operand.now }
 {
     match operand {
-        Some(Operand::Memory(immediate, base)) => {
-            let field = low_part(lo, by_label, immediate)?;
+        Operand::Memory(value, base) => {
+            let field = immediate(form, value)?;
             Ok((field, *base))
-        }
-        _ => Err(AsmKind::Operand),
-    }
-}
-
-/// A number of 20 bits or `%hi(E)`
-pub fn upper<'a>(operand: Option<&Operand<'a>>) -> Result<Field<'a>, AsmKind>
-    ensures { result ≡ wanted_of upper_of (option_copied operand.entry) }
-{
-    match operand {
-        Some(Operand::Value(Immediate::Number(number))) => {
-            let number = within(0, MOST_UPPER, *number)?;
-            Ok(plain(number as i32))
-        }
-        Some(Operand::Value(Immediate::Modified(Modifier::Hi, expression))) => {
-            Ok(under(RelKind::Hi20, reference(expression)?))
-        }
-        _ => Err(AsmKind::Operand),
-    }
-}
-
-/// A number of 20 bits or `%pcrel_hi(E)`
-pub fn upper_pcrel<'a>(operand: Option<&Operand<'a>>) -> Result<Field<'a>, AsmKind>
-    ensures { result ≡ wanted_of upper_pcrel_of (option_copied operand.entry) }
-{
-    match operand {
-        Some(Operand::Value(Immediate::Number(number))) => {
-            let number = within(0, MOST_UPPER, *number)?;
-            Ok(plain(number as i32))
-        }
-        Some(Operand::Value(Immediate::Modified(Modifier::PcrelHi, expression))) => {
-            Ok(under(RelKind::PcrelHi20, reference(expression)?))
         }
         _ => Err(AsmKind::Operand),
     }

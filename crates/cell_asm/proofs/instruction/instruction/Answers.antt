@@ -1,10 +1,22 @@
-use Rattle.std.proofs.Common.{sym, ap, ◌∙◌}
-use Rattle.cell_asm.specs.Instructions.{pieces_of}
+use Rattle.std.proofs.Common.{List, sym, ap, ◌∙◌}
+use Rattle.cell_asm.specs.declared.slot.Slot.{Slot}
+use Rattle.cell_asm.specs.declared.instruction.Fields.{Fields}
+use Rattle.cell_asm.specs.Blocks.{block}
+use Rattle.cell_asm.specs.Instructions.{slots, fixed, filled, pieces}
+use Rattle.cell_asm.proofs.Filled.{onto, made_value, made_fault}
 use Rattle.cell_asm.proofs.instruction.instruction.Goals as goal
 
-pub returns-in-Call : goal.returns-in-Call
-returns-in-Call c = c.call.ensures c.args.mnemonic.op ∙ ap (λ s. pieces_of s c.args.mnemonic.op c.args.operands.now) (sym c.in-Call.is)
+pub returns-in_ok-code-in-Ok : goal.returns-in_ok-code-in-Ok
+returns-in_ok-code-in-Ok c =
+    let shape = c.args.mnemonic.shape in
+    made_value (filled (slots shape) c.args.operands.now) (fixed shape) c.in-Ok.fields (λ (f : Fields). block (pieces shape c.args.mnemonic.op f)) _
+    (sym c.in-Ok.is ∙ c.fill.ensures ∙ ap (λ (f : Fields). onto f (filled c.slots.result.now c.args.operands.now)) c.fixed.ensures
+    ∙ ap (λ (s : List Slot). onto (fixed shape) (filled s c.args.operands.now)) c.slots.ensures)
+    c.in_ok-code-in-Ok.ensures
 
-pub returns-in-LoadAddress : goal.returns-in-LoadAddress
-returns-in-LoadAddress c =
-    c.load_address.ensures c.args.mnemonic.op ∙ ap (λ s. pieces_of s c.args.mnemonic.op c.args.operands.now) (sym c.in-LoadAddress.is)
+pub returns-in-Err : goal.returns-in-Err
+returns-in-Err c =
+    let shape = c.args.mnemonic.shape in
+    made_fault (filled (slots shape) c.args.operands.now) (fixed shape) (λ (f : Fields). block (pieces shape c.args.mnemonic.op f)) c.in-Err.kind
+    (sym c.in-Err.is ∙ c.fill.ensures ∙ ap (λ (f : Fields). onto f (filled c.slots.result.now c.args.operands.now)) c.fixed.ensures
+    ∙ ap (λ (s : List Slot). onto (fixed shape) (filled s c.args.operands.now)) c.slots.ensures)

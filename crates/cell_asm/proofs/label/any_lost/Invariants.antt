@@ -1,8 +1,8 @@
 use Rattle.std.proofs.Common.{◌≡◌, drop}
 use Rattle.std.specs.List.{list_any}
-use Rattle.cell_asm.specs.Uppers.{fix_lost_by}
+use Rattle.cell_asm.specs.Uppers.{mark_lost_by}
 use Rattle.cell_asm.proofs.label.any_lost.Given as goal
 
 -- none so far, so one is there exactly if one is left
-abbrev pub invariant-loop-piece : goal.invariant-loop-piece
-invariant-loop-piece l = list_any (λ p. fix_lost_by l.names p.fix) (drop l.piece-index l.pieces) ≡ list_any (λ p. fix_lost_by l.names p.fix) l.pieces
+abbrev pub invariant-loop-mark : goal.invariant-loop-mark
+invariant-loop-mark l = list_any (mark_lost_by l.names) (drop l.mark-index l.marks) ≡ list_any (mark_lost_by l.names) l.marks

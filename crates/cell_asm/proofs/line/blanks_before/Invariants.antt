@@ -1,4 +1,4 @@
-use Rattle.std.proofs.Common.{◌≡◌, ◌+◌, drop, not}
+use Rattle.std.proofs.Common.{◌≡◌, ◌+◌, drop}
 use Rattle.std.specs.List.{prefix_len}
 use Rattle.cell_asm.specs.Lines.{is_blank}
 use Rattle.cell_asm.proofs.line.blanks_before.Given as goal

@@ -1,10 +1,9 @@
-use Rattle.std.proofs.Common.{ℕ, List, Bor, ◌≡◌, ◌<◌, ◌++◌, ◌∷◌, [], length, get_or, Ok, Some, None, ap, sym, ◌∙◌, arith}
+use Rattle.std.proofs.Common.{ℕ, List, Bor, ◌<◌, [], length, get_or, Ok, ap, sym, ◌∙◌, arith}
 use Rattle.std.specs.Prelude.{ok_or}
 use Rattle.cell_asm.specs.declared.kind.AsmKind.TheVariants.{Word}
-use Rattle.cell_asm.specs.Gathering.{more}
 use Rattle.cell_asm.specs.Lines.{spelled, trimmed}
 use Rattle.cell_asm.specs.Operands.{operand}
-use Rattle.cell_asm.proofs.Each.{each_more, each_word}
+use Rattle.cell_asm.proofs.Each.{listed, each_more, each_word}
 use Rattle.cell_asm.proofs.line.read_parts.Goals as goal
 
 -- stands for an element where there is none
@@ -24,6 +23,6 @@ loop-part-preserved c =
     let parts = c.args.parts.now in
     let within : i < length parts = omega arith in
     each_more (λ (part : Bor (List ℕ)). spelled (trimmed part.now)) parts i no_part within
-    ∙ ap (λ r. more r (spelled (trimmed (get_or parts i no_part).now))) c.loop-part.invariant
-    ∙ ap (λ o. more (Ok c.loop-part.operands.items) (ok_or o Word)) (sym (c.in-Some.ensures ∙ ap operand c.trimmed.ensures))
+    ∙ ap (λ r. listed r (spelled (trimmed (get_or parts i no_part).now))) c.loop-part.invariant
+    ∙ ap (λ o. listed (Ok c.loop-part.operands.items) (ok_or o Word)) (sym (c.in-Some.ensures ∙ ap operand c.trimmed.ensures))
     ∙ ap Ok (sym c.in_ok-push-in-Some.ensures.items)

@@ -2,4 +2,4 @@ use Rattle.std.proofs.Common.{refl, ◌∙◌}
 use Rattle.cell_asm.proofs.mnemonic.read_directive.Goals as goal
 
 pub returns : goal.returns
-returns c = c.directive_in.ensures ∙ refl
+returns c = c.row_in.ensures ∙ refl

@@ -1,9 +1,7 @@
-use Rattle.std.proofs.Common.{ℕ, List, Bor, ◌≡◌, ◌+◌, ◌<◌, ◌++◌, ◌∷◌, [], map, drop, length, get_or, Ok, Err, ap, sym, subst, ◌∙◌, arith}
-use Rattle.std.specs.List.{list_all}
+use Rattle.std.proofs.Common.{ℕ, List, Bor, ◌≡◌, ◌+◌, ◌<◌, ◌∷◌, [], map, drop, length, get_or, Ok, Err, ap, sym, subst, ◌∙◌, arith}
 use Rattle.cell_asm.specs.Placing.{Places}
-use Rattle.cell_asm.specs.Places.{is_inside}
 use Rattle.cell_asm.specs.Progress.{Follows}
-use Rattle.cell_asm.proofs.SourceLemmas.{placed_from, goes_on, stopped, dropped, one_inside}
+use Rattle.cell_asm.proofs.SourceLemmas.{placed_from, goes_on, stopped, dropped}
 use Rattle.cell_asm.proofs.source.place_lines.Goals as goal
 
 -- stands for an element where there is none
@@ -38,5 +36,4 @@ loop-text-preserved c =
       counted = omega arith;
       follows = subst (λ ls. Follows c.place_line.new.progress ls) (sym c.in_ok-push-in-Ok.ensures.items) (c.in-Ok.ensures.goes_on before c.loop-text.invariant.follows);
       made = c.in-Ok.ensures.made;
-      inside = ap (list_all is_inside) c.in_ok-push-in-Ok.ensures.items ∙ one_inside before c.in-Ok.laid c.loop-text.invariant.inside c.in-Ok.ensures.inside;
     }

@@ -1,6 +1,4 @@
-use Rattle.std.proofs.Common.{◌≡◌, ◌+◌, ◌≤◌, true, [], map, drop, Ok}
-use Rattle.std.specs.List.{list_all}
-use Rattle.cell_asm.specs.Places.{is_inside}
+use Rattle.std.proofs.Common.{◌≡◌, ◌+◌, ◌≤◌, [], map, drop, Ok}
 use Rattle.cell_asm.specs.Progress.{Follows}
 use Rattle.cell_asm.proofs.SourceLemmas.{placed_from}
 use Rattle.cell_asm.proofs.source.place_lines.Given as goal
@@ -12,5 +10,4 @@ invariant-loop-text l = record {
   counted : l.number ≡ l.text-index;
   follows : Follows l.progress l.lines.items;
   made : l.progress.made ≤ l.number;
-  inside : list_all is_inside l.lines.items ≡ true;
 }

@@ -1,5 +1,6 @@
-use Rattle.cell_assemble.proofs.Making.{assembled_is_read}
+use Rattle.cell_image.proofs.RoundTrip.{read_again}
 use Rattle.cell_assemble.proofs.make.object_of.Goals as goal
 
+-- what a source is assembled to can be written, so its image is read as the object again
 pub image_of-requires : goal.image_of-requires
-image_of-requires c = assembled_is_read c.args.text.now c.in-Ok.object c.in-Ok.ensures c.requires
+image_of-requires c = read_again c.in-Ok.object c.in-Ok.ensures.writable

@@ -1,5 +1,3 @@
-use Rattle.std.proofs.Common.{◌++◌, ◌∷◌, [], ap, ◌∙◌}
-use Rattle.cell_asm.specs.Objects.{key_name, symbol}
 use Rattle.cell_asm.proofs.Listing.{lists_by}
 use Rattle.cell_asm.proofs.symbol.Symbols.add.Goals as goal
 

@@ -1,0 +1,206 @@
+-- The sections of an assembled source can be written.
+--     sections_fit source lines    each section is as it must be
+use Rattle.std.proofs.Common.{◌≡◌, ℕ, zero, suc, ◌+◌, ◌*◌, ◌/◌, ◌%◌, ◌^◌, ◌<◌, ◌≤◌, max, true, false, ◌&&◌, List, [], ◌∷◌, map, length, replicate, slice_get, Some, None, Ok, refl, sym, ap, subst, ◌∙◌, ◌⊎◌, inl, inr, length-append, arith, lit≤}
+use Rattle.std.specs.Prelude.{Option, filter, flat_map, fold}
+use Rattle.std.proofs.lemmas.Bool.{cases_lt}
+use Rattle.std.proofs.lemmas.List.{length-replicate}
+use Rattle.cell_num.specs.Bits.{bytes_of}
+use Rattle.cell_object.specs.Sections.{is_alignment}
+use Rattle.cell_object.specs.declared.object.Section.{Section}
+use Rattle.cell_object.specs.Writable.{IsPlain, IsWhole, IsWritableSection}
+use Rattle.cell_asm.specs.declared.statement.Part.{Part}
+use Rattle.cell_asm.specs.declared.statement.Part.TheVariants.{Text, Rodata, Data, Bss}
+use Rattle.cell_asm.specs.declared.statement.Statement.{Statement}
+use Rattle.cell_asm.specs.declared.statement.Statement.TheVariants.{Nothing, Choose, Global, Zeros, Align, Bytes}
+use Rattle.cell_asm.specs.declared.statement.Line.{Line}
+use Rattle.cell_asm.specs.declared.laid.Laid.{Laid}
+use Rattle.cell_asm.specs.Places.{is_at, is_in, gap, taken, takes, may_stand, size_in}
+use Rattle.cell_asm.specs.Objects.{parts_of, part_name, is_text, first_alignment, alignment_asked, alignment, padding, bytes_at, contents, fill_of, may_write, section_of, sections}
+use Rattle.cell_asm.specs.Assembled.{placed_lines}
+use Rattle.cell_asm.proofs.Members.{In, In-filtered, filter_passes, In-map}
+use Rattle.cell_asm.proofs.GoodBlocks.{IsUnit, IsGoodStatement}
+use Rattle.cell_asm.proofs.Standing.{IsStanding, all_stand}
+use Rattle.cell_asm.proofs.InFours.{taken_fours, in_fours}
+use Rattle.cell_asm.proofs.Grouped.{part_numbered}
+use Rattle.cell_asm.proofs.Counts.{section_small}
+use Rattle.cell_asm.proofs.Tallies.{get_map, flat_length, total_same, sum_is_total}
+
+-- THE BYTES OF A STATEMENT
+
+four_more : (m : ℕ) → 4 + 4 * m ≡ 4 * suc m
+four_more m = omega arith
+
+nops_count : (m : ℕ) → length (flat_map (λ word. bytes_of 4 word) (replicate m 0x13)) ≡ 4 * m
+nops_count zero = refl
+nops_count (suc m) =
+    length-append (bytes_of 4 0x13) (flat_map (λ word. bytes_of 4 word) (replicate m 0x13))
+    ∙ ap (λ n. 4 + n) (nops_count m)
+    ∙ four_more m
+
+whole_words : (n : ℕ) → n % 4 ≡ 0 → 4 * (n / 4) ≡ n
+whole_words n h = omega arith
+
+padding_length : (part : Part) (n : ℕ) → (is_text part ≡ true → n % 4 ≡ 0) → length (padding part n) ≡ n
+padding_length Text n h = nops_count (n / 4) ∙ whole_words n (h refl)
+padding_length Rodata n h = length-replicate n 0
+padding_length Data n h = length-replicate n 0
+padding_length Bss n h = length-replicate n 0
+
+at_length : (part : Part) (offset : ℕ) (s : Statement) → (is_text part ≡ true → taken s offset % 4 ≡ 0) → length (bytes_at part offset s) ≡ taken s offset
+at_length part offset Nothing h = refl
+at_length part offset (Choose other) h = refl
+at_length part offset (Global name) h = refl
+at_length part offset (Zeros n) h = length-replicate n 0
+at_length part offset (Align unit) h = padding_length part (gap unit offset) h
+at_length part offset (Bytes content b) h = refl
+
+-- THE BYTES OF A SECTION
+
+takes_text : (o : Option Part) (line : Line) → may_stand o line ≡ true → is_at Text o ≡ true → takes Text line.statement ≡ true
+takes_text None line h e = absurd cc
+takes_text (Some Text) line h e = h
+takes_text (Some Rodata) line h e = absurd cc
+takes_text (Some Data) line h e = absurd cc
+takes_text (Some Bss) line h e = absurd cc
+
+-- what a line of the section takes, in whole instructions where it is .text
+abbrev InWords : Part → List Laid → Type 0
+InWords part lines = (l : Laid) → In l lines → is_in part l ≡ true → is_text part ≡ true → taken l.line.statement l.offset % 4 ≡ 0
+
+text_words : (source : List ℕ) (lines : List Laid) → placed_lines source ≡ Ok lines → InWords Text lines
+text_words source lines e l k t same =
+    let s : IsStanding l = all_stand source lines e l k in
+    taken_fours l.line.statement l.offset (takes_text l.part l.line s.stands t) s.good (in_fours source lines e l k t)
+
+in_words : (source : List ℕ) (lines : List Laid) (part : Part) → placed_lines source ≡ Ok lines → InWords part lines
+in_words source lines Text e = text_words source lines e
+in_words source lines Rodata e = λ l k t same. absurd cc
+in_words source lines Data e = λ l k t same. absurd cc
+in_words source lines Bss e = λ l k t same. absurd cc
+
+filled_length : (part : Part) (lines : List Laid) → InWords part lines
+    → length (flat_map (λ l. bytes_at part l.offset l.line.statement) (filter (is_in part) lines)) ≡ size_in part lines
+filled_length part lines words =
+    flat_length (λ l. bytes_at part l.offset l.line.statement) (filter (is_in part) lines)
+    ∙ total_same (λ l. length (bytes_at part l.offset l.line.statement)) (λ l. taken l.line.statement l.offset) (filter (is_in part) lines)
+    (λ l k. at_length part l.offset l.line.statement (words l (In-filtered (is_in part) lines l k) (filter_passes (is_in part) lines l k)))
+    ∙ sym (sum_is_total (λ l. taken l.line.statement l.offset) (filter (is_in part) lines))
+
+whole : (part : Part) (lines : List Laid) → InWords part lines → IsWhole (fill_of part) (contents part lines) (size_in part lines)
+whole Text lines words = filled_length Text lines words
+whole Rodata lines words = filled_length Rodata lines words
+whole Data lines words = filled_length Data lines words
+whole Bss lines words = refl
+
+-- ALIGNMENTS
+
+at_start : 0 ≤ 12
+at_start = lit≤ tt
+
+second_power : 2 ≤ 12
+second_power = lit≤ tt
+
+third_power : 3 ≤ 12
+third_power = lit≤ tt
+
+one_unit : IsUnit 1
+one_unit = (0, at_start, refl)
+
+first_unit : (part : Part) → IsUnit (first_alignment part)
+first_unit Text = (2, second_power, refl)
+first_unit Rodata = (3, third_power, refl)
+first_unit Data = (3, third_power, refl)
+first_unit Bss = (3, third_power, refl)
+
+asked_unit : (s : Statement) → IsGoodStatement s → IsUnit (alignment_asked s)
+asked_unit Nothing g = one_unit
+asked_unit (Choose part) g = one_unit
+asked_unit (Global name) g = one_unit
+asked_unit (Zeros n) g = one_unit
+asked_unit (Align unit) g = g
+asked_unit (Bytes content pieces) g = one_unit
+
+second_larger : (a b : ℕ) → a < b → b ≡ max a b
+second_larger a b h = omega (arith, h)
+
+first_larger : (a b : ℕ) → b ≤ a → a ≡ max a b
+first_larger a b h = omega (arith, h)
+
+larger_unit : (a b : ℕ) → IsUnit a → IsUnit b → (a < b) ⊎ (b ≤ a) → IsUnit (max a b)
+larger_unit a b g h (inl l) = subst IsUnit (second_larger a b l) h
+larger_unit a b g h (inr l) = subst IsUnit (first_larger a b l) g
+
+fold_unit : (a : ℕ) (units : List ℕ) → IsUnit a → ((n : ℕ) → In n units → IsUnit n) → IsUnit (fold max a units)
+fold_unit a [] g h = g
+fold_unit a (n ∷ units) g h = fold_unit (max a n) units (larger_unit a n g (h n (inl refl)) (cases_lt a n)) (λ m k. h m (inr k))
+
+asked_units : (part : Part) (lines : List Laid) → ((l : Laid) → In l lines → IsStanding l) → (n : ℕ) → In n (map (λ l. alignment_asked l.line.statement) (filter (is_in part) lines)) → IsUnit n
+asked_units part lines stand n k =
+    let r : (l : Laid) × In l (filter (is_in part) lines) × (n ≡ alignment_asked l.line.statement) = In-map (λ l. alignment_asked l.line.statement) (filter (is_in part) lines) n k in
+    subst IsUnit (sym r.2) (asked_unit r.0.line.statement (stand r.0 (In-filtered (is_in part) lines r.0 r.1)).good)
+
+alignment_unit : (part : Part) (lines : List Laid) → ((l : Laid) → In l lines → IsStanding l) → IsUnit (alignment part lines)
+alignment_unit part lines stand = fold_unit (first_alignment part) (map (λ l. alignment_asked l.line.statement) (filter (is_in part) lines)) (first_unit part) (asked_units part lines stand)
+
+record IsAligned (n : ℕ) : Type 0 where
+  good : is_alignment n ≡ true
+  some : 1 ≤ n
+  most : n ≤ 4096
+
+power : (k : ℕ) → k ≤ 12 → IsAligned (2 ^ k)
+power zero h = record { good = refl; some = lit≤ tt; most = lit≤ tt }
+power (suc zero) h = record { good = refl; some = lit≤ tt; most = lit≤ tt }
+power (suc (suc zero)) h = record { good = refl; some = lit≤ tt; most = lit≤ tt }
+power (suc (suc (suc zero))) h = record { good = refl; some = lit≤ tt; most = lit≤ tt }
+power (suc (suc (suc (suc zero)))) h = record { good = refl; some = lit≤ tt; most = lit≤ tt }
+power (suc (suc (suc (suc (suc zero))))) h = record { good = refl; some = lit≤ tt; most = lit≤ tt }
+power (suc (suc (suc (suc (suc (suc zero)))))) h = record { good = refl; some = lit≤ tt; most = lit≤ tt }
+power (suc (suc (suc (suc (suc (suc (suc zero))))))) h = record { good = refl; some = lit≤ tt; most = lit≤ tt }
+power (suc (suc (suc (suc (suc (suc (suc (suc zero)))))))) h = record { good = refl; some = lit≤ tt; most = lit≤ tt }
+power (suc (suc (suc (suc (suc (suc (suc (suc (suc zero))))))))) h = record { good = refl; some = lit≤ tt; most = lit≤ tt }
+power (suc (suc (suc (suc (suc (suc (suc (suc (suc (suc zero)))))))))) h = record { good = refl; some = lit≤ tt; most = lit≤ tt }
+power (suc (suc (suc (suc (suc (suc (suc (suc (suc (suc (suc zero))))))))))) h = record { good = refl; some = lit≤ tt; most = lit≤ tt }
+power (suc (suc (suc (suc (suc (suc (suc (suc (suc (suc (suc (suc zero)))))))))))) h = record { good = refl; some = lit≤ tt; most = lit≤ tt }
+power (suc (suc (suc (suc (suc (suc (suc (suc (suc (suc (suc (suc (suc k))))))))))))) h = absurd (omega (arith, h))
+
+unit_aligned : (n : ℕ) → IsUnit n → IsAligned n
+unit_aligned n g = subst IsAligned (sym g.2) (power g.0 g.1)
+
+-- THE SECTIONS
+
+plain_name : (part : Part) → IsPlain (part_name part)
+plain_name Text = refl
+plain_name Rodata = refl
+plain_name Data = refl
+plain_name Bss = refl
+
+not_both : (part : Part) → (may_write part && is_text part) ≡ false
+not_both Text = refl
+not_both Rodata = refl
+not_both Data = refl
+not_both Bss = refl
+
+section_fits : (source : List ℕ) (lines : List Laid) (k : ℕ) (part : Part) → placed_lines source ≡ Ok lines → slice_get (parts_of lines) k ≡ Some part → IsWritableSection (k + 1) (section_of lines part)
+section_fits source lines k part e h =
+    let aligned : IsAligned (alignment part lines) = unit_aligned (alignment part lines) (alignment_unit part lines (all_stand source lines e)) in
+    record {
+      numbered = part_numbered lines k part h;
+      name = plain_name part;
+      apart = not_both part;
+      aligned = aligned.good;
+      some = aligned.some;
+      most = aligned.most;
+      small = section_small source lines part e;
+      whole = whole part lines (in_words source lines part e);
+    }
+
+pub sections_fit : (source : List ℕ) (lines : List Laid) → placed_lines source ≡ Ok lines → (k : ℕ) (s : Section) → slice_get (sections lines) k ≡ Some s → IsWritableSection (k + 1) s
+sections_fit source lines e k s h =
+    let r : (part : Part) × (slice_get (parts_of lines) k ≡ Some part) × (s ≡ section_of lines part) = get_map (section_of lines) (parts_of lines) k s h in
+    subst (IsWritableSection (k + 1)) (sym r.2) (section_fits source lines k r.0 e r.1)
+
+-- its bytes are as many as it says, and not too many
+pub section_whole : (source : List ℕ) (lines : List Laid) → placed_lines source ≡ Ok lines → (s : Section) → In s (sections lines) → (s.size ≤ 16777216) × IsWhole s.fill s.bytes s.size
+section_whole source lines e s k =
+    let r : (part : Part) × In part (parts_of lines) × (s ≡ section_of lines part) = In-map (section_of lines) (parts_of lines) s k in
+    subst (λ t. (t.size ≤ 16777216) × IsWhole t.fill t.bytes t.size) (sym r.2) (section_small source lines r.0 e, whole r.0 lines (in_words source lines r.0 e))

@@ -1,0 +1,336 @@
+-- The tables of an assembled source's image aren't too large, and there aren't too many headers.
+--     headers_fit, locals_fit, texts_fit, names_fit, size_fits
+use Rattle.std.proofs.Common.{◌≡◌, ℕ, suc, ◌+◌, ◌-◌, ◌*◌, ◌%◌, ◌^◌, ◌<◌, ◌≤◌, List, [], ◌∷◌, ◌++◌, map, length, replicate, codes, Ok, refl, sym, ap, subst, ◌∙◌, ◌⊎◌, inl, inr, length-append, arith, lit≤}
+use Rattle.std.specs.Prelude.{filter, flat_map, ◌==◌}
+use Rattle.std.proofs.lemmas.List.{length-replicate}
+use Rattle.cell_num.specs.Lists.{numbered_from}
+use Rattle.cell_object.specs.declared.object.Section.{Section}
+use Rattle.cell_object.specs.declared.object.Symbol.{Symbol}
+use Rattle.cell_object.specs.declared.object.Entry.{Entry}
+use Rattle.cell_object.specs.declared.object.Object.{Object}
+use Rattle.cell_object.specs.declared.object.Fill.{Fill}
+use Rattle.cell_object.specs.declared.object.Fill.TheVariants.{Prog, Note, Zero}
+use Rattle.cell_object.specs.Before.{with_before, with_before_from}
+use Rattle.cell_object.specs.Strings.{string, string_table, name_place}
+use Rattle.cell_object.specs.Rows.{stored, fields, symbol_bytes, entry_bytes}
+use Rattle.cell_object.specs.ImageParts as parts
+use Rattle.cell_object.specs.ImageParts.{padded, offset_after, symtab_number, entries_for, has_entries, relocated, content, filled, symbol_part_bytes, symbols_part, symbol_strings, table, own_names, table_name, names_before_tables, section_strings, parts_before_tables, parts_before_strings, parts_before_names}
+use Rattle.cell_object.specs.Image.{own_row, symtab_row, strtab_row, shstrtab_row, table_row, section_rows, local_count}
+use Rattle.cell_asm.specs.declared.statement.Part.{Part}
+use Rattle.cell_asm.specs.declared.statement.Part.TheVariants.{Text, Rodata, Data, Bss}
+use Rattle.cell_asm.specs.declared.laid.Laid.{Laid}
+use Rattle.cell_asm.specs.Objects.{parts_of, part_name, section_of, sections, local_labels, other_names, local_symbol, global_symbol, symbols, entries, object_of}
+use Rattle.cell_asm.specs.Assembled.{placed_lines}
+use Rattle.cell_asm.proofs.Parts.{few}
+use Rattle.cell_object.specs.Writable.{IsWhole}
+use Rattle.cell_asm.proofs.Members.{In, In-append, In-filtered, In-map}
+use Rattle.cell_asm.proofs.Tallies.{total, total-append, total_times, total_le, total-map, flat_length, mapped_length, filter_le}
+use Rattle.cell_asm.proofs.SectionsFit.{section_whole}
+use Rattle.cell_asm.proofs.Counts.{few_entries}
+use Rattle.cell_asm.proofs.SymbolsFit.{locals_count}
+use Rattle.cell_asm.proofs.Costs.{symbol_cost, symbols_cost}
+
+le_trans : (a b c : ℕ) → a ≤ b → b ≤ c → a ≤ c
+le_trans a b c h k = omega (arith, h, k)
+
+-- THE COUNTS
+
+pub few_sections : (lines : List Laid) → length (sections lines) ≤ 4
+few_sections lines = subst (λ n. n ≤ 4) (sym (mapped_length (section_of lines) (parts_of lines))) (few lines (parts_of lines) refl)
+
+numbered_count : {X : Type 0} (i : ℕ) (xs : List X) → length (numbered_from i xs) ≡ length xs
+numbered_count i [] = refl
+numbered_count i (x ∷ xs) = ap suc (numbered_count (suc i) xs)
+
+relocated_few : (ss : List Section) (es : List Entry) → length (relocated ss es) ≤ length ss
+unfolding relocated
+relocated_few ss es = subst (λ n. length (filter (λ row. has_entries es row.0) (numbered_from 1 ss)) ≤ n) (numbered_count 1 ss) (filter_le (λ row. has_entries es row.0) (numbered_from 1 ss))
+
+few_tables : (lines : List Laid) → length (relocated (sections lines) (entries lines)) ≤ 4
+few_tables lines = le_trans (length (relocated (sections lines) (entries lines))) (length (sections lines)) 4 (relocated_few (sections lines) (entries lines)) (few_sections lines)
+
+before_count_from : {X : Type 0} (before xs : List X) → length (with_before_from before xs) ≡ length xs
+before_count_from before [] = refl
+before_count_from before (x ∷ xs) = ap suc (before_count_from (before ++ (x ∷ [])) xs)
+
+before_count : {X : Type 0} (xs : List X) → length (with_before xs) ≡ length xs
+unfolding with_before
+before_count xs = before_count_from [] xs
+
+rows_few : (a b c : ℕ) → c ≡ a + suc (suc (suc b)) → a ≤ 4 → b ≤ 4 → suc c < 65280
+rows_few a b c e h k = omega (arith, e, h, k)
+
+pub headers_fit : (lines : List Laid) → length (section_rows (object_of lines)) < 65280
+headers_fit lines =
+    let o : Object = object_of lines in
+    let own : length (map own_row (with_before (sections lines))) ≡ length (sections lines) = mapped_length own_row (with_before (sections lines)) ∙ before_count (sections lines) in
+    let tables : length (map (table_row o) (with_before (relocated (sections lines) (entries lines)))) ≡ length (relocated (sections lines) (entries lines)) =
+    mapped_length (table_row o) (with_before (relocated (sections lines) (entries lines))) ∙ before_count (relocated (sections lines) (entries lines)) in
+    rows_few (length (map own_row (with_before (sections lines)))) (length (map (table_row o) (with_before (relocated (sections lines) (entries lines)))))
+    (length (map own_row (with_before (sections lines)) ++ (symtab_row o ∷ strtab_row o ∷ shstrtab_row o ∷ map (table_row o) (with_before (relocated (sections lines) (entries lines))))))
+    (length-append (map own_row (with_before (sections lines))) (symtab_row o ∷ strtab_row o ∷ shstrtab_row o ∷ map (table_row o) (with_before (relocated (sections lines) (entries lines)))))
+    (subst (λ n. n ≤ 4) (sym own) (few_sections lines)) (subst (λ n. n ≤ 4) (sym tables) (few_tables lines))
+
+symbols_number : (lines : List Laid) → length (symbols lines) ≡ length (local_labels lines) + length (other_names lines)
+symbols_number lines =
+    length-append (map (local_symbol lines) (local_labels lines)) (map (global_symbol lines) (other_names lines))
+    ∙ ap (λ n. n + length (map (global_symbol lines) (other_names lines))) (mapped_length (local_symbol lines) (local_labels lines))
+    ∙ ap (λ n. length (local_labels lines) + n) (mapped_length (global_symbol lines) (other_names lines))
+
+count_le : (ss : List Symbol) → length ss ≤ total symbol_cost ss
+count_le [] = omega arith
+count_le (s ∷ ss) = more (length ss) (total symbol_cost ss) (length s.name) (count_le ss)
+  where
+    more : (a b c : ℕ) → a ≤ b → suc a ≤ suc c + b
+    more a b c h = omega (arith, h)
+
+few_by : (a b s : ℕ) → a ≤ b → b ≤ s + 142606337 → s < 2 ^ 31 → a ≤ 2290089984
+few_by a b s h k l = omega (arith, h, k, l)
+
+pub few_symbols : (source : List ℕ) (lines : List Laid) → placed_lines source ≡ Ok lines → length source < 2 ^ 31 → length (symbols lines) ≤ 2290089984
+few_symbols source lines e h = few_by (length (symbols lines)) (total symbol_cost (symbols lines)) (length source) (count_le (symbols lines)) (symbols_cost source lines e) h
+
+locals_by : (a b c s : ℕ) → a ≡ b → s ≡ b + c → s ≤ 2290089984 → a + 1 < 2 ^ 32
+locals_by a b c s e f h = omega (arith, e, f, h)
+
+pub locals_fit : (source : List ℕ) (lines : List Laid) → placed_lines source ≡ Ok lines → length source < 2 ^ 31 → local_count (object_of lines) + 1 < 2 ^ 32
+locals_fit source lines e h =
+    locals_by (local_count (object_of lines)) (length (local_labels lines)) (length (other_names lines)) (length (symbols lines)) (locals_count lines) (symbols_number lines) (few_symbols source lines e h)
+
+-- THE STRINGS
+
+string_by : (a m : ℕ) → suc a ≤ m → suc (a + 1) ≤ m + 1
+string_by a m h = omega (arith, h)
+
+string_le : (m : ℕ) (name : List ℕ) → length name ≤ m → length (string name) ≤ m + 1
+string_le m [] h = omega arith
+string_le m (b ∷ bs) h = subst (λ n. suc n ≤ m + 1) (sym (length-append bs (0 ∷ []))) (string_by (length bs) m h)
+
+-- a table of names of so many bytes at most
+abbrev AreShort : ℕ → List (List ℕ) → Type 0
+AreShort m names = (n : List ℕ) → In n names → length n ≤ m
+
+table_by : (t n k : ℕ) → t ≤ k * n → suc t ≤ 1 + k * n
+table_by t n k h = omega (arith, h)
+
+table_le : (m : ℕ) (names : List (List ℕ)) → AreShort m names → length (string_table names) ≤ 1 + (m + 1) * length names
+unfolding string_table
+table_le m names h =
+    table_by (length (flat_map string names)) (length names) (m + 1)
+    (subst (λ n. n ≤ (m + 1) * length names) (sym (flat_length string names)) (total_times (λ n. length (string n)) (m + 1) names (λ n k. string_le m n (h n k))))
+
+-- a name and the zero behind it
+string_cost : (name : List ℕ) → length (string name) ≤ suc (length name)
+string_cost name = grind_le (length (string name)) (length name) (string_le (length name) name (itself (length name)))
+  where
+    itself : (n : ℕ) → n ≤ n
+    itself n = omega arith
+
+    grind_le : (a n : ℕ) → a ≤ n + 1 → a ≤ suc n
+    grind_le a n h = omega (arith, h)
+
+texts_by : (t u v k s : ℕ) → t ≡ u → u ≤ v → v ≡ k → k ≤ s + 142606337 → s < 2 ^ 31 → suc t < 2 ^ 32
+texts_by t u v k s e h f l m = omega (arith, e, h, f, l, m)
+
+pub texts_fit : (source : List ℕ) (lines : List Laid) → placed_lines source ≡ Ok lines → length source < 2 ^ 31 → length (symbol_strings (object_of lines)) < 2 ^ 32
+unfolding symbol_strings string_table
+texts_fit source lines e h =
+    let names : List (List ℕ) = map (λ s. s.name) (symbols lines) in
+    texts_by (length (flat_map string names)) (total (λ n. length (string n)) names) (total (λ n. suc (length n)) names) (total symbol_cost (symbols lines)) (length source)
+    (flat_length string names) (total_le (λ n. length (string n)) (λ n. suc (length n)) names (λ n k. string_cost n)) (total-map (λ n. suc (length n)) (λ (s : Symbol). s.name) (symbols lines)) (symbols_cost source lines e) h
+
+-- THE NAMES OF SECTIONS
+
+part_short : (part : Part) → length (part_name part) ≤ 7
+part_short Text = lit≤ tt
+part_short Rodata = lit≤ tt
+part_short Data = lit≤ tt
+part_short Bss = lit≤ tt
+
+section_short : (lines : List Laid) (s : Section) → In s (sections lines) → length s.name ≤ 7
+section_short lines s k =
+    let r : (part : Part) × In part (parts_of lines) × (s ≡ section_of lines part) = In-map (section_of lines) (parts_of lines) s k in
+    subst (λ t. length t.name ≤ 7) (sym r.2) (part_short r.0)
+
+numbered_In : {X : Type 0} (i : ℕ) (xs : List X) (row : ℕ × X) → In row (numbered_from i xs) → In row.1 xs
+numbered_In i [] row k = absurd k
+numbered_In i (x ∷ xs) row (inl e) = inl (ap (λ r. r.1) e)
+numbered_In i (x ∷ xs) row (inr k) = inr (numbered_In (suc i) xs row k)
+
+relocated_In : (ss : List Section) (es : List Entry) (row : ℕ × Section) → In row (relocated ss es) → In row.1 ss
+unfolding relocated
+relocated_In ss es row k = numbered_In 1 ss row (In-filtered (λ r. has_entries es r.0) (numbered_from 1 ss) row k)
+
+seven_more : (n : ℕ) → n ≤ 7 → 5 + n ≤ 12
+seven_more n h = omega (arith, h)
+
+seven : (n : ℕ) → n ≤ 7 → n ≤ 12
+seven n h = omega (arith, h)
+
+table_short : (lines : List Laid) (row : ℕ × Section) → In row (relocated (sections lines) (entries lines)) → length (table_name row) ≤ 12
+table_short lines row k =
+    subst (λ n. n ≤ 12) (sym (length-append (codes ".rela") row.1.name)) (seven_more (length row.1.name) (section_short lines row.1 (relocated_In (sections lines) (entries lines) row k)))
+
+own_short : (lines : List Laid) → AreShort 12 (own_names (sections lines))
+own_short lines n k =
+    let r : (s : Section) × In s (sections lines) × (n ≡ s.name) = In-map (λ s. s.name) (sections lines) n k in
+    subst (λ m. length m ≤ 12) (sym r.2) (seven (length r.0.name) (section_short lines r.0 r.1))
+
+fixed_short : AreShort 12 (codes ".symtab" ∷ codes ".strtab" ∷ codes ".shstrtab" ∷ [])
+fixed_short n (inl e) = subst (λ m. length m ≤ 12) (sym e) (lit≤ tt)
+fixed_short n (inr (inl e)) = subst (λ m. length m ≤ 12) (sym e) (lit≤ tt)
+fixed_short n (inr (inr (inl e))) = subst (λ m. length m ≤ 12) (sym e) (lit≤ tt)
+fixed_short n (inr (inr (inr k))) = absurd k
+
+tables_short : (lines : List Laid) → AreShort 12 (map table_name (relocated (sections lines) (entries lines)))
+tables_short lines n k =
+    let r : (row : ℕ × Section) × In row (relocated (sections lines) (entries lines)) × (n ≡ table_name row) = In-map table_name (relocated (sections lines) (entries lines)) n k in
+    subst (λ m. length m ≤ 12) (sym r.2) (table_short lines r.0 r.1)
+
+join_short : (m : ℕ) (xs ys : List (List ℕ)) → AreShort m xs → AreShort m ys → AreShort m (xs ++ ys)
+join_short m xs ys f g n k = go (In-append xs ys n k)
+  where
+    go : In n xs ⊎ In n ys → length n ≤ m
+    go (inl i) = f n i
+    go (inr i) = g n i
+
+abbrev section_names : List Laid → List (List ℕ)
+section_names lines = names_before_tables (object_of lines) ++ map table_name (relocated (sections lines) (entries lines))
+
+names_short : (lines : List Laid) → AreShort 12 (section_names lines)
+names_short lines =
+    join_short 12 (names_before_tables (object_of lines)) (map table_name (relocated (sections lines) (entries lines)))
+    (join_short 12 (own_names (sections lines)) (codes ".symtab" ∷ codes ".strtab" ∷ codes ".shstrtab" ∷ []) (own_short lines) fixed_short) (tables_short lines)
+
+names_count : (a b c d e f : ℕ) → a ≡ b + c → b ≡ d + 3 → d ≡ e → e ≤ 4 → c ≡ f → f ≤ 4 → a ≤ 11
+names_count a b c d e f p q r h s k = omega (arith, p, q, r, h, s, k)
+
+names_few : (lines : List Laid) → length (section_names lines) ≤ 11
+names_few lines =
+    names_count (length (section_names lines)) (length (names_before_tables (object_of lines))) (length (map table_name (relocated (sections lines) (entries lines)))) (length (own_names (sections lines))) (length (sections lines)) (length (relocated (sections lines) (entries lines)))
+    (length-append (names_before_tables (object_of lines)) (map table_name (relocated (sections lines) (entries lines))))
+    (length-append (own_names (sections lines)) (codes ".symtab" ∷ codes ".strtab" ∷ codes ".shstrtab" ∷ []))
+    (mapped_length (λ s. s.name) (sections lines)) (few_sections lines) (mapped_length table_name (relocated (sections lines) (entries lines))) (few_tables lines)
+
+names_by : (t n : ℕ) → t ≤ 1 + 13 * n → n ≤ 11 → t < 2 ^ 32
+names_by t n h k = omega (arith, h, k)
+
+pub names_fit : (lines : List Laid) → length (section_strings (object_of lines)) < 2 ^ 32
+unfolding section_strings
+names_fit lines = names_by (length (string_table (section_names lines))) (length (section_names lines)) (table_le 12 (section_names lines) (names_short lines)) (names_few lines)
+
+-- THE WHOLE FILE
+
+few_zeros : (n : ℕ) → (8 - n % 8) % 8 ≤ 8
+few_zeros n = omega arith
+
+padded_by : (a n z p : ℕ) → p ≡ n + z → z ≤ 8 → n ≤ a → p ≤ a + 8
+padded_by a n z p e h k = omega (arith, e, h, k)
+
+padded_le : (m : ℕ) (part : List ℕ) → length part ≤ m → length (padded part) ≤ m + 8
+unfolding padded
+padded_le m part h =
+    padded_by m (length part) (parts.padding (length part)) (length (part ++ replicate (parts.padding (length part)) 0))
+    (length-append part (replicate (parts.padding (length part)) 0) ∙ ap (λ n. length part + n) (length-replicate (parts.padding (length part)) 0)) (few_zeros (length part)) h
+
+-- so many bytes the parts take, with the zeros between
+abbrev taken_by : List (List ℕ) → ℕ
+taken_by ps = total (λ p. length (padded p)) ps
+
+parts_le : (m : ℕ) (ps : List (List ℕ)) → AreShort m ps → taken_by ps ≤ (m + 8) * length ps
+parts_le m ps h = total_times (λ p. length (padded p)) (m + 8) ps (λ p k. padded_le m p (h p k))
+
+filled_le : (f : Fill) (bytes : List ℕ) (size : ℕ) → IsWhole f bytes size → size ≤ 16777216 → length (filled f bytes) ≤ 16777216
+filled_le Prog bytes size w h = subst (λ n. n ≤ 16777216) (sym w) h
+filled_le Note bytes size w h = subst (λ n. n ≤ 16777216) (sym w) h
+filled_le Zero bytes size w h = omega arith
+
+contents_short : (lines : List Laid) → ((s : Section) → In s (sections lines) → (s.size ≤ 16777216) × IsWhole s.fill s.bytes s.size) → AreShort 16777216 (parts.contents (sections lines))
+contents_short lines f n k =
+    let r : (s : Section) × In s (sections lines) × (n ≡ content s) = In-map content (sections lines) n k in
+    let g : (r.0.size ≤ 16777216) × IsWhole r.0.fill r.0.bytes r.0.size = f r.0 r.1 in
+    subst (λ m. length m ≤ 16777216) (sym r.2) (filled_le r.0.fill r.0.bytes r.0.size g.1 g.0)
+
+symbol_count : (symtab name : ℕ) (s : Symbol) → length (symbol_bytes symtab name s) ≡ 24
+unfolding symbol_bytes fields stored
+symbol_count symtab name s = refl
+
+entry_count : (e : Entry) → length (entry_bytes e) ≡ 24
+unfolding entry_bytes fields stored
+entry_count e = refl
+
+same_le : (a b : ℕ) → a ≡ b → a ≤ b
+same_le a b e = omega (arith, e)
+
+symbols_by : (a b c : ℕ) → a ≡ 24 + b → b ≤ 24 * c → c ≤ 2290089984 → a ≤ 54962159640
+symbols_by a b c e h k = omega (arith, e, h, k)
+
+symbols_short_part : (source : List ℕ) (lines : List Laid) → placed_lines source ≡ Ok lines → length source < 2 ^ 31 → length (symbols_part (object_of lines)) ≤ 54962159640
+unfolding symbols_part
+symbols_short_part source lines e h =
+    symbols_by (length (replicate 24 0 ++ flat_map (symbol_part_bytes (symtab_number (object_of lines))) (with_before (symbols lines)))) (length (flat_map (symbol_part_bytes (symtab_number (object_of lines))) (with_before (symbols lines)))) (length (symbols lines))
+    (length-append (replicate 24 0) (flat_map (symbol_part_bytes (symtab_number (object_of lines))) (with_before (symbols lines))))
+    (subst (λ n. n ≤ 24 * length (symbols lines)) (sym (flat_length (symbol_part_bytes (symtab_number (object_of lines))) (with_before (symbols lines))))
+    (subst (λ n. total (λ p. length (symbol_part_bytes (symtab_number (object_of lines)) p)) (with_before (symbols lines)) ≤ 24 * n) (before_count (symbols lines))
+    (total_times (λ p. length (symbol_part_bytes (symtab_number (object_of lines)) p)) 24 (with_before (symbols lines))
+    (λ p k. same_le (length (symbol_part_bytes (symtab_number (object_of lines)) p)) 24 (symbol_count (symtab_number (object_of lines)) (name_place (map (λ b. b.name) p.0) p.1.name) p.1)))))
+    (few_symbols source lines e h)
+
+entries_for_few : (es : List Entry) (n : ℕ) → length (entries_for es n) ≤ length es
+unfolding entries_for
+entries_for_few es n = filter_le (λ e. e.section == n) es
+
+table_by_entries : (a b c : ℕ) → a ≤ 24 * b → b ≤ c → c ≤ 134217728 → a ≤ 3221225472
+table_by_entries a b c h k l = omega (arith, h, k, l)
+
+table_few : (es : List Entry) (row : ℕ × Section) → length es ≤ 134217728 → length (table es row) ≤ 3221225472
+table_few es row h =
+    table_by_entries (length (table es row)) (length (entries_for es row.0)) (length es)
+    (subst (λ n. n ≤ 24 * length (entries_for es row.0)) (sym (flat_length entry_bytes (entries_for es row.0)))
+    (total_times (λ e. length (entry_bytes e)) 24 (entries_for es row.0) (λ e k. same_le (length (entry_bytes e)) 24 (entry_count e))))
+    (entries_for_few es row.0) h
+
+tables_few : (lines : List Laid) → length (entries lines) ≤ 134217728 → AreShort 3221225472 (map (table (entries lines)) (relocated (sections lines) (entries lines)))
+tables_few lines h n k =
+    let r : (row : ℕ × Section) × In row (relocated (sections lines) (entries lines)) × (n ≡ table (entries lines) row) = In-map (table (entries lines)) (relocated (sections lines) (entries lines)) n k in
+    subst (λ m. length m ≤ 3221225472) (sym r.2) (table_few (entries lines) r.0 h)
+
+one_part : (m : ℕ) (p : List ℕ) → length p ≤ m → taken_by (p ∷ []) ≤ (m + 8) * 1
+one_part m p h = parts_le m (p ∷ []) (λ n k. only n k)
+  where
+    only : (n : List ℕ) → In n (p ∷ []) → length n ≤ m
+    only n (inl e) = subst (λ v. length v ≤ m) (sym e) h
+    only n (inr k) = absurd k
+
+abbrev tables_of : List Laid → List (List ℕ)
+tables_of lines = map (table (entries lines)) (relocated (sections lines) (entries lines))
+
+-- the parts one after the other
+all_parts : (lines : List Laid)
+    → taken_by (parts.parts (object_of lines))
+    ≡ (((taken_by (parts.contents (sections lines)) + taken_by (symbols_part (object_of lines) ∷ [])) + taken_by (tables_of lines)) + taken_by (symbol_strings (object_of lines) ∷ [])) + taken_by (section_strings (object_of lines) ∷ [])
+all_parts lines =
+    total-append (λ p. length (padded p)) (parts_before_names (object_of lines)) (section_strings (object_of lines) ∷ [])
+    ∙ ap (λ n. n + taken_by (section_strings (object_of lines) ∷ []))
+    (total-append (λ p. length (padded p)) (parts_before_strings (object_of lines)) (symbol_strings (object_of lines) ∷ [])
+    ∙ ap (λ n. n + taken_by (symbol_strings (object_of lines) ∷ []))
+    (total-append (λ p. length (padded p)) (parts_before_tables (object_of lines)) (tables_of lines)
+    ∙ ap (λ n. n + taken_by (tables_of lines)) (total-append (λ p. length (padded p)) (parts.contents (sections lines)) (symbols_part (object_of lines) ∷ []))))
+
+all_below : (a b c d e t l m k : ℕ) → t ≡ (((a + b) + c) + d) + e → a ≤ (16777216 + 8) * l → l ≤ 4 → b ≤ (54962159640 + 8) * 1 → c ≤ (3221225472 + 8) * m → m ≤ 4 → d ≤ (4294967296 + 8) * 1 → e ≤ (4294967296 + 8) * 1 → k ≡ t → 64 + k < 2 ^ 64
+all_below a b c d e t l m k p ha hl hb hc hm hd he q = omega (arith, p, ha, hl, hb, hc, hm, hd, he, q)
+
+below_32 : (n : ℕ) → n < 2 ^ 32 → n ≤ 4294967296
+below_32 n h = omega (arith, h)
+
+pub size_fits : (source : List ℕ) (lines : List Laid) → placed_lines source ≡ Ok lines → length source < 2 ^ 31 → offset_after (parts.parts (object_of lines)) < 2 ^ 64
+size_fits source lines e h =
+    all_below (taken_by (parts.contents (sections lines))) (taken_by (symbols_part (object_of lines) ∷ [])) (taken_by (tables_of lines)) (taken_by (symbol_strings (object_of lines) ∷ [])) (taken_by (section_strings (object_of lines) ∷ []))
+    (taken_by (parts.parts (object_of lines))) (length (parts.contents (sections lines))) (length (tables_of lines)) (length (flat_map padded (parts.parts (object_of lines))))
+    (all_parts lines)
+    (parts_le 16777216 (parts.contents (sections lines)) (contents_short lines (section_whole source lines e))) (subst (λ n. n ≤ 4) (sym (mapped_length content (sections lines))) (few_sections lines))
+    (one_part 54962159640 (symbols_part (object_of lines)) (symbols_short_part source lines e h))
+    (parts_le 3221225472 (tables_of lines) (tables_few lines (few_entries source lines e))) (subst (λ n. n ≤ 4) (sym (mapped_length (table (entries lines)) (relocated (sections lines) (entries lines)))) (few_tables lines))
+    (one_part 4294967296 (symbol_strings (object_of lines)) (below_32 (length (symbol_strings (object_of lines))) (texts_fit source lines e h)))
+    (one_part 4294967296 (section_strings (object_of lines)) (below_32 (length (section_strings (object_of lines))) (names_fit lines)))
+    (flat_length padded (parts.parts (object_of lines)))

@@ -1,0 +1,225 @@
+-- Lists: what stands at a place, sums over the elements, and elements that a test tells apart.
+--     get_below, get_split, get_map      an element at a place
+--     total f xs                         the sum of f over the elements
+--     AreApart t xs                      no element passes the test of one before it
+--     adds t xs x                        the element behind the others, unless one of them passes its test
+use Rattle.std.proofs.Common.{◌≡◌, ℕ, zero, suc, ◌+◌, ◌*◌, ◌<◌, ◌≤◌, Bool, true, false, cond, not, ◌||◌, List, [], ◌∷◌, ◌++◌, map, length, take, drop, Some, slice_get, refl, sym, ap, subst, ◌∙◌, ◌⊎◌, inl, inr, length-append, zero-add, suc-add, arith}
+use Rattle.std.specs.Prelude.{if◌then◌else◌, filter, flat_map, fold, sum_by}
+use Rattle.std.specs.List.{list_any}
+use Rattle.std.proofs.lemmas.Bool.{or_parts, or_left, or_right}
+use Rattle.std.proofs.lemmas.List.Folds.{list_any-append}
+use Rattle.std.proofs.lemmas.List.Sums.{sum_by-cons}
+use Rattle.cell_asm.proofs.Members.{In, In-append, get-In}
+
+-- WHAT STANDS AT A PLACE
+
+next : (k n j : ℕ) → k ≡ n + j → suc k ≡ suc n + j
+next k n j e = omega (arith, e)
+
+below_next : (k n : ℕ) → k < n → suc k < suc n
+below_next k n h = omega (arith, h)
+
+below_first : (n : ℕ) → 0 < suc n
+below_first n = omega arith
+
+from_none : (k : ℕ) → k ≡ 0 + k
+from_none k = omega arith
+
+module _ {X : Type 0} where
+  pub get_below : (xs : List X) (k : ℕ) (x : X) → slice_get xs k ≡ Some x → k < length xs
+  get_below [] k x e = absurd cc
+  get_below (y ∷ ys) zero x e = below_first (length ys)
+  get_below (y ∷ ys) (suc k) x e = below_next k (length ys) (get_below ys k x e)
+
+  -- an element of the first list, or one of the second
+  abbrev pub IsSplit : List X → List X → ℕ → X → Type 0
+  IsSplit xs ys k x = (slice_get xs k ≡ Some x) ⊎ ((j : ℕ) × (k ≡ length xs + j) × (slice_get ys j ≡ Some x))
+
+  split_next : (y : X) (xs ys : List X) (k : ℕ) (x : X) → IsSplit xs ys k x → IsSplit (y ∷ xs) ys (suc k) x
+  split_next y xs ys k x (inl e) = inl e
+  split_next y xs ys k x (inr r) = inr (r.0, next k (length xs) r.0 r.1, r.2)
+
+  pub get_split : (xs ys : List X) (k : ℕ) (x : X) → slice_get (xs ++ ys) k ≡ Some x → IsSplit xs ys k x
+  get_split [] ys k x e = inr (k, from_none k, e)
+  get_split (y ∷ xs) ys zero x e = inl e
+  get_split (y ∷ xs) ys (suc k) x e = split_next y xs ys k x (get_split xs ys k x e)
+
+  -- the first elements, where a whole list stands before
+  pub take_behind : (xs ys : List X) (j : ℕ) → take (length xs + j) (xs ++ ys) ≡ xs ++ take j ys
+  take_behind [] ys j = ap (λ k. take k ys) (zero-add j)
+  take_behind (x ∷ xs) ys j = ap (λ k. take k (x ∷ (xs ++ ys))) (suc-add (length xs) j) ∙ ap (λ zs. x ∷ zs) (take_behind xs ys j)
+
+  pub take_le : (n : ℕ) (xs : List X) → length (take n xs) ≤ length xs
+  take_le zero xs = omega arith
+  take_le (suc n) [] = omega arith
+  take_le (suc n) (x ∷ xs) = let h : length (take n xs) ≤ length xs = take_le n xs in omega (arith, h)
+
+  pub drop_le : (n : ℕ) (xs : List X) → length (drop n xs) ≤ length xs
+  drop_le zero xs = omega arith
+  drop_le (suc n) [] = omega arith
+  drop_le (suc n) (x ∷ xs) = let h : length (drop n xs) ≤ length xs = drop_le n xs in omega (arith, h)
+
+  filter_longer : (b : Bool) (n : ℕ) (x : X) (xs ys : List X) → length ys ≤ length xs → length (cond b (x ∷ ys) ys) ≤ suc (length xs)
+  filter_longer true n x xs ys h = omega (arith, h)
+  filter_longer false n x xs ys h = omega (arith, h)
+
+  pub filter_le : (p : X → Bool) (xs : List X) → length (filter p xs) ≤ length xs
+  filter_le p [] = omega arith
+  filter_le p (x ∷ xs) = filter_longer (p x) 0 x xs (filter p xs) (filter_le p xs)
+
+module _ {X Y : Type 0} where
+  pub get_map : (f : X → Y) (xs : List X) (k : ℕ) (y : Y) → slice_get (map f xs) k ≡ Some y → (x : X) × (slice_get xs k ≡ Some x) × (y ≡ f x)
+  get_map f [] k y e = absurd cc
+  get_map f (x ∷ xs) zero y e = (x, refl, cc)
+  get_map f (x ∷ xs) (suc k) y e = get_map f xs k y e
+
+-- SUMS
+
+-- the sum of f over the elements
+abbrev pub total : {X : Type 0} → (X → ℕ) → List X → ℕ
+total f [] = 0
+total f (x ∷ xs) = f x + total f xs
+
+behind : (a b c d : ℕ) → b ≡ c + d → a + b ≡ (a + c) + d
+behind a b c d e = omega (arith, e)
+
+both_le : (a b c d : ℕ) → a ≤ b → c ≤ d → a + c ≤ b + d
+both_le a b c d h k = omega (arith, h, k)
+
+times_more : (a t c n : ℕ) → a ≤ c → t ≤ c * n → a + t ≤ c * suc n
+times_more a t c n h k = omega (arith, h, k)
+
+none_le : (c : ℕ) → 0 ≤ c * 0
+none_le c = omega arith
+
+module _ {X : Type 0} where
+  pub total-append : (f : X → ℕ) (xs ys : List X) → total f (xs ++ ys) ≡ total f xs + total f ys
+  total-append f [] ys = sym (zero-add (total f ys))
+  total-append f (x ∷ xs) ys = behind (f x) (total f (xs ++ ys)) (total f xs) (total f ys) (total-append f xs ys)
+
+  pub total_le : (f g : X → ℕ) (xs : List X) → ((x : X) → In x xs → f x ≤ g x) → total f xs ≤ total g xs
+  total_le f g [] h = omega arith
+  total_le f g (x ∷ xs) h = both_le (f x) (g x) (total f xs) (total g xs) (h x (inl refl)) (total_le f g xs (λ y k. h y (inr k)))
+
+  pub total_same : (f g : X → ℕ) (xs : List X) → ((x : X) → In x xs → f x ≡ g x) → total f xs ≡ total g xs
+  total_same f g [] h = refl
+  total_same f g (x ∷ xs) h = ap (λ n. n + total f xs) (h x (inl refl)) ∙ ap (λ n. g x + n) (total_same f g xs (λ y k. h y (inr k)))
+
+  pub total_times : (f : X → ℕ) (c : ℕ) (xs : List X) → ((x : X) → In x xs → f x ≤ c) → total f xs ≤ c * length xs
+  total_times f c [] h = none_le c
+  total_times f c (x ∷ xs) h = times_more (f x) (total f xs) c (length xs) (h x (inl refl)) (total_times f c xs (λ y k. h y (inr k)))
+
+  pub sum_is_total : (f : X → ℕ) (xs : List X) → sum_by f xs ≡ total f xs
+  sum_is_total f [] = refl
+  sum_is_total f (x ∷ xs) = sum_by-cons f x xs ∙ ap (λ n. f x + n) (sum_is_total f xs)
+
+module _ {X : Type 0} (f : X → ℕ) (p : X → Bool) where
+  total_by : (b : Bool) (x : X) (ys ns : List X) (n : ℕ) → total f ys + total f ns ≡ n → total f (cond b (x ∷ ys) ys) + total f (cond (not b) (x ∷ ns) ns) ≡ f x + n
+  total_by true x ys ns n e = omega (arith, e)
+  total_by false x ys ns n e = omega (arith, e)
+
+  -- those that pass and those that don't
+  pub total_split : (xs : List X) → total f (filter p xs) + total f (filter (λ x. not (p x)) xs) ≡ total f xs
+  total_split [] = refl
+  total_split (x ∷ xs) = total_by (p x) x (filter p xs) (filter (λ y. not (p y)) xs) (total f xs) (total_split xs)
+
+module _ {X Y : Type 0} where
+  pub flat_length : (g : X → List Y) (xs : List X) → length (flat_map g xs) ≡ total (λ x. length (g x)) xs
+  flat_length g [] = refl
+  flat_length g (x ∷ xs) = length-append (g x) (flat_map g xs) ∙ ap (λ n. length (g x) + n) (flat_length g xs)
+
+  pub total-map : (f : Y → ℕ) (g : X → Y) (xs : List X) → total f (map g xs) ≡ total (λ x. f (g x)) xs
+  total-map f g [] = refl
+  total-map f g (x ∷ xs) = ap (λ n. f (g x) + n) (total-map f g xs)
+
+  pub mapped_length : (g : X → Y) (xs : List X) → length (map g xs) ≡ length xs
+  mapped_length g [] = refl
+  mapped_length g (x ∷ xs) = ap suc (mapped_length g xs)
+
+-- ELEMENTS THAT A TEST TELLS APART
+
+module _ {X : Type 0} (t : X → X → Bool) where
+  -- no element passes the test of one before it
+  abbrev pub AreApart : List X → Type 0
+  AreApart [] = Unit {0}
+  AreApart (x ∷ xs) = ((y : X) → In y xs → t y x ≡ false) × AreApart xs
+
+  pushed : (ys : List X) (x y : X) → ((z : X) → In z ys → t z y ≡ false) → t x y ≡ false → (z : X) → In z (ys ++ x ∷ []) → t z y ≡ false
+  pushed ys x y h e z k = go (In-append ys (x ∷ []) z k)
+    where
+      go : In z ys ⊎ In z (x ∷ []) → t z y ≡ false
+      go (inl i) = h z i
+      go (inr (inl f)) = subst (λ v. t v y ≡ false) (sym f) e
+      go (inr (inr i)) = absurd i
+
+  apart_one : (x : X) → AreApart (x ∷ [])
+  apart_one x = ((λ y k. absurd k), tt)
+
+  apart_push : (xs : List X) (x : X) → AreApart xs → list_any (t x) xs ≡ false → AreApart (xs ++ x ∷ [])
+  apart_push [] x h e = apart_one x
+  apart_push (y ∷ ys) x h e =
+      let p : (t x y ≡ false) × (list_any (t x) ys ≡ false) = or_parts (t x y) (list_any (t x) ys) e in
+      (pushed ys x y h.0 p.0, apart_push ys x h.1 p.1)
+
+  -- the element behind the others, unless one of them passes its test
+  abbrev pub adds : List X → X → List X
+  adds xs x = if list_any (t x) xs then xs else xs ++ x ∷ []
+
+  adds_apart : (xs : List X) (x : X) (b : Bool) → list_any (t x) xs ≡ b → AreApart xs → AreApart (if b then xs else xs ++ x ∷ [])
+  adds_apart xs x true e h = h
+  adds_apart xs x false e h = apart_push xs x h e
+
+  pub fold_apart : (xs more : List X) → AreApart xs → AreApart (fold adds xs more)
+  fold_apart xs [] h = h
+  fold_apart xs (x ∷ more) h = fold_apart (adds xs x) more (adds_apart xs x (list_any (t x) xs) refl h)
+
+  adds_In : (xs : List X) (x y : X) (b : Bool) → In y (if b then xs else xs ++ x ∷ []) → In y xs ⊎ In y (x ∷ [])
+  adds_In xs x y true k = inl k
+  adds_In xs x y false k = In-append xs (x ∷ []) y k
+
+  first_In : (xs more : List X) (x y : X) → In y xs ⊎ In y (x ∷ []) → In y xs ⊎ In y (x ∷ more)
+  first_In xs more x y (inl i) = inl i
+  first_In xs more x y (inr (inl e)) = inr (inl e)
+  first_In xs more x y (inr (inr i)) = absurd i
+
+  rest_In : (xs more : List X) (x y : X) → In y (adds xs x) ⊎ In y more → In y xs ⊎ In y (x ∷ more)
+  rest_In xs more x y (inl i) = first_In xs more x y (adds_In xs x y (list_any (t x) xs) i)
+  rest_In xs more x y (inr i) = inr (inr i)
+
+  pub fold_In : (xs more : List X) (y : X) → In y (fold adds xs more) → In y xs ⊎ In y more
+  fold_In xs [] y k = inl k
+  fold_In xs (x ∷ more) y k = rest_In xs more x y (fold_In (adds xs x) more y k)
+
+  adds_total : (f : X → ℕ) (xs : List X) (x : X) (b : Bool) (a n : ℕ) → a ≤ total f (if b then xs else xs ++ x ∷ []) + n → a ≤ total f xs + (f x + n)
+  adds_total f xs x true a n h = omega (arith, h)
+  adds_total f xs x false a n h = omega (arith, h, total-append f xs (x ∷ []))
+
+  pub fold_total : (f : X → ℕ) (xs more : List X) → total f (fold adds xs more) ≤ total f xs + total f more
+  fold_total f xs [] = omega arith
+  fold_total f xs (x ∷ more) = adds_total f xs x (list_any (t x) xs) (total f (fold adds (adds xs x) more)) (total f more) (fold_total f (adds xs x) more)
+
+  adds_keeps : (xs : List X) (x : X) (p : X → Bool) (b : Bool) → list_any p xs ≡ true → list_any p (if b then xs else xs ++ x ∷ []) ≡ true
+  adds_keeps xs x p true h = h
+  adds_keeps xs x p false h = list_any-append p xs (x ∷ []) ∙ or_left (list_any p xs) (list_any p (x ∷ [])) h
+
+  fold_keeps : (p : X → Bool) (xs more : List X) → list_any p xs ≡ true → list_any p (fold adds xs more) ≡ true
+  fold_keeps p xs [] h = h
+  fold_keeps p xs (x ∷ more) h = fold_keeps p (adds xs x) more (adds_keeps xs x p (list_any (t x) xs) h)
+
+  adds_there : (xs : List X) (x : X) (b : Bool) → t x x ≡ true → list_any (t x) xs ≡ b → list_any (t x) (if b then xs else xs ++ x ∷ []) ≡ true
+  adds_there xs x true same e = e
+  adds_there xs x false same e = list_any-append (t x) xs (x ∷ []) ∙ or_right (list_any (t x) xs) (t x x || false) (or_left (t x x) false same)
+
+  -- each element that is added passes the test of one that is there at the end
+  pub fold_there : ((x : X) → t x x ≡ true) → (xs more : List X) (y : X) → In y more → list_any (t y) (fold adds xs more) ≡ true
+  fold_there same xs [] y k = absurd k
+  fold_there same xs (x ∷ more) y (inl e) =
+      fold_keeps (t y) (adds xs x) more (subst (λ v. list_any (t v) (adds xs x) ≡ true) (sym e) (adds_there xs x (list_any (t x) xs) (same x) refl))
+  fold_there same xs (x ∷ more) y (inr k) = fold_there same (adds xs x) more y k
+
+  -- an element before it doesn't pass the test
+  pub before_fails : (xs : List X) (j : ℕ) (x y : X) → AreApart xs → slice_get xs j ≡ Some x → In y (take j xs) → t x y ≡ false
+  before_fails [] j x y h e k = absurd cc
+  before_fails (z ∷ zs) zero x y h e k = absurd k
+  before_fails (z ∷ zs) (suc j) x y h e (inl f) = subst (λ v. t x v ≡ false) (sym f) (h.0 x (get-In zs j x e))
+  before_fails (z ∷ zs) (suc j) x y h e (inr k) = before_fails zs j x y h.1 e k

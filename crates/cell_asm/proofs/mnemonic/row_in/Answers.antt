@@ -1,0 +1,6 @@
+use Rattle.std.proofs.Common.{◌∙◌, Bor, List, ℕ}
+use Rattle.cell_asm.proofs.Tables.{row_found}
+use Rattle.cell_asm.proofs.mnemonic.row_in.Goals as goal
+
+pub returns : goal.returns
+returns g c = c.find_row.ensures ∙ row_found (λ (row : Bor (List ℕ) × _). (row.0.now, row.1)) c.args.text.now c.args.rows.now
