@@ -8,7 +8,7 @@ use Rattle.cell_object.specs.Bytes.{between}
 use Rattle.cell_object.specs.declared.headers.SectionHeader.{SectionHeader}
 use Rattle.cell_object.specs.Relocations.{rela_row_at, rela_row, entry_place, entry_of, entries_below, entry_rules, pair_rules}
 use Rattle.cell_elf.specs.Cover.{IsSkip}
-use Rattle.cell_elf.proofs.Rounds.{flat_map-between-more}
+use Rattle.cell_object.proofs.Between.{flat_map-between-more}
 use Rattle.cell_elf.proofs.Tables.{passed_over_none, entry_rules_passed}
 use Rattle.cell_elf.proofs.LastPass.{pair_rules_none}
 

@@ -28,7 +28,7 @@ pub record IsFit (file : List ℕ) (h : SectionHeader) (j : ℕ) (s : SymbolRow)
   pub value : is_past_end file (home_of file s) s.st_value ≡ false
   pub name : (is_global s && (not (is_global_name (symbol_name file h s)) || defines (symbols_below file h j) (symbol_name file h s))) ≡ false
 
-fit : (file : List ℕ) (h : SectionHeader) (j : ℕ) → checked (symbol_rules file h j) ≡ Ok tt → IsFit file h j (symbol_row file h j)
+pub fit : (file : List ℕ) (h : SectionHeader) (j : ℕ) → checked (symbol_rules file h j) ≡ Ok tt → IsFit file h j (symbol_row file h j)
 unfolding symbol_rules
 fit file h j e =
     let at = symbol_place h j in

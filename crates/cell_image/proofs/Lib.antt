@@ -1,4 +1,3 @@
-pub mod Between
 pub mod Stored
 pub mod Rows
 pub mod Places
