@@ -26,7 +26,7 @@ use Rattle.cell_asm.specs.Objects as objects
 use Rattle.cell_asm.specs.Objects.{parts_of, part_name, section_of, sections, globals, local_labels, mentions, holds_key, other_names, local_symbol, global_symbol, symbols, entries, object_of}
 use Rattle.cell_asm.specs.Assembled.{placed_lines}
 use Rattle.cell_asm.proofs.PartCounts.{few}
-use Rattle.cell_object.specs.Writable.{IsWhole}
+use Rattle.cell_image.proofs.Ruled.{IsWhole}
 use Rattle.cell_asm_law.proofs.Members.{In, In-append, In-filtered, In-map}
 use Rattle.cell_asm_law.proofs.Tallies.{total, total-append, total_times, flat_length, mapped_length, filter_le, fold_length}
 use Rattle.cell_asm_law.proofs.SectionsFit.{section_whole}

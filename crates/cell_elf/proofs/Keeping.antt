@@ -5,7 +5,7 @@ use Rattle.std.proofs.lemmas.List.{append-nil, take_all, length-take-le}
 use Rattle.cell_object.specs.Reads.{loaded_section}
 use Rattle.cell_object.specs.Header.{section_header}
 use Rattle.cell_object.specs.Sections.{is_alloc}
-use Rattle.cell_elf.specs.Kept.{Adds, IsLike, is_full}
+use Rattle.cell_file.specs.Kept.{Adds, IsLike, is_full}
 
 -- nothing came
 pub adds_none : {T : Type 0} (holds : List T → List T → Type 0) (none : List T) → none ≡ [] → Adds holds holds none

@@ -18,11 +18,11 @@ use Rattle.cell_object.specs.Symbols.{symtab_rules, symbols_rules, symbols_of}
 use Rattle.cell_object.specs.Relocations.{is_rela, is_for_loaded, rela_row, entry_count, entry_of_kind, entry_of, entries_below, relocations_rules, section_entries, entries_of, pairs_rules}
 use Rattle.cell_object.specs.Reads.{broken, loaded_sections, object_of}
 use Rattle.cell_object.specs.Sound.{IsSoundObject}
-use Rattle.cell_elf.specs.declared.fail.ReadFail.{ReadFail}
-use Rattle.cell_elf.specs.Outcome.{Passes}
+use Rattle.cell_file.specs.declared.fail.ReadFail.{ReadFail}
+use Rattle.cell_file.specs.Outcome.{Passes}
 use Rattle.cell_elf.proofs.Loads.{checked-both, not_broken, section_inside}
-use Rattle.cell_elf.proofs.Elements.{length-range}
-use Rattle.cell_elf.proofs.Passing.{gives_object}
+use Rattle.cell_object.proofs.Elements.{length-range}
+use Rattle.cell_file.proofs.Passing.{gives_object}
 use Rattle.cell_elf.proofs.Tables.{section_entries_loaded, section_entries_other}
 use Rattle.cell_elf.proofs.SoundSections.{yes_or_no, in_range, numbers_rise, sections_sound}
 use Rattle.cell_elf.proofs.SoundSymbols.{symbols_sound, names_sound}

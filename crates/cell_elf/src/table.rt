@@ -13,19 +13,15 @@ ghost use Rattle.cell_object.specs.Relocations.{is_rela as rela, is_number, is_f
 ghost use Rattle.cell_object.specs.declared.object.Entry.{Entry};
 ghost use Rattle.cell_elf.specs.Named.{target_of};
 ghost use Rattle.cell_elf.specs.Symbols.{AreSymbols};
-ghost use Rattle.cell_elf.specs.Cover.{IsCover};
-ghost use Rattle.cell_elf.specs.Fields.{field_of, fields_of, field_at, high_at, HoldsHighs};
-ghost use Rattle.cell_elf.specs.Kept.{Adds};
-ghost use Rattle.cell_elf.specs.Outcome.{Passes};
+ghost use Rattle.cell_file.specs.Cover.{IsCover};
+ghost use Rattle.cell_file.specs.Fields.{field_of, fields_of, field_at, high_at, HoldsHighs};
+ghost use Rattle.cell_file.specs.Kept.{Adds};
+ghost use Rattle.cell_file.specs.Outcome.{Passes};
 
-use crate::ReadFail;
-use crate::cover::{Field, Fields};
-use crate::file::{refuse_where, rela_row_at};
-use crate::header::File;
-use crate::keep::Keep;
-use crate::sections::has_flag;
-use crate::skips::{Skips, is_passed_over};
 use crate::symbols::{SymbolTable, Target};
+use cell_file::{
+    Field, Fields, File, Keep, ReadFail, Skips, has_flag, is_passed_over, refuse_where, rela_row_at,
+};
 use cell_num::{RelKind, is_instruction, is_pcrel_hi20, is_stacking, kind_of, width};
 use cell_object::elf::SHF_EXECINSTR;
 use cell_object::{Bind, Entry, Home, RelaRow, SectionHeader};
@@ -242,7 +238,7 @@ impl<'a> Table<'a> {
     }
 
     /// Tries the rules of an entry whose kind asks for something, and gives it.
-    #[tactic(auto, using(crate::proofs::Passing::passing), unfolding(cell_object::specs::Relocations::field_rules))]
+    #[tactic(auto, using(cell_file::proofs::Passing::passing), unfolding(cell_object::specs::Relocations::field_rules))]
     fn entry(
         &self,
         fields: &mut Fields,
@@ -312,7 +308,7 @@ impl<'a> Table<'a> {
     }
 
     /// Tries the rules of the entries, in order, and keeps those whose kind asks for something.
-    #[tactic(auto, using(crate::proofs::Rounds::rounds, crate::proofs::FieldLemmas::cover_none))]
+    #[tactic(auto, using(cell_file::proofs::Rounds::rounds, crate::proofs::FieldLemmas::cover_none))]
     pub fn pass_entries<K: Keep<Entry>>(
         &self,
         entries: &mut K,

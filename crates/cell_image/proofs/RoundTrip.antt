@@ -1,4 +1,4 @@
--- What can be written is read again.
+-- What keeps the rules is read again.
 use Rattle.std.proofs.Common.{◌≡◌, ℕ, suc, ◌+◌, ◌-◌, ◌^◌, ◌<◌, true, false, true≢false, List, [], ◌∷◌, ◌++◌, length, take, drop, get_or, sym, ap, subst, ◌∙◌, refl, arith, map, lit<, pos}
 use Rattle.std.specs.Prelude.{◌==◌, Ok}
 use Rattle.std.specs.Int.{w64}
@@ -25,7 +25,7 @@ use Rattle.cell_object.specs.Strings.{string_table, name_place}
 use Rattle.cell_object.specs.Rows.{kind_number}
 use Rattle.cell_object.specs.ImageParts.{filled, symbol_strings, entries_for}
 use Rattle.cell_object.specs.Image.{fill_type, image}
-use Rattle.cell_object.specs.Writable.{IsWhole, IsWritableSection, IsWritableHome, IsWritableSymbol, IsWritable}
+use Rattle.cell_image.proofs.Ruled.{IsWhole, IsWritableSection, IsWritableHome, IsWritableSymbol, IsRuled}
 use Rattle.cell_image.proofs.Places.{split_at}
 use Rattle.cell_image.proofs.OwnSections.{IsPlainSection, sections_are_read}
 use Rattle.cell_image.proofs.HeaderRules.{header_rules_hold}
@@ -111,7 +111,7 @@ few_kinds Set16 = lit< tt
 few_kinds Set32 = lit< tt
 few_kinds Pcrel32 = lit< tt
 
-module _ (object : Object) (w : IsWritable object) where
+module _ (object : Object) (w : IsRuled object) where
   own : (k : ℕ) → k < length object.sections → IsWritableSection (k + 1) (get_or object.sections k no_section)
   own k lt = w.sections k (get_or object.sections k no_section) (slice_get-get_or object.sections k no_section lt)
 

@@ -1,6 +1,6 @@
 use Rattle.std.proofs.Common.{[], ◌∙◌, Ok}
 use Rattle.cell_object.specs.Reads.{broken, object_of}
-use Rattle.cell_elf.proofs.Passing.{gives_object}
+use Rattle.cell_file.proofs.Passing.{gives_object}
 use Rattle.cell_elf.proofs.Soundness.{parts_same, result_sound, result_few}
 use Rattle.cell_elf.proofs.reading.read_object.Goals as goal
 

@@ -3,7 +3,7 @@ use Rattle.cell_object.specs.Bytes.{checked}
 use Rattle.cell_object.specs.Relocations.{section_entries, relocation_rules, section_pairs}
 use Rattle.cell_object.proofs.Between.{flat_map-between-none, flat_map-between-more}
 use Rattle.cell_elf.proofs.Keeping.{adds_none, adds_more}
-use Rattle.cell_elf.proofs.Rounds.{round_passes}
+use Rattle.cell_file.proofs.Rounds.{round_passes}
 use Rattle.cell_elf.proofs.Tables.{contains_none, is_relocated_below-none}
 use Rattle.cell_elf.proofs.relocations.read_relocations.Goals as goal
 

@@ -5,7 +5,7 @@ use Rattle.cell_object.specs.Reads.{loaded_section}
 use Rattle.cell_object.proofs.Between.{flat_map-between-none, flat_map-between-more}
 use Rattle.cell_elf.proofs.Keeping.{adds_none, adds_more}
 use Rattle.cell_elf.proofs.Loads.{symtab_below-none}
-use Rattle.cell_elf.proofs.Rounds.{round_passes}
+use Rattle.cell_file.proofs.Rounds.{round_passes}
 use Rattle.cell_elf.proofs.sections.read_sections.Goals as goal
 
 pub loop-number-init : goal.loop-number-init

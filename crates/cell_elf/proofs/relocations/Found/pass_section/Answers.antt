@@ -7,7 +7,7 @@ use Rattle.cell_object.specs.Bytes.{Broken, checked}
 use Rattle.cell_object.specs.Header.{section_header}
 use Rattle.cell_object.specs.Sections.{is_alloc}
 use Rattle.cell_object.specs.Relocations.{is_rela, is_for_loaded}
-use Rattle.cell_elf.specs.Outcome.{Passes}
+use Rattle.cell_file.specs.Outcome.{Passes}
 use Rattle.cell_elf.proofs.Tables.{relocated_more, on_ok}
 use Rattle.cell_elf.proofs.LastPass.{pairs_added, table_pairs, unrelated, unloaded}
 use Rattle.cell_elf.proofs.Keeping.{adds_none}

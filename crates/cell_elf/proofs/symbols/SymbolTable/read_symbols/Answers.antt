@@ -4,7 +4,7 @@ use Rattle.cell_object.specs.Bytes.{checked}
 use Rattle.cell_object.specs.Symbols.{symbol_of, symbol_rules, symbols_below, defines}
 use Rattle.cell_object.proofs.Between.{between-end, flat_map-between-none}
 use Rattle.cell_elf.proofs.Keeping.{adds_none, adds_more}
-use Rattle.cell_elf.proofs.Rounds.{round_passes}
+use Rattle.cell_file.proofs.Rounds.{round_passes}
 use Rattle.cell_elf.proofs.Tables.{map-between-more, map-between-none}
 use Rattle.cell_elf.proofs.symbols.SymbolTable.read_symbols.Goals as goal
 

@@ -2,8 +2,8 @@ use Rattle.std.proofs.Common.{List, ℕ, ◌≡◌, ◌<◌, Ok}
 use Rattle.std.specs.List.{flat_map}
 use Rattle.cell_object.specs.Bytes.{checked, between}
 use Rattle.cell_object.specs.Symbols.{symbol_rules, symbols_below, defines}
-use Rattle.cell_elf.specs.Kept.{Adds}
-use Rattle.cell_elf.specs.Names.{is_named}
+use Rattle.cell_file.specs.Kept.{Adds}
+use Rattle.cell_file.specs.Names.{is_named}
 use Rattle.cell_elf.proofs.symbols.SymbolTable.read_symbols.Given as goal
 
 abbrev pub invariant-loop-number : goal.invariant-loop-number

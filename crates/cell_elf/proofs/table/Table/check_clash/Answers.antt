@@ -1,7 +1,7 @@
 use Rattle.std.proofs.Common.{◌≡◌, false, refl}
 use Rattle.std.specs.List.{list_any}
 use Rattle.cell_object.specs.Relocations.{is_clash, entries_below}
-use Rattle.cell_elf.specs.Fields.{field_at}
+use Rattle.cell_file.specs.Fields.{field_at}
 use Rattle.cell_elf.proofs.FieldLemmas.{entry_hit, entry_free, entry_kept}
 use Rattle.cell_elf.proofs.table.Table.check_clash.Goals as goal
 

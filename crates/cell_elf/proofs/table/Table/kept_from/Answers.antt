@@ -1,5 +1,5 @@
 use Rattle.std.proofs.Common.{List, ℕ, subst, arith}
-use Rattle.cell_elf.specs.Cover.{IsSkip}
+use Rattle.cell_file.specs.Cover.{IsSkip}
 use Rattle.cell_elf.proofs.Skipping.{skips_rows}
 use Rattle.cell_elf.proofs.table.Table.kept_from.Goals as goal
 

@@ -2,10 +2,10 @@ use Rattle.std.proofs.Common.{◌≡◌, ◌+◌, ◌≤◌, ◌++◌, [], ap, r
 use Rattle.cell_object.specs.Bytes.{checked}
 use Rattle.cell_object.specs.Relocations.{entry_rules, entry_of, entries_below}
 use Rattle.cell_object.proofs.Between.{flat_map-between-more, flat_map-between-none}
-use Rattle.cell_elf.proofs.Rounds.{round_passes}
+use Rattle.cell_file.proofs.Rounds.{round_passes}
 use Rattle.cell_elf.proofs.FieldLemmas.{cover_none}
 use Rattle.cell_elf.proofs.Keeping.{adds_none, adds_more}
-use Rattle.cell_elf.specs.Fields.{field_at}
+use Rattle.cell_file.specs.Fields.{field_at}
 use Rattle.cell_elf.proofs.Skipping.{rules_skipped, entries_skipped}
 use Rattle.cell_elf.proofs.table.Table.pass_entries.Goals as goal
 

@@ -2,9 +2,9 @@ use Rattle.std.proofs.Common.{◌≡◌, ◌≤◌, ◌-◌, length, Ok}
 use Rattle.std.specs.List.{flat_map}
 use Rattle.cell_object.specs.Bytes.{checked, between}
 use Rattle.cell_object.specs.Relocations.{entry_rules, entries_below, entry_count}
-use Rattle.cell_elf.specs.Kept.{Adds}
-use Rattle.cell_elf.specs.Cover.{IsCover}
-use Rattle.cell_elf.specs.Fields.{fields_of, field_at, HoldsHighs}
+use Rattle.cell_file.specs.Kept.{Adds}
+use Rattle.cell_file.specs.Cover.{IsCover}
+use Rattle.cell_file.specs.Fields.{fields_of, field_at, HoldsHighs}
 use Rattle.cell_elf.proofs.table.Table.pass_entries.Given as goal
 
 abbrev pub invariant-loop-number : goal.invariant-loop-number
