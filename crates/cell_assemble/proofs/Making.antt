@@ -8,6 +8,7 @@ use Rattle.cell_asm.specs.Assembled.{assembled}
 use Rattle.cell_asm_law.proofs.AssembledFits.{assembled_fits}
 use Rattle.cell_object.specs.Image.{image}
 use Rattle.cell_image.proofs.RoundTrip.{read_again}
+use Rattle.cell_image.proofs.SoundRules.{ruled}
 use Rattle.cell_assemble.specs.declared.make.Stop.{Stop}
 use Rattle.cell_assemble.specs.Gives.{Stops, Gives}
 use Rattle.cell_assemble.specs.Assembling.{listing, within_limit, source_in, object_of, object_in}
@@ -33,4 +34,4 @@ then_made view r source files text e g = gives_same view r _ _ (goes_on text (so
 
 -- what a source is assembled to can be written, so its image is read as the object again
 pub assembled_is_read : (source : List ℕ) (o : Object) → assembled source ≡ Ok o → length source ≤ 1048576 → reads (image o) ≡ Ok o
-assembled_is_read source o e short = read_again o (assembled_fits source o e short)
+assembled_is_read source o e short = read_again o (ruled o (assembled_fits source o e short))

@@ -23,7 +23,7 @@ use cell_file::{
     Field, Fields, File, Keep, ReadFail, Skips, has_flag, is_passed_over, refuse_where, rela_row_at,
 };
 use cell_num::{RelKind, is_instruction, is_pcrel_hi20, is_stacking, kind_of, width};
-use cell_object::elf::SHF_EXECINSTR;
+use cell_object::elf::{ROW_LEN, SHF_EXECINSTR};
 use cell_object::{Bind, Entry, Home, RelaRow, SectionHeader};
 
 /// Tries the rule of an entry's field, after which it begins in the section.
@@ -124,7 +124,7 @@ impl<'a> Table<'a> {
     pub fn count(&self) -> u64
         ensures { result ≡ entry_count self.now.header }
     {
-        self.header.sh_size / 24
+        self.header.sh_size / ROW_LEN
     }
 
     /// Where an entry stands.
@@ -135,7 +135,7 @@ impl<'a> Table<'a> {
         ensures small { result < 2 ^ 63 }
     {
         let _len = self.file.bytes.len();
-        self.header.sh_offset + 24 * number
+        self.header.sh_offset + ROW_LEN * number
     }
 
     /// The fields of an entry.

@@ -104,7 +104,7 @@ fn finished(mut file: Vec<u8>, headers: &[u8], shstrndx: u64) -> Result<Vec<u8>,
 {
     let directory = Directory {
         shoff: file.len() as u64,
-        shnum: headers.len() as u64 / HEADER_LEN as u64,
+        shnum: headers.len() as u64 / HEADER_LEN,
         shstrndx,
     };
     let mut header = Vec::new(*file.allocator());

@@ -2,7 +2,7 @@
 
 ghost use Rattle.std.specs.Prelude.{◌≡◌, ◌+◌, ◌*◌, ◌≤◌, ◌<◌, ◌^◌, length, IfOk, Ok};
 ghost use Rattle.cell_object.specs.Bytes.{checked};
-ghost use Rattle.cell_object.specs.Header.{file_header as header_of, header_rules, section_header, rule_2, rule_3, rule_5, rule_7};
+ghost use Rattle.cell_object.specs.Header.{file_header as header_of, section_place, header_rules, section_header, rule_2, rule_3, rule_5, rule_7};
 ghost use Rattle.cell_object.specs.Sections.{section_names, section_bytes};
 ghost use Rattle.cell_file.specs.Outcome.{Passes};
 
@@ -40,7 +40,7 @@ impl<'a> File<'a> {
         ensures same { IfOk result (λ file. file.bytes.now ≡ whole.now) }
     {
         let bytes = whole.as_slice();
-        if bytes.len() < 64 {
+        if (bytes.len() as u64) < HEADER_LEN {
             return Err(ReadFail::BadObject {
                 rule: 1,
                 at: bytes.len() as u64,
@@ -51,7 +51,11 @@ impl<'a> File<'a> {
         check_kind(&header)?;
         refuse_where(header.e_flags != 0, 4, 48)?;
         check_counts(&header)?;
-        if !ends_within(header.e_shoff, 64 * u64::from(header.e_shnum), bytes.len()) {
+        if !ends_within(
+            header.e_shoff,
+            HEADER_LEN * u64::from(header.e_shnum),
+            bytes.len(),
+        ) {
             return Err(ReadFail::BadObject { rule: 6, at: 40 });
         }
         let names = section_names(whole, &header)?;
@@ -63,15 +67,22 @@ impl<'a> File<'a> {
         })
     }
 
+    /// Where the header of a section stands.
+    pub fn place(&self, number: u16) -> u64
+        requires { number < self.now.header.e_shnum }
+        ensures place { result ≡ section_place self.now.bytes.now number }
+        ensures inside { result + 64 ≤ length self.now.bytes.now }
+        ensures low { result < 2 ^ 63 }
+    {
+        self.header.e_shoff + HEADER_LEN * u64::from(number)
+    }
+
     /// The header of a section.
     pub fn section(&self, number: u16) -> SectionHeader
         requires { number < self.now.header.e_shnum }
         ensures { result ≡ section_header self.now.bytes.now number }
     {
-        section_header_at(
-            self.bytes,
-            self.header.e_shoff as usize + 64 * number as usize,
-        )
+        section_header_at(self.bytes, self.place(number) as usize)
     }
 
     /// The bytes of a section, of which none is copied.
@@ -124,7 +135,7 @@ fn check_counts(header: &FileHeader) -> Result<(), ReadFail>
     ensures { Passes result (checked (rule_5 header.now)) }
 {
     refuse_where(header.e_phnum != 0, 5, 56)?;
-    refuse_where(header.e_shentsize != HEADER_LEN, 5, 58)?;
+    refuse_where(u64::from(header.e_shentsize) != HEADER_LEN, 5, 58)?;
     refuse_where(header.e_shnum == 0 || header.e_shnum > LAST_NUMBER, 5, 60)
 }
 
@@ -141,7 +152,10 @@ fn section_names<'a>(whole: &'a Shared, header: &FileHeader) -> Result<Strings<'
     if number == 0 || number >= header.e_shnum {
         return Err(ReadFail::BadObject { rule: 7, at: 62 });
     }
-    let names = section_header_at(bytes, header.e_shoff as usize + 64 * number as usize);
+    let names = section_header_at(
+        bytes,
+        (header.e_shoff + HEADER_LEN * u64::from(number)) as usize,
+    );
     if names.sh_type != SHT_STRTAB || !ends_within(names.sh_offset, names.sh_size, bytes.len()) {
         return Err(ReadFail::BadObject { rule: 7, at: 62 });
     }

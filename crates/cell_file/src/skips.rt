@@ -7,6 +7,7 @@ ghost use Rattle.cell_file.specs.Outcome.{Passes};
 
 use crate::ReadFail;
 use crate::file::rela_row_at;
+use cell_object::elf::ROW_LEN;
 use std::alloc::{AllocError, Global};
 
 const NONE: u32 = 0;
@@ -56,7 +57,7 @@ fn count_at(bytes: &[u8], counts: &mut [u32], at: usize)
     ensures { (q : ℕ) → IsSkip bytes.now q (get_or counts.new q 0) }
 {
     if is_passed_over(rela_row_at(bytes, at).r_type) {
-        counts[at] = count_of(counts, at + 24).saturating_add(1);
+        counts[at] = count_of(counts, at + ROW_LEN as usize).saturating_add(1);
     }
 }
 
@@ -67,7 +68,7 @@ fn count(bytes: &[u8], counts: &mut [u32])
     ensures { (q : ℕ) → IsSkip bytes.now q (get_or counts.new q 0) }
 {
     for at in (0..counts.len()).rev() {
-        if bytes.len() - at >= 24 {
+        if bytes.len() - at >= ROW_LEN as usize {
             count_at(bytes, counts, at);
         }
     }

@@ -8,9 +8,7 @@ ghost use Rattle.cell_file.specs.Outcome.{Passes};
 
 use crate::ReadFail;
 use cell_bytes::{Bytes, Shared};
-
-/// The longest name that a GLOBAL may have.
-const LONGEST: usize = 1024;
+use cell_object::elf::LONGEST_NAME;
 
 fn first_zero(bytes: &[u8]) -> Option<usize>
     ensures { result ≡ position is_zero bytes.now }
@@ -97,7 +95,7 @@ fn short(rest: &[u8]) -> Option<&[u8]>
     ensures short { IfSome result (λ name. name.now ≡ before_first is_zero rest.now) }
     ensures long { IsNone result → 1024 < length (before_first is_zero rest.now) }
 {
-    let seen = &rest[..rest.len().min(LONGEST + 1)];
+    let seen = &rest[..rest.len().min(LONGEST_NAME + 1)];
     match first_zero(seen) {
         Some(len) => Some(&seen[..len]),
         None => None,
