@@ -20,6 +20,10 @@ mod holding;
 #[cfg(test)]
 mod layouts;
 #[cfg(test)]
+mod limits;
+#[cfg(test)]
+mod many;
+#[cfg(test)]
 mod objects;
 #[cfg(test)]
 mod places;
