@@ -31,12 +31,14 @@ lines_ruled source lines read kept h = record {
   symbols = symbols_fit source lines read;
   storable = entry_storable source lines read (below_32 (length (symbols lines)) (few_symbols source lines read h));
   entries = entry_writable source lines read kept;
-  grouped = entries_grouped source lines read;
-  headers = headers_fit lines;
-  locals = locals_fit source lines read h;
-  texts = texts_fit source lines read h;
-  names = names_fit lines;
-  size = size_fits source lines read h;
+  fits = record {
+    grouped = entries_grouped source lines read;
+    headers = headers_fit lines;
+    locals = locals_fit source lines read h;
+    texts = texts_fit source lines read h;
+    names = names_fit lines;
+    size = size_fits source lines read h;
+  };
 }
 
 bare_of : (f : Fill) (bytes : List ℕ) (size : ℕ) → IsWhole f bytes size → f ≡ Zero → bytes ≡ []
@@ -53,12 +55,7 @@ writable object r =
       sections = λ k s e. let h = r.sections k s e in record { numbered = h.numbered; name = h.name; bare = bare_of s.fill s.bytes s.size h.whole };
       symbols = λ k s e. let h = r.symbols k s e in record { name = h.name; first = h.first; last = h.last; filed = h.filed; value = h.value; size = h.size };
       entries = λ k e at. let h = r.storable k e at in record { offset = h.offset; symbol = h.symbol; addend = h.addend };
-      grouped = r.grouped;
-      headers = r.headers;
-      locals = r.locals;
-      texts = r.texts;
-      names = r.names;
-      size = r.size;
+      fits = r.fits;
     }
 
 pub assembled_fits : (source : List ℕ) (o : Object) → assembled source ≡ Ok o → length source ≤ 1048576 → IsWritable o

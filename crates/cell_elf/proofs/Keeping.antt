@@ -16,10 +16,6 @@ pub adds_more : {T : Type 0} (old here new : List T → List T → Type 0) (firs
 adds_more {T = T} old here new first more all e one two aim before h =
     subst (new aim) (append_assoc before first more ∙ sym (ap (λ (xs : List T). before ++ xs) e)) (two aim (before ++ first) (one aim before h))
 
--- the same items
-pub adds_same : {T : Type 0} (old new : List T → List T → Type 0) (items same : List T) → same ≡ items → Adds old new items → Adds old new same
-adds_same {T = T} old new items same e h = subst (λ (xs : List T). Adds old new xs) (sym e) h
-
 -- the items that came are the list exactly where each was as in it and as many came
 pub whole_is : {T : Type 0} (list : List T) (same : Option ℕ) (given : List T) → IsLike list same given → is_full list same ≡ true → given ≡ list
 whole_is list None given h e = absurd cc

@@ -43,9 +43,3 @@ pub tells_whole : (rules : List Broken) (object other : Object) (ss : List Secti
 tells_whole rules object other ss ys es x y z whole passed e s t u =
     let same : whole ≡ (is_full object.sections x && is_full object.symbols y && is_full object.entries z) = e ∙ rw (s.0, t.0, u.0) refl in
     subst (λ (b : Bool). Tells object (Ok b) (object_unless rules other)) (sym same) (tells_object rules object other x y z passed s.1 t.1 u.1)
-
--- where one is broken
-pub tells_failed : (e : ReadFail) (rules : List Broken) (object other : Object) → Fails e (checked rules) → Fails e (object_unless rules other)
-tells_failed (BadObject rule at) [] object other h = absurd cc
-tells_failed (BadObject rule at) (b ∷ bs) object other h = cc
-tells_failed OutOfMemory rules object other h = tt

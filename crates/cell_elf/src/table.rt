@@ -1,16 +1,13 @@
 //! Relocations for one loaded section: the rules of the entries, and what an object has of them.
 
-ghost use Rattle.std.specs.Prelude.{◌≡◌, ℕ, ◌+◌, ◌*◌, ◌/◌, ◌≤◌, ◌<◌, ◌^◌, length, IfOk, OnOk, Ok, true, false, List, ◌++◌, ◌∷◌, None, ◌||◌, ◌==◌, ◌&&◌, [], ◌-◌, option_map, slice_get};
+ghost use Rattle.std.specs.Prelude.{◌≡◌, ℕ, ◌+◌, ◌≤◌, ◌<◌, ◌^◌, length, IfOk, OnOk, Ok, true, false, ◌++◌, ◌∷◌, None, [], ◌-◌, option_map, slice_get};
 ghost use Rattle.std.specs.List.{flat_map};
-ghost use Rattle.std.specs.Ordering.{nat_cmp};
-ghost use Rattle.std.specs.BTreeSet.{contains};
-ghost use Rattle.cell_object.specs.Bytes.{Broken, checked, between};
+ghost use Rattle.cell_object.specs.Bytes.{checked, between};
 ghost use Rattle.cell_object.specs.Header.{section_header};
 ghost use Rattle.cell_object.specs.Sections.{sections_rules};
 ghost use Rattle.cell_object.specs.Symbols.{symtab as symtab_of, symbols_of};
 ghost use Rattle.cell_num.specs.Kinds.{is_passed_over as passed_over};
-ghost use Rattle.cell_object.specs.Relocations.{is_rela as rela, is_number, is_for_loaded, rule_19, is_relocated_below, entry_count, entry_place, rela_row, entry_from, entry_of, entries_below, entries_of, field_rules, is_unusable as unusable, rule_21, rule_22, rule_23, entry_rules, pair_rules, section_pairs, pairs_rules, relocation_rules, section_entries, relocations_rules, symbol_total as symbol_total_of};
-ghost use Rattle.cell_object.specs.declared.object.Entry.{Entry};
+ghost use Rattle.cell_object.specs.Relocations.{is_rela as rela, is_for_loaded, entry_count, entry_place, rela_row, entry_from, entry_of, entries_below, field_rules, is_unusable as unusable, rule_21, rule_22, rule_23, entry_rules, symbol_total as symbol_total_of};
 ghost use Rattle.cell_elf.specs.Named.{target_of};
 ghost use Rattle.cell_elf.specs.Symbols.{AreSymbols};
 ghost use Rattle.cell_file.specs.Cover.{IsCover};

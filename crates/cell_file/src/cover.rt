@@ -1,6 +1,6 @@
 //! The fields that stand in a section, by where they begin.
 
-ghost use Rattle.std.specs.Prelude.{◌≡◌, ℕ, ◌+◌, ◌<◌, ◌≤◌, ◌^◌, ◌||◌, ◌&&◌, ◌==◌, true, false, None, Some, Ok, IfOk, OnOk, length, get_or};
+ghost use Rattle.std.specs.Prelude.{◌≡◌, ℕ, ◌+◌, ◌<◌, ◌≤◌, ◌^◌, ◌||◌, ◌&&◌, ◌==◌, true, false, None, Some, Ok, OnOk, length, get_or};
 ghost use Rattle.cell_file.specs.Cover.{clash as clash_of, hits as hits_of, field_of_mark, no_mark};
 ghost use Rattle.cell_file.specs.Outcome.{Passes};
 

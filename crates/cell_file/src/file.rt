@@ -1,6 +1,6 @@
 //! Numbers, headers and names at places of a file.
 
-ghost use Rattle.std.specs.Prelude.{◌≡◌, ◌+◌, ◌≤◌, ◌<◌, length, nat_le};
+ghost use Rattle.std.specs.Prelude.{◌≡◌, ◌+◌, ◌≤◌, length, nat_le};
 ghost use Rattle.cell_object.specs.Bytes.{number_at, broken_where, checked};
 ghost use Rattle.cell_object.specs.Header.{file_header, section_header_at};
 ghost use Rattle.cell_object.specs.Sections.{has_flag as flag_of, is_alloc as alloc_of};

@@ -8,7 +8,8 @@ use std::alloc::AllocError;
 
 /// Something that is given items, one after the other.
 pub trait Keep<T> {
-    /// The second items are those that were given, of those that were aimed at.
+    /// The items of the second list were given; the first is the list that they are compared with, where
+    /// they are.
     ghost holds: { Self → List T → List T → Type 0 };
 
     fn keep(&mut self, item: T) -> Result<(), AllocError>

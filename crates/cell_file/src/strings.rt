@@ -1,6 +1,6 @@
 //! String tables.
 
-ghost use Rattle.std.specs.Prelude.{◌≡◌, ◌==◌, ◌+◌, ◌≤◌, ◌<◌, length, take, IfOk, IfSome, IsNone, Ok, Some, is_some, unwrap_or, true, [], slice_range, position, ◌^◌};
+ghost use Rattle.std.specs.Prelude.{◌≡◌, ◌+◌, ◌≤◌, ◌<◌, length, IfOk, IfSome, IsNone, Ok, Some, is_some, unwrap_or, true, [], slice_range, position, ◌^◌};
 ghost use Rattle.std.specs.List.{before_first, position_or_len};
 ghost use Rattle.cell_object.specs.Bytes.{is_zero, string_at as string_of};
 ghost use Rattle.cell_file.specs.Ends.{last_end as end_of};

@@ -54,10 +54,5 @@ pointer_writable = record {
   sections = only IsStorableSection constants section_is;
   symbols = both (IsStorableSymbol pointer) defined wanted defined_is wanted_is;
   entries = only (λ k e. IsStorableEntry e) place (record { offset = lit< tt; symbol = lit< tt; addend = sfits_lit tt });
-  grouped = refl;
-  headers = lit< tt;
-  locals = lit< tt;
-  texts = lit< tt;
-  names = lit< tt;
-  size = lit< tt;
+  fits = record { grouped = refl; headers = lit< tt; locals = lit< tt; texts = lit< tt; names = lit< tt; size = lit< tt };
 }

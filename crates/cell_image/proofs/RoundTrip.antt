@@ -117,10 +117,10 @@ module _ (object : Object) (w : IsRuled object) where
 
   small : IsSmall object no_section
   small = record {
-    headers = w.headers;
-    locals = w.locals;
-    names = w.names;
-    size = w.size;
+    headers = w.fits.headers;
+    locals = w.fits.locals;
+    names = w.fits.names;
+    size = w.fits.size;
     sections = λ k lt. let h = own k lt in (h.small, h.most);
   }
 
@@ -152,7 +152,7 @@ module _ (object : Object) (w : IsRuled object) where
       ap (map (λ x. x.name)) (split_at object.symbols k no_symbol lt) ∙ map-append (λ x. x.name) (take k object.symbols) (s ∷ drop (suc k) object.symbols) in
       let inside = name_inside (names_before object k) after s.name in
       let all : length (symbol_strings object) ≡ length (string_table (names_before object k ++ (s.name ∷ after))) = ap (λ v. length (string_table v)) names in
-      omega (arith, inside, all, w.texts)
+      omega (arith, inside, all, w.fits.texts)
 
   all_symbols : AreSymbols object no_symbol no_section
   all_symbols = record {
@@ -201,12 +201,12 @@ module _ (object : Object) (w : IsRuled object) where
   read_again =
       let f = image_fits object no_section small in
       let sections = sections_are_read object no_section f plain_sections in
-      let symbols = symbols_are_read object no_symbol no_section f w.headers all_symbols.plain place_fits in
-      let entries = entries_are_read object no_section no_entry f plain_entries w.grouped in
+      let symbols = symbols_are_read object no_symbol no_section f w.fits.headers all_symbols.plain place_fits in
+      let entries = entries_are_read object no_section no_entry f plain_entries w.fits.grouped in
       let none : broken (image object) ≡ [] = λ i.
-      header_rules_hold object f w.headers i
+      header_rules_hold object f w.fits.headers i
       ++ (sections_rules_hold object no_section f plain_sections sound_sections i
       ++ (table_rules_hold object no_section f i
-      ++ (symbols_rules_hold object no_symbol no_section f w.headers all_symbols i
+      ++ (symbols_rules_hold object no_symbol no_section f w.fits.headers all_symbols i
       ++ (relocations_rules_hold object no_section no_entry f symbols all_entries i ++ pairs_rules_hold object no_section no_entry f symbols all_entries i)))) in
       λ i. object_unless (none i) (record { sections = sections i; symbols = symbols i; entries = entries i })

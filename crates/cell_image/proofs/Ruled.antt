@@ -22,7 +22,7 @@ use Rattle.cell_object.specs.declared.object.Fill.{Fill}
 use Rattle.cell_object.specs.declared.object.Fill.TheVariants.{Prog, Note, Zero}
 use Rattle.cell_object.specs.ImageParts.{entries_for, symbol_strings, section_strings, parts, offset_after}
 use Rattle.cell_object.specs.Image.{local_count, section_rows}
-use Rattle.cell_object.specs.Writable.{IsPlain, is_file}
+use Rattle.cell_object.specs.Writable.{IsPlain, is_file, FitsImage}
 
 -- as many bytes as the size says, or none where the section is filled with zeros
 abbrev pub IsWhole : Fill → List ℕ → ℕ → Type 0
@@ -97,11 +97,4 @@ pub record IsRuled (object : Object) : Type 0 where
   pub storable : (k : ℕ) (e : Entry) → slice_get object.entries k ≡ Some e → IsStorable e
   pub entries : (n : ℕ) (s : Section) → slice_get object.sections n ≡ Some s → (k : ℕ) (e : Entry) → slice_get (entries_for object.entries (n + 1)) k ≡ Some e
       → IsWritableEntry object s (take k (entries_for object.entries (n + 1))) (entries_for object.entries (n + 1)) e
-  -- the entries stand by sections, in the order of the sections
-  pub grouped : object.entries ≡ flat_map (λ row. entries_for object.entries row.0) (numbered_from 1 object.sections)
-  -- there aren't too many headers, and the tables and the file aren't too large
-  pub headers : length (section_rows object) < 65280
-  pub locals : local_count object + 1 < 2 ^ 32
-  pub texts : length (symbol_strings object) < 2 ^ 32
-  pub names : length (section_strings object) < 2 ^ 32
-  pub size : offset_after (parts object) < 2 ^ 64
+  pub fits : FitsImage object

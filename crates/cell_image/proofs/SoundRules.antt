@@ -399,10 +399,5 @@ module _ (object : Object) (w : IsWritable object) where
         let st = w.entries k e at in
         record { kind = (and_parts (is_known_kind e.kind) _ (and_parts _ _ (and_parts _ _ (all-In (is_sound_entry object) object.entries w.sound.entries e (slice_get-In object.entries k e at))).0).0).0; offset = st.offset; symbol = st.symbol; addend = st.addend };
     entries = entry_ruled;
-    grouped = w.grouped;
-    headers = w.headers;
-    locals = w.locals;
-    texts = w.texts;
-    names = w.names;
-    size = w.size;
+    fits = w.fits;
   }

@@ -50,16 +50,19 @@ pub record IsStorableEntry (e : Entry) : Type 0 where
   pub symbol : e.symbol < 2 ^ 32
   pub addend : FitsSigned w64 e.addend
 
-pub record IsWritable (object : Object) : Type 0 where
-  pub sound : IsSoundObject object
-  pub sections : (k : ℕ) (s : Section) → slice_get object.sections k ≡ Some s → IsStorableSection k s
-  pub symbols : (k : ℕ) (s : Symbol) → slice_get object.symbols k ≡ Some s → IsStorableSymbol object k s
-  pub entries : (k : ℕ) (e : Entry) → slice_get object.entries k ≡ Some e → IsStorableEntry e
+-- the parts of the image are in order, and none is too large
+pub record FitsImage (object : Object) : Type 0 where
   -- the entries stand by sections, in the order of the sections
   pub grouped : object.entries ≡ flat_map (λ row. entries_for object.entries row.0) (numbered_from 1 object.sections)
-  -- there aren't too many headers, and the tables and the file aren't too large
   pub headers : length (section_rows object) < 65280
   pub locals : local_count object + 1 < 2 ^ 32
   pub texts : length (symbol_strings object) < 2 ^ 32
   pub names : length (section_strings object) < 2 ^ 32
   pub size : offset_after (parts object) < 2 ^ 64
+
+pub record IsWritable (object : Object) : Type 0 where
+  pub sound : IsSoundObject object
+  pub sections : (k : ℕ) (s : Section) → slice_get object.sections k ≡ Some s → IsStorableSection k s
+  pub symbols : (k : ℕ) (s : Symbol) → slice_get object.symbols k ≡ Some s → IsStorableSymbol object k s
+  pub entries : (k : ℕ) (e : Entry) → slice_get object.entries k ≡ Some e → IsStorableEntry e
+  pub fits : FitsImage object

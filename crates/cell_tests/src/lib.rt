@@ -22,7 +22,7 @@ mod layouts;
 #[cfg(test)]
 mod limits;
 #[cfg(test)]
-mod many;
+mod namespaces;
 #[cfg(test)]
 mod objects;
 #[cfg(test)]
