@@ -7,7 +7,8 @@ use Rattle.std.proofs.lemmas.List.{length-replicate}
 use Rattle.cell_num.specs.Bits.{bytes_of}
 use Rattle.cell_object.specs.Sections.{is_alignment}
 use Rattle.cell_object.specs.declared.object.Section.{Section}
-use Rattle.cell_object.specs.Writable.{IsPlain, IsWhole, IsWritableSection}
+use Rattle.cell_object.specs.Writable.{IsPlain}
+use Rattle.cell_image.proofs.Ruled.{IsWhole, IsWritableSection}
 use Rattle.cell_asm.specs.declared.statement.Part.{Part}
 use Rattle.cell_asm.specs.declared.statement.Part.TheVariants.{Text, Rodata, Data, Bss}
 use Rattle.cell_asm.specs.declared.statement.Statement.{Statement}

@@ -22,7 +22,7 @@ use Rattle.cell_asm.specs.declared.laid.Laid.{Laid}
 use Rattle.cell_asm.specs.Objects.{parts_of, part_name, section_of, sections, local_labels, other_names, local_symbol, global_symbol, symbols, entries, object_of}
 use Rattle.cell_asm.specs.Assembled.{placed_lines}
 use Rattle.cell_asm.proofs.Parts.{few}
-use Rattle.cell_object.specs.Writable.{IsWhole}
+use Rattle.cell_image.proofs.Ruled.{IsWhole}
 use Rattle.cell_asm.proofs.Members.{In, In-append, In-filtered, In-map}
 use Rattle.cell_asm.proofs.Tallies.{total, total-append, total_times, total_le, total-map, flat_length, mapped_length, filter_le}
 use Rattle.cell_asm.proofs.SectionsFit.{section_whole}

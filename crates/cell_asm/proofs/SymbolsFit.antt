@@ -15,7 +15,7 @@ use Rattle.cell_object.specs.Symbols.{is_global_name, defines}
 use Rattle.cell_object.specs.declared.object.Symbol.{Symbol}
 use Rattle.cell_object.specs.declared.object.Bind.TheVariants as binds
 use Rattle.cell_object.specs.Image.{local_count}
-use Rattle.cell_object.specs.Writable.{IsWithin, IsWritableHome, IsWritableSymbol}
+use Rattle.cell_image.proofs.Ruled.{IsWithin, IsWritableHome, IsWritableSymbol}
 use Rattle.cell_asm.specs.declared.statement.Part.{Part}
 use Rattle.cell_asm.specs.declared.laid.Laid.{Laid}
 use Rattle.cell_asm.specs.declared.laid.Key.TheVariants.{Named}

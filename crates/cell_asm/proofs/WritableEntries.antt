@@ -12,7 +12,7 @@ use Rattle.cell_object.specs.declared.object.Fill.TheVariants.{Zero}
 use Rattle.cell_object.specs.Relocations.{is_unusable}
 use Rattle.cell_object.specs.Sound.{is_known_kind}
 use Rattle.cell_object.specs.ImageParts.{entries_for}
-use Rattle.cell_object.specs.Writable.{IsStorable, IsWritableEntry}
+use Rattle.cell_image.proofs.Ruled.{IsStorable, IsWritableEntry}
 use Rattle.cell_asm.specs.declared.statement.Part.{Part}
 use Rattle.cell_asm.specs.declared.statement.Part.TheVariants.{Text, Rodata, Data, Bss}
 use Rattle.cell_asm.specs.declared.laid.Laid.{Laid}

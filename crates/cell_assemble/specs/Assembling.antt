@@ -13,9 +13,9 @@ use Rattle.cell_object.specs.Image.{image}
 use Rattle.cell_assemble.specs.declared.status.AsStatus.{AsStatus}
 use Rattle.cell_assemble.specs.declared.status.AsStatus.TheVariants as statuses
 use Rattle.cell_assemble.specs.declared.status.Refusal.{Refusal}
-use Rattle.cell_assemble.specs.declared.status.Refusal.TheVariants.{Usage, TooManyNames, NoSource, TooLong, Fault}
+use Rattle.cell_assemble.specs.declared.status.Refusal.TheVariants.{TooManyNames, NoSource, TooLong, Fault}
 use Rattle.cell_assemble.specs.Gives.{◌>>=◌}
-use Rattle.cell_assemble.specs.RefusalLine.{refusal_line}
+use Rattle.cell_assemble.specs.RefusalLine.{usage_line, refusal_line}
 
 -- at most 65536 names, and the source's among them
 unfoldable pub listing : List ℕ → List (List ℕ) → Result (Unit {0}) Refusal
@@ -48,7 +48,6 @@ pub record Assembling : Type 0 where
   pub status : AsStatus
 
 abbrev pub status_of : Refusal → AsStatus
-status_of Usage = statuses.Usage
 status_of TooManyNames = statuses.TooManyNames
 status_of NoSource = statuses.NoSource
 status_of TooLong = statuses.TooLong
@@ -65,10 +64,14 @@ abbrev pub assembling : List ℕ → Result (List ℕ) Refusal → Assembling
 assembling source (Ok object) = done object
 assembling source (Err refusal) = refused source refusal
 
+-- how the program is called
+abbrev pub usage : Assembling
+usage = record { text = usage_line; status = statuses.Usage }
+
 -- two words are the folder and the source in it
 abbrev pub assembling_of : List (List ℕ) → List File → Assembling
 assembling_of (dir ∷ source ∷ []) files = assembling source (object_in source (folder dir files))
-assembling_of _ files = refused [] Usage
+assembling_of _ files = usage
 
 -- the call was cut off by a fault or by want of memory
 abbrev pub IsCut : AsStatus → Type 0

@@ -45,6 +45,7 @@ pub fn object_in<H: Host>(
 ) -> Result<Shared, Stop>
     ensures object { IfTold (H.files host.old) (λ all.
         Gives (λ bytes. bytes) result (object_in source.now (folder dir.now all))) }
+    ensures files { H.files host.new ≡ H.files host.old }
     ensures cause { HasCause (H.faults host.old) (H.faults host.new) (IsErrOf result Stop.ReadFault) }
 {
     let text = source_in(alloc, dir, source, host)?;
@@ -56,6 +57,7 @@ fn source_in<H: Host>(alloc: Global, dir: &str, source: &str, host: &mut H) -> R
     ensures bytes { IfTold (H.files host.old) (λ all.
         Gives (λ bytes. bytes.items) result (source_in source.now (folder dir.now all))) }
     ensures short { IfOk result (λ bytes. length bytes.items ≤ 1048576) }
+    ensures files { H.files host.new ≡ H.files host.old }
     ensures cause { HasCause (H.faults host.old) (H.faults host.new) (IsErrOf result Stop.ReadFault) }
 {
     find_source(alloc, dir, source, host)?;
@@ -112,6 +114,7 @@ fn read_source<H: Host>(
     ensures bytes { IfTold (H.files host.old) (λ all.
         Gives (λ bytes. bytes.items) result (within_limit (bytes_in dir.now source.now all))) }
     ensures short { IfOk result (λ bytes. length bytes.items ≤ 1048576) }
+    ensures files { H.files host.new ≡ H.files host.old }
     ensures cause { HasCause (H.faults host.old) (H.faults host.new) (IsErrOf result Stop.ReadFault) }
 {
     let mut bytes = Vec::new(alloc);

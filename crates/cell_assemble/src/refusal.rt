@@ -14,7 +14,6 @@ pub fn refusal_line(alloc: Global, source: &str, refusal: Refusal) -> Result<Vec
 {
     let mut text = Vec::new(alloc);
     match refusal {
-        Refusal::Usage => text.extend_from_slice(b"usage: cellas DIR SOURCE")?,
         Refusal::TooManyNames => {
             text.extend_from_slice(b"too many names: limit ")?;
             put_dec(u64::from(MAX_NAMES), &mut text)?;

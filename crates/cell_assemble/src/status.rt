@@ -1,6 +1,6 @@
 //! How a call ends.
 
-ghost use Rattle.std.specs.Prelude.{◌≡◌};
+ghost use Rattle.std.specs.Prelude.{◌≡◌, ◌≢◌};
 ghost use Rattle.cell_assemble.specs.Assembling.{status_of};
 
 use cell_asm::AsmKind;
@@ -14,7 +14,6 @@ pub const MAX_SOURCE_BYTES: u32 = 1048576;
 /// Why there is no object, if nothing failed.
 #[derive(Clone, Copy, Debug, PartialEq, Eq)]
 pub enum Refusal {
-    Usage,
     TooManyNames,
     NoSource,
     TooLong,
@@ -42,10 +41,10 @@ pub enum AsStatus {
 }
 
 pub fn status_of(refusal: Refusal) -> AsStatus
-    ensures { result ≡ status_of refusal }
+    ensures status { result ≡ status_of refusal }
+    ensures other { result ≢ AsStatus.Usage }
 {
     match refusal {
-        Refusal::Usage => AsStatus::Usage,
         Refusal::TooManyNames => AsStatus::TooManyNames,
         Refusal::NoSource => AsStatus::NoSource,
         Refusal::TooLong => AsStatus::TooLong,

@@ -7,29 +7,10 @@ use Rattle.cell_num.specs.Kinds.{is_passed_over}
 use Rattle.cell_object.specs.Bytes.{between}
 use Rattle.cell_object.specs.declared.headers.SectionHeader.{SectionHeader}
 use Rattle.cell_object.specs.Relocations.{rela_row_at, rela_row, entry_place, entry_of, entries_below, entry_rules, pair_rules}
-use Rattle.cell_elf.specs.Cover.{IsSkip}
-use Rattle.cell_elf.proofs.Rounds.{flat_map-between-more}
+use Rattle.cell_file.specs.Cover.{IsSkip}
+use Rattle.cell_object.proofs.Between.{flat_map-between-more}
 use Rattle.cell_elf.proofs.Tables.{passed_over_none, entry_rules_passed}
 use Rattle.cell_elf.proofs.LastPass.{pair_rules_none}
-
--- one entry more, before those that are passed over
-pub skip_more : (file : List ℕ) (at next c d : ℕ) → next ≡ at + 24 → is_passed_over (rela_row_at at file).r_type ≡ true → IsSkip file next c → d ≤ c + 1 → IsSkip file at d
-skip_more file at next c d e here behind few zero h = let same : at + 24 * 0 ≡ at = omega arith in rw same here
-skip_more file at next c d e here behind few (suc i) h = let same : at + 24 * suc i ≡ next + 24 * i = omega (arith, e) in rw same (behind i (omega arith))
-
--- one more place that is counted from
-pub set_skip : (file counts : List ℕ) (at next d : ℕ) → at < length counts → ((q : ℕ) → IsSkip file q (get_or counts q 0)) → next ≡ at + 24
-    → is_passed_over (rela_row_at at file).r_type ≡ true → d ≤ get_or counts next 0 + 1 → (q : ℕ) → IsSkip file q (get_or (set counts at d) q 0)
-set_skip file counts at next d there all e here few q = elim (place q) [
-  | inl is ↦ rw (← is, get_or-set_same counts at d 0 there) (skip_more file at next (get_or counts next 0) d e here (all next) few)
-  | inr other ↦ rw (get_or-set_other counts at q d 0 (λ same. other (sym same))) (all q)
-]
-  where
-    place : (b : ℕ) → (at ≡ b) ⊎ (at ≡ b → ⊥)
-    place b = grind arith
-
-pub skip_none : (file : List ℕ) (at c : ℕ) → c ≡ 0 → IsSkip file at c
-skip_none file at c e i h = absurd (omega arith)
 
 -- where entries are passed over, they give nothing
 pub skipped : {X : Type 0} (f : ℕ → List X) (n a b : ℕ) → b ≡ a + n → ((k : ℕ) → a ≤ k → k < b → f k ≡ []) → flat_map f (between 0 b) ≡ flat_map f (between 0 a)
@@ -70,7 +51,5 @@ entries_skipped file h a b le p = skipped (entry_of file h) (b - a) a b (omega a
 pub pairs_skipped : (file : List ℕ) (h : SectionHeader) (a b : ℕ) → a ≤ b → ArePassed file h a b → flat_map (pair_rules file h) (between 0 b) ≡ flat_map (pair_rules file h) (between 0 a)
 pairs_skipped file h a b le p =
     skipped (pair_rules file h) (b - a) a b (omega arith) (λ k low high. pair_rules_none file h k (passed_over_none (rela_row file h k).r_type (p k low high)))
-
-pub ruleset steps = (skip_none)
 
 pub ruleset rows = (skips_none)

@@ -24,7 +24,7 @@ use Rattle.cell_object.specs.Relocations.{rela_row, entry_count, entry_of, entri
 use Rattle.cell_object.specs.Parts.{is_global, is_local, section_of, symbol_at, label_of, high_of}
 use Rattle.cell_object.specs.Reads.{object_of, fill_of}
 use Rattle.cell_object.specs.Sound.{is_zero, is_known_bind, is_sound_home, is_sound_symbol, is_nameable, is_sound_entry_in, is_known_kind, is_sound_entry}
-use Rattle.cell_elf.proofs.Elements.{In, In-all, In-range, all-In, any-In, find-In, found-In, slice_get-In}
+use Rattle.cell_object.proofs.Elements.{In, In-all, In-range, all-In, any-In, find-In, found-In, slice_get-In}
 use Rattle.cell_elf.proofs.SoundSections.{yes_or_no, and_three, and_four, section_found}
 use Rattle.cell_elf.proofs.EntryFacts.{IsTable, IsRow, one_entry, entry_at, entry_there, entry_kind, table_fit, entry_fit, entry_paired}
 

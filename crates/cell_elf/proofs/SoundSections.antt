@@ -13,7 +13,7 @@ use Rattle.cell_object.specs.Sections.{is_alloc, is_nobits, is_note, has_flag, i
 use Rattle.cell_object.specs.Reads.{fill_of, loaded_section, loaded_sections}
 use Rattle.cell_object.specs.Sound.{is_zero, is_sound_section}
 use Rattle.cell_elf.specs.Loadable.{Loadable}
-use Rattle.cell_elf.proofs.Elements.{In, In-one, In-all, In-range, find-range, pairs-range}
+use Rattle.cell_object.proofs.Elements.{In, In-one, In-all, In-range, find-range, pairs-range}
 use Rattle.cell_elf.proofs.Loads.{checked-both, not_broken, loadable, round_passed}
 
 pub yes_or_no : (b : Bool) → (b ≡ true) ⊎ (b ≡ false)

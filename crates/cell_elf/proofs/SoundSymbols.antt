@@ -16,9 +16,9 @@ use Rattle.cell_object.specs.Symbols.{symtab, symbol_count, symbol_place, symbol
 use Rattle.cell_object.specs.Parts.{is_global as is_global_bind}
 use Rattle.cell_object.specs.Reads.{object_of}
 use Rattle.cell_object.specs.Sound.{is_sound_symbol, is_sound_home, is_known_bind, is_plain_sort, may_both_be}
-use Rattle.cell_elf.proofs.Elements.{In, In-one, In-all, In-range, range-In, none-In, pairs-range, map-flat_map}
+use Rattle.cell_object.proofs.Elements.{In, In-one, In-all, In-range, range-In, none-In, pairs-range, map-flat_map}
 use Rattle.cell_elf.proofs.Loads.{checked-both, not_broken, round_passed}
-use Rattle.cell_elf.proofs.NameLemmas.{global_is}
+use Rattle.cell_file.proofs.NameLemmas.{global_is}
 use Rattle.cell_elf.proofs.SoundSections.{yes_or_no, and_three, section_found, in_range, range_in}
 
 -- the rules 15 to 18, as tests that a symbol passes
@@ -28,7 +28,7 @@ pub record IsFit (file : List ℕ) (h : SectionHeader) (j : ℕ) (s : SymbolRow)
   pub value : is_past_end file (home_of file s) s.st_value ≡ false
   pub name : (is_global s && (not (is_global_name (symbol_name file h s)) || defines (symbols_below file h j) (symbol_name file h s))) ≡ false
 
-fit : (file : List ℕ) (h : SectionHeader) (j : ℕ) → checked (symbol_rules file h j) ≡ Ok tt → IsFit file h j (symbol_row file h j)
+pub fit : (file : List ℕ) (h : SectionHeader) (j : ℕ) → checked (symbol_rules file h j) ≡ Ok tt → IsFit file h j (symbol_row file h j)
 unfolding symbol_rules
 fit file h j e =
     let at = symbol_place h j in

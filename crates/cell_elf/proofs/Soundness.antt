@@ -4,6 +4,9 @@ use Rattle.std.specs.Prelude.{◌==◌, ◌*◌, ◌/◌, ◌^◌, nat_lt, Resul
 use Rattle.std.proofs.lemmas.Bool.{and_parts, eqb-true}
 use Rattle.std.proofs.lemmas.Bool.Decides.{nat_tests}
 use Rattle.cell_object.specs.declared.object.Object.{Object}
+use Rattle.cell_object.specs.declared.object.Section.{Section}
+use Rattle.cell_object.specs.declared.object.Symbol.{Symbol}
+use Rattle.cell_object.specs.declared.object.Entry.{Entry}
 use Rattle.cell_num.specs.declared.kinds.RelKind.{RelKind}
 use Rattle.cell_num.specs.Kinds.{kind_of}
 use Rattle.cell_object.specs.declared.headers.SectionHeader.{SectionHeader}
@@ -11,15 +14,15 @@ use Rattle.cell_object.specs.declared.headers.RelaRow.{RelaRow}
 use Rattle.cell_object.specs.Bytes.{checked, broken_where, between}
 use Rattle.cell_object.specs.Header.{file_header, section_header, header_rules, rule_1, rule_2, rule_3, rule_4, rule_5, rule_6, rule_7}
 use Rattle.cell_object.specs.Sections.{sections_rules}
-use Rattle.cell_object.specs.Symbols.{symtab_rules, symbols_rules}
+use Rattle.cell_object.specs.Symbols.{symtab_rules, symbols_rules, symbols_of}
 use Rattle.cell_object.specs.Relocations.{is_rela, is_for_loaded, rela_row, entry_count, entry_of_kind, entry_of, entries_below, relocations_rules, section_entries, entries_of, pairs_rules}
-use Rattle.cell_object.specs.Reads.{broken, object_of}
+use Rattle.cell_object.specs.Reads.{broken, loaded_sections, object_of}
 use Rattle.cell_object.specs.Sound.{IsSoundObject}
-use Rattle.cell_elf.specs.declared.fail.ReadFail.{ReadFail}
-use Rattle.cell_elf.specs.Outcome.{Passes}
+use Rattle.cell_file.specs.declared.fail.ReadFail.{ReadFail}
+use Rattle.cell_file.specs.Outcome.{Passes}
 use Rattle.cell_elf.proofs.Loads.{checked-both, not_broken, section_inside}
-use Rattle.cell_elf.proofs.Elements.{length-range}
-use Rattle.cell_elf.proofs.Passing.{gives_object}
+use Rattle.cell_object.proofs.Elements.{length-range}
+use Rattle.cell_file.proofs.Passing.{gives_object}
 use Rattle.cell_elf.proofs.Tables.{section_entries_loaded, section_entries_other}
 use Rattle.cell_elf.proofs.SoundSections.{yes_or_no, in_range, numbers_rise, sections_sound}
 use Rattle.cell_elf.proofs.SoundSymbols.{symbols_sound, names_sound}
@@ -96,6 +99,11 @@ few_entries file passed small =
     let sections = checked-both (sections_rules file) (symtab_rules file ++ (symbols_rules file ++ (relocations_rules file ++ pairs_rules file))) header.1 in
     few_of_counts count (length (entries_of file)) (few_sections file header.0)
     (length-range (section_entries file) 43690 (count - 1) 1 (λ n low high. table_short file n sections.0 small low (in_range count n low high)))
+
+-- the object of these parts
+pub parts_same : (file : List ℕ) (ss : List Section) (ys : List Symbol) (es : List Entry) → ss ≡ loaded_sections file → ys ≡ symbols_of file → es ≡ entries_of file
+    → record { sections = ss; symbols = ys; entries = es } ≡ object_of file
+parts_same file ss ys es s y e = λ i. record { sections = s i; symbols = y i; entries = e i }
 
 -- what a reader that passed over the rules gives is sound
 pub result_sound : (file : List ℕ) (r : Result Object ReadFail) → Passes r (checked (broken file)) → IfOk r (λ o. o ≡ object_of file) → IfOk r IsSoundObject

@@ -124,7 +124,7 @@ pub fn put_rela_row(
         (symtab, 4),
         (number, 4),
         (8, 8),
-        (ROW_LEN as u64, 8),
+        (ROW_LEN, 8),
     ];
     put_fields(&fields, into)
 }
@@ -146,7 +146,7 @@ pub fn put_symtab_row(object: &Object, place: &Place, into: &mut Vec<u8>) -> Res
         (strtab, 4),
         (info, 4),
         (8, 8),
-        (ROW_LEN as u64, 8),
+        (ROW_LEN, 8),
     ];
     put_fields(&fields, into)
 }

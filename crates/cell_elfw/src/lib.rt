@@ -7,7 +7,6 @@ mod headers;
 mod number;
 mod parts;
 mod rows;
-mod same;
 mod strings;
 mod symbols;
 mod tables;

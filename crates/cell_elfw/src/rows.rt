@@ -38,10 +38,10 @@ pub fn put_header(directory: Directory, into: &mut Vec<u8>) -> Result<(), AllocE
         (0, 8),
         (directory.shoff, 8),
         (0, 4),
-        (HEADER_LEN as u64, 2),
+        (HEADER_LEN, 2),
         (0, 2),
         (0, 2),
-        (HEADER_LEN as u64, 2),
+        (HEADER_LEN, 2),
         (directory.shnum, 2),
         (directory.shstrndx, 2),
     ];

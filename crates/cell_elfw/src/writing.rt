@@ -11,11 +11,10 @@ use crate::draft::{Draft, TableNames};
 use crate::headers::{Place, put_null_row, put_strings_row, put_symtab_row};
 use crate::parts::put_part;
 use crate::rows::{Directory, put_header};
-use crate::same::same_object;
 use crate::strings::put_string;
 use crate::symbols::SymbolTables;
 use crate::tables::by_section;
-use cell_elf::{ReadFail, read_object};
+use cell_elf::{ReadFail, reads_as};
 use cell_num::Shared;
 use cell_object::Object;
 use cell_object::elf::HEADER_LEN;
@@ -28,14 +27,9 @@ pub fn write_object(alloc: Global, object: &Object) -> Result<Shared, WriteFail>
     ensures read { IsReadAgain object.now result (reads (image_of object.now)) }
 {
     let file = Shared::from_vec(alloc, image(alloc, object)?)?;
-    match read_object(alloc, &file) {
-        Ok(other) => {
-            if same_object(&other, object) {
-                Ok(file)
-            } else {
-                Err(WriteFail::Unwritable { rule: 0 })
-            }
-        }
+    match reads_as(alloc, &file, object) {
+        Ok(true) => Ok(file),
+        Ok(false) => Err(WriteFail::Unwritable { rule: 0 }),
         Err(ReadFail::BadObject { rule, .. }) => Err(WriteFail::Unwritable { rule }),
         Err(ReadFail::OutOfMemory) => Err(WriteFail::OutOfMemory),
     }
@@ -110,7 +104,7 @@ fn finished(mut file: Vec<u8>, headers: &[u8], shstrndx: u64) -> Result<Vec<u8>,
 {
     let directory = Directory {
         shoff: file.len() as u64,
-        shnum: headers.len() as u64 / HEADER_LEN as u64,
+        shnum: headers.len() as u64 / HEADER_LEN,
         shstrndx,
     };
     let mut header = Vec::new(*file.allocator());

@@ -1,7 +1,7 @@
 -- A file that is not read.
 use Rattle.std.specs.Prelude.{◌≡◌, Err}
-use Rattle.cell_elf.specs.declared.fail.ReadFail.{ReadFail}
-use Rattle.cell_elf.specs.declared.fail.ReadFail.TheVariants.{BadObject, OutOfMemory as ReadMemory}
+use Rattle.cell_file.specs.declared.fail.ReadFail.{ReadFail}
+use Rattle.cell_file.specs.declared.fail.ReadFail.TheVariants.{BadObject, OutOfMemory as ReadMemory}
 use Rattle.cell_object.specs.declared.object.Object.{Object}
 use Rattle.cell_world.specs.declared.file.File.{File}
 use Rattle.cell_world.specs.declared.refusal.Refusal.TheVariants.{BadObject as BadFile}

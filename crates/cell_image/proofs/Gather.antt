@@ -3,7 +3,7 @@ use Rattle.std.proofs.Common.{◌≡◌, ℕ, zero, suc, ◌+◌, ◌-◌, ◌<�
 use Rattle.std.specs.List.{flat_map, range_with_len, find, list_any}
 use Rattle.std.proofs.lemmas.Grind.{flat_map-append}
 use Rattle.cell_object.specs.Bytes.{between}
-use Rattle.cell_image.proofs.Between.{between-split, between-first}
+use Rattle.cell_object.proofs.Between.{between-split, between-first}
 
 range_all : {X : Type 0} (f : ℕ → List X) (xs : List X) (a : ℕ) (d : X) → ((k : ℕ) → k < length xs → f (a + k) ≡ get_or xs k d ∷ []) → flat_map f (range_with_len a (length xs)) ≡ xs
 range_all f [] a d h = refl

@@ -1,4 +1,4 @@
-pub mod Between
+pub mod Ruled
 pub mod Stored
 pub mod Rows
 pub mod Places
@@ -18,3 +18,4 @@ pub mod Relocations
 pub mod Fitting
 pub mod RoundTrip
 pub mod Pointer
+pub mod SoundRules

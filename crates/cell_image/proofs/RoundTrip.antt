@@ -1,4 +1,4 @@
--- What can be written is read again.
+-- What keeps the rules is read again.
 use Rattle.std.proofs.Common.{◌≡◌, ℕ, suc, ◌+◌, ◌-◌, ◌^◌, ◌<◌, true, false, true≢false, List, [], ◌∷◌, ◌++◌, length, take, drop, get_or, sym, ap, subst, ◌∙◌, refl, arith, map, lit<, pos}
 use Rattle.std.specs.Prelude.{◌==◌, Ok}
 use Rattle.std.specs.Int.{w64}
@@ -25,7 +25,7 @@ use Rattle.cell_object.specs.Strings.{string_table, name_place}
 use Rattle.cell_object.specs.Rows.{kind_number}
 use Rattle.cell_object.specs.ImageParts.{filled, symbol_strings, entries_for}
 use Rattle.cell_object.specs.Image.{fill_type, image}
-use Rattle.cell_object.specs.Writable.{IsWhole, IsWritableSection, IsWritableHome, IsWritableSymbol, IsWritable}
+use Rattle.cell_image.proofs.Ruled.{IsWhole, IsWritableSection, IsWritableHome, IsWritableSymbol, IsRuled}
 use Rattle.cell_image.proofs.Places.{split_at}
 use Rattle.cell_image.proofs.OwnSections.{IsPlainSection, sections_are_read}
 use Rattle.cell_image.proofs.HeaderRules.{header_rules_hold}
@@ -111,16 +111,16 @@ few_kinds Set16 = lit< tt
 few_kinds Set32 = lit< tt
 few_kinds Pcrel32 = lit< tt
 
-module _ (object : Object) (w : IsWritable object) where
+module _ (object : Object) (w : IsRuled object) where
   own : (k : ℕ) → k < length object.sections → IsWritableSection (k + 1) (get_or object.sections k no_section)
   own k lt = w.sections k (get_or object.sections k no_section) (slice_get-get_or object.sections k no_section lt)
 
   small : IsSmall object no_section
   small = record {
-    headers = w.headers;
-    locals = w.locals;
-    names = w.names;
-    size = w.size;
+    headers = w.fits.headers;
+    locals = w.fits.locals;
+    names = w.fits.names;
+    size = w.fits.size;
     sections = λ k lt. let h = own k lt in (h.small, h.most);
   }
 
@@ -152,7 +152,7 @@ module _ (object : Object) (w : IsWritable object) where
       ap (map (λ x. x.name)) (split_at object.symbols k no_symbol lt) ∙ map-append (λ x. x.name) (take k object.symbols) (s ∷ drop (suc k) object.symbols) in
       let inside = name_inside (names_before object k) after s.name in
       let all : length (symbol_strings object) ≡ length (string_table (names_before object k ++ (s.name ∷ after))) = ap (λ v. length (string_table v)) names in
-      omega (arith, inside, all, w.texts)
+      omega (arith, inside, all, w.fits.texts)
 
   all_symbols : AreSymbols object no_symbol no_section
   all_symbols = record {
@@ -201,12 +201,12 @@ module _ (object : Object) (w : IsWritable object) where
   read_again =
       let f = image_fits object no_section small in
       let sections = sections_are_read object no_section f plain_sections in
-      let symbols = symbols_are_read object no_symbol no_section f w.headers all_symbols.plain place_fits in
-      let entries = entries_are_read object no_section no_entry f plain_entries w.grouped in
+      let symbols = symbols_are_read object no_symbol no_section f w.fits.headers all_symbols.plain place_fits in
+      let entries = entries_are_read object no_section no_entry f plain_entries w.fits.grouped in
       let none : broken (image object) ≡ [] = λ i.
-      header_rules_hold object f w.headers i
+      header_rules_hold object f w.fits.headers i
       ++ (sections_rules_hold object no_section f plain_sections sound_sections i
       ++ (table_rules_hold object no_section f i
-      ++ (symbols_rules_hold object no_symbol no_section f w.headers all_symbols i
+      ++ (symbols_rules_hold object no_symbol no_section f w.fits.headers all_symbols i
       ++ (relocations_rules_hold object no_section no_entry f symbols all_entries i ++ pairs_rules_hold object no_section no_entry f symbols all_entries i)))) in
       λ i. object_unless (none i) (record { sections = sections i; symbols = symbols i; entries = entries i })

@@ -24,7 +24,8 @@ use Rattle.cell_object.specs.Strings.{name_place}
 use Rattle.cell_object.specs.Rows.{home_number}
 use Rattle.cell_object.specs.ImageParts.{symtab_number, strtab_number, symbols_part}
 use Rattle.cell_object.specs.Image.{symtab_row, section_rows, image, local_count}
-use Rattle.cell_object.specs.Writable.{is_file, is_section}
+use Rattle.cell_object.specs.Writable.{is_file}
+use Rattle.cell_image.proofs.Ruled.{is_section}
 use Rattle.cell_image.proofs.Rows.{read_symbol}
 use Rattle.cell_image.proofs.Headers.{FitsImage, rows_count, own_header, symtab_header, strtab_header, header_of_image, read_header}
 use Rattle.cell_image.proofs.Gather.{gather_map, gather_none}

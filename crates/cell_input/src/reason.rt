@@ -13,7 +13,6 @@ pub enum What {
 /// Why a run ends before its first command, if nothing failed.
 #[derive(Clone, Copy, Debug, PartialEq, Eq)]
 pub enum Reason {
-    Usage,
     NoScript,
     BadScript { line: u32 },
     TooLarge { what: What, limit: u64 },

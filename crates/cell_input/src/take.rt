@@ -55,6 +55,7 @@ pub fn take_from<H: Host>(
     ensures input { IfTold (H.files host.old) (λ all. Gives (λ input. input) result (input_from script.now (folder dir.now all))) }
     ensures files { IfOk result (λ input. AreObjectFiles input.files) }
     ensures said { IfOk result (λ input. are_said input.script ≡ true) }
+    ensures files_kept { H.files host.new ≡ H.files host.old }
     ensures cause { HasCause (H.faults host.old) (H.faults host.new) (IsErrOf result TakeFail.ReadFault) }
 {
     let objects = list_objects(alloc, dir, script, host)?;

@@ -5,10 +5,13 @@
 pub const IDENTIFICATION: [u8; 7] = [0x7F, 0x45, 0x4C, 0x46, 2, 1, 1];
 
 /// How many bytes the ELF header has, and a section header.
-pub const HEADER_LEN: u16 = 64;
+pub const HEADER_LEN: u64 = 64;
 
 /// How many bytes a symbol has, and a relocation entry with addend.
-pub const ROW_LEN: u8 = 24;
+pub const ROW_LEN: u64 = 24;
+
+/// The longest name that a GLOBAL may have, in bytes.
+pub const LONGEST_NAME: usize = 1024;
 
 pub const ET_REL: u16 = 1;
 

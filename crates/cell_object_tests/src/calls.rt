@@ -3,7 +3,7 @@
 use crate::images::SEVEN;
 use cell_asm::AsmKind;
 use cell_assemble::*;
-use cell_io::{MemFile, MemHost, MemSink};
+use cell_io::{MemFile, MemHost, MemSink, RepeatHost};
 use std::alloc::{AllocError, Global};
 use std::test::*;
 
@@ -106,5 +106,66 @@ fn a_fault_of_writing(rt: HostRuntime) -> Result<(), Fail> {
     let ended = cellas(alloc, &words(alloc, "d s")?, &mut host, &mut out);
     assert_eq!(rt; ended, AsStatus::WriteFault);
     assert!(rt; out.written() == b"\x7fELF".as_slice());
+    Ok(())
+}
+
+/// So many names in the folder, and so many bytes of a comment as the source.
+struct Limit {
+    names: u32,
+    bytes: usize,
+    status: AsStatus,
+    text: &'static [u8],
+}
+
+/// Each limit, and one past it.
+const LIMITS: [Limit; 3] = [
+    Limit {
+        names: 65535,
+        bytes: 1048576,
+        status: AsStatus::Done,
+        text: b"\x7fELF",
+    },
+    Limit {
+        names: 65536,
+        bytes: 0,
+        status: AsStatus::TooManyNames,
+        text: b"too many names: limit 65536\n",
+    },
+    Limit {
+        names: 0,
+        bytes: 1048577,
+        status: AsStatus::TooLong,
+        text: b"too long: limit 1048576\n",
+    },
+];
+
+#[test]
+fn limits(rt: HostRuntime) -> Result<(), Fail> {
+    let alloc = rt.alloc();
+    for case in &LIMITS {
+        let mut host = RepeatHost {
+            alloc,
+            names: case.names,
+            objects: 0,
+            script: vec![in alloc; b'#'; case.bytes]?,
+            object: Vec::new(alloc),
+        };
+        let mut out = MemSink::new(alloc, 1000, Vec::new(alloc))?;
+        let ended = cellas(alloc, &words(alloc, "d s")?, &mut host, &mut out);
+        assert_eq!(rt; ended, case.status);
+        assert!(rt; out.written().starts_with(case.text));
+    }
+    Ok(())
+}
+
+/// Two calls, one after the other, over one host and into one sink.
+#[test]
+fn two_calls(rt: HostRuntime) -> Result<(), Fail> {
+    let alloc = rt.alloc();
+    let mut host = folder(alloc, "frob", &[])?;
+    let mut out = MemSink::new(alloc, 1000, Vec::new(alloc))?;
+    cellas(alloc, &words(alloc, "d t")?, &mut host, &mut out);
+    cellas(alloc, &words(alloc, "d s")?, &mut host, &mut out);
+    assert!(rt; out.written() == b"no source t\nline 1: Word\n".as_slice());
     Ok(())
 }

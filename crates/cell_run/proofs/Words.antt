@@ -5,15 +5,14 @@ use Rattle.std.specs.Prelude.{IfSome}
 use Rattle.cell_io.specs.Files.{File as HostFile}
 use Rattle.cell_arguments.specs.Arguments.{Said, arguments_of}
 use Rattle.cell_run.specs.declared.status.Status.{Status}
-use Rattle.cell_input.specs.declared.reason.Reason.TheVariants.{Usage}
-use Rattle.cell_run.specs.Run.{WritesRun, run_in, run_of, refused_run}
+use Rattle.cell_run.specs.Run.{WritesRun, run_in, run_of, usage_run}
 
 pub read_words : (told : Option (List HostFile)) (words : List (List ℕ)) (said : Option Said) (status : Status) (old new : Option (List ℕ)) → arguments_of words ≡ said
     → IfSome told (λ files. WritesRun (run_in said files) status old new) → IfSome told (λ files. WritesRun (run_of words files) status old new)
 read_words told words said status old new e h = rw e h
 
 pub unread_words : (told : Option (List HostFile)) (words : List (List ℕ)) (status : Status) (old new : Option (List ℕ)) → arguments_of words ≡ None
-    → WritesRun (refused_run [] Usage) status old new → IfSome told (λ files. WritesRun (run_of words files) status old new)
+    → WritesRun usage_run status old new → IfSome told (λ files. WritesRun (run_of words files) status old new)
 unread_words (Some files) words status old new e h = rw e h
 unread_words None words status old new e h = tt
 

@@ -19,10 +19,10 @@ use Rattle.cell_system.specs.State.{State}
 use Rattle.cell_run.specs.declared.status.Status.{Status}
 use Rattle.cell_run.specs.declared.status.Status.TheVariants.{Done, SomeRefused, Usage as UsageStatus, NoScript as NoScriptStatus, BadScript as BadScriptStatus, TooLarge as TooLargeStatus, ReadFault, WriteFault, OutOfMemory}
 use Rattle.cell_input.specs.declared.reason.Reason.{Reason}
-use Rattle.cell_input.specs.declared.reason.Reason.TheVariants.{Usage, NoScript, BadScript, TooLarge}
+use Rattle.cell_input.specs.declared.reason.Reason.TheVariants.{NoScript, BadScript, TooLarge}
 use Rattle.cell_input.specs.declared.take.Input.{Input}
 use Rattle.cell_input.specs.Taking.{input_from}
-use Rattle.cell_run.specs.StatusLine.{reason_line}
+use Rattle.cell_run.specs.StatusLine.{usage_line, reason_line}
 
 pub record Run : Type 0 where
   pub text : List ℕ
@@ -65,7 +65,6 @@ abbrev pub first_plain : ℕ → ℕ → Input → Plain
 first_plain base pages input = record { files = input.files; world = empty_world base pages }
 
 abbrev pub status_of : Reason → Status
-status_of Usage = UsageStatus
 status_of NoScript = NoScriptStatus
 status_of (BadScript n) = BadScriptStatus n
 status_of (TooLarge what limit) = TooLargeStatus what limit
@@ -78,9 +77,13 @@ abbrev pub run_after : Said → Result Input Reason → Run
 run_after said (Ok input) = run_from (first_plain said.base said.pages input) input.script
 run_after said (Err reason) = refused_run said.script reason
 
+-- words without a reading are refused
+abbrev pub usage_run : Run
+usage_run = record { text = usage_line; status = UsageStatus }
+
 -- what the words say is done; words that say nothing are refused
 abbrev pub run_in : Option Said → List HostFile → Run
-run_in None files = refused_run [] Usage
+run_in None files = usage_run
 run_in (Some said) files = run_after said (input_from said.script (folder said.dir files))
 
 abbrev pub run_of : List (List ℕ) → List HostFile → Run

@@ -14,10 +14,6 @@ pub fn reason_line(alloc: Global, script: &str, reason: Reason) -> Result<Vec<u8
 {
     let mut text = Vec::new(alloc);
     match reason {
-        Reason::Usage => put_line(
-            &[b"usage: cells DIR SCRIPT [--base HEX] [--pages N] | --generate N --seed S"],
-            &mut text,
-        )?,
         Reason::NoScript => put_line(&[b"no script ", script.as_bytes()], &mut text)?,
         Reason::BadScript { line } => {
             let mut number = Buffer::new();

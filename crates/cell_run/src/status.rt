@@ -1,6 +1,6 @@
 //! How a run ends.
 
-ghost use Rattle.std.specs.Prelude.{◌≡◌};
+ghost use Rattle.std.specs.Prelude.{◌≡◌, ◌≢◌};
 ghost use Rattle.cell_run.specs.Run.{status_of};
 
 use cell_input::{Reason, What};
@@ -22,10 +22,10 @@ pub enum Status {
 }
 
 pub fn status_of(reason: Reason) -> Status
-    ensures { result ≡ status_of reason }
+    ensures status { result ≡ status_of reason }
+    ensures other { result ≢ Status.Usage }
 {
     match reason {
-        Reason::Usage => Status::Usage,
         Reason::NoScript => Status::NoScript,
         Reason::BadScript { line } => Status::BadScript { line },
         Reason::TooLarge { what, limit } => Status::TooLarge { what, limit },

@@ -8,7 +8,7 @@ ghost use Rattle.cell_print.specs.Lines.{lines_of};
 ghost use Rattle.cell_arguments.specs.Arguments.{IsInRange, arguments_of, said};
 ghost use Rattle.cell_input.specs.Objects.{AreObjectFiles};
 ghost use Rattle.cell_script.specs.Script.{are_said, is_said};
-ghost use Rattle.cell_run.specs.Run.{IsCut, WritesRun, Answers, DoesLine, answered, run_of, run_in, run_from, plain_of, first_plain, refused_run};
+ghost use Rattle.cell_run.specs.Run.{IsCut, WritesRun, Answers, DoesLine, answered, run_of, run_in, run_from, plain_of, first_plain, refused_run, usage_run};
 
 use crate::Status;
 use crate::refuse::reason_line;
@@ -20,6 +20,8 @@ use cell_print::{put_refusal, put_reply};
 use cell_script::Line;
 use cell_system::{Fail, System};
 use std::alloc::{AllocError, Global};
+
+const USAGE: &[u8] = b"usage: cells DIR SCRIPT [--base HEX] [--pages N] | --generate N --seed S\n";
 
 /// Does all that the program does: reads the words, the folder, the script and the object files, does
 /// the commands, and writes each answer as it comes.
@@ -44,13 +46,20 @@ pub fn cells<H: Host, K: Sink>(
     ensures nothing { result ≡ Status.ReadFault → Appends (K.written out.old) (K.written out.new) [] }
     ensures no_read { arguments_of (map string_bytes words.now.items) ≡ None → result ≢ Status.ReadFault }
 
-    // Words without a reading are refused whatever the host holds, also where it tells nothing.
+    // Words without a reading, and they alone, are refused for the words, also where the host tells nothing.
     ensures usage { arguments_of (map string_bytes words.now.items) ≡ None →
-        WritesRun (refused_run [] Reason.Usage) result (K.written out.old) (K.written out.new) }
+        WritesRun usage_run result (K.written out.old) (K.written out.new) }
+    ensures usage_alone { result ≡ Status.Usage → arguments_of (map string_bytes words.now.items) ≡ None }
+
+    // What the host holds stays, neither count falls, and the output has the same room.
+    ensures files { H.files host.new ≡ H.files host.old }
+    ensures reads { H.faults host.old ≤ H.faults host.new }
+    ensures writes { K.faults out.old ≤ K.faults out.new }
+    ensures room { K.room out.new ≡ K.room out.old }
 {
     match read_arguments(alloc, words.as_slice()) {
         Ok(arguments) => run(alloc, &arguments, host, out),
-        Err(ArgumentsFault::Usage) => refuse(alloc, "", Reason::Usage, out),
+        Err(ArgumentsFault::Usage) => refuse_words(out),
         Err(ArgumentsFault::OutOfMemory) => Status::OutOfMemory,
     }
 }
@@ -69,6 +78,11 @@ fn run<H: Host, K: Sink>(
     ensures write_cause { result ≡ Status.WriteFault → Rose (K.faults out.old) (K.faults out.new) }
     ensures full { result ≡ Status.WriteFault → IsFull (K.room out.old) (K.written out.new) }
     ensures nothing { result ≡ Status.ReadFault → Appends (K.written out.old) (K.written out.new) [] }
+    ensures no_usage { result ≢ Status.Usage }
+    ensures files { H.files host.new ≡ H.files host.old }
+    ensures reads { H.faults host.old ≤ H.faults host.new }
+    ensures writes { K.faults out.old ≤ K.faults out.new }
+    ensures room { K.room out.new ≡ K.room out.old }
 {
     match take_from(alloc, arguments.dir, arguments.script, host) {
         Ok(input) => run_script(alloc, arguments.base, arguments.pages, input, out),
@@ -78,12 +92,28 @@ fn run<H: Host, K: Sink>(
     }
 }
 
+/// Writes how the program is called.
+fn refuse_words<K: Sink>(out: &mut K) -> Status
+    ensures refused { WritesRun usage_run result (K.written out.old) (K.written out.new) }
+    ensures cause { HasCause (K.faults out.old) (K.faults out.new) (result ≡ Status.WriteFault) }
+    ensures full { result ≡ Status.WriteFault → IsFull (K.room out.old) (K.written out.new) }
+    ensures no_read { result ≢ Status.ReadFault }
+    ensures room { K.room out.new ≡ K.room out.old }
+{
+    if out.put(USAGE).is_err() {
+        return Status::WriteFault;
+    }
+    Status::Usage
+}
+
 /// Writes the line of a run that ends before its first command.
 fn refuse<K: Sink>(alloc: Global, script: &str, reason: Reason, out: &mut K) -> Status
     ensures refused { WritesRun (refused_run script.now reason) result (K.written out.old) (K.written out.new) }
     ensures cause { HasCause (K.faults out.old) (K.faults out.new) (result ≡ Status.WriteFault) }
     ensures full { result ≡ Status.WriteFault → IsFull (K.room out.old) (K.written out.new) }
     ensures no_read { result ≢ Status.ReadFault }
+    ensures no_usage { result ≢ Status.Usage }
+    ensures room { K.room out.new ≡ K.room out.old }
 {
     let Ok(line) = reason_line(alloc, script, reason) else {
         return Status::OutOfMemory;
@@ -104,6 +134,8 @@ fn run_script<K: Sink>(alloc: Global, base: u64, pages: u32, input: Input, out: 
     ensures cause { HasCause (K.faults out.old) (K.faults out.new) (result ≡ Status.WriteFault) }
     ensures full { result ≡ Status.WriteFault → IsFull (K.room out.old) (K.written out.new) }
     ensures no_read { result ≢ Status.ReadFault }
+    ensures no_usage { result ≢ Status.Usage }
+    ensures room { K.room out.new ≡ K.room out.old }
 {
     let Input { files, script } = input;
     let Ok(mut system) = System::new(alloc, base, pages, files.into_vec()) else {
@@ -119,6 +151,8 @@ fn do_lines<K: Sink>(alloc: Global, system: &mut System, lines: &[Line], out: &m
     ensures cause { HasCause (K.faults out.old) (K.faults out.new) (result ≡ Status.WriteFault) }
     ensures full { result ≡ Status.WriteFault → IsFull (K.room out.old) (K.written out.new) }
     ensures no_read { result ≢ Status.ReadFault }
+    ensures no_usage { result ≢ Status.Usage }
+    ensures room { K.room out.new ≡ K.room out.old }
 {
     let mut some_refused = false;
     let mut text = Vec::new(alloc);
@@ -150,6 +184,7 @@ fn do_line<K: Sink>(
     ensures room { K.room out.new ≡ K.room out.old }
     ensures full { IfErr result (λ status. status ≡ Status.WriteFault → IsFull (K.room out.old) (K.written out.new)) }
     ensures no_read { result ≢ Err Status.ReadFault }
+    ensures no_usage { result ≢ Err Status.Usage }
 {
     text.clear();
     let Ok(refused) = do_command(system, line, text) else {

@@ -100,3 +100,15 @@ fn a_folder_in_any_order(rt: HostRuntime) -> Result<(), Fail> {
     assert!(rt; sink.written() == TEXT);
     Ok(())
 }
+
+/// One host and one stream serve two runs, of which the first lists no folder.
+#[test]
+fn a_run_after_one_that_failed(rt: HostRuntime) -> Result<(), Fail> {
+    let mut host = failing_at(rt.alloc(), 0)?;
+    let mut sink = MemSink::new(rt.alloc(), 1000, Vec::new(rt.alloc()))?;
+    let words = words_of(rt.alloc(), &["d", "s"])?;
+    assert!(rt; cells(rt.alloc(), &words, &mut host, &mut sink) == Status::ReadFault);
+    assert!(rt; cells(rt.alloc(), &words, &mut host, &mut sink) == Status::Done);
+    assert!(rt; sink.written() == TEXT);
+    Ok(())
+}

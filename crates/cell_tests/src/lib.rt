@@ -20,6 +20,10 @@ mod holding;
 #[cfg(test)]
 mod layouts;
 #[cfg(test)]
+mod limits;
+#[cfg(test)]
+mod namespaces;
+#[cfg(test)]
 mod objects;
 #[cfg(test)]
 mod places;

@@ -1,7 +1,8 @@
 use Rattle.std.proofs.Common.{◌+◌, ◌≤◌, ap, ◌∙◌, arith}
 use Rattle.cell_object.specs.Bytes.{checked}
 use Rattle.cell_object.specs.Relocations.{pair_rules}
-use Rattle.cell_elf.proofs.Rounds.{round_passes, flat_map-between-none}
+use Rattle.cell_object.proofs.Between.{flat_map-between-none}
+use Rattle.cell_file.proofs.Rounds.{round_passes}
 use Rattle.cell_elf.proofs.Skipping.{pairs_skipped}
 use Rattle.cell_elf.proofs.pairs.check_table.Goals as goal
 

@@ -11,5 +11,5 @@ returns-in-Ok-clause-transcript g c =
 pub returns-in-Err-Usage-clause-transcript : goal.returns-in-Err-Usage-clause-transcript
 returns-in-Err-Usage-clause-transcript g c =
     let none = rw c.in-Err-Usage.field-0-is at c.in-Err-Usage.ensures.reads in
-    unread_words _ (map string_bytes c.args.words.now.items) c.refuse.result _ _
-    (ap (λ ws. arguments_of (map string_bytes ws)) (sym c.as_slice.ensures.value) ∙ none) c.refuse.ensures.refused
+    unread_words _ (map string_bytes c.args.words.now.items) c.refuse_words.result _ _
+    (ap (λ ws. arguments_of (map string_bytes ws)) (sym c.as_slice.ensures.value) ∙ none) c.refuse_words.ensures.refused

@@ -1,7 +1,0 @@
-use Rattle.std.proofs.Common.{◌≡◌, ℕ, ◌+◌, ◌<◌, false}
-use Rattle.cell_elf.specs.Cover.{hits}
-use Rattle.cell_elf.specs.Fields.{field_at}
-use Rattle.cell_elf.proofs.cover.Fields.is_hit.Given as goal
-
-abbrev pub invariant-loop-start : goal.invariant-loop-start
-invariant-loop-start l = (q : ℕ) → l.field.from < q + 8 → q < l.start → hits l.field (field_at l.self q) ≡ false

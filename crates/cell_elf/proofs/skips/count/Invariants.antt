@@ -1,6 +1,0 @@
-use Rattle.std.proofs.Common.{ℕ, get_or}
-use Rattle.cell_elf.specs.Cover.{IsSkip}
-use Rattle.cell_elf.proofs.skips.count.Given as goal
-
-abbrev pub invariant-loop-at : goal.invariant-loop-at
-invariant-loop-at l = (q : ℕ) → IsSkip l.bytes q (get_or l.counts q 0)

@@ -1,0 +1,5 @@
+pub mod Passing
+pub mod Rounds
+pub mod NameLemmas
+pub mod Ends
+pub mod Counting

@@ -1,0 +1,93 @@
+//! Entries that are passed over.
+
+ghost use Rattle.std.specs.Prelude.{◌≡◌, ℕ, ◌+◌, ◌<◌, ◌≤◌, length, replicate, get_or, IfOk, Ok};
+ghost use Rattle.cell_num.specs.Kinds.{is_passed_over as passed_over};
+ghost use Rattle.cell_file.specs.Cover.{IsSkip};
+ghost use Rattle.cell_file.specs.Outcome.{Passes};
+
+use crate::ReadFail;
+use crate::file::rela_row_at;
+use cell_object::elf::ROW_LEN;
+use std::alloc::{AllocError, Global};
+
+const NONE: u32 = 0;
+
+const RELAX: u32 = 51;
+
+pub fn is_passed_over(kind: u32) -> bool
+    ensures { result ≡ passed_over kind }
+{
+    kind == NONE || kind == RELAX
+}
+
+/// How many entries are passed over from each place of a file on, one behind the other: tables that
+/// share their bytes pass over them once.
+#[derive(Drop)]
+pub struct Skips<'a> {
+    pub bytes: &'a [u8],
+    counts: Vec<u32>,
+    ghost are: { (at : ℕ) → IsSkip bytes.now at (get_or counts.items at 0) },
+}
+
+fn zeros(alloc: Global, len: usize) -> Result<Vec<u32>, AllocError>
+    ensures { IfOk result (λ zeros. zeros.items ≡ replicate len 0) }
+{
+    let mut zeros = Vec::new(alloc);
+    for _ in 0..len {
+        zeros.push(0)?;
+    }
+    Ok(zeros)
+}
+
+/// What is counted from a place on, or 0 past the end.
+fn count_of(counts: &[u32], place: usize) -> u32
+    ensures { result ≡ get_or counts.now place 0 }
+{
+    match counts.get(place) {
+        Some(count) => *count,
+        None => 0,
+    }
+}
+
+/// Counts from a place on, after the places behind it.
+fn count_at(bytes: &[u8], counts: &mut [u32], at: usize)
+    requires there { at < length counts.old }
+    requires row { at + 24 ≤ length bytes.now }
+    requires behind { (q : ℕ) → IsSkip bytes.now q (get_or counts.old q 0) }
+    ensures { (q : ℕ) → IsSkip bytes.now q (get_or counts.new q 0) }
+{
+    if is_passed_over(rela_row_at(bytes, at).r_type) {
+        counts[at] = count_of(counts, at + ROW_LEN as usize).saturating_add(1);
+    }
+}
+
+/// Counts from each place on, from the last one back.
+fn count(bytes: &[u8], counts: &mut [u32])
+    requires rows { length counts.old ≤ length bytes.now }
+    requires none { (q : ℕ) → IsSkip bytes.now q (get_or counts.old q 0) }
+    ensures { (q : ℕ) → IsSkip bytes.now q (get_or counts.new q 0) }
+{
+    for at in (0..counts.len()).rev() {
+        if bytes.len() - at >= ROW_LEN as usize {
+            count_at(bytes, counts, at);
+        }
+    }
+}
+
+impl<'a> Skips<'a> {
+    pub fn of(alloc: Global, bytes: &'a [u8]) -> Result<Skips<'a>, ReadFail>
+        ensures memory { Passes result (Ok tt) }
+        ensures bytes { IfOk result (λ skips. skips.bytes.now ≡ bytes.now) }
+    {
+        let mut counts = zeros(alloc, bytes.len())?;
+        count(bytes, &mut counts);
+        Ok(Skips { bytes, counts })
+    }
+
+    /// How many entries from a place on are passed over, one behind the other.
+    pub fn at(&self, place: u64) -> u32
+        ensures { IsSkip self.now.bytes.now place result }
+    {
+        count_of(&self.counts, place as usize)
+    }
+}
