@@ -170,13 +170,21 @@ fn newcomer(alloc: Global, cell: u32, ns: u16) -> Result<Newcomer, AllocError>
     })
 }
 
+/// `u` and `v` with a cell `a` each.
+fn with_newcomers(alloc: Global) -> Result<Spaces, AllocError>
+    ensures { IfOk result (λ s. length s.namespaces ≡ 3) }
+{
+    let newcomers = vec![in alloc; newcomer(alloc, 6, 1)?, newcomer(alloc, 7, 2)?]?;
+    let mut spaces = siblings(alloc)?;
+    attach_cells(&mut spaces, newcomers);
+    Ok(spaces)
+}
+
 /// Siblings may have cells of the same stem and names.
 #[test]
 fn two_newcomers(rt: HostRuntime) -> Result<(), Fail> {
     let alloc = rt.alloc();
-    let mut spaces = siblings(alloc)?;
-    let newcomers = vec![in alloc; newcomer(alloc, 6, 1)?, newcomer(alloc, 7, 2)?]?;
-    attach_cells(&mut spaces, newcomers);
+    let spaces = with_newcomers(alloc)?;
     assert_eq!(rt; spaces.cell_at(1, b"a"), Some(CellId(6)));
     assert_eq!(rt; spaces.cell_at(2, b"a"), Some(CellId(7)));
     let of_k = spaces.path(alloc, 0)?;

@@ -1,6 +1,8 @@
 //! Names that a new cell takes on from the one that it replaces.
 
 ghost use Rattle.std.specs.Prelude.{◌≡◌, ◌<◌, ◌≤◌, [], ◌∷◌, All, IfOk, length, true};
+ghost use Rattle.cell_world.specs.Limits.{max_file_bytes};
+ghost use Rattle.cell_depot.specs.Files.{are_apart};
 ghost use Rattle.cell_depot.specs.ObjectName.{is_object_name};
 ghost use Rattle.cell_space.specs.Spaces.{HasDetached};
 
@@ -29,7 +31,7 @@ fn assemble_short(alloc: Global, source: &[u8]) -> Result<Object, AsmFail> {
 /// The object file `k#b.o` of the source.
 fn new_file(alloc: Global) -> Result<File, Fail>
     ensures named { IfOk result (λ f. is_object_name f.name ≡ true) }
-    ensures small { IfOk result (λ f. length f.bytes ≤ 1048576) }
+    ensures small { IfOk result (λ f. length f.bytes ≤ max_file_bytes) }
 {
     let object = assemble_short(alloc, SOURCE)
         .ok()
@@ -72,10 +74,18 @@ fn put_aside(alloc: Global) -> Result<Spaces, AllocError>
     Ok(spaces)
 }
 
+/// A depot with that file alone.
+fn depot(alloc: Global) -> Result<Depot, Fail>
+    ensures small { IfOk result (λ d. All (λ f. length f.bytes ≤ max_file_bytes) d) }
+    ensures apart { IfOk result (λ d. are_apart d ≡ true) }
+{
+    let files = vec![in alloc; new_file(alloc)?]?;
+    Ok(Depot::of_files(alloc, files)?)
+}
+
 /// The names of the new cell in the place of the old one.
 fn new_names(alloc: Global, reexport: bool) -> Result<Vec<NameRows>, Fail> {
-    let files = vec![in alloc; new_file(alloc)?]?;
-    let depot = Depot::of_files(alloc, files)?;
+    let depot = depot(alloc)?;
     let spaces = put_aside(alloc)?;
     let want = Want {
         ns: 0,
@@ -90,6 +100,17 @@ fn new_names(alloc: Global, reexport: bool) -> Result<Vec<NameRows>, Fail> {
     Ok(into_names(alloc, ahead.into_fresh())?)
 }
 
+/// Whether these are the names after that.
+fn are_handed_on(names: &NameRows) -> bool {
+    let heir = names.symbol_of(b"b::go::h2");
+    names.len() == 6
+        && heir.is_some()
+        && names.symbol_of(b"b::go::h1") == heir
+        && names.symbol_of(b"b::go::h0") == heir
+        && names.symbol_of(b"b::two::h1").is_none()
+        && names.symbol_of(b"b::same").is_some()
+}
+
 /// A definition and an alias go to the one definition of their base name; a name stays away that has
 /// two heirs, and one that the new cell itself has.
 #[test]
@@ -97,14 +118,7 @@ fn names_are_handed_on(rt: HostRuntime) -> Result<(), Fail> {
     let alloc = rt.alloc();
     let all = new_names(alloc, true)?;
     assert_eq!(rt; all.len(), 1);
-    let names = &all[0];
-    assert_eq!(rt; names.len(), 6);
-    let heir = names.symbol_of(b"b::go::h2");
-    assert!(rt; heir.is_some());
-    assert_eq!(rt; names.symbol_of(b"b::go::h1"), heir);
-    assert_eq!(rt; names.symbol_of(b"b::go::h0"), heir);
-    assert_eq!(rt; names.symbol_of(b"b::two::h1"), None);
-    assert!(rt; names.symbol_of(b"b::same").is_some());
+    assert!(rt; are_handed_on(&all[0]));
     Ok(())
 }
 

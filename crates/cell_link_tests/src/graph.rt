@@ -55,28 +55,52 @@ fn sections(alloc: Global) -> Result<Graph, AllocError>
     Ok(graph)
 }
 
-/// Cell 1 needs cell 2 by two entries and itself by one; cell 2 needs cell 1. The links of a cell are
-/// in the order of their entries, those into a section from the last that was bound.
+/// Cell 1 needs cell 2 by two entries and itself by one; cell 2 needs cell 1.
+fn both_ways(alloc: Global) -> Result<Graph, AllocError>
+    ensures { IfOk result (λ g. g.sections ≡ key_of 1 1 ∷ key_of 1 3 ∷ key_of 2 1 ∷ key_of 2 2 ∷ key_of 3 1 ∷ []) }
+{
+    let (a, b, c) = (key(1, 1), key(1, 3), key(2, 1));
+    let mut graph = sections(alloc)?;
+    graph.bind(link(c, 0, a));
+    graph.bind(link(a, 2, b));
+    graph.bind(link(b, 1, c));
+    graph.bind(link(a, 0, c));
+    Ok(graph)
+}
+
+/// The links of a cell are in the order of their entries.
+fn has_own(alloc: Global, graph: &Graph) -> Result<bool, AllocError> {
+    let (a, b, c) = (key(1, 1), key(1, 3), key(2, 1));
+    let own: Vec<LinkRow> = graph.deps_of_cell(CellId(1)).collect(alloc)?;
+    let rows = [link(a, 0, c), link(b, 1, c), link(a, 2, b)];
+    Ok(own.as_slice() == rows.as_slice())
+}
+
+/// And so are those of a section.
+fn has_deps(alloc: Global, graph: &Graph) -> Result<bool, AllocError>
+    requires { Contains graph.now.sections (key_of 1 1) }
+{
+    let (a, b, c) = (key(1, 1), key(1, 3), key(2, 1));
+    let rows = [link(a, 0, c), link(a, 2, b)];
+    Ok(deps(alloc, graph, a)?.as_slice() == rows.as_slice())
+}
+
+/// Those into a section are in the order from the last that was bound.
+fn has_users(alloc: Global, graph: &Graph) -> Result<bool, AllocError>
+    requires { Contains graph.now.sections (key_of 2 1) }
+{
+    let (a, b, c) = (key(1, 1), key(1, 3), key(2, 1));
+    let rows = [link(a, 0, c), link(b, 1, c)];
+    Ok(users(alloc, graph, c)?.as_slice() == rows.as_slice())
+}
+
 #[test]
 fn links_both_ways(rt: HostRuntime) -> Result<(), Fail> {
     let alloc = rt.alloc();
-    let (a, b, c) = (key(1, 1), key(1, 3), key(2, 1));
-    let rows = [link(a, 0, c), link(b, 1, c), link(a, 2, b), link(c, 0, a)];
-    let mut graph = sections(alloc)?;
-    graph.bind(rows[3]);
-    graph.bind(rows[2]);
-    graph.bind(rows[1]);
-    graph.bind(rows[0]);
-    let own: Vec<LinkRow> = graph.deps_of_cell(CellId(1)).collect(alloc)?;
-    assert_eq!(rt; own.as_slice(), [rows[0], rows[1], rows[2]].as_slice());
-    assert_eq!(rt;
-        deps(alloc, &graph, a)?.as_slice(),
-        [rows[0], rows[2]].as_slice()
-    );
-    assert_eq!(rt;
-        users(alloc, &graph, c)?.as_slice(),
-        [rows[0], rows[1]].as_slice()
-    );
+    let graph = both_ways(alloc)?;
+    assert!(rt; has_own(alloc, &graph)?);
+    assert!(rt; has_deps(alloc, &graph)?);
+    assert!(rt; has_users(alloc, &graph)?);
     Ok(())
 }
 

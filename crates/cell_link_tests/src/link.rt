@@ -8,12 +8,8 @@ use std::test::*;
 
 const START: u64 = 0x1000_0000;
 
-/// A cell with one section at 0x10000000, a LOCAL symbol at its start, and these bytes and entries.
-fn cell(alloc: Global, bytes: &[u8], entries: &[Entry]) -> Result<NewCell, AllocError>
-    ensures entries { IfOk result (λ cell. cell.object.entries ≡ entries.now) }
-    ensures low { IfOk result (λ cell. All (λ p. p.start < 2 ^ 63) cell.places) }
-{
-    let section = Section {
+fn section(alloc: Global, bytes: &[u8]) -> Result<Section, AllocError> {
+    Ok(Section {
         number: 1,
         name: Bytes::from_vec(Vec::from_slice(alloc, b".text")?),
         write: false,
@@ -22,15 +18,36 @@ fn cell(alloc: Global, bytes: &[u8], entries: &[Entry]) -> Result<NewCell, Alloc
         align: 4,
         size: 8,
         bytes: Bytes::from_vec(Vec::from_slice(alloc, bytes)?),
-    };
-    let symbol = Symbol {
+    })
+}
+
+fn symbol(alloc: Global) -> Symbol {
+    Symbol {
         name: Bytes::from_vec(Vec::new(alloc)),
         bind: Bind::Local,
         sort: Sort::NoType,
         home: Home::Inside(1),
         value: 0,
         size: 0,
-    };
+    }
+}
+
+/// An object of one section with a LOCAL symbol at its start.
+fn object(alloc: Global, bytes: &[u8], entries: &[Entry]) -> Result<Object, AllocError>
+    ensures { IfOk result (λ object. object.entries ≡ entries.now) }
+{
+    Ok(Object {
+        sections: Listed::from_vec(vec![in alloc; section(alloc, bytes)?]?),
+        symbols: Listed::from_vec(vec![in alloc; symbol(alloc)]?),
+        entries: Listed::from_vec(Vec::from_slice(alloc, entries)?),
+    })
+}
+
+/// A cell of such an object, at 0x10000000.
+fn cell(alloc: Global, bytes: &[u8], entries: &[Entry]) -> Result<NewCell, AllocError>
+    ensures entries { IfOk result (λ cell. cell.object.entries ≡ entries.now) }
+    ensures low { IfOk result (λ cell. All (λ p. p.start < 2 ^ 63) cell.places) }
+{
     let places = Vec::from_slice(
         alloc,
         &[SecPlace {
@@ -43,11 +60,7 @@ fn cell(alloc: Global, bytes: &[u8], entries: &[Entry]) -> Result<NewCell, Alloc
         ns: 0,
         stem: Name::of(alloc, b"a")?,
         file: Name::of(alloc, b"k#a.o")?,
-        object: Object {
-            sections: Listed::from_vec(vec![in alloc; section]?),
-            symbols: Listed::from_vec(vec![in alloc; symbol]?),
-            entries: Listed::from_vec(Vec::from_slice(alloc, entries)?),
-        },
+        object: object(alloc, bytes, entries)?,
         places: Listed::from_vec(places),
     })
 }
