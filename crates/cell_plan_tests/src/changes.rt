@@ -3,10 +3,11 @@
 ghost use Rattle.std.specs.Prelude.{◌≡◌, ◌<◌, ◌^◌, length};
 
 use crate::cell::{START, cell, entry};
-use cell_link::{FieldValue, LinkFail};
+use cell_link::FieldValue;
 use cell_num::{RelKind, SecKey};
 use cell_object::Entry;
 use cell_plan::{CellId, Change, Changes, LinkRow, Old, Target, changes_of};
+use cell_world::{Fail as CommandFail, Refusal};
 use std::alloc::Global;
 use std::test::*;
 
@@ -42,7 +43,7 @@ fn changes(
     entries: &[Entry],
     targets: &[Target],
     links: &[LinkRow],
-) -> Result<Changes, LinkFail>
+) -> Result<Changes, CommandFail>
     requires each { length targets.now ≡ length entries.now }
     requires few { length entries.now < 2 ^ 32 }
 {
@@ -109,6 +110,15 @@ fn a_field_that_does_not_fit(rt: HostRuntime) -> Result<(), Fail> {
     let entries = [entry(0, RelKind::Abs64, 1), entry(8, RelKind::Jal, 1)];
     let far = target(4, 0x7000_0000);
     let misfit = changes(alloc, &entries, &[far, far], &[link(0, 2), link(1, 2)]);
-    assert!(rt; matches!(misfit, Err(LinkFail::Overflow { entry: 1 })));
+    assert!(rt;
+        matches!(
+            misfit,
+            Err(CommandFail::Refused(Refusal::Overflow {
+                section: 1,
+                offset: 8,
+                ..
+            }))
+        )
+    );
     Ok(())
 }

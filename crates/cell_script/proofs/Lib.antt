@@ -1,5 +1,4 @@
 pub mod Lines
 pub mod Count
 pub mod SeenWords
-pub mod Items
 pub mod Said

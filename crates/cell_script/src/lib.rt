@@ -5,7 +5,6 @@ mod cells;
 mod command;
 mod line;
 mod read;
-mod swap;
 mod words;
 
 pub use cell_world::Command;

@@ -16,9 +16,6 @@ pub mod Firsts
 pub mod Surveyed
 pub mod Swept
 pub mod ItemLemmas
-pub mod SwapLanded
 pub mod OldStates
 pub mod Returning
 pub mod OldRivals
-pub mod Began
-pub mod Wanting

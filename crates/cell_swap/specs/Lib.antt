@@ -4,4 +4,3 @@ pub mod Begun
 pub mod Unmapped
 pub mod Asking
 pub mod OldCells
-pub mod Planning
