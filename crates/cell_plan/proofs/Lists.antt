@@ -78,11 +78,10 @@ nowhere_out old entries targets q l out = rw out (and_none (is_lost old targets 
 
 -- what a list of references refers to
 pub referred : {X : Type 0} (refs : List (Bor X)) (place : ℕ) (r : Bor X) → place < length refs → r ≡ get_or refs place r → (place < length (map (λ x. x.now) refs)) × (r.now ≡ get_or (map (λ x. x.now) refs) place r.now)
-referred {X = X} refs place r here at =
-    (
-      omega (arith, here, length-map refs (λ (x : Bor X). x.now)),
-      ap (λ (x : Bor X). x.now) at ∙ sym (get_or-map (λ (x : Bor X). x.now) refs place r r.now here),
-    )
+referred {X = X} refs place r here at = (
+  omega (arith, here, length-map refs (λ (x : Bor X). x.now)),
+  ap (λ (x : Bor X). x.now) at ∙ sym (get_or-map (λ (x : Bor X). x.now) refs place r r.now here),
+)
 
 -- changes by their fields, and by their values
 pub change_fields : (value : Entry → FieldValue) (fs : List Entry) → map (λ x. x.field) (map (change_by value) fs) ≡ fs

@@ -33,7 +33,12 @@ fn is_lacking(ahead: &Ahead, ns: u16, state: CellState, name: &Name) -> bool
 }
 
 /// The first of the names that nobody provides for a cell of that namespace and state.
-fn first_lacking<'a>(ahead: &Ahead, ns: u16, state: CellState, names: &'a [Name]) -> Option<&'a Name>
+fn first_lacking<'a>(
+    ahead: &Ahead,
+    ns: u16,
+    state: CellState,
+    names: &'a [Name],
+) -> Option<&'a Name>
     requires { ns < length ahead.now.namespaces }
     ensures { option_map (λ name. name.now) result ≡ find (λ name. is_none (provider_among (chain ahead.now.namespaces ns) state name ahead.now.cells)) names.now }
 {

@@ -34,8 +34,6 @@ pub file_found : (files : List File) (name : List ℕ) → file_named (map sourc
 file_found [] name = refl
 file_found (f ∷ files) name = go (has_name name f) (file_found files name)
   where
-
-
     go : (b : Bool) → file_named (map source_of files) name ≡ option_map source_of (find (has_name name) files)
         → cond b (Some (source_of f)) (file_named (map source_of files) name) ≡ option_map source_of (cond b (Some f) (find (has_name name) files))
     go true e = refl

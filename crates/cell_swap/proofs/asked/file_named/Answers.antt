@@ -15,5 +15,5 @@ returns-in-Some c = the_file c.args.depot.now c.args.name.now c.bytes.result.now
 pub returns-in-None : goal.returns-in-None
 returns-in-None c =
     unknown_is c.args.name.now c.unknown.result (subst (λ (n : List ℕ). IsUnknown n c.unknown.result) c.bytes-in-None.ensures c.unknown.ensures)
-      (found (file_named (map source_of c.args.depot.now) c.args.name.now) (Unknown c.args.name.now))
-      (the_file c.args.depot.now c.args.name.now c.bytes.result.now c.bytes.ensures None (c.in-None.ensures {u = tt}))
+    (found (file_named (map source_of c.args.depot.now) c.args.name.now) (Unknown c.args.name.now))
+    (the_file c.args.depot.now c.args.name.now c.bytes.result.now c.bytes.ensures None (c.in-None.ensures {u = tt}))

@@ -11,10 +11,10 @@ use Rattle.cell_swap.proofs.asked.old_cell.Goals as goal
 pub unreachable-requires : goal.unreachable-requires
 unreachable-requires c =
     some_cell (world_of c.args.machine.now) c.requires.coherent.ready.cell_order c.in_ok-name.name c.in_ok-number.number.0
-      (c.in_ok-number.ensures {u = tt}) None (c.in-None.ensures {u = tt}) refl
+    (c.in_ok-number.ensures {u = tt}) None (c.in-None.ensures {u = tt}) refl
 
 pub returns : goal.returns
 returns c =
     ap (λ (name : CellName). attached_cell (world_of c.args.machine.now) name >>= (λ c. let said : Outcome NewCell = Ok c.placed in said)) (sym (c.in_ok-name.ensures {u = tt}))
     ∙ the_cell (world_of c.args.machine.now) c.requires.coherent.ready.cell_order c.in_ok-name.name c.in_ok-number.number.0
-      (c.in_ok-number.ensures {u = tt}) (Some c.in-Some.cell.now) (c.in-Some.ensures {u = tt}) c.in-Some.cell.now refl
+    (c.in_ok-number.ensures {u = tt}) (Some c.in-Some.cell.now) (c.in-Some.ensures {u = tt}) c.in-Some.cell.now refl

@@ -7,6 +7,6 @@ use Rattle.cell_swap.proofs.asked.Asked.add.Goals as goal
 pub returns : goal.returns
 returns c =
     has_want (map source_of c.args.depot.now) (world_of c.args.machine.now) c.requires.coherent.ready.cell_order c.args.item.now
-      c.in_ok-old.old.now (c.in_ok-old.ensures {u = tt}) (source_of c.in_ok-file_named.field-0.now) (c.in_ok-file_named.ensures {u = tt})
-      c.in_ok-want.want (c.in_ok-want.ensures {u = tt}) c.args.self.now c.push.new.self
-      (c.in_ok-push.ensures {u = tt}).wants (c.in_ok-push.ensures {u = tt}).replaced
+    c.in_ok-old.old.now (c.in_ok-old.ensures {u = tt}) (source_of c.in_ok-file_named.field-0.now) (c.in_ok-file_named.ensures {u = tt})
+    c.in_ok-want.want (c.in_ok-want.ensures {u = tt}) c.args.self.now c.push.new.self
+    (c.in_ok-push.ensures {u = tt}).wants (c.in_ok-push.ensures {u = tt}).replaced
