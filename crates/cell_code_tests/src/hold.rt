@@ -173,9 +173,9 @@ fn all_kept(rt: &HostRuntime, memory: &Memory, roots: &[Root]) -> Result<Vec<Cel
         return Err(Fail::from("no such cell"));
     }
     let graph = links(rt.alloc())?;
-    let places = places(rt.alloc())?;
+    let mut places = places(rt.alloc())?;
     let mut into = Vec::with_capacity(rt.alloc(), 10)?;
-    kept(&graph, memory, &places, roots, &mut into);
+    kept(&graph, memory, &mut places, roots, &mut into);
     Ok(into)
 }
 

@@ -94,17 +94,19 @@ fn at(first: u64, second: u64) -> [SecPlace; 2]
 fn one_after_another(rt: HostRuntime) -> Result<(), Fail> {
     let alloc = rt.alloc();
     let mut space = Space::new(alloc, BASE, 16)?;
-    let placed = place_cells(alloc, &mut space, two_cells(alloc, 12 * 4096)?)
+    let mut cells = two_cells(alloc, 12 * 4096)?;
+    let taken = place_cells(alloc, &mut space, &mut cells, 0)
         .ok()
         .ok_or("no room")?;
-    let [first, second] = placed.cells.as_slice() else {
+    assert_eq!(rt; taken.extra, None);
+    let [first, second] = cells.as_slice() else {
         return Err("not two cells".into());
     };
     assert_eq!(rt; first.id, CellId(6));
     assert_eq!(rt; first.places.as_slice(), at(0, 2).as_slice());
     assert_eq!(rt; second.id, CellId(7));
     assert_eq!(rt; second.places.as_slice(), at(3, 4).as_slice());
-    let starts: Vec<u64> = placed.regions.iter().map(|r| r.start).collect(alloc)?;
+    let starts: Vec<u64> = taken.regions.iter().map(|r| r.start).collect(alloc)?;
     assert_eq!(rt;
         starts.as_slice(),
         [BASE, BASE + 0x2000, BASE + 0x3000, BASE + 0x4000].as_slice()
@@ -128,9 +130,44 @@ fn no_room_for_the_second(rt: HostRuntime) -> Result<(), Fail> {
         wanted: 13,
         largest: 12,
     };
-    match place_cells(alloc, &mut space, two_cells(alloc, 12 * 4096 + 1)?) {
+    let mut cells = two_cells(alloc, 12 * 4096 + 1)?;
+    match place_cells(alloc, &mut space, &mut cells, 0) {
         Err(fail) => assert_eq!(rt; fail, PlaceFail::NoRoom(none)),
         Ok(_) => return Err("room for both".into()),
+    }
+    Ok(())
+}
+
+/// The extra run has the last four of twenty pages.
+#[test]
+fn a_run_behind_the_cells(rt: HostRuntime) -> Result<(), Fail> {
+    let alloc = rt.alloc();
+    let mut space = Space::new(alloc, BASE, 20)?;
+    let mut cells = two_cells(alloc, 12 * 4096)?;
+    let taken = place_cells(alloc, &mut space, &mut cells, 4)
+        .ok()
+        .ok_or("no room")?;
+    assert_eq!(rt; taken.extra, Some(BASE + 16 * 4096));
+    assert_eq!(rt; taken.regions.len(), 4);
+    Ok(())
+}
+
+/// Once the cells' runs are taken four pages are left, and the cells stay in no place.
+#[test]
+fn no_room_behind_the_cells(rt: HostRuntime) -> Result<(), Fail> {
+    let alloc = rt.alloc();
+    let mut space = Space::new(alloc, BASE, 20)?;
+    let none = NoRun {
+        wanted: 5,
+        largest: 4,
+    };
+    let mut cells = two_cells(alloc, 12 * 4096)?;
+    match place_cells(alloc, &mut space, &mut cells, 5) {
+        Err(fail) => assert_eq!(rt; fail, PlaceFail::NoRoom(none)),
+        Ok(_) => return Err("room for all".into()),
+    }
+    for cell in cells {
+        assert_eq!(rt; cell.places.as_slice(), [].as_slice());
     }
     Ok(())
 }

@@ -1,16 +1,16 @@
 -- The sections near a word.
-use Rattle.std.proofs.Common.{◌≡◌, refl, sym, ◌∙◌, ap, subst, arith, ℕ, ◌+◌, ◌-◌, ◌^◌, ◌≤◌, ◌<◌, Bool, true, false, ◌&&◌, ◌||◌, List, length, take, drop, get_or}
+use Rattle.std.proofs.Common.{◌≡◌, refl, sym, ◌∙◌, ap, subst, arith, ℕ, ◌+◌, ◌-◌, ◌^◌, ◌≤◌, ◌<◌, Bool, true, false, ◌&&◌, List, length, take, drop, get_or}
 use Rattle.std.specs.Prelude.{◌==◌, nat_le, nat_lt}
 use Rattle.std.specs.List.{list_any, list_all}
 use Rattle.std.specs.List.Sorted.{IsNonDecreasingBy}
 use Rattle.std.proofs.lemmas.List.{get_or_default}
-use Rattle.std.proofs.lemmas.Bool.{and_parts, and_from, le-leb, leb-true, leb-false, ltb-true, eqb-true}
+use Rattle.std.proofs.lemmas.Bool.{and_parts, and_from, leb-true, ltb-true}
 use Rattle.cell_num.specs.declared.ids.CellId.{CellId}
 use Rattle.cell_world.specs.declared.state.Placed.{Placed}
 use Rattle.cell_world.specs.Kept.{is_inside}
 use Rattle.cell_hold.specs.declared.spots.Spot.{Spot}
 use Rattle.cell_hold.specs.declared.spots.Span.{Span}
-use Rattle.cell_hold.specs.Adds.{Adds, has_or_full}
+use Rattle.cell_hold.specs.Adds.{Adds}
 use Rattle.cell_hold.specs.Places.{is_at, is_cells_at}
 use Rattle.cell_hold.specs.Spans.{IsSettled, OnlyNear, is_above, is_below, is_within}
 use Rattle.cell_hold.specs.Spots.{AreSpots, places_of}

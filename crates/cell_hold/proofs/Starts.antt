@@ -1,5 +1,5 @@
 -- What a sort by start and size comes to, and sections with their reaches.
-use Rattle.std.proofs.Common.{◌≡◌, refl, sym, ◌∙◌, ap, subst, arith, ℕ, ◌+◌, ◌-◌, ◌^◌, ◌≤◌, ◌<◌, false, List, ◌∷◌, ◌++◌, [], map, length, get_or, true≢false}
+use Rattle.std.proofs.Common.{◌≡◌, sym, ◌∙◌, ap, arith, ℕ, ◌-◌, ◌≤◌, ◌<◌, false, List, ◌∷◌, ◌++◌, [], length, get_or, true≢false}
 use Rattle.std.specs.Prelude.{All}
 use Rattle.std.specs.List.Sorted.{IsNonDecreasingBy, IsSortedByKey}
 use Rattle.std.specs.Ordering.{MatchOrdering, is_lt, nat_cmp, ordering_then}

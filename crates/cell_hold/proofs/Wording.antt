@@ -1,18 +1,15 @@
 -- Words in bytes, and the cells that they lie in.
-use Rattle.std.proofs.Common.{◌≡◌, refl, sym, ◌∙◌, ap, subst, ℕ, ◌+◌, ◌≤◌, ◌<◌, Bool, true, false, cond, ◌&&◌, ◌||◌, List, [], ◌∷◌, ◌++◌, length, take, drop, append_assoc, append-nil}
-use Rattle.std.specs.Prelude.{◌==◌, nat_le, filter}
-use Rattle.std.specs.List.{list_any}
+use Rattle.std.proofs.Common.{◌≡◌, refl, sym, ◌∙◌, ap, subst, ℕ, ◌≤◌, ◌<◌, Bool, true, false, ◌||◌, List, [], ◌∷◌, ◌++◌, length, take, drop, append_assoc, append-nil}
 use Rattle.std.proofs.lemmas.List.Folds.{list_any-append}
 use Rattle.cell_num.specs.declared.ids.CellId.{CellId}
 use Rattle.cell_num.specs.Bits.{little}
 use Rattle.cell_world.specs.declared.state.Placed.{Placed}
-use Rattle.cell_world.specs.Kept.{is_inside}
 use Rattle.cell_world.specs.Words.{words_in}
 use Rattle.cell_task.proofs.Wording.{words_first, words_none}
 use Rattle.cell_hold.specs.Adds.{Adds}
-use Rattle.cell_hold.specs.Places.{is_at, is_cells_at}
+use Rattle.cell_hold.specs.Places.{is_cells_at}
 use Rattle.cell_hold.specs.Reached.{touches}
-use Rattle.cell_hold.proofs.Adding.{none_added, added_all, added_same, added_then, in_room}
+use Rattle.cell_hold.proofs.Adding.{none_added, added_same, added_then, in_room}
 
 -- the words before the rest have been gone over
 pub record SoFar (places : List Placed) (room : ℕ) (bytes rest : List ℕ) (old new : List CellId) : Type 0 where

@@ -1,14 +1,23 @@
 -- Lists of cells without memory of their own.
+--     Roomy                        a list, and how many cells there is room for
 --     has_cell cells c             the cell is in the list
+--     AreMarked cells marks        a mark says whether the cell of its number is in the list
 --     IsOnceEach cells             no cell stands there twice
 --     Adds test room old new       new is old and then, while there is room, what passes the test and wasn't there
 --     Spreads reach room done old new   new is old and then what is reached, so far from its first `done` cells
-use Rattle.std.specs.Prelude.{ℕ, ◌≡◌, ◌≤◌, nat_le, ◌==◌, Bool, true, ◌||◌, List, ◌++◌, length, take}
+use Rattle.std.specs.Prelude.{ℕ, ◌≡◌, ◌≤◌, ◌<◌, nat_le, ◌==◌, Bool, true, false, ◌||◌, List, ◌++◌, length, slice_index_or, take}
 use Rattle.std.specs.List.{list_any, count_by}
 use Rattle.cell_num.specs.declared.ids.CellId.{CellId}
 
+pub record Roomy : Type 0 where
+  pub items : List CellId
+  pub room : ℕ
+
 abbrev pub has_cell : List CellId → ℕ → Bool
 has_cell cells c = list_any (λ x. x.0 == c) cells
+
+abbrev pub AreMarked : List CellId → List Bool → Type 0
+AreMarked cells marks = (c : ℕ) → c < length marks → slice_index_or marks c false ≡ has_cell cells c
 
 abbrev pub IsOnceEach : List CellId → Type 0
 IsOnceEach cells = (c : ℕ) → count_by (λ x. x.0 == c) cells ≤ 1

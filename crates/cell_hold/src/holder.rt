@@ -9,13 +9,14 @@ use crate::bytes::stack_of;
 use crate::leads::reaches;
 use crate::places::Places;
 use crate::roots::{Root, TaskView};
+use crate::sections::Sections;
 use crate::words::{numbers_lead, word_leads, words_lead};
 use cell_graph::Graph;
 use cell_mem::Memory;
 use cell_num::{CellId, Holder};
 
 /// Whether a task began in the cell or has a word in it.
-fn task_holds(memory: &Memory, places: &Places, task: &TaskView, cell: CellId) -> bool
+fn task_holds(memory: &Memory, places: &Sections, task: &TaskView, cell: CellId) -> bool
     ensures { result ≡ task_holds memory.now places.now task.now cell.0 }
 {
     if task.root.0 == cell.0 || word_leads(places, task.pc, cell) {
@@ -30,7 +31,7 @@ fn task_holds(memory: &Memory, places: &Places, task: &TaskView, cell: CellId) -
 }
 
 /// The task that holds the cell by this root.
-fn held_by(memory: &Memory, places: &Places, root: &Root, cell: CellId) -> Option<u32>
+fn held_by(memory: &Memory, places: &Sections, root: &Root, cell: CellId) -> Option<u32>
     ensures { result ≡ claimant memory.now places.now root.now cell.0 }
 {
     match root {
@@ -41,7 +42,7 @@ fn held_by(memory: &Memory, places: &Places, root: &Root, cell: CellId) -> Optio
 }
 
 /// The first task that holds the cell.
-fn holding_task(memory: &Memory, places: &Places, roots: &[Root], cell: CellId) -> Option<Holder>
+fn holding_task(memory: &Memory, places: &Sections, roots: &[Root], cell: CellId) -> Option<Holder>
     ensures { result ≡ holding_task (rooted memory.now places.now roots.now) cell.0 }
 {
     for root in roots {
@@ -54,7 +55,7 @@ fn holding_task(memory: &Memory, places: &Places, roots: &[Root], cell: CellId) 
 }
 
 /// Whether another cell reaches the cell.
-fn is_holder(graph: &Graph, memory: &Memory, places: &Places, other: CellId, cell: CellId) -> bool
+fn is_holder(graph: &Graph, memory: &Memory, places: &Sections, other: CellId, cell: CellId) -> bool
     ensures { result ≡ (not (other.0 == cell.0) && reaches (linked graph.now memory.now places.now) other.0 cell.0) }
 {
     other.0 != cell.0 && reaches(graph, memory, places, other, cell)
@@ -64,7 +65,7 @@ fn is_holder(graph: &Graph, memory: &Memory, places: &Places, other: CellId, cel
 fn holding_cell(
     graph: &Graph,
     memory: &Memory,
-    places: &Places,
+    places: &Sections,
     cells: &[CellId],
     cell: CellId,
 ) -> Option<Holder>
@@ -76,6 +77,23 @@ fn holding_cell(
         }
     }
     None
+}
+
+/// The holder of a cell, among sections by their cells and addresses.
+fn find_holder(
+    graph: &Graph,
+    memory: &Memory,
+    places: &Sections,
+    roots: &[Root],
+    kept: &[CellId],
+    cell: CellId,
+) -> Option<Holder>
+    ensures { (cells : List ℕ) → map (λ c. c.0) kept.now ≡ kept_in (holding_by cells graph.now memory.now places.now roots.now) → result ≡ holder_in (holding_by cells graph.now memory.now places.now roots.now) cell.0 }
+{
+    match holding_task(memory, places, roots, cell) {
+        Some(task) => Some(task),
+        None => holding_cell(graph, memory, places, kept, cell),
+    }
 }
 
 /// What keeps a cell: the first task, in the order of the roots, that began in it or has a word in
@@ -91,8 +109,5 @@ pub fn holder_of(
 ) -> Option<Holder>
     ensures { (cells : List ℕ) → map (λ c. c.0) kept.now ≡ kept_in (holding_by cells graph.now memory.now places.now roots.now) → result ≡ holder_in (holding_by cells graph.now memory.now places.now roots.now) cell.0 }
 {
-    match holding_task(memory, places, roots, cell) {
-        Some(task) => Some(task),
-        None => holding_cell(graph, memory, places, kept, cell),
-    }
+    find_holder(graph, memory, &places.sections, roots, kept, cell)
 }

@@ -6,7 +6,7 @@ ghost use Rattle.cell_world.specs.Kept.{reaches};
 ghost use Rattle.cell_hold.specs.Reached.{cell_leads, linked, links_lead, section_leads};
 
 use crate::bytes::section_bytes;
-use crate::places::Places;
+use crate::sections::Sections;
 use crate::words::words_lead;
 use cell_graph::Graph;
 use cell_mem::Memory;
@@ -27,7 +27,7 @@ fn has_link(graph: &Graph, from: CellId, cell: CellId) -> bool
 }
 
 /// Whether a section may be written and has a word that lies in the cell.
-fn section_leads(memory: &Memory, places: &Places, place: &Placed, cell: CellId) -> bool
+fn section_leads(memory: &Memory, places: &Sections, place: &Placed, cell: CellId) -> bool
     ensures { result ≡ section_leads memory.now places.now place.now cell.0 }
 {
     if !place.write {
@@ -38,7 +38,7 @@ fn section_leads(memory: &Memory, places: &Places, place: &Placed, cell: CellId)
 }
 
 /// The same for all sections of a cell.
-fn sections_lead(memory: &Memory, places: &Places, from: CellId, cell: CellId) -> bool
+fn sections_lead(memory: &Memory, places: &Sections, from: CellId, cell: CellId) -> bool
     ensures { result ≡ list_any (λ s. cell_leads memory.now places.now from.0 s cell.0) places.now }
 {
     let own = places.own(from);
@@ -51,7 +51,13 @@ fn sections_lead(memory: &Memory, places: &Places, from: CellId, cell: CellId) -
 }
 
 /// Whether one cell reaches another.
-pub fn reaches(graph: &Graph, memory: &Memory, places: &Places, from: CellId, cell: CellId) -> bool
+pub fn reaches(
+    graph: &Graph,
+    memory: &Memory,
+    places: &Sections,
+    from: CellId,
+    cell: CellId,
+) -> bool
     ensures { result ≡ reaches (linked graph.now memory.now places.now) from.0 cell.0 }
 {
     if has_link(graph, from, cell) {

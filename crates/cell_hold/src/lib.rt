@@ -1,14 +1,15 @@
 //! The cells that must stay, and who holds them.
 #![tactic(auto)]
 
-mod added;
 mod bytes;
 mod direct;
+mod found;
 mod holder;
 mod leads;
 mod places;
 mod reached;
 mod roots;
+mod sections;
 mod spots;
 mod words;
 mod worklist;

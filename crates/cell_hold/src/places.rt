@@ -1,73 +1,40 @@
 //! The sections that holding looks at.
 
-ghost use Rattle.std.specs.Prelude.{◌≡◌, ◌≤◌, ◌==◌, ◌&&◌, true, false, Bool, IfOk, filter, length, nat_le, nat_lt};
-ghost use Rattle.std.specs.List.{list_any};
-ghost use Rattle.std.specs.List.Sorted.{IsNonDecreasingBy, IsPartitionPoint, IsPermutation};
-ghost use Rattle.cell_world.specs.declared.state.Placed.{Placed as PlacedAt};
-ghost use Rattle.cell_hold.specs.Spans.{is_within, OnlyNear};
+ghost use Rattle.std.specs.Prelude.{◌≡◌, ◌≤◌, ◌<◌, All, IfOk, vec_len};
 
-use crate::spots::{Near, Spot, near_word, spots};
-use cell_num::CellId;
+use crate::sections::Sections;
 use cell_world::Placed;
 use std::alloc::{AllocError, Global};
 use std::marker::Model;
 
-/// Sections, to be found by their cells and by addresses. Contracts see them as they were given.
+/// The highest number of a cell that gets a mark; so wide are the numbers of the machine.
+const HIGHEST: u32 = 65_535;
+
+/// Sections, to be found by their cells and by addresses, and room for marks of their cells.
+/// Contracts see the sections as they were given.
 #[derive(Drop)]
 pub struct Places {
-    list: Vec<Placed>,
-    by_cell: Vec<Placed>,
-    by_start: Vec<Spot>,
+    pub(crate) sections: Sections,
+    pub(crate) marks: Vec<bool>,
 }
 
 impl Model for Places {
     ghost use Rattle.std.specs.Prelude.{List};
     ghost use Rattle.cell_world.specs.declared.state.Placed.{Placed as PlacedAt};
-    ghost use Rattle.cell_hold.specs.Spots.{IsIndexed};
 
     ghost Value = { List PlacedAt };
 
-    ghost view = { λ p. p.list.items };
-
-    ghost invariant = { λ p. IsIndexed p.list.items p.by_cell.items p.by_start.items };
+    ghost view = { λ p. p.sections };
 }
 
-/// The sections by their cells.
-fn by_cell(alloc: Global, places: &[Placed]) -> Result<Vec<Placed>, AllocError>
-    ensures same { IfOk result (λ sorted. IsPermutation places.now sorted.items) }
-    ensures rising { IfOk result (λ sorted. IsNonDecreasingBy (λ s. s.key.cell.0) sorted.items) }
+/// Marks for all cells of these sections whose numbers aren't above the highest.
+fn marks_for(alloc: Global, sections: &Sections) -> Result<Vec<bool>, AllocError>
+    ensures { IfOk result (λ marks. All (λ s. s.key.cell.0 ≤ 65535 → s.key.cell.0 < vec_len marks) sections.now) }
 {
-    let mut sorted = Vec::from_slice(alloc, places)?;
-    sorted.sort_unstable_by_key(|place| place.key.cell.0);
-    Ok(sorted)
-}
-
-/// How many sections are of lower cells.
-fn count_lower(places: &[Placed], cell: CellId) -> usize
-    requires { IsNonDecreasingBy (λ s. s.key.cell.0) places.now }
-    ensures bound { result ≤ length places.now }
-    ensures lower { IsPartitionPoint (λ s. nat_lt s.key.cell.0 cell.0 ≡ true) (λ s. nat_lt s.key.cell.0 cell.0 ≡ false) places.now result }
-{
-    places.partition_point(|place| place.key.cell.0 < cell.0)
-}
-
-/// How many sections are of this cell or lower ones.
-fn count_up_to(places: &[Placed], cell: CellId) -> usize
-    requires { IsNonDecreasingBy (λ s. s.key.cell.0) places.now }
-    ensures bound { result ≤ length places.now }
-    ensures up_to { IsPartitionPoint (λ s. nat_le s.key.cell.0 cell.0 ≡ true) (λ s. nat_le s.key.cell.0 cell.0 ≡ false) places.now result }
-{
-    places.partition_point(|place| place.key.cell.0 <= cell.0)
-}
-
-/// The sections of a cell, among sections by their cells.
-fn sections_of(places: &[Placed], cell: CellId) -> &[Placed]
-    requires { IsNonDecreasingBy (λ s. s.key.cell.0) places.now }
-    ensures { result.now ≡ filter (λ s. s.key.cell.0 == cell.0) places.now }
-{
-    let end = count_up_to(places, cell);
-    let start = count_lower(places, cell);
-    &places[start..end]
+    let highest = sections.highest().min(HIGHEST);
+    let mut marks = Vec::new(alloc);
+    marks.resize(highest as usize + 1, false)?;
+    Ok(marks)
 }
 
 impl Places {
@@ -75,27 +42,8 @@ impl Places {
     pub fn of(alloc: Global, list: Vec<Placed>) -> Result<Places, AllocError>
         ensures { IfOk result (λ places. places ≡ list.items) }
     {
-        let by_cell = by_cell(alloc, &list)?;
-        let by_start = spots(alloc, &list)?;
-        Ok(Places {
-            list,
-            by_cell,
-            by_start,
-        })
-    }
-
-    /// The sections of a cell.
-    pub(crate) fn own(&self, cell: CellId) -> &[Placed]
-        ensures { (p : PlacedAt → Bool) → list_any p result.now ≡ list_any (λ s. s.key.cell.0 == cell.0 && p s) self.now }
-    {
-        sections_of(&self.by_cell, cell)
-    }
-
-    /// The sections near a word.
-    pub(crate) fn near(&self, word: u64) -> Near<'_>
-        ensures here { is_within result.span word ≡ true }
-        ensures only { OnlyNear result.span result.spots.now self.now }
-    {
-        near_word(&self.by_start, word)
+        let sections = Sections::of(alloc, list)?;
+        let marks = marks_for(alloc, &sections)?;
+        Ok(Places { sections, marks })
     }
 }

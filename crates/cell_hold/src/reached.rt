@@ -1,14 +1,14 @@
 //! What a cell reaches.
 
-ghost use Rattle.std.specs.Prelude.{◌≡◌, vec_capacity};
+ghost use Rattle.std.specs.Prelude.{◌≡◌};
 ghost use Rattle.std.specs.List.{list_any};
 ghost use Rattle.cell_world.specs.Kept.{reaches};
 ghost use Rattle.cell_hold.specs.Adds.{Adds};
 ghost use Rattle.cell_hold.specs.Reached.{cell_leads, linked, links_lead, section_leads};
 
-use crate::added::add;
 use crate::bytes::section_bytes;
-use crate::places::Places;
+use crate::found::Found;
+use crate::sections::Sections;
 use crate::words::add_words;
 use cell_graph::Graph;
 use cell_mem::Memory;
@@ -16,20 +16,20 @@ use cell_num::CellId;
 use cell_world::Placed;
 
 /// Adds the targets of a cell's links.
-fn add_targets(graph: &Graph, cell: CellId, into: &mut Vec<CellId>)
-    ensures added { Adds (links_lead graph.now cell.0) (vec_capacity into.old) into.old.items into.new.items }
-    ensures room { vec_capacity into.new ≡ vec_capacity into.old }
+fn add_targets(graph: &Graph, cell: CellId, into: &mut Found)
+    ensures added { Adds (links_lead graph.now cell.0) into.old.room into.old.items into.new.items }
+    ensures room { into.new.room ≡ into.old.room }
 {
     let links = graph.deps_of_cell(cell);
     for link in links {
-        add(link.target.cell, into);
+        into.add(link.target.cell);
     }
 }
 
 /// Adds the cells that the words of a section lie in, if it may be written.
-fn add_from_section(memory: &Memory, places: &Places, place: &Placed, into: &mut Vec<CellId>)
-    ensures added { Adds (section_leads memory.now places.now place.now) (vec_capacity into.old) into.old.items into.new.items }
-    ensures room { vec_capacity into.new ≡ vec_capacity into.old }
+fn add_from_section(memory: &Memory, places: &Sections, place: &Placed, into: &mut Found)
+    ensures added { Adds (section_leads memory.now places.now place.now) into.old.room into.old.items into.new.items }
+    ensures room { into.new.room ≡ into.old.room }
 {
     if !place.write {
         return;
@@ -39,9 +39,9 @@ fn add_from_section(memory: &Memory, places: &Places, place: &Placed, into: &mut
 }
 
 /// The same for all sections of a cell.
-fn add_from_sections(memory: &Memory, places: &Places, cell: CellId, into: &mut Vec<CellId>)
-    ensures added { Adds (λ c. list_any (λ s. cell_leads memory.now places.now cell.0 s c) places.now) (vec_capacity into.old) into.old.items into.new.items }
-    ensures room { vec_capacity into.new ≡ vec_capacity into.old }
+fn add_from_sections(memory: &Memory, places: &Sections, cell: CellId, into: &mut Found)
+    ensures added { Adds (λ c. list_any (λ s. cell_leads memory.now places.now cell.0 s c) places.now) into.old.room into.old.items into.new.items }
+    ensures room { into.new.room ≡ into.old.room }
 {
     let own = places.own(cell);
     for place in own {
@@ -53,12 +53,12 @@ fn add_from_sections(memory: &Memory, places: &Places, cell: CellId, into: &mut 
 pub fn add_reached(
     graph: &Graph,
     memory: &Memory,
-    places: &Places,
+    places: &Sections,
     cell: CellId,
-    into: &mut Vec<CellId>,
+    into: &mut Found,
 )
-    ensures added { Adds (reaches (linked graph.now memory.now places.now) cell.0) (vec_capacity into.old) into.old.items into.new.items }
-    ensures room { vec_capacity into.new ≡ vec_capacity into.old }
+    ensures added { Adds (reaches (linked graph.now memory.now places.now) cell.0) into.old.room into.old.items into.new.items }
+    ensures room { into.new.room ≡ into.old.room }
 {
     add_targets(graph, cell, into);
     add_from_sections(memory, places, cell, into);

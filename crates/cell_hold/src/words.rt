@@ -1,6 +1,6 @@
 //! The cells that words lie in.
 
-ghost use Rattle.std.specs.Prelude.{◌≡◌, ◌==◌, true, vec_capacity};
+ghost use Rattle.std.specs.Prelude.{◌≡◌, ◌==◌, true};
 ghost use Rattle.std.specs.List.{list_all, list_any};
 ghost use Rattle.cell_world.specs.Kept.{is_inside};
 ghost use Rattle.cell_world.specs.Words.{words_in};
@@ -9,9 +9,9 @@ ghost use Rattle.cell_hold.specs.Places.{is_at, is_cells_at};
 ghost use Rattle.cell_hold.specs.Reached.{touches};
 ghost use Rattle.cell_hold.specs.Spans.{IsSettled};
 
-use crate::added::add;
 use crate::bytes::{after, first_word};
-use crate::places::Places;
+use crate::found::Found;
+use crate::sections::Sections;
 use crate::spots::{Span, Spot};
 use cell_num::CellId;
 use cell_world::Placed;
@@ -35,20 +35,20 @@ fn are_at(spots: &[Spot], word: u64) -> bool
 }
 
 /// Adds the section's cell, if the word lies in the section.
-fn add_if_at(place: &Placed, word: u64, into: &mut Vec<CellId>)
-    ensures added { Adds (λ c. is_inside c word place.now) (vec_capacity into.old) into.old.items into.new.items }
-    ensures room { vec_capacity into.new ≡ vec_capacity into.old }
+fn add_if_at(place: &Placed, word: u64, into: &mut Found)
+    ensures added { Adds (λ c. is_inside c word place.now) into.old.room into.old.items into.new.items }
+    ensures room { into.new.room ≡ into.old.room }
 {
     if !is_at(place, word) {
         return;
     }
-    add(place.key.cell, into);
+    into.add(place.key.cell);
 }
 
 /// Adds the cells of those of the sections that the word lies in.
-fn add_at(spots: &[Spot], word: u64, into: &mut Vec<CellId>)
-    ensures added { Adds (λ c. list_any (λ r. is_inside c word r.place) spots.now) (vec_capacity into.old) into.old.items into.new.items }
-    ensures room { vec_capacity into.new ≡ vec_capacity into.old }
+fn add_at(spots: &[Spot], word: u64, into: &mut Found)
+    ensures added { Adds (λ c. list_any (λ r. is_inside c word r.place) spots.now) into.old.room into.old.items into.new.items }
+    ensures room { into.new.room ≡ into.old.room }
 {
     for spot in spots {
         add_if_at(&spot.place, word, into);
@@ -57,10 +57,10 @@ fn add_at(spots: &[Spot], word: u64, into: &mut Vec<CellId>)
 
 /// Adds the cells that a word lies in. The answer are words that needn't be looked at any more: all
 /// cells that they lie in are added.
-fn add_found(places: &Places, word: u64, into: &mut Vec<CellId>) -> Span
-    ensures added { Adds (λ c. is_cells_at c word places.now) (vec_capacity into.old) into.old.items into.new.items }
-    ensures settled { IsSettled places.now result (vec_capacity into.old) into.new.items }
-    ensures room { vec_capacity into.new ≡ vec_capacity into.old }
+fn add_found(places: &Sections, word: u64, into: &mut Found) -> Span
+    ensures added { Adds (λ c. is_cells_at c word places.now) into.old.room into.old.items into.new.items }
+    ensures settled { IsSettled places.now result into.old.room into.new.items }
+    ensures room { into.new.room ≡ into.old.room }
 {
     let near = places.near(word);
     add_at(near.spots, word, into);
@@ -71,19 +71,19 @@ fn add_found(places: &Places, word: u64, into: &mut Vec<CellId>) -> Span
 }
 
 /// Adds the cells that a word lies in.
-pub fn add_word(places: &Places, word: u64, into: &mut Vec<CellId>)
-    ensures added { Adds (λ c. is_cells_at c word places.now) (vec_capacity into.old) into.old.items into.new.items }
-    ensures room { vec_capacity into.new ≡ vec_capacity into.old }
+pub fn add_word(places: &Sections, word: u64, into: &mut Found)
+    ensures added { Adds (λ c. is_cells_at c word places.now) into.old.room into.old.items into.new.items }
+    ensures room { into.new.room ≡ into.old.room }
 {
     let _ = add_found(places, word, into);
 }
 
 /// The same, unless the word is one of those that needn't be looked at.
-fn add_unsettled(places: &Places, word: u64, settled: Span, into: &mut Vec<CellId>) -> Span
-    requires { IsSettled places.now settled (vec_capacity into.old) into.old.items }
-    ensures added { Adds (λ c. is_cells_at c word places.now) (vec_capacity into.old) into.old.items into.new.items }
-    ensures settled { IsSettled places.now result (vec_capacity into.old) into.new.items }
-    ensures room { vec_capacity into.new ≡ vec_capacity into.old }
+fn add_unsettled(places: &Sections, word: u64, settled: Span, into: &mut Found) -> Span
+    requires { IsSettled places.now settled into.old.room into.old.items }
+    ensures added { Adds (λ c. is_cells_at c word places.now) into.old.room into.old.items into.new.items }
+    ensures settled { IsSettled places.now result into.old.room into.new.items }
+    ensures room { into.new.room ≡ into.old.room }
 {
     if settled.has(word) {
         return settled;
@@ -92,9 +92,9 @@ fn add_unsettled(places: &Places, word: u64, settled: Span, into: &mut Vec<CellI
 }
 
 /// Adds the cells that the whole words of these bytes lie in.
-pub fn add_words(places: &Places, bytes: &[u8], into: &mut Vec<CellId>)
-    ensures added { Adds (touches places.now (words_in bytes.now)) (vec_capacity into.old) into.old.items into.new.items }
-    ensures room { vec_capacity into.new ≡ vec_capacity into.old }
+pub fn add_words(places: &Sections, bytes: &[u8], into: &mut Found)
+    ensures added { Adds (touches places.now (words_in bytes.now)) into.old.room into.old.items into.new.items }
+    ensures room { into.new.room ≡ into.old.room }
 {
     let mut settled = Span::none();
     let mut rest = bytes;
@@ -106,9 +106,9 @@ pub fn add_words(places: &Places, bytes: &[u8], into: &mut Vec<CellId>)
 }
 
 /// Adds the cells that these numbers, as words, lie in.
-pub fn add_numbers(places: &Places, words: &[u64], into: &mut Vec<CellId>)
-    ensures added { Adds (touches places.now words.now) (vec_capacity into.old) into.old.items into.new.items }
-    ensures room { vec_capacity into.new ≡ vec_capacity into.old }
+pub fn add_numbers(places: &Sections, words: &[u64], into: &mut Found)
+    ensures added { Adds (touches places.now words.now) into.old.room into.old.items into.new.items }
+    ensures room { into.new.room ≡ into.old.room }
 {
     for word in words {
         add_word(places, *word, into);
@@ -134,14 +134,14 @@ fn is_cells(spots: &[Spot], word: u64, cell: CellId) -> bool
 }
 
 /// Whether the word lies in a section of the cell.
-pub fn word_leads(places: &Places, word: u64, cell: CellId) -> bool
+pub fn word_leads(places: &Sections, word: u64, cell: CellId) -> bool
     ensures { result ≡ is_cells_at cell.0 word places.now }
 {
     is_cells(places.near(word).spots, word, cell)
 }
 
 /// Whether one of the whole words of these bytes lies in a section of the cell.
-pub fn words_lead(places: &Places, bytes: &[u8], cell: CellId) -> bool
+pub fn words_lead(places: &Sections, bytes: &[u8], cell: CellId) -> bool
     ensures { result ≡ touches places.now (words_in bytes.now) cell.0 }
 {
     let mut rest = bytes;
@@ -156,7 +156,7 @@ pub fn words_lead(places: &Places, bytes: &[u8], cell: CellId) -> bool
 }
 
 /// Whether one of these numbers, as a word, lies in a section of the cell.
-pub fn numbers_lead(places: &Places, words: &[u64], cell: CellId) -> bool
+pub fn numbers_lead(places: &Sections, words: &[u64], cell: CellId) -> bool
     ensures { result ≡ touches places.now words.now cell.0 }
 {
     for word in words {

@@ -1,4 +1,4 @@
-use Rattle.std.proofs.Common.{◌≡◌, take, vec_capacity}
+use Rattle.std.proofs.Common.{◌≡◌, take}
 use Rattle.std.specs.List.{list_any}
 use Rattle.cell_hold.specs.Adds.{Adds}
 use Rattle.cell_hold.specs.Reached.{root_holds}
@@ -6,6 +6,6 @@ use Rattle.cell_hold.proofs.direct.add_held.Given as goal
 
 abbrev pub invariant-loop-root : goal.invariant-loop-root
 invariant-loop-root l = record {
-  added : Adds (λ c. list_any (λ root. root_holds l.memory l.places root c) (take l.root-index l.roots)) (vec_capacity l.fn.into) l.fn.into.items l.into.items;
-  room : vec_capacity l.into ≡ vec_capacity l.fn.into;
+  added : Adds (λ c. list_any (λ root. root_holds l.memory l.places root c) (take l.root-index l.roots)) l.fn.into.room l.fn.into.items l.into.items;
+  room : l.into.room ≡ l.fn.into.room;
 }

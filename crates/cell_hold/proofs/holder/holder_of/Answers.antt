@@ -1,8 +1,11 @@
-use Rattle.cell_hold.proofs.Claiming.{holder_is_cell, holder_is_task}
+use Rattle.std.proofs.Common.{◌≡◌, subst, ℕ, List, map}
+use Rattle.cell_world.specs.Kept.{holder_in, kept_in}
+use Rattle.cell_world.specs.declared.state.Placed.{Placed}
+use Rattle.cell_hold.specs.Roots.{holding_by}
 use Rattle.cell_hold.proofs.holder.holder_of.Goals as goal
 
-pub returns-in-Some : goal.returns-in-Some
-returns-in-Some c = λ cells e. holder_is_task c.args.graph.now c.args.memory.now c.args.places.now c.args.roots.now cells c.args.cell.0 c.in-Some.task c.in-Some.ensures
-
-pub returns-in-None : goal.returns-in-None
-returns-in-None c = λ cells e. holder_is_cell c.args.graph.now c.args.memory.now c.args.places.now c.args.roots.now cells c.args.cell.0 _ _ c.in-None.ensures c.holding_cell.ensures e
+pub returns : goal.returns
+returns c =
+    subst (λ (ps : List Placed). (cells : List ℕ) → map (λ k. k.0) c.args.kept.now ≡ kept_in (holding_by cells c.args.graph.now c.args.memory.now ps c.args.roots.now)
+    → c.find_holder.result ≡ holder_in (holding_by cells c.args.graph.now c.args.memory.now ps c.args.roots.now) c.args.cell.0)
+    c.places.view_is c.find_holder.ensures

@@ -1,4 +1,4 @@
-use Rattle.std.proofs.Common.{rules, ◌≡◌, ◌∙◌, refl, subst, sym, List, vec_capacity}
+use Rattle.std.proofs.Common.{rules, ◌≡◌, ◌∙◌, refl, subst, sym, List}
 use Rattle.cell_world.specs.declared.state.LinkRow.{LinkRow}
 use Rattle.cell_hold.proofs.Linking.{TargetsSoFar, targets_begun, targets_more, targets_done}
 use Rattle.cell_hold.proofs.reached.add_targets.Goals as goal
@@ -8,7 +8,7 @@ loop-link-init c =
     let same : c.into_iter-link-iterator.result ≡ c.deps_of_cell-links.result = search rules in
     record {
       added =
-          subst (λ (rows : List LinkRow). TargetsSoFar c.args.graph.now c.args.cell.0 rows (vec_capacity c.args.into.now) c.args.into.now.items c.args.into.now.items) (sym same)
+          subst (λ (rows : List LinkRow). TargetsSoFar c.args.graph.now c.args.cell.0 rows c.args.into.now.room c.args.into.now.items c.args.into.now.items) (sym same)
           (targets_begun c.args.graph.now c.args.cell.0 _ _ c.deps_of_cell-links.result c.deps_of_cell-links.ensures);
       room = refl;
     }

@@ -1,4 +1,4 @@
-use Rattle.std.proofs.Common.{◌≡◌, ◌≤◌, arith, sym, subst}
+use Rattle.std.proofs.Common.{◌≤◌, arith, sym, subst}
 use Rattle.std.proofs.Math.Nat.{min-le_left, min-le_right}
 use Rattle.std.proofs.lemmas.Bool.{and_from, leb-false, ltb-true}
 use Rattle.cell_hold.specs.Spans.{is_above, is_below}

@@ -1,4 +1,4 @@
-use Rattle.std.proofs.Common.{sym, ◌∙◌, vec_capacity}
+use Rattle.std.proofs.Common.{sym, ◌∙◌}
 use Rattle.cell_hold.proofs.Nearing.{near_added, near_settled, none_settled}
 use Rattle.cell_hold.proofs.words.add_found.Goals as goal
 
@@ -16,4 +16,4 @@ returns-clause-added c =
     near_added c.args.places.now c.near-near.result.spots.now c.near-near.result.span c.args.word _ _ _ c.ranges.word.fits c.near-near.ensures.here c.near-near.ensures.only c.add_at.ensures.added
 
 pub returns-clause-settled : goal.returns-clause-settled
-returns-clause-settled c = none_settled c.args.places.now c.none.result (vec_capacity c.args.into.now) c.add_at.new.into.items c.none.ensures
+returns-clause-settled c = none_settled c.args.places.now c.none.result c.args.into.now.room c.add_at.new.into.items c.none.ensures

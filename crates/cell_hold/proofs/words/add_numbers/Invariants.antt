@@ -1,10 +1,10 @@
-use Rattle.std.proofs.Common.{◌≡◌, take, vec_capacity}
+use Rattle.std.proofs.Common.{◌≡◌, take}
 use Rattle.cell_hold.specs.Adds.{Adds}
 use Rattle.cell_hold.specs.Reached.{touches}
 use Rattle.cell_hold.proofs.words.add_numbers.Given as goal
 
 abbrev pub invariant-loop-word : goal.invariant-loop-word
 invariant-loop-word l = record {
-  added : Adds (touches l.places (take l.word-index l.words)) (vec_capacity l.fn.into) l.fn.into.items l.into.items;
-  room : vec_capacity l.into ≡ vec_capacity l.fn.into;
+  added : Adds (touches l.places (take l.word-index l.words)) l.fn.into.room l.fn.into.items l.into.items;
+  room : l.into.room ≡ l.fn.into.room;
 }

@@ -1,10 +1,10 @@
-use Rattle.std.proofs.Common.{◌∙◌, refl, sym, arith, vec_capacity}
+use Rattle.std.proofs.Common.{◌∙◌, refl, sym, arith}
 use Rattle.cell_hold.proofs.Nearing.{none_settled, settled_in_room}
 use Rattle.cell_hold.proofs.Wording.{so_far_begun, so_far_more, so_far_done}
 use Rattle.cell_hold.proofs.words.add_words.Goals as goal
 
 pub loop-rest-init : goal.loop-rest-init
-loop-rest-init c = record { added = so_far_begun _ _ _ _; settled = none_settled c.args.places.now c.none-settled.result (vec_capacity c.args.into.now) c.args.into.now.items c.none-settled.ensures; room = refl }
+loop-rest-init c = record { added = so_far_begun _ _ _ _; settled = none_settled c.args.places.now c.none-settled.result c.args.into.now.room c.args.into.now.items c.none-settled.ensures; room = refl }
 
 pub loop-rest-preserved : goal.loop-rest-preserved
 loop-rest-preserved c = record {

@@ -3,7 +3,7 @@ use Rattle.std.specs.Prelude.{◌==◌, ◌&&◌, filter}
 use Rattle.std.specs.List.{list_any}
 use Rattle.cell_world.specs.declared.state.Placed.{Placed}
 use Rattle.cell_hold.proofs.Indexing.{any_own}
-use Rattle.cell_hold.proofs.places.Places.own.Goals as goal
+use Rattle.cell_hold.proofs.sections.Sections.own.Goals as goal
 
 pub returns : goal.returns
 returns c = λ p.

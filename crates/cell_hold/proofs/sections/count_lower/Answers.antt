@@ -3,7 +3,7 @@ use Rattle.std.specs.Prelude.{nat_lt}
 use Rattle.std.proofs.lemmas.Fn.{always_returns_same}
 use Rattle.std.proofs.lemmas.List.Sorted.{IsPartitionedBy-ltb}
 use Rattle.cell_world.specs.declared.state.Placed.{Placed}
-use Rattle.cell_hold.proofs.places.count_lower.Goals as goal
+use Rattle.cell_hold.proofs.sections.count_lower.Goals as goal
 
 pub returns-clause-lower : goal.returns-clause-lower
 returns-clause-lower c =

@@ -1,6 +1,6 @@
 use Rattle.std.proofs.Common.{◌≡◌, drop, false}
 use Rattle.cell_hold.specs.Adds.{has_cell}
-use Rattle.cell_hold.proofs.added.has_cell.Given as goal
+use Rattle.cell_hold.proofs.found.is_listed.Given as goal
 
 -- the cell is none of those from there on
 abbrev pub invariant-loop-place : goal.invariant-loop-place

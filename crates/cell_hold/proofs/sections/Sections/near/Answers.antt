@@ -4,7 +4,7 @@ use Rattle.cell_world.specs.declared.state.Placed.{Placed}
 use Rattle.cell_hold.specs.declared.spots.Spot.{Spot}
 use Rattle.cell_hold.specs.Spots.{places_of}
 use Rattle.cell_hold.proofs.Indexing.{any_spot}
-use Rattle.cell_hold.proofs.places.Places.near.Goals as goal
+use Rattle.cell_hold.proofs.sections.Sections.near.Goals as goal
 
 pub returns-clause-only : goal.returns-clause-only
 returns-clause-only c = λ w fits within p at.

@@ -3,7 +3,7 @@ use Rattle.std.specs.Prelude.{nat_le}
 use Rattle.std.proofs.lemmas.Fn.{always_returns_same}
 use Rattle.std.proofs.lemmas.List.Sorted.{IsPartitionedBy-leb}
 use Rattle.cell_world.specs.declared.state.Placed.{Placed}
-use Rattle.cell_hold.proofs.places.count_up_to.Goals as goal
+use Rattle.cell_hold.proofs.sections.count_up_to.Goals as goal
 
 pub returns-clause-up_to : goal.returns-clause-up_to
 returns-clause-up_to c =

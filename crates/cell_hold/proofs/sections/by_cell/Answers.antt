@@ -1,7 +1,7 @@
 use Rattle.std.proofs.Common.{rules}
 use Rattle.std.proofs.lemmas.List.Sorted.{IsNonDecreasingBy-from_sort_by_key}
 use Rattle.cell_world.specs.declared.state.Placed.{Placed}
-use Rattle.cell_hold.proofs.places.by_cell.Goals as goal
+use Rattle.cell_hold.proofs.sections.by_cell.Goals as goal
 
 pub returns-clause-rising : goal.returns-clause-rising
 returns-clause-rising c = IsNonDecreasingBy-from_sort_by_key (λ (s : Placed). s.key.cell.0) _ c.sort_unstable_by_key.ensures.sorted (λ a r q k. search rules)

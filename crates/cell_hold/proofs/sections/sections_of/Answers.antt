@@ -1,5 +1,5 @@
 use Rattle.cell_hold.proofs.Indexing.{in_turn, own_row}
-use Rattle.cell_hold.proofs.places.sections_of.Goals as goal
+use Rattle.cell_hold.proofs.sections.sections_of.Goals as goal
 
 pub slice_bounds-result-count : goal.slice_bounds-result-count
 slice_bounds-result-count c =
