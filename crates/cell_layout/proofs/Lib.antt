@@ -3,3 +3,4 @@ pub mod Layouts
 pub mod Runs
 pub mod Placings
 pub mod ManyCells
+pub mod Settled

@@ -1,45 +1,41 @@
 -- Cells that are placed one after another.
-use Rattle.std.proofs.Common.{◌≡◌, refl, sym, ◌∙◌, ap, ap₂, subst, arith, ℕ, ◌≤◌, inl, Bool, List, [], ◌∷◌, ◌++◌, length, length-append, append_assoc, append-nil, Ok, Err}
+use Rattle.std.proofs.Common.{◌≡◌, refl, sym, ◌∙◌, ap, ap₂, subst, arith, ℕ, ◌+◌, ◌≤◌, ◌<◌, inl, drop, get_or, take, Bool, List, [], ◌∷◌, ◌++◌, length, length-append, append_assoc, append-nil, Ok, Err}
 use Rattle.std.specs.Prelude.{All}
-use Rattle.std.proofs.lemmas.List.{map-append}
+use Rattle.std.proofs.lemmas.List.{drop_more, map-append, take-append-drop, take_all as take_all_items, take_more}
 use Rattle.std.proofs.lemmas.List.Elements.{All-append, All-cons, All-nil}
 use Rattle.cell_object.specs.declared.object.Object.{Object}
 use Rattle.cell_object.specs.Sound.{IsSoundObject}
 use Rattle.cell_world.specs.declared.refusal.Refusal.{Refusal}
 use Rattle.cell_world.specs.declared.refusal.Refusal.TheVariants.{Exhausted}
 use Rattle.cell_world.specs.declared.state.NewCell.{NewCell}
+use Rattle.cell_world.specs.declared.state.SecPlace.{SecPlace}
 use Rattle.cell_world.specs.World.{Region}
 use Rattle.cell_world.specs.Outcome.{Outcome, ◌>>=◌}
 use Rattle.cell_world.specs.declared.layout.Starts.{Starts}
+use Rattle.cell_world.specs.Layout.{places_in}
 use Rattle.cell_coherent.proofs.Elements.{In, All-In, In-right}
 use Rattle.cell_load_law.specs.Loading.{AllTaken, ManyTaken, take_runs, take_all, all_regions, regions_at}
 use Rattle.cell_load_law.proofs.Binds.{bind_err}
 use Rattle.cell_load_law.proofs.Placing.{all_append}
 use Rattle.cell_place.specs.Space.{SpaceState}
-use Rattle.cell_layout.specs.declared.cells.PlacedCells.{PlacedCells}
+use Rattle.cell_layout.specs.declared.placements.Placements.{Placements}
 use Rattle.cell_layout.specs.declared.placement.Placement.{Placement}
 use Rattle.cell_layout.specs.declared.placement.PlaceFail.{PlaceFail}
 use Rattle.cell_layout.specs.declared.placement.PlaceFail.TheVariants.{NoRoom, OutOfMemory}
-use Rattle.cell_layout.specs.Many.{ArePlaced, PlacesAll, all_in_places, in_places, objects}
+use Rattle.cell_layout.specs.Many.{AreFound, FindsAll, all_places, objects}
 use Rattle.cell_layout.specs.Placing.{IsPlacement, Places}
 
 abbrev Few : NewCell → Type 0
 Few c = length c.object.sections ≤ 65536
 
--- so many of the cells stand in their places
-pub record IsOnTheWay (old : SpaceState) (from rest : List NewCell) (p : PlacedCells) (now : SpaceState) : Type 0 where
-  pub done : List NewCell
-  pub split : done ++ rest ≡ from
-  pub placed : ArePlaced old done p now
+pub placed_none : (s : SpaceState) (p : Placements) → p.places.items ≡ [] → p.regions.items ≡ [] → AreFound s [] p s
+placed_none s p places regions = record { starts = []; each = refl; runs = refl; base = refl; few = All-nil Few; places = places; regions = regions }
 
-pub placed_none : (s : SpaceState) (p : PlacedCells) → p.cells.items ≡ [] → p.regions.items ≡ [] → ArePlaced s [] p s
-placed_none s p cells regions = record { starts = []; each = refl; runs = refl; base = refl; few = All-nil Few; cells = cells; regions = regions }
-
-cells_more : (starts : List Starts) (cells : List NewCell) (s : Starts) (c : NewCell) → length starts ≡ length cells → all_in_places (starts ++ s ∷ []) (cells ++ c ∷ []) ≡ all_in_places starts cells ++ in_places s c ∷ []
-cells_more [] [] s c e = refl
-cells_more [] (d ∷ cells) s c e = absurd (omega (arith, e))
-cells_more (t ∷ starts) [] s c e = absurd (omega (arith, e))
-cells_more (t ∷ starts) (d ∷ cells) s c e = ap (λ (cs : List NewCell). in_places t d ∷ cs) (cells_more starts cells s c (omega (arith, e)))
+places_more : (starts : List Starts) (cells : List NewCell) (s : Starts) (c : NewCell) → length starts ≡ length cells → all_places (starts ++ s ∷ []) (cells ++ c ∷ []) ≡ all_places starts cells ++ places_in s c.object ∷ []
+places_more [] [] s c e = refl
+places_more [] (d ∷ cells) s c e = absurd (omega (arith, e))
+places_more (t ∷ starts) [] s c e = absurd (omega (arith, e))
+places_more (t ∷ starts) (d ∷ cells) s c e = ap (λ (ps : List (List SecPlace)). places_in t d.object ∷ ps) (places_more starts cells s c (omega (arith, e)))
 
 regions_more : (starts : List Starts) (cells : List NewCell) (s : Starts) (c : NewCell) → length starts ≡ length cells → all_regions (starts ++ s ∷ []) (objects (cells ++ c ∷ [])) ≡ all_regions starts (objects cells) ++ regions_at s c.object
 regions_more [] [] s c e = append-nil (regions_at s c.object)
@@ -53,7 +49,7 @@ regions_more (t ∷ starts) (d ∷ cells) s c e =
 one_run : (base : ℕ) (table : List Bool) (o : Object) (t : AllTaken) → take_runs base table o ≡ Ok t → take_all base table (o ∷ []) ≡ Ok (record { starts = t.starts ∷ []; table = t.table })
 one_run base table o t e = ap (λ r. r >>= (λ t. Ok (record { starts = t.starts ∷ []; table = t.table }))) e
 
-module _ (old now : SpaceState) (done : List NewCell) (p : PlacedCells) (k : ArePlaced old done p now) (c : NewCell) where
+module _ (old now : SpaceState) (done : List NewCell) (p : Placements) (k : AreFound old done p now) (c : NewCell) where
   abbrev so_far : ManyTaken
   so_far = record { starts = k.starts; table = now.taken }
 
@@ -67,10 +63,10 @@ module _ (old now : SpaceState) (done : List NewCell) (p : PlacedCells) (k : Are
       ∙ ap (λ o. o >>= with_more (objects rest)) k.runs)
 
   -- one more cell has its places
-  pub placed_more : (placement : Placement) (new : SpaceState) (q : PlacedCells) → IsPlacement now c.object placement new
-      → q.cells.items ≡ p.cells.items ++ (record c { places = placement.places }) ∷ [] → q.regions.items ≡ p.regions.items ++ placement.regions.items
-      → ArePlaced old (done ++ c ∷ []) q new
-  placed_more placement new q is cells regions =
+  pub placed_more : (placement : Placement) (new : SpaceState) (q : Placements) → IsPlacement now c.object placement new
+      → q.places.items ≡ p.places.items ++ placement.places ∷ [] → q.regions.items ≡ p.regions.items ++ placement.regions.items
+      → AreFound old (done ++ c ∷ []) q new
+  placed_more placement new q is places regions =
       let runs : take_runs old.base now.taken c.object ≡ Ok (record { starts = is.starts; table = new.taken }) = subst (λ b. take_runs b now.taken c.object ≡ Ok (record { starts = is.starts; table = new.taken })) k.base is.runs in
       record {
         starts = k.starts ++ is.starts ∷ [];
@@ -78,7 +74,7 @@ module _ (old now : SpaceState) (done : List NewCell) (p : PlacedCells) (k : Are
         runs = behind (c ∷ []) ∙ ap (λ o. o >>= (λ m. Ok (record { starts = k.starts ++ m.starts; table = m.table }))) (one_run old.base now.taken c.object (record { starts = is.starts; table = new.taken }) runs);
         base = is.base ∙ k.base;
         few = All-append Few done (c ∷ []) k.few (All-cons Few c [] is.few (All-nil Few));
-        cells = cells ∙ (ap₂ (λ (xs : List NewCell) (x : NewCell). xs ++ x ∷ []) k.cells (ap (λ places. record c { places = places }) is.places) ∙ sym (cells_more k.starts done is.starts c k.each));
+        places = places ∙ (ap₂ (λ (xs : List (List SecPlace)) (x : List SecPlace). xs ++ x ∷ []) k.places is.places ∙ sym (places_more k.starts done is.starts c k.each));
         regions = regions ∙ (ap₂ (λ (xs ys : List Region). xs ++ ys) k.regions is.regions ∙ sym (regions_more k.starts done is.starts c k.each));
       }
 
@@ -89,28 +85,25 @@ module _ (old now : SpaceState) (done : List NewCell) (p : PlacedCells) (k : Are
       ∙ bind_err (take_all old.base now.taken (objects (c ∷ rest))) _ r
       (bind_err (take_runs old.base now.taken c.object) _ r (subst (λ b. take_runs b now.taken c.object ≡ Err r) k.base e))
 
-module _ (old now : SpaceState) (from left rest : List NewCell) (c : NewCell) (p : PlacedCells) (is : left ≡ c ∷ rest) (way : IsOnTheWay old from left p now) where
-  cut : way.done ++ c ∷ rest ≡ from
-  cut = sym (ap (λ (cs : List NewCell). way.done ++ cs) is) ∙ way.split
+module _ (old now : SpaceState) (from : List NewCell) (i : ℕ) (c : NewCell) (p : Placements) (lt : i < length from) (is : c ≡ get_or from i c) (way : AreFound old (take i from) p now) where
+  here : take i from ++ c ∷ drop (i + 1) from ≡ from
+  here = ap (λ (x : NewCell). take i from ++ x ∷ drop (i + 1) from) is ∙ (ap (λ (cs : List NewCell). take i from ++ cs) (sym (drop_more from i c lt)) ∙ take-append-drop i from)
 
   pub sound_here : All (λ (c : NewCell). IsSoundObject c.object) from → IsSoundObject c.object
-  sound_here all = All-In (λ (c : NewCell). IsSoundObject c.object) from all c (subst (In c) cut (In-right way.done (c ∷ rest) c (inl refl)))
+  sound_here all = All-In (λ (c : NewCell). IsSoundObject c.object) from all c (subst (In c) here (In-right (take i from) (c ∷ drop (i + 1) from) c (inl refl)))
 
-  pub one_further : (placement : Placement) (new : SpaceState) (q : PlacedCells) → IsPlacement now c.object placement new
-      → q.cells.items ≡ p.cells.items ++ (record c { places = placement.places }) ∷ [] → q.regions.items ≡ p.regions.items ++ placement.regions.items
-      → IsOnTheWay old from rest q new
-  one_further placement new q is cells regions = record {
-    done = way.done ++ c ∷ [];
-    split = append_assoc way.done (c ∷ []) rest ∙ cut;
-    placed = placed_more old now way.done p way.placed c placement new q is cells regions;
-  }
+  pub one_further : (placement : Placement) (new : SpaceState) (q : Placements) → IsPlacement now c.object placement new
+      → q.places.items ≡ p.places.items ++ placement.places ∷ [] → q.regions.items ≡ p.regions.items ++ placement.regions.items
+      → AreFound old (take (i + 1) from) q new
+  one_further placement new q found places regions =
+      subst (λ (cs : List NewCell). AreFound old cs q new) (ap (λ (x : NewCell). take i from ++ x ∷ []) is ∙ sym (take_more from i c lt))
+      (placed_more old now (take i from) p way c placement new q found places regions)
 
-  pub stops_here : (e : PlaceFail) (new last : SpaceState) → Places now c.object (Err e) new → PlacesAll old from (Err e) last
+  pub stops_here : (e : PlaceFail) (new last : SpaceState) → Places now c.object (Err e) new → FindsAll old from (Err e) last
   stops_here (NoRoom none) new last full =
-      ap (λ (cs : List NewCell). take_all old.base old.taken (objects cs)) (sym cut)
-      ∙ place_stops old now way.done p way.placed c rest (Exhausted none.wanted none.largest) full
+      ap (λ (cs : List NewCell). take_all old.base old.taken (objects cs)) (sym here)
+      ∙ place_stops old now (take i from) p way c (drop (i + 1) from) (Exhausted none.wanted none.largest) full
   stops_here OutOfMemory new last full = tt
 
-pub all_placed : (old now : SpaceState) (from left : List NewCell) (p : PlacedCells) → left ≡ [] → IsOnTheWay old from left p now → ArePlaced old from p now
-all_placed old now from left p none way =
-    subst (λ (cs : List NewCell). ArePlaced old cs p now) (sym (append-nil way.done) ∙ ap (λ (cs : List NewCell). way.done ++ cs) (sym none) ∙ way.split) way.placed
+pub all_placed : (old now : SpaceState) (from : List NewCell) (i : ℕ) (p : Placements) → length from ≤ i → AreFound old (take i from) p now → AreFound old from p now
+all_placed old now from i p past way = subst (λ (cs : List NewCell). AreFound old cs p now) (take_all_items i from past) way

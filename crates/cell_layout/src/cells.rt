@@ -1,69 +1,52 @@
-//! New cells in the lowest free runs, one after another.
+//! New cells in the lowest free runs, and a run behind them.
 
-ghost use Rattle.std.specs.Prelude.{◌≡◌, ◌++◌, ◌∷◌, [], All, OnOk};
+ghost use Rattle.std.specs.Prelude.{◌≡◌, ◌≤◌, All, length};
 ghost use Rattle.cell_object.specs.Sound.{IsSoundObject};
-ghost use Rattle.cell_layout.specs.Many.{PlacesAll};
+ghost use Rattle.cell_layout.specs.Many.{PlacesAll, with_places};
 
-use crate::placement::{PlaceFail, Placement, place};
+use crate::placement::PlaceFail;
+use crate::placements::{Placements, place_each};
+use crate::starts::take_extra;
+use cell_num::Listed;
 use cell_place::Space;
-use cell_world::{NewCell, Region};
-use std::alloc::{AllocError, Global};
+use cell_world::{NewCell, Region, SecPlace};
+use std::alloc::Global;
 
-/// New cells in their places, and their regions, whose fields are not written yet.
+/// What was taken: the regions of new cells, whose fields are not written yet, and where the extra
+/// run starts, if there is one.
 #[derive(Drop)]
-pub struct PlacedCells {
-    pub cells: Vec<NewCell>,
+pub struct TakenRuns {
     pub regions: Vec<Region>,
+    pub extra: Option<u64>,
 }
 
-impl PlacedCells {
-    /// No cell yet.
-    fn new(alloc: Global) -> PlacedCells
-        ensures cells { result.cells.items ≡ [] }
-        ensures regions { result.regions.items ≡ [] }
-    {
-        PlacedCells {
-            cells: Vec::new(alloc),
-            regions: Vec::new(alloc),
-        }
+/// Puts each cell in its places.
+fn settle(cells: &mut [NewCell], places: Vec<Listed<SecPlace>>)
+    requires { length places.items ≤ length cells.old }
+    ensures { cells.new ≡ with_places places.items cells.old }
+{
+    let mut next = 0;
+    for places in places {
+        let cell = &mut cells[next];
+        cell.places = places;
+        next += 1;
     }
 }
 
-/// Moves the regions behind the others.
-fn append(into: &mut Vec<Region>, regions: Vec<Region>) -> Result<(), AllocError>
-    ensures { OnOk result (into.new.items ≡ into.old.items ++ regions.items) }
-{
-    for region in regions {
-        into.push(region)?;
-    }
-    Ok(())
-}
-
-/// Adds a cell, which stands in its places, and its regions.
-fn add(placed: &mut PlacedCells, cell: NewCell, placement: Placement) -> Result<(), AllocError>
-    ensures cells { OnOk result (placed.new.cells.items ≡ placed.old.cells.items ++ record cell { places = placement.places } ∷ []) }
-    ensures regions { OnOk result (placed.new.regions.items ≡ placed.old.regions.items ++ placement.regions.items) }
-{
-    let Placement { places, regions } = placement;
-    append(&mut placed.regions, regions)?;
-    placed.cells.push(NewCell { places, ..cell })?;
-    Ok(())
-}
-
-/// Takes the runs of the cells' classes in the space, cell by cell, and lays the sections out in
-/// them. After an error the space has some of the runs.
+/// Takes the runs of the cells' classes in the space, cell by cell, and then the extra run of so many
+/// pages, if it isn't 0, and puts the cells in their places. After an error the cells are as before,
+/// and the space has some of the runs.
 pub fn place_cells(
     alloc: Global,
     space: &mut Space,
-    cells: Vec<NewCell>,
-) -> Result<PlacedCells, PlaceFail>
-    requires { All (λ c. IsSoundObject c.object) cells.items }
-    ensures { PlacesAll space.old cells.items result space.new }
+    cells: &mut [NewCell],
+    extra: u32,
+) -> Result<TakenRuns, PlaceFail>
+    requires { All (λ c. IsSoundObject c.object) cells.old }
+    ensures { PlacesAll space.old cells.old extra result space.new cells.new }
 {
-    let mut placed = PlacedCells::new(alloc);
-    for cell in cells {
-        let placement = place(alloc, space, &cell.object)?;
-        add(&mut placed, cell, placement)?;
-    }
-    Ok(placed)
+    let Placements { places, regions } = place_each(alloc, space, cells)?;
+    let extra = take_extra(space, extra)?;
+    settle(cells, places);
+    Ok(TakenRuns { regions, extra })
 }

@@ -5,9 +5,10 @@ mod cells;
 mod image;
 mod layout;
 mod placement;
+mod placements;
 mod places;
 mod regions;
 mod starts;
 
-pub use cells::{PlacedCells, place_cells};
+pub use cells::{TakenRuns, place_cells};
 pub use placement::{PlaceFail, Placement, place};

@@ -1,8 +1,8 @@
-//! The runs of the classes of a new cell.
+//! The runs of the classes of a new cell, and one of a number of pages.
 
-ghost use Rattle.std.specs.Prelude.{◌≡◌, ◌<◌, ◌^◌, ◌+◌, IfOk};
+ghost use Rattle.std.specs.Prelude.{◌≡◌, ◌<◌, ◌≤◌, ◌^◌, ◌+◌, IfOk};
 ghost use Rattle.cell_layout.specs.Layout.{IsSmall, AreSmall};
-ghost use Rattle.cell_layout.specs.Placing.{pages_by, TakesRun, TakesRuns};
+ghost use Rattle.cell_layout.specs.Placing.{pages_by, TakesExtra, TakesPages, TakesRun, TakesRuns};
 
 use crate::layout::Ends;
 use cell_place::{NoRun, Space};
@@ -20,6 +20,16 @@ fn pages_for(end: u64) -> u32
     end.div_ceil(PAGE).max(1) as u32
 }
 
+/// Takes the lowest free run of so many pages, and tells where it starts.
+fn take_pages(space: &mut Space, pages: u32) -> Result<u64, NoRun>
+    requires { 1 ≤ pages }
+    ensures run { TakesPages space.old pages result space.new }
+    ensures small { IfOk result (λ start. start < 2 ^ 60) }
+{
+    let run = space.take(pages)?;
+    Ok(space.address_of(run))
+}
+
 /// Takes the run of a class whose sections end there; a class without a section takes none.
 fn take_run(space: &mut Space, end: Option<u64>) -> Result<u64, NoRun>
     requires { IsSmall end }
@@ -28,10 +38,7 @@ fn take_run(space: &mut Space, end: Option<u64>) -> Result<u64, NoRun>
 {
     match end {
         None => Ok(0),
-        Some(end) => {
-            let run = space.take(pages_for(end))?;
-            Ok(space.address_of(run))
-        }
+        Some(end) => take_pages(space, pages_for(end)),
     }
 }
 
@@ -49,4 +56,15 @@ pub fn take_runs(space: &mut Space, ends: &Ends) -> Result<Starts, NoRun>
         read_only,
         writable,
     })
+}
+
+/// Takes the lowest free run of so many pages; of no pages it takes none.
+pub fn take_extra(space: &mut Space, pages: u32) -> Result<Option<u64>, NoRun>
+    ensures { TakesExtra space.old pages result space.new }
+{
+    if pages == 0 {
+        return Ok(None);
+    }
+    let start = take_pages(space, pages)?;
+    Ok(Some(start))
 }

@@ -1,5 +1,5 @@
 -- What the calls of a commit ask holds of the cells that were staged for the machine.
-use Rattle.std.proofs.Common.{◌≡◌, refl, sym, ◌∙◌, ap, ap₂, subst, arith, ℕ, ◌+◌, ◌%◌, ◌≤◌, ◌<◌, true, List, [], ◌++◌, length, map, Vec, Global}
+use Rattle.std.proofs.Common.{◌≡◌, refl, sym, ◌∙◌, ap, ap₂, subst, arith, ℕ, ◌+◌, ◌%◌, ◌≤◌, ◌<◌, true, List, ◌++◌, length, map, Vec, Global}
 use Rattle.std.specs.Prelude.{All, Contains, nat_lt}
 use Rattle.std.specs.List.{list_all}
 use Rattle.std.proofs.lemmas.List.{map-append}

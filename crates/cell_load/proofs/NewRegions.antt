@@ -29,7 +29,7 @@ shapes_more [] shapes = omega arith
 shapes_more (s ∷ new) shapes = let rest = shapes_more new (with_shape s shapes) in let one = shape_more s shapes in omega (arith, rest, one)
 
 -- a machine has a region for each class of its cells that has a section, and one for each task
-regions_counted : (w : World) → IsCoherent w → length w.regions ≡ length (flat_map cell_shapes w.cells) + length w.tasks
+pub regions_counted : (w : World) → IsCoherent w → length w.regions ≡ length (flat_map cell_shapes w.cells) + length w.tasks
 regions_counted w h =
     let seen = length-map w.regions shape_of in
     let wanted = ap length h.ready.regions in

@@ -1,20 +1,19 @@
 -- New cells in places.
-use Rattle.std.proofs.Common.{◌≡◌, refl, sym, ap, ap₂, subst, arith, List, [], ◌∷◌, map, length}
-use Rattle.std.specs.Prelude.{Err, All}
+use Rattle.std.proofs.Common.{◌≡◌, refl, ap, ap₂, arith, ℕ, Bool, List, [], ◌∷◌, map, length}
+use Rattle.std.specs.Prelude.{Err, Ok, All}
 use Rattle.std.proofs.lemmas.List.Elements.{All-weaker}
+use Rattle.cell_object.specs.declared.object.Object.{Object}
 use Rattle.cell_object.specs.Sound.{IsSoundObject}
+use Rattle.cell_world.specs.declared.refusal.Refusal.{Refusal}
+use Rattle.cell_world.specs.Outcome.{Outcome, ◌>>=◌}
 use Rattle.cell_world.specs.declared.state.NewCell.{NewCell}
 use Rattle.cell_world.specs.Coherent.{IsLoadable}
 use Rattle.cell_world.specs.declared.layout.Starts.{Starts}
 use Rattle.cell_world.specs.World.{attached}
-use Rattle.cell_load_law.specs.Loading.{placed_cells}
-use Rattle.cell_place.specs.Space.{SpaceState}
-use Rattle.cell_layout.specs.declared.placement.PlaceFail.{PlaceFail}
-use Rattle.cell_layout.specs.declared.placement.PlaceFail.TheVariants.{NoRoom, OutOfMemory as NoMemory}
-use Rattle.cell_layout.specs.Many.{PlacesAll, all_in_places, in_places}
-use Rattle.cell_world.specs.declared.fail.Fail.{Fail}
+use Rattle.cell_load_law.specs.Loading.{ManyTaken, placed_cells, take_all}
+use Rattle.cell_layout.specs.Placing.{take_extra}
+use Rattle.cell_layout.specs.Many.{all_in_places, in_places, take_with}
 use Rattle.cell_machine.specs.Staged.{all_attached}
-use Rattle.cell_load.specs.Places.{PlaceFails, Stands}
 
 -- what places don't matter to
 pub kept : {X : Type 0} (f : NewCell → X) → ((s : Starts) (c : NewCell) → f (in_places s c) ≡ f c) → (starts : List Starts) (cells : List NewCell) → length starts ≡ length cells
@@ -33,10 +32,10 @@ attached_placed (s ∷ starts) (c ∷ cells) long = ap (λ cs. attached (in_plac
 pub sound_objects : (cells : List NewCell) → All (λ c. IsLoadable c.object) cells → All (λ c. IsSoundObject c.object) cells
 sound_objects cells all = All-weaker (λ (c : NewCell). IsLoadable c.object) (λ (c : NewCell). IsSoundObject c.object) (λ c k. k.sound) cells all
 
--- the space is too full
-pub place_refused : (old copy : SpaceState) (same : copy ≡ old) (cells : List NewCell) (fail : PlaceFail) (result : Fail) (new : SpaceState)
-    → PlacesAll copy cells (Err fail) new → PlaceFails fail result → Stands old cells (Err result)
-place_refused old copy same cells (NoRoom none) result new h e =
-    subst (λ (f : Fail). Stands old cells (Err f)) (sym e)
-    (subst (λ (s : SpaceState). PlacesAll s cells (Err (NoRoom none)) new) same h)
-place_refused old copy same cells NoMemory result new h e = subst (λ (f : Fail). Stands old cells (Err f)) (sym e) tt
+-- without an extra run the cells' runs are all
+pub none_refused : (base : ℕ) (table : List Bool) (os : List Object) (r : Refusal) → take_with base table os 0 ≡ Err r → take_all base table os ≡ Err r
+none_refused base table os r e = go (take_all base table os) e
+  where
+    go : (o : Outcome ManyTaken) → (o >>= (λ cells. take_extra base cells.table 0)) ≡ Err r → o ≡ Err r
+    go (Ok t) k = cc
+    go (Err other) k = cc

@@ -18,13 +18,15 @@ use Rattle.cell_world.specs.Target.{targets_of}
 use Rattle.cell_coherent.specs.Grown.{In, links_from}
 use Rattle.cell_coherent.proofs.Elements.{All-In, In-All, In-map, In-right}
 use Rattle.cell_load_law.specs.Loading.{ManyTaken, all_regions, objects_of, placed_after, placed_cells, take_all}
+use Rattle.cell_load_law.proofs.Binds.{ok_same}
 use Rattle.cell_place.specs.Space.{SpaceState}
 use Rattle.cell_space.specs.declared.cell.SpaceCell.{SpaceCell}
 use Rattle.cell_space.specs.Ahead.{AheadState}
 use Rattle.cell_space.specs.Machine.{called}
 use Rattle.cell_space.specs.Joined.{AreJoined, cells_of, placed_of}
 use Rattle.cell_space.proofs.Joined.{cells_are as joined_are, cells_both, joined_both, joined_by}
-use Rattle.cell_layout.specs.declared.cells.PlacedCells.{PlacedCells}
+use Rattle.cell_layout.specs.declared.cells.TakenRuns.{TakenRuns}
+use Rattle.cell_layout.specs.Placing.{Extra}
 use Rattle.cell_layout.specs.Many.{ArePlaced, all_in_places, objects}
 use Rattle.cell_gather.specs.declared.gathering.Gathered.{Gathered}
 use Rattle.cell_machine.specs.declared.machine.Machine.{Machine}
@@ -44,7 +46,7 @@ use Rattle.cell_load.specs.declared.landing.Landed.{Landed}
 use Rattle.cell_load.specs.Stages.{CanStage, IsLanded, Lands, Names, new_cells}
 use Rattle.cell_load.proofs.Linked.{fields_same, misfits_same, rows_are}
 use Rattle.cell_load.proofs.Low.{can_link}
-use Rattle.cell_load.proofs.Places.{sound_objects}
+use Rattle.cell_load.proofs.Places.{none_refused, sound_objects}
 use Rattle.cell_load.proofs.Plain.{fields_plain, misfits_plain, rows_plain}
 
 -- cells in places, with what they are called and without
@@ -74,17 +76,21 @@ module _ (m : Machine) (g : Gathered) (can : CanStage m g) where
       ∙ ap (λ (os : List Object). take_all u.base (page_table u) os) objects_are)
 
   -- no run is long enough
-  pub place_failed : (fail : Fail) → Stands m.space g.cells.items (Err fail) → Lands m g (Err fail)
-  place_failed (Refused r) e =
-      ap (λ (o : Outcome ManyTaken). o >>= (λ t. refused_by (first_misfit (placed_after t.starts u new) (placed_cells t.starts new)))) (sym space_is ∙ e)
-  place_failed OutOfMemory e = tt
+  pub place_failed : (fail : Fail) (now : List NewCell) → Stands m.space g.cells.items 0 (Err fail) now → Lands m g (Err fail)
+  place_failed (Refused r) now e =
+      ap (λ (o : Outcome ManyTaken). o >>= (λ t. refused_by (first_misfit (placed_after t.starts u new) (placed_cells t.starts new)))) (sym space_is ∙ none_refused m.space.base m.space.taken (objects g.cells.items) r e.0)
+  place_failed OutOfMemory now e = tt
 
-  module _ (space : SpaceState) (p : PlacedCells) (stand : ArePlaced m.space g.cells.items p space) where
+  module _ (space : SpaceState) (runs : TakenRuns) (cells : List NewCell) (stand : ArePlaced m.space g.cells.items 0 runs space cells) where
     abbrev taken : ManyTaken
     taken = record { starts = stand.starts; table = space.taken }
 
-    runs : take_all u.base (page_table u) (objects_of new) ≡ Ok taken
-    runs = sym space_is ∙ stand.runs
+    -- there is no extra run
+    table_is : stand.table ≡ space.taken
+    table_is = ap (λ (x : Extra). x.table) (ok_same _ _ stand.extra)
+
+    taken_are : take_all u.base (page_table u) (objects_of new) ≡ Ok taken
+    taken_are = sym space_is ∙ (stand.runs ∙ ap (λ (t : List Bool). let x : ManyTaken = record { starts = stand.starts; table = t } in let o : Outcome ManyTaken = Ok x in o) table_is)
 
     abbrev W : World
     W = placed_after stand.starts u new
@@ -93,34 +99,34 @@ module _ (m : Machine) (g : Gathered) (can : CanStage m g) where
     F = placed_cells stand.starts new
 
     there : AreNewIn u W F
-    there = can.stand taken runs
+    there = can.stand taken taken_are
 
     long : length stand.starts ≡ length new
     long = stand.each ∙ (ap length (sym can.gathered.placed) ∙ length-map new placed_of)
 
-    placed_are : p.cells.items ≡ map placed_of F
+    placed_are : cells ≡ map placed_of F
     placed_are = stand.cells ∙ (ap (all_in_places stand.starts) (sym can.gathered.placed) ∙ placed_both stand.starts new long)
 
     standing : (c : Cell) → In c F → c.standing ≡ Attached
     standing = standing_placed stand.starts new (All-In (λ (c : Cell). c.standing ≡ Attached) new can.gathered.attached)
 
     abbrev all : List NewCell
-    all = m.cells.items ++ p.cells.items
+    all = m.cells.items ++ cells
 
     -- what the new cells are called, which they were before they had places
     called_are : map called new ≡ map called F
     called_are = sym (kept_placed called (λ s c. refl) stand.starts new)
 
-    new_joined : AreJoined p.cells.items (map called new)
-    new_joined = joined_by F p.cells.items (map called new) placed_are called_are
+    new_joined : AreJoined cells (map called new)
+    new_joined = joined_by F cells (map called new) placed_are called_are
 
     all_joined : AreJoined all g.ahead.cells
-    all_joined = subst (AreJoined all) (sym can.gathered.cells) (joined_both m.cells.items p.cells.items m.spaces.cells (map called new) can.parts.joined new_joined)
+    all_joined = subst (AreJoined all) (sym can.gathered.cells) (joined_both m.cells.items cells m.spaces.cells (map called new) can.parts.joined new_joined)
 
     cells_are : W.cells ≡ cells_of all g.ahead.cells
     cells_are =
-        sym (cells_both m.cells.items p.cells.items m.spaces.cells (map called new) can.parts.joined new_joined
-        ∙ ap (λ (cs : List Cell). u.cells ++ cs) (joined_are F p.cells.items (map called new) placed_are called_are))
+        sym (cells_both m.cells.items cells m.spaces.cells (map called new) can.parts.joined new_joined
+        ∙ ap (λ (cs : List Cell). u.cells ++ cs) (joined_are F cells (map called new) placed_are called_are))
         ∙ ap (cells_of all) (sym can.gathered.cells)
 
     places_are : map placed_of W.cells ≡ all
@@ -141,9 +147,9 @@ module _ (m : Machine) (g : Gathered) (can : CanStage m g) where
       low = λ c i. let d = in_place c i in subst IsLow (sym d.2) (is_low W there.linkable can.low d.0 d.1);
     }
 
-    pub can_link_all : All (CanLink m.spaces.namespaces) p.cells.items
-    can_link_all = In-All (CanLink m.spaces.namespaces) p.cells.items (λ c i.
-        let d = in_place c (In-right m.cells.items p.cells.items c i) in
+    pub can_link_all : All (CanLink m.spaces.namespaces) cells
+    can_link_all = In-All (CanLink m.spaces.namespaces) cells (λ c i.
+        let d = in_place c (In-right m.cells.items cells c i) in
         subst (CanLink m.spaces.namespaces) (sym d.2) (can_link W there.linkable can.low d.0 d.1))
 
     abbrev v : World
@@ -152,43 +158,43 @@ module _ (m : Machine) (g : Gathered) (can : CanStage m g) where
     same : (c : Cell) → targets_of W c ≡ targets_of v c
     same c = targets_seen W m.spaces.namespaces all g.ahead.cells refl cells_are c
 
-    misfits_are : first_misfit W F ≡ first_misfit v (all_attached p.cells.items)
+    misfits_are : first_misfit W F ≡ first_misfit v (all_attached cells)
     misfits_are =
         misfits_plain W F standing
-        ∙ (ap (λ (cs : List NewCell). first_misfit W (all_attached cs)) (sym placed_are) ∙ misfits_same v W same p.cells.items)
+        ∙ (ap (λ (cs : List NewCell). first_misfit W (all_attached cs)) (sym placed_are) ∙ misfits_same v W same cells)
 
     -- an entry doesn't fit
-    pub link_failed : (fail : Fail) → LinksAll v p.cells.items (Err fail) → Lands m g (Err fail)
+    pub link_failed : (fail : Fail) → LinksAll v cells (Err fail) → Lands m g (Err fail)
     link_failed (Refused r) e =
-        ap (λ (o : Outcome ManyTaken). o >>= (λ t. refused_by (first_misfit (placed_after t.starts u new) (placed_cells t.starts new)))) runs
+        ap (λ (o : Outcome ManyTaken). o >>= (λ t. refused_by (first_misfit (placed_after t.starts u new) (placed_cells t.starts new)))) taken_are
         ∙ ap (λ o. refused_by o) (misfits_are ∙ e)
     link_failed OutOfMemory e = tt
 
-    pub landed : (l : Linked) → AreLinked v p.cells.items l → (d : Landed) → d.ahead ≡ g.ahead → d.cells.items ≡ p.cells.items → d.space ≡ space → d.regions.items ≡ p.regions.items
+    pub landed : (l : Linked) → AreLinked v cells l → (d : Landed) → d.ahead ≡ g.ahead → d.cells.items ≡ cells → d.space ≡ space → d.regions.items ≡ runs.regions.items
         → d.fields.items ≡ l.fields.items → d.rows.items ≡ l.rows.items → IsLanded m g d
-    landed l linked d ahead cells at regions fields rows = record {
+    landed l linked d ahead these at regions fields rows = record {
       linked = record {
         starts = stand.starts;
         each = long;
-        runs = runs ∙ ap (λ (t : List Bool). let x : ManyTaken = record { starts = stand.starts; table = t } in let o : Outcome ManyTaken = Ok x in o) (ap (λ (x : SpaceState). x.taken) (sym at));
+        runs = taken_are ∙ ap (λ (t : List Bool). let x : ManyTaken = record { starts = stand.starts; table = t } in let o : Outcome ManyTaken = Ok x in o) (ap (λ (x : SpaceState). x.taken) (sym at));
         base = ap (λ (x : SpaceState). x.base) at ∙ (stand.base ∙ can.parts.base);
-        cells = cells ∙ placed_are;
+        cells = these ∙ placed_are;
         regions = regions ∙ (stand.regions ∙ ap (λ (os : List Object). all_regions stand.starts os) objects_are);
         fit = misfits_are ∙ linked.fit;
         fields =
             fields
             ∙ (linked.fields
-            ∙ (sym (fields_same v W same p.cells.items)
+            ∙ (sym (fields_same v W same cells)
             ∙ (ap (λ (cs : List NewCell). all_fields W (all_attached cs)) placed_are ∙ sym (fields_plain W F standing))));
         rows =
             rows
             ∙ (linked.rows
-            ∙ (sym (rows_are v W same p.cells.items)
+            ∙ (sym (rows_are v W same cells)
             ∙ (ap (λ (cs : List NewCell). links_from W (all_attached cs)) placed_are ∙ sym (rows_plain W F standing))));
       };
       same = ahead;
-      are = subst (λ (cs : List NewCell). AreCells g.ahead.cells (m.cells.items ++ cs)) (sym cells) are_cells;
-      targets = λ (c : Cell). same c ∙ ap (λ (cs : List NewCell). targets_of (seen m.spaces.namespaces (m.cells.items ++ cs) g.ahead.cells) c) (sym cells);
+      are = subst (λ (cs : List NewCell). AreCells g.ahead.cells (m.cells.items ++ cs)) (sym these) are_cells;
+      targets = λ (c : Cell). same c ∙ ap (λ (cs : List NewCell). targets_of (seen m.spaces.namespaces (m.cells.items ++ cs) g.ahead.cells) c) (sym these);
     }
 
 -- what has landed is staged once its names are listed

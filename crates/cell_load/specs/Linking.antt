@@ -4,22 +4,18 @@
 --     Links w c result         fields and links of the cell, or the refusal of the first entry that doesn't fit
 --     LinksAll w cells result  the same for several cells, one after another
 --     CanLink spaces c         the cell's namespace is there, its entries can be counted, and its places are low
-use Rattle.std.specs.Prelude.{◌≡◌, ◌<◌, ◌^◌, ℕ, suc, List, [], ◌∷◌, Some, None, Result, Ok, Err, All, flat_map, length, option_map}
+use Rattle.std.specs.Prelude.{◌≡◌, ◌<◌, ◌^◌, ℕ, suc, List, [], ◌∷◌, Some, None, Result, Ok, Err, All, flat_map, length}
 use Rattle.std.specs.List.{cons_option}
 use Rattle.cell_object.specs.declared.object.Entry.{Entry}
-use Rattle.cell_world.specs.declared.refusal.Refusal.{Refusal}
-use Rattle.cell_world.specs.declared.refusal.Refusal.TheVariants.{Overflow}
 use Rattle.cell_world.specs.declared.state.LinkRow.{LinkRow}
 use Rattle.cell_world.specs.declared.state.Namespace.{Namespace}
 use Rattle.cell_world.specs.declared.state.NewCell.{NewCell}
 use Rattle.cell_world.specs.declared.state.Target.{Target}
 use Rattle.cell_world.specs.World.{World, attached}
-use Rattle.cell_world.specs.Field.{misfit_of}
-use Rattle.cell_world.specs.Fit.{first_misfit, misfit_in, overflow_at}
+use Rattle.cell_world.specs.Fit.{first_misfit, misfit_in}
 use Rattle.cell_world.specs.Relink.{link_to}
 use Rattle.cell_world.specs.Target.{targets_of}
-use Rattle.cell_link.specs.declared.value.FieldValue.{FieldValue}
-use Rattle.cell_link.specs.Linked.{bound_in, field_values}
+use Rattle.cell_link.specs.Linked.{field_values}
 use Rattle.cell_world.specs.declared.fail.Fail.{Fail}
 use Rattle.cell_world.specs.declared.fail.Fail.TheVariants.{Refused, OutOfMemory}
 use Rattle.cell_machine.specs.Staged.{all_attached, all_fields}

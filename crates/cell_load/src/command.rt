@@ -19,7 +19,7 @@ use cell_world::{Fail, NewCell, Reply};
 use std::alloc::{AllocError, Global};
 
 /// The numbers of the cells.
-fn numbers(alloc: Global, cells: &[NewCell]) -> Result<Listed<CellId>, AllocError>
+pub fn numbers(alloc: Global, cells: &[NewCell]) -> Result<Listed<CellId>, AllocError>
     ensures { IfOk result (λ ids. ids ≡ map (λ c. c.id) cells.now) }
 {
     let mut ids = Vec::new(alloc);

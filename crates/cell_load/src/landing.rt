@@ -78,14 +78,14 @@ pub fn land<'a>(
     requires { CanStage machine.now gathered }
     ensures { Lands machine.now gathered.entry result }
 {
-    let Gathered { cells, ahead } = gathered;
-    let (space, placed) = place(alloc, &machine.space, cells)?;
-    let linked = link_among(alloc, machine, &ahead, &placed.cells)?;
+    let Gathered { mut cells, ahead } = gathered;
+    let (space, taken) = place(alloc, &machine.space, &mut cells, 0)?;
+    let linked = link_among(alloc, machine, &ahead, &cells)?;
     Ok(Landed {
         ahead,
-        cells: placed.cells,
+        cells,
         space,
-        regions: placed.regions,
+        regions: taken.regions,
         fields: linked.fields,
         rows: linked.rows,
     })

@@ -13,8 +13,9 @@ mod rows;
 mod staging;
 mod wanted;
 
+pub use add::commit;
 pub use cell_gather::{Gathered, Want, gather};
-pub use command::load;
+pub use command::{load, numbers};
 pub use landing::{Landed, land};
 pub use placing::place;
 pub use prepared::Prepared;

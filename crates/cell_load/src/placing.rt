@@ -4,7 +4,7 @@ ghost use Rattle.std.specs.Prelude.{All};
 ghost use Rattle.cell_object.specs.Sound.{IsSoundObject};
 ghost use Rattle.cell_load.specs.Places.{PlaceFails, Stands};
 
-use cell_layout::{PlaceFail, PlacedCells, place_cells};
+use cell_layout::{PlaceFail, TakenRuns, place_cells};
 use cell_place::Space;
 use cell_world::{Fail, NewCell, Refusal};
 use std::alloc::Global;
@@ -22,18 +22,21 @@ fn place_failed(fail: PlaceFail) -> Fail
     }
 }
 
-/// A copy of the space with the cells' runs, and the cells in them.
+/// Puts the cells in their places, and takes one more run behind theirs, of `extra` pages, unless
+/// these are none. The answer is a copy of the space with all these runs. After an error the cells
+/// are as before.
 pub fn place(
     alloc: Global,
     space: &Space,
-    cells: Vec<NewCell>,
-) -> Result<(Space, PlacedCells), Fail>
-    requires { All (λ c. IsSoundObject c.object) cells.items }
-    ensures { Stands space.now cells.items result }
+    cells: &mut [NewCell],
+    extra: u32,
+) -> Result<(Space, TakenRuns), Fail>
+    requires { All (λ c. IsSoundObject c.object) cells.old }
+    ensures { Stands space.now cells.old extra result cells.new }
 {
     let mut copy = space.copy(alloc)?;
-    match place_cells(alloc, &mut copy, cells) {
-        Ok(placed) => Ok((copy, placed)),
+    match place_cells(alloc, &mut copy, cells, extra) {
+        Ok(taken) => Ok((copy, taken)),
         Err(fail) => Err(place_failed(fail)),
     }
 }

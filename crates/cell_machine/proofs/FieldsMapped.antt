@@ -61,7 +61,7 @@ found_with ms w addr n same is =
     ∙ ap (λ b. is_some (where_true b is.region)) (le-leb (addr + n) (end_of is.region) is.ends)
 
 module _ (ms : MemoryState) (w : World) (same : ms.regions ≡ w.regions) (linkable : IsLinkable w) where
-  entry_mapped : (c : Cell) → In c w.cells → (targets : List Target) (e : Entry) → In e c.object.entries → IsMapped ms (value_at c.placed targets e)
+  pub entry_mapped : (c : Cell) → In c w.cells → (targets : List Target) (e : Entry) → In e c.object.entries → IsMapped ms (value_at c.placed targets e)
   entry_mapped c there targets e k =
       let all = All-In (λ (c : Cell). All (λ (e : Entry). IsInside w (place_of c.placed e) (width_of e.kind)) c.object.entries) w.cells (fields_lie w linkable) c there in
       (known_width e.kind, found_with ms w (place_of c.placed e) (width_of e.kind) same (All-In (λ (e : Entry). IsInside w (place_of c.placed e) (width_of e.kind)) c.object.entries all e k))

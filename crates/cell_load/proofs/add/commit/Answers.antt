@@ -1,15 +1,12 @@
-use Rattle.std.proofs.Common.{◌≡◌, arith, refl, sym, ap, ap₂, ◌∙◌, subst, ◌+◌, ℕ, List, ◌++◌, length}
-use Rattle.std.specs.Prelude.{All, Contains, flat_map}
+use Rattle.std.proofs.Common.{◌≡◌, arith, refl, sym, ap, ◌∙◌, subst, ◌+◌, ℕ, List, ◌++◌, length}
+use Rattle.std.specs.Prelude.{All, Contains}
 use Rattle.cell_num.specs.declared.ids.SecKey.{SecKey}
 use Rattle.cell_world.specs.declared.state.LinkRow.{LinkRow}
-use Rattle.cell_commit.specs.Cells.{keys_in}
 use Rattle.cell_commit.specs.Commit.{fields_patched, fields_written}
-use Rattle.cell_commit.specs.declared.sections.CellSections.{CellSections}
 use Rattle.cell_commit.proofs.Writing.{patched_undo}
 use Rattle.cell_graph.specs.Moves.{moved}
 use Rattle.cell_link.specs.declared.value.FieldValue.{FieldValue}
 use Rattle.cell_mem.specs.State.{MemoryState}
-use Rattle.cell_machine.proofs.Above.{all_keys_listed}
 use Rattle.cell_load.proofs.Committed.{sections_are}
 use Rattle.cell_load.proofs.add.commit.Goals as goal
 

@@ -1,5 +1,5 @@
 use Rattle.std.proofs.Common.{◌≡◌, ◌++◌}
-use Rattle.cell_layout.proofs.cells.append.Given as goal
+use Rattle.cell_layout.proofs.placements.append.Given as goal
 
 -- the regions so far, with those that are left, are all
 abbrev pub invariant-loop-region : goal.invariant-loop-region
