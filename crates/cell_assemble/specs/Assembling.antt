@@ -1,11 +1,12 @@
 -- What a call writes, and how it ends.
 --     assembling_of words files        text and status of a call with these words that meets these files
 --     Writes assembling status old new how an answer and what was written stand to them
-use Rattle.std.specs.Prelude.{◌≡◌, ◌⊎◌, ℕ, nat_lt, List, [], ◌∷◌, length, map, if◌then◌else◌, bytes_eq, Option, Result, Ok, Err}
+use Rattle.std.specs.Prelude.{◌≡◌, ◌⊎◌, ℕ, List, [], ◌∷◌, map, if◌then◌else◌, bytes_eq, Option, Result, Ok, Err}
 use Rattle.std.specs.List.{list_any}
 use Rattle.std.specs.Io.KnownBytes.{Appends}
 use Rattle.cell_io.specs.Files.{File, folder, bytes_named}
 use Rattle.cell_io.specs.Written.{AppendsPartOf}
+use Rattle.cell_io.specs.Within.{within, ◌>>=◌}
 use Rattle.cell_object.specs.declared.object.Object.{Object}
 use Rattle.cell_asm.specs.declared.kind.AsmKind.{AsmKind}
 use Rattle.cell_asm.specs.Assembled.{assembled}
@@ -14,22 +15,15 @@ use Rattle.cell_assemble.specs.declared.status.AsStatus.{AsStatus}
 use Rattle.cell_assemble.specs.declared.status.AsStatus.TheVariants as statuses
 use Rattle.cell_assemble.specs.declared.status.Refusal.{Refusal}
 use Rattle.cell_assemble.specs.declared.status.Refusal.TheVariants.{TooManyNames, NoSource, TooLong, Fault}
-use Rattle.cell_assemble.specs.Gives.{◌>>=◌}
 use Rattle.cell_assemble.specs.RefusalLine.{usage_line, refusal_line}
 
--- at most 65536 names, and the source's among them
-unfoldable pub listing : List ℕ → List (List ℕ) → Result (Unit {0}) Refusal
-listing source names =
-    if nat_lt 65536 (length names) then Err TooManyNames
-    else (if list_any (bytes_eq source) names then Ok tt else Err NoSource)
+-- the bytes of the source, where its name is among these: at most 1048576
+abbrev pub source_among : List ℕ → List File → List (List ℕ) → Result (List ℕ) Refusal
+source_among source files names = if list_any (bytes_eq source) names then within 1048576 TooLong (bytes_named source files) else Err NoSource
 
--- at most 1048576 bytes
-abbrev pub within_limit : List ℕ → Result (List ℕ) Refusal
-within_limit bytes = if nat_lt 1048576 (length bytes) then Err TooLong else Ok bytes
-
--- the bytes of the source of that name in a folder
+-- those of the source of that name in a folder, which has at most 65536 names
 unfoldable pub source_in : List ℕ → List File → Result (List ℕ) Refusal
-source_in source files = listing source (map (λ f. f.name) files) >>= λ _. within_limit (bytes_named source files)
+source_in source files = within 65536 TooManyNames (map (λ f. f.name) files) >>= source_among source files
 
 abbrev pub image_or_fault : Result Object (ℕ × AsmKind) → Result (List ℕ) Refusal
 image_or_fault (Ok o) = Ok (image o)

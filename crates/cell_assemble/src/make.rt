@@ -1,40 +1,20 @@
 //! The object of a source in a folder.
 
-ghost use Rattle.std.specs.Prelude.{◌≡◌, ◌≢◌, ◌≤◌, Err, Ok, map, length, IfOk, IsErrOf, Contains, string_bytes, bytes_eq};
-ghost use Rattle.std.specs.List.{list_any};
+ghost use Rattle.std.specs.Prelude.{◌≡◌, ◌≢◌, ◌≤◌, Err, Ok, length, IfOk, IsErrOf};
 ghost use Rattle.cell_io.specs.Causes.{HasCause};
-ghost use Rattle.cell_io.specs.Files.{names_in, bytes_in, folder};
+ghost use Rattle.cell_io.specs.Files.{folder};
+ghost use Rattle.cell_io.specs.Within.{IfTold, Gives};
 ghost use Rattle.cell_object.specs.Reads.{reads};
 ghost use Rattle.cell_object.specs.Image.{image};
-ghost use Rattle.cell_assemble.specs.Gives.{IfTold, Gives};
-ghost use Rattle.cell_assemble.specs.Assembling.{listing, within_limit, source_in, object_of, object_in};
+ghost use Rattle.cell_assemble.specs.Assembling.{source_in, object_of, object_in};
 
 use crate::status::{MAX_NAMES, MAX_SOURCE_BYTES, Refusal};
 use cell_asm::{AsmFail, assemble};
 use cell_elfw::{WriteFail, write_object};
-use cell_io::{Host, HostFault};
+use cell_io::{Host, Stop, is_listed, list_within, read_within};
 use cell_num::Shared;
 use cell_object::Object;
 use std::alloc::{AllocError, Global};
-
-/// Why there is no object.
-#[derive(Clone, Copy, Debug, PartialEq, Eq)]
-pub enum Stop {
-    Refused(Refusal),
-    ReadFault,
-    OutOfMemory,
-}
-
-impl From<AllocError> for Stop {
-    ghost use Rattle.std.specs.Prelude.{◌≡◌};
-    ghost use Rattle.cell_assemble.specs.declared.make.Stop.TheVariants.{OutOfMemory};
-
-    ghost from_gives = { λ _ r. r ≡ OutOfMemory };
-
-    fn from(_error: AllocError) -> Stop {
-        Stop::OutOfMemory
-    }
-}
 
 /// The bytes of the object of the source of that name in a folder.
 pub fn object_in<H: Host>(
@@ -42,7 +22,7 @@ pub fn object_in<H: Host>(
     dir: &str,
     source: &str,
     host: &mut H,
-) -> Result<Shared, Stop>
+) -> Result<Shared, Stop<Refusal>>
     ensures object { IfTold (H.files host.old) (λ all.
         Gives (λ bytes. bytes) result (object_in source.now (folder dir.now all))) }
     ensures files { H.files host.new ≡ H.files host.old }
@@ -52,86 +32,28 @@ pub fn object_in<H: Host>(
     object_of(alloc, text.as_slice())
 }
 
-/// Reads the source of that name in a folder.
-fn source_in<H: Host>(alloc: Global, dir: &str, source: &str, host: &mut H) -> Result<Vec<u8>, Stop>
+/// Reads the source of that name in a folder, in which it has to be.
+fn source_in<H: Host>(
+    alloc: Global,
+    dir: &str,
+    source: &str,
+    host: &mut H,
+) -> Result<Vec<u8>, Stop<Refusal>>
     ensures bytes { IfTold (H.files host.old) (λ all.
         Gives (λ bytes. bytes.items) result (source_in source.now (folder dir.now all))) }
     ensures short { IfOk result (λ bytes. length bytes.items ≤ 1048576) }
     ensures files { H.files host.new ≡ H.files host.old }
     ensures cause { HasCause (H.faults host.old) (H.faults host.new) (IsErrOf result Stop.ReadFault) }
 {
-    find_source(alloc, dir, source, host)?;
-    read_source(alloc, dir, source, host)
-}
-
-/// Lists the folder, in which the source has to be.
-fn find_source<H: Host>(alloc: Global, dir: &str, source: &str, host: &mut H) -> Result<(), Stop>
-    ensures listed { IfTold (H.files host.old) (λ all.
-        Gives (λ _. tt) result (listing source.now (names_in dir.now all))) }
-    ensures files { H.files host.new ≡ H.files host.old }
-    ensures cause { HasCause (H.faults host.old) (H.faults host.new) (IsErrOf result Stop.ReadFault) }
-{
-    let mut names = Vec::new(alloc);
-    match host.list(dir, MAX_NAMES, &mut names) {
-        Ok(()) => find_name(names.as_slice(), source),
-        Err(HostFault::Failed) => Err(Stop::ReadFault),
-        Err(HostFault::OutOfMemory) => Err(Stop::OutOfMemory),
-    }
-}
-
-fn find_name(names: &[String], source: &str) -> Result<(), Stop>
-    ensures listed { Gives (λ _. tt) result (listing source.now (map string_bytes names.now)) }
-    ensures no_fault { result ≢ Err Stop.ReadFault }
-{
-    if names.len() > MAX_NAMES as usize {
-        return Err(Stop::Refused(Refusal::TooManyNames));
-    }
-    if !is_listed(source, names) {
+    let names = list_within(alloc, dir, MAX_NAMES, Refusal::TooManyNames, host)?;
+    if !is_listed(source, names.as_slice()) {
         return Err(Stop::Refused(Refusal::NoSource));
     }
-    Ok(())
-}
-
-fn is_listed(source: &str, names: &[String]) -> bool
-    ensures { result ≡ list_any (bytes_eq source.now) (map string_bytes names.now) }
-{
-    for name in names {
-        if source == name.as_str() {
-            return true;
-        }
-    }
-    false
-}
-
-/// Reads a source that is in the folder.
-fn read_source<H: Host>(
-    alloc: Global,
-    dir: &str,
-    source: &str,
-    host: &mut H,
-) -> Result<Vec<u8>, Stop>
-    requires { IfTold (H.files host.old) (λ all. Contains (names_in dir.now all) source.now) }
-    ensures bytes { IfTold (H.files host.old) (λ all.
-        Gives (λ bytes. bytes.items) result (within_limit (bytes_in dir.now source.now all))) }
-    ensures short { IfOk result (λ bytes. length bytes.items ≤ 1048576) }
-    ensures files { H.files host.new ≡ H.files host.old }
-    ensures cause { HasCause (H.faults host.old) (H.faults host.new) (IsErrOf result Stop.ReadFault) }
-{
-    let mut bytes = Vec::new(alloc);
-    match host.read(dir, source, MAX_SOURCE_BYTES, &mut bytes) {
-        Ok(()) => {
-            if bytes.len() > MAX_SOURCE_BYTES as usize {
-                return Err(Stop::Refused(Refusal::TooLong));
-            }
-            Ok(bytes)
-        }
-        Err(HostFault::Failed) => Err(Stop::ReadFault),
-        Err(HostFault::OutOfMemory) => Err(Stop::OutOfMemory),
-    }
+    read_within(alloc, dir, source, MAX_SOURCE_BYTES, Refusal::TooLong, host)
 }
 
 /// The bytes of the object that a source is assembled to.
-fn object_of(alloc: Global, text: &[u8]) -> Result<Shared, Stop>
+fn object_of(alloc: Global, text: &[u8]) -> Result<Shared, Stop<Refusal>>
     requires { length text.now ≤ 1048576 }
     ensures object { Gives (λ bytes. bytes) result (object_of text.now) }
     ensures no_fault { result ≢ Err Stop.ReadFault }

@@ -8,10 +8,10 @@ ghost use Rattle.cell_io.specs.Written.{IsFull};
 ghost use Rattle.cell_assemble.specs.Assembling.{Writes, assembling, assembling_of, done, object_in, refused, usage};
 
 use crate::AsStatus;
-use crate::make::{Stop, object_in};
+use crate::make::object_in;
 use crate::refusal::refusal_line;
 use crate::status::{Refusal, status_of};
-use cell_io::{Host, Sink};
+use cell_io::{Host, Sink, Stop};
 use std::alloc::Global;
 
 const USAGE: &[u8] = b"usage: cellas DIR SOURCE\n";

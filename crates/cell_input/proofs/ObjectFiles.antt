@@ -16,12 +16,12 @@ use Rattle.cell_io.specs.Files.{File as HostFile, names_in, folder}
 use Rattle.cell_world.specs.declared.file.File.{File}
 use Rattle.std.specs.declared.result.Result.{Result}
 use Rattle.cell_input.specs.declared.reason.Reason.{Reason}
-use Rattle.cell_input.specs.declared.take.TakeFail.{TakeFail}
-use Rattle.cell_input.specs.declared.take.TakeFail.TheVariants.{Refused, ReadFault, OutOfMemory}
-use Rattle.cell_input.specs.Gives.{◌>>=◌, Fails}
+use Rattle.cell_io.specs.declared.stop.Stop.{Stop}
+use Rattle.cell_io.specs.declared.stop.Stop.TheVariants.{Refused, ReadFault, OutOfMemory}
+use Rattle.cell_io.specs.Within.{◌>>=◌, Stops}
 use Rattle.cell_input.specs.Taking.{file_after, files_after}
 use Rattle.cell_depot.specs.ObjectName.{is_object_name}
-use Rattle.cell_input.proofs.Binds.{fails_first, fails_same, goes_on}
+use Rattle.cell_io.proofs.Binds.{stops_first, stops_same, goes_on}
 
 -- text keys stand as their bytes do
 abbrev placed : Ordering → String Global → String Global → List (String Global) → List (String Global) → List (String Global)
@@ -84,10 +84,10 @@ pub prepend-none : (later : Result (List File) Reason) → prepend [] later ≡ 
 prepend-none (Ok rest) = refl
 prepend-none (Err reason) = refl
 
-fails_prepend : (fail : TakeFail) (files : List File) (later : Result (List File) Reason) → Fails fail later → Fails fail (prepend files later)
-fails_prepend (Refused reason) files later e = ap (prepend files) e
-fails_prepend ReadFault files later e = tt
-fails_prepend OutOfMemory files later e = tt
+stops_prepend : (stop : Stop Reason) (files : List File) (later : Result (List File) Reason) → Stops stop later → Stops stop (prepend files later)
+stops_prepend (Refused reason) files later e = ap (prepend files) e
+stops_prepend ReadFault files later e = tt
+stops_prepend OutOfMemory files later e = tt
 
 -- the files of these names, where those before have so many bytes
 abbrev pub taken_after : ℕ → List ℕ → List (String Global) → List HostFile → Result (List File) Reason
@@ -107,13 +107,13 @@ takes_more dir key keys rest all total file files whole e taken far =
     ∙ far
 
 -- one more file was refused
-pub fails_more : (dir : List ℕ) (key : String Global) (keys rest : List (String Global)) (all : List HostFile) (total : ℕ) (fail : TakeFail) (files : List File) (whole : Result (List File) Reason) → keys ≡ key ∷ rest
-    → Fails fail (file_after total (string_bytes key) (folder dir all)) → prepend files (taken_after total dir keys all) ≡ whole → Fails fail whole
-fails_more dir key keys rest all total fail files whole e refused far =
-    let here = fails_first fail (file_after total (string_bytes key) (folder dir all)) (and_later total dir rest all) refused in
-    fails_same fail (prepend files (taken_after total dir (key ∷ rest) all)) whole
+pub stops_more : (dir : List ℕ) (key : String Global) (keys rest : List (String Global)) (all : List HostFile) (total : ℕ) (stop : Stop Reason) (files : List File) (whole : Result (List File) Reason) → keys ≡ key ∷ rest
+    → Stops stop (file_after total (string_bytes key) (folder dir all)) → prepend files (taken_after total dir keys all) ≡ whole → Stops stop whole
+stops_more dir key keys rest all total stop files whole e refused far =
+    let here = stops_first stop (file_after total (string_bytes key) (folder dir all)) (and_later total dir rest all) refused in
+    stops_same stop (prepend files (taken_after total dir (key ∷ rest) all)) whole
     (sym far ∙ ap (λ ks. prepend files (taken_after total dir ks all)) e)
-    (fails_prepend fail files (taken_after total dir (key ∷ rest) all) here)
+    (stops_prepend stop files (taken_after total dir (key ∷ rest) all) here)
 
 pub rest_of : (t : List ℕ) (i : ℕ) → take (length t - i) (drop i t) ≡ drop i t
 rest_of t i = ap (λ k. take k (drop i t)) (sym (length-drop i t)) ∙ take-length (drop i t)

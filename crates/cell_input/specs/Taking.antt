@@ -4,6 +4,7 @@ use Rattle.std.specs.Prelude.{ℕ, ◌+◌, nat_lt, List, [], ◌∷◌, length,
 use Rattle.std.specs.List.{list_any}
 use Rattle.cell_world.specs.Limits.{max_names, max_files, max_file_bytes, max_all_bytes, max_script_bytes}
 use Rattle.cell_io.specs.Files.{File as HostFile, bytes_named}
+use Rattle.cell_io.specs.Within.{within, ◌>>=◌}
 use Rattle.cell_world.specs.declared.file.File.{File}
 use Rattle.cell_script.specs.declared.line.Line.{Line}
 use Rattle.cell_script.specs.Script.{script_of}
@@ -13,21 +14,18 @@ use Rattle.cell_input.specs.declared.reason.Reason.{Reason}
 use Rattle.cell_input.specs.declared.reason.Reason.TheVariants.{NoScript, BadScript, TooLarge}
 use Rattle.cell_input.specs.declared.take.Input.{Input}
 use Rattle.cell_input.specs.Objects.{objects_of}
-use Rattle.cell_input.specs.Gives.{◌>>=◌}
 
--- at most that many files
-abbrev pub few_objects : List (List ℕ) → Result (List (List ℕ)) Reason
-few_objects objects = if nat_lt max_files (length objects) then Err (TooLarge Files max_files) else Ok objects
+-- at most so many
+abbrev pub limited : {X : Type 0} → What → ℕ → List X → Result (List X) Reason
+limited what limit = within limit (TooLarge what limit)
+
+-- the object files among these names, and the script among them too
+abbrev pub objects_among : List ℕ → List (List ℕ) → Result (List (List ℕ)) Reason
+objects_among script names = if list_any (bytes_eq script) names then limited Files max_files (objects_of names) else Err NoScript
 
 -- the object files of a folder with the script
 unfoldable pub listing : List ℕ → List (List ℕ) → Result (List (List ℕ)) Reason
-listing script names =
-    if nat_lt max_names (length names) then Err (TooLarge Names max_names)
-    else (if list_any (bytes_eq script) names then few_objects (objects_of names) else Err NoScript)
-
--- bytes of at most that length
-abbrev pub within : What → ℕ → List ℕ → Result (List ℕ) Reason
-within what limit bytes = if nat_lt limit (length bytes) then Err (TooLarge what limit) else Ok bytes
+listing script names = limited Names max_names names >>= objects_among script
 
 -- so many bytes, with those of the files before
 abbrev pub within_all : ℕ → List ℕ → Result (List ℕ) Reason
@@ -35,7 +33,7 @@ within_all total bytes = if nat_lt max_all_bytes (total + length bytes) then Err
 
 -- the bytes of one more file
 unfoldable pub bytes_after : ℕ → List ℕ → Result (List ℕ) Reason
-bytes_after total bytes = within FileBytes max_file_bytes bytes >>= within_all total
+bytes_after total bytes = limited FileBytes max_file_bytes bytes >>= within_all total
 
 abbrev pub file_after : ℕ → List ℕ → List HostFile → Result File Reason
 file_after total name files = bytes_after total (bytes_named name files) >>= λ bytes. Ok (record { name = name; bytes = bytes })
@@ -59,7 +57,7 @@ commands_of text = readable (script_of text)
 unfoldable pub input_from : List ℕ → List HostFile → Result Input Reason
 input_from script files =
     listing script (map (λ f. f.name) files) >>= λ objects.
-    within ScriptBytes max_script_bytes (bytes_named script files) >>= λ text.
+    limited ScriptBytes max_script_bytes (bytes_named script files) >>= λ text.
     files_after 0 objects files >>= λ taken.
     commands_of text >>= λ lines.
     Ok (record { files = taken; script = lines })

@@ -6,4 +6,4 @@ mod reason;
 mod take;
 
 pub use reason::{Reason, What};
-pub use take::{Input, TakeFail, take_from};
+pub use take::{Input, take_from};

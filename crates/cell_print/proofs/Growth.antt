@@ -1,10 +1,12 @@
 -- Text that grows at its end.
-use Rattle.std.proofs.Common.{◌≡◌, ℕ, suc, ◌+◌, ◌-◌, ◌/◌, ◌%◌, ◌^◌, ◌<◌, ◌≤◌, List, [], ◌∷◌, ◌++◌, length, take, drop, sym, ap, ◌∙◌, arith, append_assoc, append-nil, length-drop, map, get_or, Bor, ◌⊎◌, inl, inr}
+use Rattle.std.proofs.Common.{◌≡◌, ℕ, suc, ◌+◌, ◌-◌, ◌/◌, ◌%◌, ◌^◌, ◌<◌, ◌≤◌, List, [], ◌∷◌, ◌++◌, length, take, drop, sym, ap, ◌∙◌, arith, append_assoc, append-nil, length-drop, map, get_or, ◌⊎◌, inl, inr}
 use Rattle.std.specs.Prelude.{min}
 use Rattle.std.specs.List.{concat}
 use Rattle.std.proofs.lemmas.Bool.{cases_lt}
 use Rattle.std.proofs.lemmas.List.{take_min, drop_all, take_more, map-append}
 use Rattle.std.proofs.lemmas.List.Folds.{concat-append}
+use Rattle.cell_print.specs.declared.piece.Piece.{Piece}
+use Rattle.cell_print.specs.Pieces.{text}
 use Rattle.cell_print.specs.Lines.{Extends, row, rows, rows_within}
 
 pub extends : (old new more : List ℕ) → new ≡ old ++ more → Extends old new
@@ -54,13 +56,14 @@ drop_by n xs (inr le) = drop_all (min (length xs) n) xs (omega arith) ∙ sym (d
 pub drop_front : (n : ℕ) (xs : List ℕ) → drop (min (length xs) n) xs ≡ drop n xs
 drop_front n xs = drop_by n xs (cases_lt n (length xs))
 
-pub parts_more : (old text new : List ℕ) (parts : List (Bor (List ℕ))) (i : ℕ) (d : Bor (List ℕ)) → i < length parts → text ≡ old ++ concat (map (λ part. part.now) (take i parts))
-    → new ≡ text ++ (get_or parts i d).now → new ≡ old ++ concat (map (λ part. part.now) (take (i + 1) parts))
-parts_more old text new parts i d lt far e =
-    let first : List (List ℕ) = map (λ part. part.now) (take i parts) in
-    e ∙ ap (λ v. v ++ (get_or parts i d).now) far
-    ∙ append_assoc old (concat first) (get_or parts i d).now
-    ∙ ap (λ v. old ++ (concat first ++ v)) (sym (append-nil (get_or parts i d).now))
-    ∙ ap (λ v. old ++ v) (sym (concat-append first ((get_or parts i d).now ∷ [])))
-    ∙ ap (λ v. old ++ concat v) (sym (map-append (λ part. part.now) (take i parts) (get_or parts i d ∷ [])))
-    ∙ ap (λ v. old ++ concat (map (λ part. part.now) v)) (sym (take_more parts i d lt))
+pub pieces_more : (old now new : List ℕ) (pieces : List Piece) (i : ℕ) (d : Piece) → i < length pieces → now ≡ old ++ concat (map text (take i pieces))
+    → new ≡ now ++ text (get_or pieces i d) → new ≡ old ++ concat (map text (take (i + 1) pieces))
+pieces_more old now new pieces i d lt far e =
+    let first : List (List ℕ) = map text (take i pieces) in
+    let next : List ℕ = text (get_or pieces i d) in
+    e ∙ ap (λ v. v ++ next) far
+    ∙ append_assoc old (concat first) next
+    ∙ ap (λ v. old ++ (concat first ++ v)) (sym (append-nil next))
+    ∙ ap (λ v. old ++ v) (sym (concat-append first (next ∷ [])))
+    ∙ ap (λ v. old ++ concat v) (sym (map-append text (take i pieces) (get_or pieces i d ∷ [])))
+    ∙ ap (λ v. old ++ concat (map text v)) (sym (take_more pieces i d lt))

@@ -4,11 +4,13 @@
 mod line;
 mod links;
 mod map;
+mod piece;
 mod refusal;
 mod reply;
 mod tasks;
 mod word;
 
 pub use line::put_line;
+pub use piece::Piece;
 pub use refusal::put_refusal;
 pub use reply::put_reply;

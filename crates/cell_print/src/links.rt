@@ -5,11 +5,11 @@ ghost use Rattle.std.specs.List.{flat_map};
 ghost use Rattle.cell_world.specs.declared.reply.Reply.TheVariants.{Deps, Users};
 ghost use Rattle.cell_print.specs.Lines.{link_line, links_lines, reply_lines, Extends};
 
+use crate::Piece::{Dec, Key, Place, Text};
 use crate::put_line;
-use crate::word::{key_word, kind_word, place_word};
+use crate::word::kind_word;
 use cell_num::CellId;
 use cell_world::LinkLine;
-use itoa::Buffer;
 use std::alloc::AllocError;
 
 /// Appends the links of a cell.
@@ -49,11 +49,7 @@ fn put_links(
     ensures ok { OnOk result (into.new.items ≡ into.old.items ++ links_lines line words.now cell links.now) }
     ensures extends { Extends into.old.items into.new.items }
 {
-    let mut number = Buffer::new();
-    let number = number.format(line).as_bytes();
-    let mut of_cell = Buffer::new();
-    let of_cell = of_cell.format(cell.0).as_bytes();
-    put_line(&[number, words, of_cell], into)?;
+    put_line(&[Dec(line), Text(words), Dec(cell.0)], into)?;
     put_each(links, into)
 }
 
@@ -71,16 +67,14 @@ fn put_link(link: LinkLine, into: &mut Vec<u8>) -> Result<(), AllocError>
     ensures ok { OnOk result (into.new.items ≡ into.old.items ++ link_line link) }
     ensures extends { Extends into.old.items into.new.items }
 {
-    let place = place_word(*into.allocator(), link.user, link.offset)?;
-    let target = key_word(*into.allocator(), link.target)?;
     put_line(
         &[
-            b"  ",
-            place.as_slice(),
-            b" ",
-            kind_word(link.kind),
-            b" -> ",
-            target.as_slice(),
+            Text(b"  "),
+            Place(link.user, link.offset),
+            Text(b" "),
+            Text(kind_word(link.kind)),
+            Text(b" -> "),
+            Key(link.target),
         ],
         into,
     )

@@ -1,44 +1,10 @@
-//! Words of a line.
+//! Words for things of which there are a few kinds.
 
-ghost use Rattle.std.specs.Prelude.{◌≡◌, IfOk};
-ghost use Rattle.cell_text.specs.Number.{hex};
-ghost use Rattle.cell_print.specs.Lines.{key_word, place_word};
-ghost use Rattle.cell_print.specs.Words.{cause_word, kind_word};
+ghost use Rattle.std.specs.Prelude.{◌≡◌};
+ghost use Rattle.cell_print.specs.Words.{cause_word, kind_word, many_word};
 
-use cell_num::{Cause, RelKind, SecKey};
-use cell_text::{put_dec, put_hex};
-use std::alloc::{AllocError, Global};
-
-/// A number in lower-case hex.
-pub fn hex_word(alloc: Global, value: u64) -> Result<Vec<u8>, AllocError>
-    ensures { IfOk result (λ word. word.items ≡ hex value) }
-{
-    let mut word = Vec::new(alloc);
-    put_hex(value, &mut word)?;
-    Ok(word)
-}
-
-/// A section of a cell.
-pub fn key_word(alloc: Global, key: SecKey) -> Result<Vec<u8>, AllocError>
-    ensures { IfOk result (λ word. word.items ≡ key_word key) }
-{
-    let mut word = Vec::new(alloc);
-    word.extend_from_slice(b"#")?;
-    put_dec(u64::from(key.cell.0), &mut word)?;
-    word.extend_from_slice(b".")?;
-    put_dec(u64::from(key.section), &mut word)?;
-    Ok(word)
-}
-
-/// An offset in a section.
-pub fn place_word(alloc: Global, key: SecKey, offset: u32) -> Result<Vec<u8>, AllocError>
-    ensures { IfOk result (λ word. word.items ≡ place_word key offset) }
-{
-    let mut word = key_word(alloc, key)?;
-    word.extend_from_slice(b"+")?;
-    put_hex(u64::from(offset), &mut word)?;
-    Ok(word)
-}
+use cell_num::{Cause, RelKind};
+use cell_world::Many;
 
 /// The trap that ended a task's turns.
 pub fn cause_word(cause: Cause) -> &'static [u8]
@@ -89,5 +55,18 @@ pub fn kind_word(kind: RelKind) -> &'static [u8]
         RelKind::Set16 => b"SET16",
         RelKind::Set32 => b"SET32",
         RelKind::Pcrel32 => b"32_PCREL",
+    }
+}
+
+/// What there may be only so many of.
+pub fn many_word(kind: Many) -> &'static [u8]
+    ensures { result.now ≡ many_word kind }
+{
+    match kind {
+        Many::Namespaces => b"namespaces",
+        Many::Cells => b"cells",
+        Many::CellNumbers => b"cell-numbers",
+        Many::Tasks => b"tasks",
+        Many::TaskNumbers => b"task-numbers",
     }
 }

@@ -4,8 +4,8 @@ ghost use Rattle.std.specs.Prelude.{◌≡◌, IfOk};
 ghost use Rattle.cell_run.specs.StatusLine.{what_word, reason_line};
 
 use cell_input::{Reason, What};
+use cell_print::Piece::{Dec, Long, Text};
 use cell_print::put_line;
-use itoa::Buffer;
 use std::alloc::{AllocError, Global};
 
 /// The line of a run of that script.
@@ -14,17 +14,20 @@ pub fn reason_line(alloc: Global, script: &str, reason: Reason) -> Result<Vec<u8
 {
     let mut text = Vec::new(alloc);
     match reason {
-        Reason::NoScript => put_line(&[b"no script ", script.as_bytes()], &mut text)?,
+        Reason::NoScript => {
+            put_line(&[Text(b"no script "), Text(script.as_bytes())], &mut text)?;
+        }
         Reason::BadScript { line } => {
-            let mut number = Buffer::new();
-            let number = number.format(line).as_bytes();
-            put_line(&[b"bad script line ", number], &mut text)?;
+            put_line(&[Text(b"bad script line "), Dec(line)], &mut text)?;
         }
         Reason::TooLarge { what, limit } => {
-            let mut most = Buffer::new();
-            let most = most.format(limit).as_bytes();
             put_line(
-                &[b"too large: ", what_word(what), b" limit ", most],
+                &[
+                    Text(b"too large: "),
+                    Text(what_word(what)),
+                    Text(b" limit "),
+                    Long(limit),
+                ],
                 &mut text,
             )?;
         }

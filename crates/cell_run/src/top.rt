@@ -14,8 +14,8 @@ use crate::Status;
 use crate::refuse::reason_line;
 use crate::status::status_of;
 use cell_arguments::{Arguments, ArgumentsFault, read_arguments};
-use cell_input::{Input, Reason, TakeFail, take_from};
-use cell_io::{Host, Sink};
+use cell_input::{Input, Reason, take_from};
+use cell_io::{Host, Sink, Stop};
 use cell_print::{put_refusal, put_reply};
 use cell_script::Line;
 use cell_system::{Fail, System};
@@ -86,9 +86,9 @@ fn run<H: Host, K: Sink>(
 {
     match take_from(alloc, arguments.dir, arguments.script, host) {
         Ok(input) => run_script(alloc, arguments.base, arguments.pages, input, out),
-        Err(TakeFail::Refused(reason)) => refuse(alloc, arguments.script, reason, out),
-        Err(TakeFail::ReadFault) => Status::ReadFault,
-        Err(TakeFail::OutOfMemory) => Status::OutOfMemory,
+        Err(Stop::Refused(reason)) => refuse(alloc, arguments.script, reason, out),
+        Err(Stop::ReadFault) => Status::ReadFault,
+        Err(Stop::OutOfMemory) => Status::OutOfMemory,
     }
 }
 

@@ -1,13 +1,17 @@
-use Rattle.std.proofs.Common.{sym, length}
-use Rattle.std.proofs.lemmas.Bool.{cases_lt}
-use Rattle.cell_world.specs.Limits.{max_names}
+use Rattle.std.proofs.lemmas.Result.{err_from_is_err_and}
 use Rattle.cell_io.specs.Files.{names_in}
-use Rattle.cell_input.proofs.Binds.{gives_same}
-use Rattle.cell_input.proofs.Intake.{listing_up_to}
+use Rattle.cell_io.proofs.Binds.{stops_first, goes_on, gives_same}
+use Rattle.cell_input.specs.Taking.{listing, objects_among}
 use Rattle.cell_input.proofs.take.list_objects.Goals as goal
 
-pub returns-in-Ok-clause-objects : goal.returns-in-Ok-clause-objects
-returns-in-Ok-clause-objects g c = λ all told.
-    let names = names_in c.args.dir.now all in
-    let up = rw told at c.in-Ok.ensures.names in
-    gives_same _ c.choose_objects.result _ _ (sym (listing_up_to c.args.script.now names _ (cases_lt max_names (length names)) up)) c.choose_objects.ensures.objects
+pub returns-in_err-names-clause-objects : goal.returns-in_err-names-clause-objects
+unfolding listing
+returns-in_err-names-clause-objects g c =
+    let p = err_from_is_err_and c.from_residual.result c.from_residual.ensures.1 in
+    rw (p.1, p.2) (λ all told. stops_first c.in_err-names.field-0.0 _ (objects_among c.args.script.now) (c.in_err-names.ensures.names all told))
+
+pub returns-clause-objects : goal.returns-clause-objects
+unfolding listing
+returns-clause-objects g c = λ all told.
+    gives_same _ c.choose_objects.result _ _ (goes_on _ _ (objects_among c.args.script.now) (c.in_ok-names.ensures.names all told))
+    (rw c.as_slice.ensures.value at c.choose_objects.ensures.objects)

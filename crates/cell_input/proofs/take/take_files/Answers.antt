@@ -5,7 +5,7 @@ use Rattle.std.proofs.lemmas.List.Elements.{All-nil}
 use Rattle.cell_io.specs.Files.{folder}
 use Rattle.cell_world.specs.declared.file.File.{File}
 use Rattle.cell_input.specs.Taking.{file_after}
-use Rattle.cell_input.proofs.ObjectFiles.{IsSmall, small_more, prepend, prepend-none, taken_after, first_listed, one_named, rest_listed, takes_more, fails_more}
+use Rattle.cell_input.proofs.ObjectFiles.{IsSmall, small_more, prepend, prepend-none, taken_after, first_listed, one_named, rest_listed, takes_more, stops_more}
 use Rattle.cell_input.proofs.take.take_files.Goals as goal
 
 pub loop-name-init : goal.loop-name-init
@@ -32,7 +32,7 @@ pub returns-in_err-file-clause-taken : goal.returns-in_err-file-clause-taken
 returns-in_err-file-clause-taken g c =
     let p = err_from_is_err_and c.from_residual.result c.from_residual.ensures.1 in
     rw (p.1, p.2) (λ all told.
-    fails_more c.args.dir.now c.in-Some.name.now c.loop-name.name-iterator c.next.new.self all c.loop-name.total c.in_err-file.field-0.0 c.loop-name.files.items _ c.in-Some.ensures.steps
+    stops_more c.args.dir.now c.in-Some.name.now c.loop-name.name-iterator c.next.new.self all c.loop-name.total c.in_err-file.field-0.0 c.loop-name.files.items _ c.in-Some.ensures.steps
     (rw c.as_str.ensures.value at (c.in_err-file.ensures.file all (c.loop-name.invariant.files ∙ told)))
     (c.loop-name.invariant.taken all told))
 

@@ -11,8 +11,8 @@ returns-in_err-objects-clause-input g c =
     let p = err_from_is_err_and c.from_residual.result c.from_residual.ensures.1 in
     rw (p.1, p.2) (λ all told. no_listing c.args.script.now (folder c.args.dir.now all) c.in_err-objects.field-0.0 (c.in_err-objects.ensures.objects all told))
 
-pub read_text-requires : goal.read_text-requires
-read_text-requires g c = λ all told.
+pub read_within-requires : goal.read_within-requires
+read_within-requires g c = λ all told.
     script_listed c.args.script.now (names_in c.args.dir.now all) _ (c.in_ok-objects.ensures.objects all (sym c.in_ok-objects.ensures.files ∙ told))
 
 pub returns-in_err-text-clause-input : goal.returns-in_err-text-clause-input

@@ -1,3 +1,0 @@
-pub mod Binds
-pub mod Listing
-pub mod Making
