@@ -7,3 +7,4 @@ mod Laid
 mod Parts
 mod Fresh
 mod FreshSaid
+mod CoverageExact

@@ -1,16 +1,18 @@
-//! What a swap plans, what its routines leave, and when it is accepted. No command does swaps yet.
+//! What a swap plans, what its routines leave, and when it is accepted.
 
 ghost use Rattle.std.specs.List.{list_all};
-ghost use Rattle.std.specs.Prelude.{ℕ, ◌≡◌, ◌<◌, IsTrue, List, All, true, Some, None, Ok, length, suc, [], ◌↔◌, false, Bool, Option};
+ghost use Rattle.std.specs.Prelude.{ℕ, ◌≡◌, ◌<◌, IsTrue, List, All, true, Some, None, Ok, Err, is_none, length, suc, [], ◌↔◌, false, Bool, Option};
 ghost use Rattle.cell_world.specs.Answer.{Done};
 ghost use Rattle.cell_world.specs.Changed.{first_changed_misfit, now_in};
 ghost use Rattle.cell_world.specs.Coherent.{AreSound, IsCoherent, IsReady};
 ghost use Rattle.cell_world.specs.Execute.{seen_in};
 ghost use Rattle.cell_world.specs.Fit.{first_misfit};
-ghost use Rattle.cell_world.specs.Gather.{Source, fresh_cells};
+ghost use Rattle.cell_num.specs.Lists.{holds};
+ghost use Rattle.cell_world.specs.Gather.{Need, Source, fresh_cells, missing};
 ghost use Rattle.cell_world.specs.Kept.{IsKept, holding_of};
+ghost use Rattle.cell_world.specs.Names.{needs_of, provider_of};
 ghost use Rattle.cell_world.specs.Place.{start_of_run};
-ghost use Rattle.cell_world.specs.SwapCommand.{Plan, addresses_of, next_swap, old_numbers, plan_placed, plan_swap, swap_reply, with_transfer};
+ghost use Rattle.cell_world.specs.SwapCommand.{Plan, Wanted, addresses_of, all_wanted, first_uncovered, gather_swap, next_swap, old_numbers, plan_placed, plan_swap, swap_reply, with_transfer};
 ghost use Rattle.cell_world.specs.SwapTransfer.{Begin, begins_of, stack_for};
 ghost use Rattle.cell_world.specs.Transfer.{after_turns};
 ghost use Rattle.cell_world.specs.UnloadCommand.{put_aside, purged};
@@ -22,6 +24,7 @@ ghost use Rattle.cell_turns.specs.Kept.{KeepsFields, KeepsReadOnly, KeepsSealed,
 ghost use Rattle.cell_swaps_law.specs.Begins.{BeginsIn};
 ghost use Rattle.cell_coherent.specs.Grown.{IsRegrown};
 ghost use Rattle.cell_swaps_law.specs.Swapping.{HasSwapPlaced};
+ghost use Rattle.cell_laws.specs.Lost.{IsLost};
 
 /// Once the new cells of a swap have their places, the machine has grown by them, the old ones stand aside, and it can be
 /// linked; where what is new and what changes fits, it is ready for it. Where the routines have places to begin and a stack, the rest of the plan hangs on that and on the tasks alone.
@@ -37,6 +40,16 @@ pub fn swap_regrows()
     ensures linkable { (sources : List Source) (v : World) (items : List SwapItem) (reexport : Bool) (w : World) → AreSound sources → IsCoherent v → HasSwapPlaced sources v items reexport w → IsLinkable w }
     ensures ready { (sources : List Source) (v : World) (items : List SwapItem) (reexport : Bool) (w : World) → AreSound sources → IsCoherent v → 0 < length items → HasSwapPlaced sources v items reexport w →
         first_misfit w (fresh_cells v.next_cell w) ≡ None → first_changed_misfit v w v.cells ≡ None → IsReady w }
+{}
+
+/// A cell that a swap leaves alone lacks a name exactly where an old cell provided it, and no new cell that it can see has it. The
+/// first name that is lacking is what the swap is refused for.
+pub fn coverage_is_exact()
+    ensures exact { (sources : List Source) (v : World) (items : List SwapItem) (reexport : Bool) (wants : List Wanted) (w : World) → AreSound sources → IsCoherent v → all_wanted sources v items ≡ Ok wants → gather_swap sources v wants reexport ≡ Ok w →
+        (c : Cell) → In c v.cells → holds (old_numbers wants) c.id.0 ≡ false → (name : List ℕ) → In name (needs_of c.object) →
+        (is_none (provider_of w c name) ≡ true) ↔ IsLost v (old_numbers wants) (fresh_cells v.next_cell w) c name }
+    ensures refused { (sources : List Source) (v : World) (items : List SwapItem) (reexport : Bool) (words : List (List ℕ)) (wants : List Wanted) (w : World) (need : Need) → all_wanted sources v items ≡ Ok wants → gather_swap sources v wants reexport ≡ Ok w →
+        first_uncovered v.next_cell w ≡ Some need → plan_swap sources v items reexport words ≡ Err (missing need) }
 {}
 
 /// The machine with a swap's new cells linked in the place of the old ones is coherent.

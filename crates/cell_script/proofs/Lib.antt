@@ -1,4 +1,5 @@
 pub mod Lines
 pub mod Count
 pub mod SeenWords
+pub mod Items
 pub mod Said

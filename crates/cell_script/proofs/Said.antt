@@ -1,12 +1,14 @@
 -- Each command of a script is one that a line can say.
-use Rattle.std.proofs.Common.{◌≡◌, refl, ap, ◌∙◌, ℕ, ◌+◌, Bool, true, false, cond, ◌&&◌, List, [], ◌∷◌}
-use Rattle.std.specs.Prelude.{Option, Some, None, Result, Ok, Err, bytes_eq, codes, option_and_then, option_map}
+use Rattle.std.proofs.Common.{◌≡◌, refl, ap, ◌∙◌, arith, ℕ, ◌+◌, Bool, true, false, cond, ◌&&◌, List, [], ◌∷◌}
+use Rattle.std.proofs.lemmas.Bool.{lt-ltb}
+use Rattle.std.specs.Prelude.{Option, Some, None, Result, Ok, Err, bytes_eq, codes, drop, length, map, nat_lt, option_and_then, option_map, take}
+use Rattle.cell_world.specs.declared.command.SwapItem.{SwapItem}
 use Rattle.cell_world.specs.declared.command.Command.{Command}
 use Rattle.cell_world.specs.declared.command.Command.TheVariants.{Ns, Load, Spawn, Step, Run, Kill, Unload, Purge, Find, Map, Tasks, Deps, Users, Dump}
 use Rattle.cell_script.specs.declared.command.Reading.{Reading}
 use Rattle.cell_script.specs.declared.command.Reading.TheVariants.{Nothing, Does, Bad}
 use Rattle.cell_script.specs.declared.line.Line.{Line}
-use Rattle.cell_script.specs.Grammar.{Form, all_three, alone, argument, both, both_around, cell_names, command_in, forms, name, number, several, single, symbol, turns_of_run, turns_of_step}
+use Rattle.cell_script.specs.Grammar.{Form, all_three, alone, are_different, argument, both, both_around, cell_names, cell_part, command_in, each_said, forms, item_count, name, number, reexports, several, single, swap_item, swap_items, swap_of, swap_words, symbol, turns_of_run, turns_of_step}
 use Rattle.cell_script.specs.Script.{add_line, are_said, does, is_comment, is_said, reading_in, reading_of, script_from}
 use Rattle.cell_text.specs.Text.{words_of}
 
@@ -66,6 +68,41 @@ alone_said : (command : Command) → is_said command ≡ true → (words : List 
 alone_said command h [] = h
 alone_said command h (word ∷ words) = tt
 
+-- a swap names one cell at least
+abbrev Filled : Option (List SwapItem) → Type 0
+Filled None = Unit {0}
+Filled (Some items) = nat_lt 0 (length items) ≡ true
+
+each_filled : (word : List ℕ) (words : List (List ℕ)) → Filled (each_said swap_item (word ∷ words))
+each_filled word words = go (swap_item word)
+  where
+    one : (x : SwapItem) (o : Option (List SwapItem)) → Filled (option_map (λ rest. x ∷ rest) o)
+    one x None = tt
+    one x (Some rest) = lt-ltb 0 (length (x ∷ rest)) (omega arith)
+
+    go : (o : Option SwapItem) → Filled (option_and_then (λ x. option_map (λ rest. x ∷ rest) (each_said swap_item words)) o)
+    go None = tt
+    go (Some x) = one x (each_said swap_item words)
+
+items_filled : (words : List (List ℕ)) → Filled (swap_items words)
+items_filled [] = tt
+items_filled (word ∷ words) = go (are_different (map cell_part (word ∷ words)))
+  where
+    go : (b : Bool) → Filled (cond b (each_said swap_item (word ∷ words)) None)
+    go true = each_filled word words
+    go false = tt
+
+swap_said : (words : List (List ℕ)) → IsSaid (swap_words words)
+swap_said words = go (swap_items (take (item_count words) words)) (items_filled (take (item_count words) words))
+  where
+    one : (items : List SwapItem) → nat_lt 0 (length items) ≡ true → (o : Option Bool) → IsSaid (option_map (swap_of items) o)
+    one items filled None = tt
+    one items filled (Some reexport) = filled
+
+    go : (o : Option (List SwapItem)) → Filled o → IsSaid (option_and_then (λ items. option_map (swap_of items) (reexports (drop (item_count words) words))) o)
+    go None filled = tt
+    go (Some items) filled = one items filled (reexports (drop (item_count words) words))
+
 abbrev AreSaid : List Form → Type 0
 AreSaid [] = Unit {0}
 AreSaid (form ∷ rest) = ((words : List (List ℕ)) → IsSaid (form.arguments words)) × AreSaid rest
@@ -92,22 +129,25 @@ all_forms = (
           (
             single_said (λ task. Kill task) (λ a. refl) number,
             (
-              several_said (λ cells. Unload cells) (λ a. refl) cell_names,
+              swap_said,
               (
-                alone_said Purge refl,
+                several_said (λ cells. Unload cells) (λ a. refl) cell_names,
                 (
-                  both_said name symbol (λ ns what. Find ns what) (λ a b. refl),
+                  alone_said Purge refl,
                   (
-                    alone_said Map refl,
+                    both_said name symbol (λ ns what. Find ns what) (λ a b. refl),
                     (
-                      alone_said Tasks refl,
+                      alone_said Map refl,
                       (
-                        single_said (λ cell. Deps cell) (λ a. refl) number,
+                        alone_said Tasks refl,
                         (
-                          single_said (λ cell. Users cell) (λ a. refl) number,
+                          single_said (λ cell. Deps cell) (λ a. refl) number,
                           (
-                            both_said number number (λ cell section. Dump cell section) (λ a b. refl),
-                            tt,
+                            single_said (λ cell. Users cell) (λ a. refl) number,
+                            (
+                              both_said number number (λ cell section. Dump cell section) (λ a b. refl),
+                              tt,
+                            ),
                           ),
                         ),
                       ),

@@ -1,13 +1,15 @@
 -- The commands of a script. A later command is one more of `forms`.
 --     command_in forms word arguments      the command of these words, if a form has them
 --     cell_names words                     the cells that the words of an `unload` name
-use Rattle.std.specs.Prelude.{ℕ, nat_lt, nat_le, Bool, not, ◌&&◌, ◌||◌, ◌==◌, List, [], ◌∷◌, length, take, drop, Option, Some, None, if◌then◌else◌, bytes_eq, codes, option_map, option_and_then}
+--     swap_words words                     what the words of a `swap` say
+use Rattle.std.specs.Prelude.{ℕ, nat_lt, nat_le, Bool, true, false, not, ◌&&◌, ◌||◌, ◌==◌, ◌+◌, List, [], ◌∷◌, map, length, take, drop, position, unwrap_or, is_none, Option, Some, None, if◌then◌else◌, bytes_eq, codes, option_map, option_and_then}
 use Rattle.std.specs.List.{list_all, slice_split}
 use Rattle.cell_num.specs.Lists.{where_true, equals, each_pair}
 use Rattle.cell_text.specs.Number.{number_in, hex_number_in}
 use Rattle.cell_world.specs.declared.command.CellName.{CellName}
+use Rattle.cell_world.specs.declared.command.SwapItem.{SwapItem}
 use Rattle.cell_world.specs.declared.command.Command.{Command}
-use Rattle.cell_world.specs.declared.command.Command.TheVariants.{Ns, Load, Spawn, Step, Run, Kill, Unload, Purge, Find, Map, Tasks, Deps, Users, Dump}
+use Rattle.cell_world.specs.declared.command.Command.TheVariants.{Ns, Load, Spawn, Step, Run, Kill, Swap, Unload, Purge, Find, Map, Tasks, Deps, Users, Dump}
 
 abbrev pub is_name_byte : ℕ → Bool
 is_name_byte b = (nat_le 97 b && nat_le b 122) || (nat_le 48 b && nat_le b 57) || b == 95
@@ -94,6 +96,62 @@ are_different words = each_pair (λ word later. not (equals later word)) words
 abbrev pub cell_names : List (List ℕ) → Option (List CellName)
 cell_names words = if are_different words then each_said cell_name words else None
 
+-- 1 to 255 bytes of 0x21 to 0x7E
+abbrev pub is_file : List ℕ → Bool
+is_file word = nat_lt 0 (length word) && nat_le (length word) 255 && list_all is_symbol_byte word
+
+abbrev pub file : List ℕ → Option (List ℕ)
+file word = where_true (is_file word) word
+
+abbrev pub is_equals : ℕ → Bool
+is_equals b = b == 61
+
+abbrev pub first_equals : List ℕ → Option ℕ
+first_equals word = position is_equals word
+
+-- where the first equals sign stands, or the end of the word
+abbrev pub end_of_cell : List ℕ → ℕ
+end_of_cell word = unwrap_or (first_equals word) (length word)
+
+abbrev pub cell_part : List ℕ → List ℕ
+cell_part word = take (end_of_cell word) word
+
+-- what follows the first equals sign
+abbrev pub file_part : List ℕ → List ℕ
+file_part word = drop (end_of_cell word + 1) word
+
+abbrev pub item_called : CellName → List ℕ → SwapItem
+item_called cell file = record { ns = cell.ns; stem = cell.stem; file = file }
+
+-- NS/OLD=FILE
+abbrev pub swap_item : List ℕ → Option SwapItem
+swap_item word = both cell_name file item_called (cell_part word ∷ file_part word ∷ [])
+
+-- one item or more, and each cell named once
+abbrev pub swap_items : List (List ℕ) → Option (List SwapItem)
+swap_items [] = None
+swap_items (word ∷ words) = if are_different (map cell_part (word ∷ words)) then each_said swap_item (word ∷ words) else None
+
+-- no word, or `reexport`
+abbrev pub reexports : List (List ℕ) → Option Bool
+reexports [] = Some false
+reexports (word ∷ []) = where_true (bytes_eq word (codes "reexport")) true
+reexports words = None
+
+-- how many words come before the options: an item has an equals sign, and the first option has none
+abbrev pub item_count : List (List ℕ) → ℕ
+item_count words = unwrap_or (position (λ word. is_none (first_equals word)) words) (length words)
+
+abbrev pub swap_of : List SwapItem → Bool → Command
+swap_of items reexport = Swap items reexport false [] 10000
+
+-- the items, and then the options
+abbrev pub swap_words : List (List ℕ) → Option Command
+swap_words words =
+    option_and_then
+    (λ items. option_map (swap_of items) (reexports (drop (item_count words) words)))
+    (swap_items (take (item_count words) words))
+
 -- a command's first word, and what its other words say
 pub record Form : Type 0 where
   pub word : List ℕ
@@ -107,6 +165,7 @@ forms =
     ∷ record { word = codes "step"; arguments = both number turns_of_step (λ task turns. Step task turns) }
     ∷ record { word = codes "run"; arguments = single turns_of_run (λ turns. Run turns) }
     ∷ record { word = codes "kill"; arguments = single number (λ task. Kill task) }
+    ∷ record { word = codes "swap"; arguments = swap_words }
     ∷ record { word = codes "unload"; arguments = several cell_names (λ cells. Unload cells) }
     ∷ record { word = codes "purge"; arguments = alone Purge }
     ∷ record { word = codes "find"; arguments = both name symbol (λ ns what. Find ns what) }

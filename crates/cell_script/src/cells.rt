@@ -21,7 +21,7 @@ pub fn read_cells(alloc: Global, words: &[&[u8]]) -> Result<Option<Listed<CellNa
 }
 
 /// Whether no word stands twice.
-fn are_different(alloc: Global, words: &[&[u8]]) -> Result<bool, AllocError>
+pub fn are_different(alloc: Global, words: &[&[u8]]) -> Result<bool, AllocError>
     ensures { IfOk result (λ different. different ≡ are_different (map (λ word. word.now) words.now)) }
 {
     let mut seen = BTreeSet::new(alloc);
@@ -39,7 +39,7 @@ fn read_each(alloc: Global, words: &[&[u8]]) -> Result<Option<Listed<CellName>>,
 {
     let mut cells = Vec::new(alloc);
     for word in words {
-        let Some(cell) = read_cell(alloc, word)? else {
+        let Some(cell) = cell_of_word(alloc, word)? else {
             return Ok(None);
         };
         cells.push(cell)?;
@@ -48,7 +48,7 @@ fn read_each(alloc: Global, words: &[&[u8]]) -> Result<Option<Listed<CellName>>,
 }
 
 /// `NS/STEM`
-fn read_cell(alloc: Global, word: &[u8]) -> Result<Option<CellName>, AllocError>
+pub fn cell_of_word(alloc: Global, word: &[u8]) -> Result<Option<CellName>, AllocError>
     ensures { IfOk result (λ cell. cell ≡ cell_name word.now) }
 {
     let parts = parts_of(alloc, word)?;

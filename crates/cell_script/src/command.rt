@@ -2,10 +2,11 @@
 
 ghost use Rattle.std.specs.Prelude.{◌≡◌, List, [], ◌∷◌, map, codes, IfOk};
 ghost use Rattle.cell_world.specs.declared.command.Command.TheVariants.{Ns, Load, Spawn, Step, Run, Kill, Unload, Purge, Find, Map, Tasks, Deps, Users, Dump};
-ghost use Rattle.cell_script.specs.Grammar.{name, symbol, number, turns_of_step, turns_of_run, argument, alone, single, both, all_three, both_around, several, cell_names, forms, command_in};
+ghost use Rattle.cell_script.specs.Grammar.{name, symbol, number, turns_of_step, turns_of_run, argument, alone, single, both, all_three, both_around, several, cell_names, swap_words, forms, command_in};
 ghost use Rattle.cell_script.specs.Script.{is_comment, reading_in};
 
 use crate::cells::read_cells;
+use crate::swap::read_swap;
 use crate::words::{
     is_name, is_symbol, read_argument, read_number, read_turns_of_run, read_turns_of_step,
 };
@@ -63,6 +64,8 @@ fn read_command(
         Ok(read_run(arguments))
     } else if word == b"kill".as_slice() {
         Ok(read_kill(arguments))
+    } else if word == b"swap".as_slice() {
+        read_swap(alloc, arguments)
     } else if word == b"unload".as_slice() {
         read_unload(alloc, arguments)
     } else if word == b"purge".as_slice() {

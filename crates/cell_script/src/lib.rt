@@ -5,6 +5,7 @@ mod cells;
 mod command;
 mod line;
 mod read;
+mod swap;
 mod words;
 
 pub use cell_world::Command;

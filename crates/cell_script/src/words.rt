@@ -2,7 +2,7 @@
 
 ghost use Rattle.std.specs.Prelude.{◌≡◌};
 ghost use Rattle.std.specs.List.{list_all};
-ghost use Rattle.cell_script.specs.Grammar.{is_name, is_name_byte, is_symbol, is_symbol_byte, number, turns_of_step, turns_of_run, argument};
+ghost use Rattle.cell_script.specs.Grammar.{is_name, is_name_byte, is_symbol, is_symbol_byte, is_file, number, turns_of_step, turns_of_run, argument};
 
 use cell_text::{read_dec, read_hex};
 
@@ -76,6 +76,13 @@ fn has_symbol_bytes(word: &[u8]) -> bool
     ensures { result ≡ list_all is_symbol_byte word.now }
 {
     word.iter().all(|b| is_symbol_byte(*b))
+}
+
+/// Whether the word may be the name of a file: 1 to 255 bytes of 0x21 to 0x7e.
+pub fn is_file(word: &[u8]) -> bool
+    ensures { result ≡ is_file word.now }
+{
+    !word.is_empty() && word.len() <= 255 && has_symbol_bytes(word)
 }
 
 fn is_symbol_byte(b: u8) -> bool

@@ -1,5 +1,5 @@
 -- What the parts of the machine are once the cells have gone from each of them.
-use Rattle.std.proofs.Common.{◌≡◌, refl, sym, ◌∙◌, ap, ap₂, subst, arith, ℕ, ◌+◌, ◌*◌, ◌<◌, ◌^◌, Bool, true, false, not, true≢false, cond, ◌&&◌, ◌||◌, List, [], ◌∷◌, ◌++◌, length, map}
+use Rattle.std.proofs.Common.{◌≡◌, refl, sym, ◌∙◌, ap, ap₂, subst, ℕ, ◌+◌, ◌*◌, Bool, true, false, not, true≢false, cond, ◌&&◌, ◌||◌, List, [], ◌∷◌, ◌++◌, length, map}
 use Rattle.std.specs.Prelude.{◌==◌, All, IsTrue, filter, flat_map, is_some, nat_lt, slice_index_or}
 use Rattle.std.proofs.lemmas.Bool.{eqb-true, eq-eqb}
 use Rattle.cell_coherent.proofs.Elements.{In, In-All, In-map, any-Has, find_there, map-In, none-In}

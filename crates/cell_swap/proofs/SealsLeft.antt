@@ -5,7 +5,7 @@ use Rattle.std.specs.List.{list_any}
 use Rattle.std.proofs.lemmas.Bool.{and_from, and_parts, leb-true, ltb-true}
 use Rattle.std.proofs.lemmas.List.{ext_get_or, length-map}
 use Rattle.cell_coherent.proofs.Distinct.{one_class}
-use Rattle.cell_coherent.proofs.Elements.{In, In-filtered, In-flat_map, In-map, In-none, any-Has, any-In, filter-In, filter-Passes, flat_map-In, map-In, none-In, pairs-In}
+use Rattle.cell_coherent.proofs.Elements.{In, In-filtered, In-flat_map, In-map, In-none, any-Has, any-In, filter-In, filter-Passes, flat_map-In, none-In, pairs-In}
 use Rattle.cell_coherent.proofs.FieldsInside.{among-In, field_region}
 use Rattle.cell_coherent.proofs.Places.{length-from}
 use Rattle.cell_commit.specs.Seals.{is_in_span, seal_table}

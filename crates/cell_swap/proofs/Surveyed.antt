@@ -1,11 +1,9 @@
 -- What a survey of a sound machine may take for granted, and what it comes to.
-use Rattle.std.proofs.Common.{◌≡◌, refl, sym, ◌∙◌, ap, subst, arith, ℕ, suc, ◌≤◌, inl, inr, Bool, true, List, [], ◌∷◌, ◌++◌, length, map, take, take_all}
-use Rattle.std.specs.Prelude.{Contains, IsTrue, ◌==◌, Option, None, filter, flat_map, nat_lt, not, option_map, if◌then◌else◌}
+use Rattle.std.proofs.Common.{◌≡◌, refl, sym, ◌∙◌, ap, subst, arith, ℕ, suc, ◌≤◌, Bool, true, List, [], ◌∷◌, length, map, take, take_all}
+use Rattle.std.specs.Prelude.{IsTrue, ◌==◌, Option, None, filter, flat_map, nat_lt, not, option_map, if◌then◌else◌}
 use Rattle.std.specs.List.{list_all}
-use Rattle.std.specs.List.Sorted.{IsPermutation}
 use Rattle.std.proofs.lemmas.Bool.{and_from}
-use Rattle.std.proofs.lemmas.List.{length-map, map-append}
-use Rattle.std.proofs.lemmas.List.Sorted.{All-permutation, list_any-IsPermutation}
+use Rattle.std.proofs.lemmas.List.{length-map}
 use Rattle.cell_num.specs.declared.ids.CellId.{CellId}
 use Rattle.cell_num.specs.declared.ids.Holder.{Holder}
 use Rattle.cell_num.specs.declared.ids.SecKey.{SecKey}
@@ -14,7 +12,6 @@ use Rattle.cell_object.specs.declared.object.Section.{Section as ObjectSection}
 use Rattle.cell_world.specs.declared.refusal.Refusal.{Refusal}
 use Rattle.cell_world.specs.declared.refusal.Refusal.TheVariants.{Held}
 use Rattle.cell_world.specs.declared.state.LinkRow.{LinkRow}
-use Rattle.cell_world.specs.declared.state.NewCell.{NewCell}
 use Rattle.cell_world.specs.declared.state.Placed.{Placed}
 use Rattle.cell_world.specs.Answer.{numbers_of}
 use Rattle.cell_world.specs.Coherent.{IsCoherent}
@@ -22,9 +19,8 @@ use Rattle.cell_world.specs.Kept.{Claim, Holding, holder_in, kept_in, placed_at,
 use Rattle.cell_world.specs.UnloadCommand.{garbage_of, held_refusal}
 use Rattle.cell_world.specs.World.{World, Cell, attached}
 use Rattle.cell_coherent.specs.Present.{HasSection, JoinsPresent}
-use Rattle.cell_coherent.proofs.Elements.{In, All-In, In-All, In-all, any-In, found-In, In-flat_map, flat_map-In, In-map, map-In, pairs-map}
+use Rattle.cell_coherent.proofs.Elements.{In, All-In, In-all, any-In, found-In, In-flat_map, flat_map-In, In-map, map-In, pairs-map}
 use Rattle.cell_coherent.proofs.Present.{links_present}
-use Rattle.cell_coherent.proofs.Relinked.{map_twice}
 use Rattle.cell_graph.specs.Links.{is_same}
 use Rattle.cell_removal.proofs.Freed.{number_holds}
 use Rattle.cell_hold.specs.declared.roots.Root.{Root}
@@ -32,7 +28,7 @@ use Rattle.cell_hold.specs.Places.{HasTargets, has_section}
 use Rattle.cell_hold.specs.Roots.{AreCells, HasRoom, attached_by, claims_by, holding_by, named_by}
 use Rattle.cell_space.specs.Joined.{AreJoined, placed_of}
 use Rattle.cell_machine.specs.declared.machine.Machine.{Machine}
-use Rattle.cell_machine.specs.Machine.{IsSound, keys_of, section_keys, world_of}
+use Rattle.cell_machine.specs.Machine.{IsSound, world_of}
 use Rattle.cell_machine.specs.Staged.{all_attached}
 use Rattle.cell_swap.specs.declared.survey.Survey.{Survey}
 use Rattle.cell_swap.specs.Sweep.{IsSurvey, aside_in, holding_in, refusal_of}

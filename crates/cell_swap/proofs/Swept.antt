@@ -1,5 +1,5 @@
 -- A machine from which the cells that nobody keeps have been removed is what `unload` and `purge` make of it.
-use Rattle.std.proofs.Common.{◌≡◌, refl, sym, ◌∙◌, ap, subst, arith, ℕ, suc, ◌-◌, ◌^◌, ◌≤◌, List, [], length, map, Option, Some, None, Ok, Err}
+use Rattle.std.proofs.Common.{◌≡◌, refl, sym, ◌∙◌, ap, subst, ℕ, suc, ◌-◌, ◌^◌, ◌≤◌, List, [], map, Option, Some, None, Ok, Err}
 use Rattle.cell_num.specs.declared.ids.CellId.{CellId}
 use Rattle.cell_world.specs.declared.command.CellName.{CellName}
 use Rattle.cell_world.specs.declared.refusal.Refusal.{Refusal}
@@ -10,12 +10,11 @@ use Rattle.cell_world.specs.Coherent.{IsCoherent}
 use Rattle.cell_world.specs.Kept.{holding_of}
 use Rattle.cell_world.specs.Outcome.{Outcome, ◌>>=◌, ◌>>◌, refused_by}
 use Rattle.cell_world.specs.UnloadCommand.{detach, first_held, garbage_of, named_cells, next_purge, next_unload, purged, put_aside, without_cells}
-use Rattle.cell_world.specs.World.{World, Cell, attached}
+use Rattle.cell_world.specs.World.{World, Cell}
 use Rattle.cell_coherent.proofs.Appended.{ok_same}
-use Rattle.cell_coherent.proofs.Elements.{In, In-map}
 use Rattle.cell_coherent.proofs.Relinked.{map_twice}
 use Rattle.cell_machine.proofs.Counts.{counts_stand}
-use Rattle.cell_coherent.proofs.Lists.{In-fixed, length-filter_le}
+use Rattle.cell_coherent.proofs.Lists.{In-fixed}
 use Rattle.cell_world.specs.Following.{FailsAs}
 use Rattle.cell_world.specs.declared.fail.Fail.{Fail}
 use Rattle.cell_world.specs.declared.fail.Fail.TheVariants.{Refused, OutOfMemory}
@@ -24,7 +23,6 @@ use Rattle.cell_removal.proofs.RemoveCoherent.{remove_coherent}
 use Rattle.cell_machine.specs.declared.machine.Machine.{Machine}
 use Rattle.cell_machine.specs.Does.{Does, HasDone, fresh_by, patched_by}
 use Rattle.cell_machine.specs.Machine.{IsSound, world_of}
-use Rattle.cell_machine.specs.Same.{raised}
 use Rattle.cell_machine.proofs.Unchanged.{same_itself}
 use Rattle.cell_swap.specs.Sweep.{IsSwept, IsUnswept, aside_in, cells_numbered, holding_in}
 

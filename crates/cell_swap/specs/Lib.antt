@@ -4,3 +4,5 @@ pub mod Begun
 pub mod Unmapped
 pub mod Asking
 pub mod OldCells
+pub mod Planning
+pub mod Swapped

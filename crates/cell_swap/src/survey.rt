@@ -31,7 +31,7 @@ fn held(cell: CellId, holder: Holder) -> Refusal
 
 impl Survey {
     /// Reads which cells are kept into a list that is empty and has room for all. This takes no memory.
-    pub fn read(machine: &Machine, outlook: Outlook, mut cells: Vec<CellId>) -> Survey
+    pub fn read(machine: &Machine, mut outlook: Outlook, mut cells: Vec<CellId>) -> Survey
         requires sound { IsSound machine.now }
         requires outlook { SomeOutlook machine.now outlook }
         requires empty { cells.items ≡ [] }
@@ -41,7 +41,7 @@ impl Survey {
         kept(
             &machine.graph,
             &machine.memory,
-            &outlook.places,
+            &mut outlook.places,
             &outlook.roots,
             &mut cells,
         );

@@ -1,3 +1,4 @@
 pub mod MoreNamespaces
 pub mod Readings
 pub mod Steps
+pub mod SwapSaid

@@ -1,10 +1,11 @@
 -- The object of each present cell goes on to be the reading of its file: a load brings cells of files alone, and nothing else brings any.
-use Rattle.std.proofs.Common.{◌≡◌, refl, sym, ◌∙◌, ap, subst, arith, ℕ, ◌≤◌, inl, inr, ◌⊎◌, Bool, true, false, cond, not, List, [], ◌∷◌, ◌++◌, length, length-append, Some, Ok}
-use Rattle.std.specs.Prelude.{All, ◌==◌, nat_le, nat_lt, option_map}
+use Rattle.std.proofs.Common.{◌≡◌, refl, sym, ◌∙◌, ap, subst, arith, ℕ, ◌≤◌, inl, inr, ◌⊎◌, Bool, true, false, cond, not, List, [], ◌∷◌, ◌++◌, length, length-append, suc, Ok}
+use Rattle.std.specs.Prelude.{All, Option, Some, None, ◌==◌, fold, map, nat_le, nat_lt, option_and_then, option_map}
 use Rattle.std.proofs.lemmas.Bool.{and_parts, ltb-true, not-true}
+use Rattle.std.proofs.lemmas.List.{length-map}
 use Rattle.std.proofs.lemmas.List.Elements.{All-map, All-weaker}
 use Rattle.std.proofs.lemmas.Slice.Eq.{bytes_eq-Decides}
-use Rattle.cell_num.specs.Lists.{each_pair, equals}
+use Rattle.cell_num.specs.Lists.{each_pair, equals, holds}
 use Rattle.cell_script.specs.Script.{is_said}
 use Rattle.cell_world.specs.declared.command.Command.{Command}
 use Rattle.cell_world.specs.declared.command.Command.TheVariants.{Deps, Dump, Find, Kill, Load, Map, Ns, Purge, Run, Spawn, Step, Swap, Tasks, Unload, Users}
@@ -23,7 +24,13 @@ use Rattle.cell_world.specs.NsCommand.{next_ns}
 use Rattle.cell_world.specs.Outcome.{found, need, refused_by}
 use Rattle.cell_world.specs.Place.{place_all, place_cell, start_of_run, with_places}
 use Rattle.cell_world.specs.SpawnCommand.{entry_named, next_spawn}
-use Rattle.cell_world.specs.World.{World, Cell}
+use Rattle.cell_world.specs.Names.{names_of}
+use Rattle.cell_world.specs.Outcome.{each}
+use Rattle.cell_world.specs.Reexport.{heir_of, take_on, with_alias}
+use Rattle.cell_world.specs.SwapCommand.{Plan, Wanted, append_wanted, exchanges_from, next_swap, old_numbers, renamed, set_aside}
+use Rattle.cell_world.specs.UnloadCommand.{purged, put_aside}
+use Rattle.cell_world.specs.declared.command.SwapItem.{SwapItem}
+use Rattle.cell_world.specs.World.{Alias, Cell, Detached, World, cell_of}
 use Rattle.cell_coherent.proofs.Appended.{Appended, append_ok, ok_same}
 use Rattle.cell_coherent.proofs.Brought.{In-depot, brought, one_file-In}
 use Rattle.cell_coherent.proofs.Elements.{In, All-In, In-All, In-append, In-filtered, all-In}
@@ -33,6 +40,9 @@ use Rattle.cell_coherent.proofs.Outcomes.{bind_ok, then_ok}
 use Rattle.cell_coherent.proofs.PlacedAll.{CellRuns, cell_runs, each_keeps}
 use Rattle.cell_turns.specs.Kept.{KeepsCells}
 use Rattle.cell_turns.proofs.Commands.{kill_cells, run_cells, step_cells, tasks_same}
+use Rattle.cell_swaps_law.proofs.Second.{second_parts}
+use Rattle.cell_swaps_law.proofs.SwapGathered.{IsWanted, wanted_all}
+use Rattle.cell_swaps_law.proofs.SwapSteps.{Planned, Swapped, planned, swapped}
 use Rattle.cell_removal.proofs.Removals.{Removed, purge_removed, unload_removed}
 use Rattle.cell_system.specs.Readings.{AreRead, IsRead}
 
@@ -104,6 +114,73 @@ module _ (sources : List Source) (apart : Apart sources) where
       let gathered = brought sources w.next_cell (AreRead sources) (λ v f n u k t h r. append_read v f n u k h r) 1025 appended.0 all.0 few (omega arith) all.1 first in
       subst (AreRead sources) (ap (λ (x : Done). x.world) (ok_same _ d fits.2)) (placed_read all.0 (fresh_cells w.next_cell all.0) placed.0 placed.1 gathered.0)
 
+  -- cells that are read, and no more of them than there may be
+  abbrev Counted : World → Type 0
+  Counted w = AreRead sources w × (length w.cells ≤ 1024)
+
+  -- what a swap does to cells before it brings others leaves their objects alone
+  each_read : (f : Cell → Cell) → ((c : Cell) → IsRead sources c → IsRead sources (f c)) → (w : World) → Counted w → (u : World) → u.cells ≡ map f w.cells → Counted u
+  each_read f keep w k u is = (
+    subst (λ (cells : List Cell). All (IsRead sources) cells) (sym is)
+        (All-map (IsRead sources) f w.cells (All-weaker (IsRead sources) (λ (c : Cell). IsRead sources (f c)) keep w.cells k.0)),
+    omega (arith, k.1, ap length is, length-map w.cells f),
+  )
+
+  aside_read : (number : ℕ) (old : List ℕ) (c : Cell) → IsRead sources c → IsRead sources (put_aside number old c)
+  aside_read number old c r = go (holds old c.id.0)
+    where
+      go : (b : Bool) → IsRead sources (cond b (record c { standing = Detached number }) c)
+      go true = r
+      go false = r
+
+  alias_read : (number : ℕ) (a : Alias) (c : Cell) → IsRead sources c → IsRead sources (with_alias number a c)
+  alias_read number a c r = go (c.id.0 == number)
+    where
+      go : (b : Bool) → IsRead sources (cond b (record c { aliases = c.aliases ++ a ∷ [] }) c)
+      go true = r
+      go false = r
+
+  take_on_read : (number : ℕ) (old : Alias) (w : World) → Counted w → Counted (take_on number w old)
+  take_on_read number old w k = go (option_and_then (λ c. heir_of w c old.name) (cell_of w number))
+    where
+      go : (o : Option ℕ) → Counted (elim o as (λ _. World) [ None ↦ w | Some symbol ↦ record w { cells = map (with_alias number (record { name = old.name; symbol = symbol })) w.cells } ])
+      go None = k
+      go (Some symbol) =
+          each_read (with_alias number (record { name = old.name; symbol = symbol })) (alias_read number (record { name = old.name; symbol = symbol })) w k
+          (record w { cells = map (with_alias number (record { name = old.name; symbol = symbol })) w.cells }) refl
+
+  fold_keeps : {A : Type 0} (f : World → A → World) → ((w : World) (a : A) → Counted w → Counted (f w a)) → (items : List A) (w : World) → Counted w → Counted (fold f w items)
+  fold_keeps f keep [] w k = k
+  fold_keeps f keep (a ∷ items) w k = fold_keeps f keep items (f w a) (keep w a k)
+
+  renamed_read : (from : ℕ) (wants : List Wanted) (reexport : Bool) (w : World) → Counted w → Counted (renamed from wants reexport w)
+  renamed_read from wants false w k = k
+  renamed_read from wants true w k =
+      fold_keeps (λ v x. fold (take_on x.fresh) v (names_of x.old)) (λ v x j. fold_keeps (take_on x.fresh) (λ u a i. take_on_read x.fresh a u i) (names_of x.old) v j) (exchanges_from from wants) w k
+
+  wanted_read : (v : World) (all : List Wanted) → ((want : Wanted) → In want all → IsWanted sources v want) → (w u : World) → each append_wanted w all ≡ Ok u → Counted w → Counted u
+  wanted_read v [] named w u e k = subst Counted (ok_same w u e) k
+  wanted_read v (want ∷ all) named w u e k =
+      let a = bind_ok (append_wanted w want) (λ y. each append_wanted y all) u e in
+      wanted_read v all (λ x i. named x (inr i)) a.0 u a.2
+      (append_read w want.file want.old.ns a.0 (named want (inl refl)).file a.1 k.0, appended_few w want.file want.old.ns a.0 a.1)
+
+  swap_read : (w : World) → IsCoherent w → (items : List SwapItem) (reexport strict : Bool) (words : List (List ℕ)) (budget : ℕ) (d : Done) → next_swap sources w items reexport strict words budget ≡ Ok d → AreRead sources w → AreRead sources d.world
+  swap_read w h items reexport strict words budget d e read =
+      let x : Swapped sources w items reexport strict words budget d = swapped sources w items reexport strict words budget d e in
+      let p : Planned sources w items reexport words x.swap.plan = planned sources w items reexport words x.swap.plan x.swap.planned in
+      let wants = p.placed.wants in
+      let named = (wanted_all sources w items wants p.placed.want_all).0 in
+      let a = bind_ok (each append_wanted (set_aside w wants) wants) _ p.placed.gathered p.placed.gather_all in
+      let aside : Counted (set_aside w wants) = each_read (put_aside (suc w.swaps) (old_numbers wants)) (aside_read (suc w.swaps) (old_numbers wants)) w (read, h.ready.few_cells) (set_aside w wants) refl in
+      let appended : Counted (renamed w.next_cell wants reexport a.0) = renamed_read w.next_cell wants reexport a.0 (wanted_read w wants named (set_aside w wants) a.0 a.1 aside) in
+      let gathered : AreRead sources p.placed.gathered = (brought sources w.next_cell (AreRead sources) (λ v f n u k t h r. append_read v f n u k h r) 1025 (renamed w.next_cell wants reexport a.0) p.placed.gathered appended.1 (omega arith) a.2 appended.0).0 in
+      let placed : AreRead sources p.world = placed_read p.placed.gathered (fresh_cells w.next_cell p.placed.gathered) p.world p.placed.place gathered in
+      let linked : AreRead sources x.swap.plan.linked = subst (λ (plan : Plan). AreRead sources plan.linked) p.is placed in
+      let second : AreRead sources x.swap.second = subst (λ (v : World). AreRead sources v) (sym (second_parts x.swap.plan words budget x.swap.second x.swap.transferred)) linked in
+      subst (AreRead sources) x.is
+      (In-All (IsRead sources) (purged x.swap.second).cells (λ c i. All-In (IsRead sources) x.swap.second.cells second c (In-filtered _ x.swap.second.cells c i)))
+
   module _ (w : World) (read : AreRead sources w) where
     same_cells : (u : World) → u.cells ≡ w.cells → AreRead sources u
     same_cells u e = subst (λ (cells : List Cell). All (IsRead sources) cells) (sym e) read
@@ -145,7 +222,7 @@ module _ (sources : List Source) (apart : Apart sources) where
     outcome_read (Step task n) said c d e = by_tasks d.world (step_cells w task n d e)
     outcome_read (Run n) said c d e = by_tasks d.world (run_cells w n d e)
     outcome_read (Kill task) said c d e = by_tasks d.world (kill_cells w task d e)
-    outcome_read (Swap items reexport strict routines budget) said c d e = cc
+    outcome_read (Swap items reexport strict routines budget) said c d e = swap_read w c items reexport strict routines budget d e read
     outcome_read (Unload cells) said c d e = by_removal d.world (unload_removed w cells d c e)
     outcome_read Purge said c d e = by_removal d.world (purge_removed w d c e)
     outcome_read Tasks said c d e = unchanged d.world (tasks_same w d e)

@@ -16,12 +16,12 @@ use cell_depot::Depot;
 use cell_load::load;
 use cell_machine::Machine;
 use cell_schedule::{kill, run, spawn, step, tasks};
-use cell_swap::{purge, unload};
+use cell_swap::{purge, swap, unload};
 use cell_view::{deps, dump, find, map, users};
 use cell_world::{Command, Reply};
 use std::alloc::Global;
 
-/// Does a command that a line of a script can say, which are all but swaps.
+/// Does a command that a line of a script can say: a swap without `strict` and routines, or any other.
 pub fn answer(
     alloc: Global,
     depot: &Depot,
@@ -51,6 +51,10 @@ pub fn answer(
         Command::Users { cell } => users(alloc, machine, *cell),
         Command::Map => map(alloc, machine),
         Command::Dump { cell, section } => dump(alloc, machine, *cell, *section),
-        Command::Swap { .. } => unreachable!(),
+        Command::Swap {
+            items,
+            reexport,
+            ..
+        } => swap(alloc, depot, machine, items.as_slice(), *reexport),
     }
 }

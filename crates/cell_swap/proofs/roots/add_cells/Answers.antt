@@ -1,8 +1,8 @@
-use Rattle.std.proofs.Common.{◌∙◌, ◌<◌, ap, ap₂, sym, subst, arith, append_assoc, append-nil, get_or, length, List, [], ◌∷◌, ◌++◌, take}
+use Rattle.std.proofs.Common.{◌∙◌, ◌<◌, ap, sym, subst, arith, append_assoc, append-nil, get_or, length, List, [], ◌∷◌, ◌++◌, take}
 use Rattle.std.specs.Prelude.{flat_map}
 use Rattle.std.proofs.lemmas.Grind.{flat_map-append}
 use Rattle.cell_world.specs.declared.state.NewCell.{NewCell}
-use Rattle.cell_world.specs.World.{World, Cell}
+use Rattle.cell_world.specs.World.{World}
 use Rattle.cell_coherent.specs.Grown.{In}
 use Rattle.cell_hold.specs.declared.roots.Root.{Root}
 use Rattle.cell_machine.specs.Machine.{world_of}

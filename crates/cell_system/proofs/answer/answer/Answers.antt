@@ -1,11 +1,14 @@
-use Rattle.std.proofs.Common.{sym, ◌∙◌, ap₂, subst, ℕ, List, map}
+use Rattle.std.proofs.Common.{◌≡◌, sym, ◌∙◌, ap, ap₂, subst, ℕ, ◌<◌, Bool, true, false, List, [], length, map}
 use Rattle.cell_world.specs.declared.command.Command.{Command}
-use Rattle.cell_world.specs.declared.command.Command.TheVariants.{Find, Load, Ns, Spawn}
+use Rattle.cell_world.specs.declared.command.SwapItem.{SwapItem}
+use Rattle.cell_world.specs.declared.command.Command.TheVariants.{Find, Load, Ns, Spawn, Swap}
 use Rattle.cell_world.specs.Gather.{source_of}
 use Rattle.cell_world.specs.Next.{outcome_of}
 use Rattle.cell_machine.specs.Does.{Does}
 use Rattle.cell_machine.specs.Machine.{world_of}
 use Rattle.cell_system.specs.Step.{stacks_of}
+use Rattle.cell_script.specs.Script.{is_said}
+use Rattle.cell_system.proofs.SwapSaid.{said_swap}
 use Rattle.cell_system.proofs.Steps.{shows_deps, shows_dump, shows_find, shows_map, shows_tasks, shows_users}
 use Rattle.cell_system.proofs.answer.answer.Goals as goal
 
@@ -54,3 +57,16 @@ pub returns-in-Dump : goal.returns-in-Dump
 returns-in-Dump c =
     subst (λ (k : Command). Does (outcome_of (map source_of c.args.depot.now) (world_of c.args.machine.now) k) (stacks_of k) c.args.machine.now c.dump.result c.args.machine.now)
     (sym c.in-Dump.is) (shows_dump c.args.machine.now c.requires.sound c.in-Dump.cell c.in-Dump.section c.dump.result c.dump.ensures)
+
+pub swap-requires-clause-some : goal.swap-requires-clause-some
+swap-requires-clause-some c =
+    subst (λ (items : List SwapItem). 0 < length items) (sym c.as_slice-in-Swap.ensures)
+    (said_swap c.in-Swap.items c.in-Swap.reexport c.in-Swap.strict c.in-Swap.routines c.in-Swap.budget (subst (λ (k : Command). is_said k ≡ true) c.in-Swap.is c.requires.said)).some
+
+pub returns-in-Swap : goal.returns-in-Swap
+returns-in-Swap c =
+    let said = said_swap c.in-Swap.items c.in-Swap.reexport c.in-Swap.strict c.in-Swap.routines c.in-Swap.budget (subst (λ (k : Command). is_said k ≡ true) c.in-Swap.is c.requires.said) in
+    subst (λ (k : Command). Does (outcome_of (map source_of c.args.depot.now) (world_of c.args.machine.now) k) (stacks_of k) c.args.machine.now c.swap.result c.swap.new.machine)
+    (ap (λ (items : List SwapItem). let k : Command = Swap items c.in-Swap.reexport false [] c.in-Swap.budget in k) c.as_slice-in-Swap.ensures
+    ∙ (ap₂ (λ (strict : Bool) (routines : List (List ℕ)). let k : Command = Swap c.in-Swap.items c.in-Swap.reexport strict routines c.in-Swap.budget in k) (sym said.unstrict) (sym said.alone) ∙ sym c.in-Swap.is))
+    (c.swap.ensures c.in-Swap.budget)

@@ -1,4 +1,4 @@
-use Rattle.std.proofs.Common.{◌≡◌, sym, ◌∙◌, ap, subst, ℕ, List}
+use Rattle.std.proofs.Common.{sym, ◌∙◌, ap, subst, ℕ, List}
 use Rattle.std.specs.Prelude.{vec_capacity}
 use Rattle.cell_world.specs.Answer.{numbers_of}
 use Rattle.cell_world.specs.Kept.{kept_in}
@@ -30,7 +30,7 @@ returns c = λ aside look.
     subst (λ (rs : List Root). AreCells numbers places rs) (sym c.deref.ensures.value)
     (subst (λ (ps : List Placed). AreCells numbers ps roots) (sym look.sections) (cells_named m c.requires.sound roots look.present)) in
     record {
-      outlook = look;
+      outlook = record { sections = c.kept.ensures.places ∙ look.sections; attached = look.attached; claims = look.claims; present = look.present };
       kept =
           c.kept.ensures.kept numbers named
           ∙ ap kept_in (ap (λ (rs : List Root). holding_by numbers m.graph m.memory places rs) c.deref.ensures.value

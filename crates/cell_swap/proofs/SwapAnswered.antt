@@ -1,0 +1,134 @@
+-- A swap by what its steps come to.
+use Rattle.std.proofs.Common.{◌≡◌, refl, sym, ◌∙◌, ap, ap₂, subst, arith, ℕ, ◌+◌, ◌<◌, ◌≤◌, Bool, true, false, List, [], length, map}
+use Rattle.std.specs.Prelude.{All, Option, Some, Ok, Err, option_map}
+use Rattle.cell_num.specs.declared.ids.CellId.{CellId}
+use Rattle.cell_world.specs.declared.command.SwapItem.{SwapItem}
+use Rattle.cell_world.specs.declared.fail.Fail.{Fail}
+use Rattle.cell_world.specs.declared.fail.Fail.TheVariants.{Refused, OutOfMemory}
+use Rattle.cell_world.specs.declared.file.File.{File}
+use Rattle.cell_world.specs.declared.refusal.Refusal.{Refusal}
+use Rattle.cell_world.specs.declared.reply.Reply.{Reply}
+use Rattle.cell_world.specs.Answer.{Done, done}
+use Rattle.cell_world.specs.Following.{FailsAs}
+use Rattle.cell_world.specs.Gather.{Source, source_of}
+use Rattle.cell_world.specs.Limits.{max_file_bytes}
+use Rattle.cell_world.specs.Outcome.{Outcome, ◌>>=◌, ◌>>◌, refused_by}
+use Rattle.cell_world.specs.SwapCommand.{Plan as SwapPlan, Wanted, all_wanted, first_held_old, next_swap, plan_swap, swap_reply, with_transfer}
+use Rattle.cell_world.specs.UnloadCommand.{purged}
+use Rattle.cell_world.specs.World.{World, Standing, Attached as IsAttached, Detached as IsDetached, is_attached}
+use Rattle.cell_coherent.proofs.Elements.{In, In-All, In-map, map-In}
+use Rattle.cell_mem.specs.State.{MemoryState}
+use Rattle.cell_space.specs.declared.cell.CellState.{CellState}
+use Rattle.cell_space.specs.declared.cell.CellState.TheVariants.{Attached}
+use Rattle.cell_space.specs.declared.cell.SpaceCell.{SpaceCell}
+use Rattle.cell_space.specs.Machine.{state_of}
+use Rattle.cell_space.specs.Named.{cell_numbered}
+use Rattle.cell_machine.specs.declared.machine.Machine.{Machine}
+use Rattle.cell_machine.specs.Does.{Does, new_runs, patched_by}
+use Rattle.cell_machine.specs.Machine.{IsSound, world_of}
+use Rattle.cell_machine.specs.Same.{IsSame, raised}
+use Rattle.cell_machine.proofs.States.{known_at}
+use Rattle.cell_machine.proofs.Unchanged.{same_itself}
+use Rattle.cell_swaps_law.proofs.Second.{no_routines}
+use Rattle.cell_swaps_law.proofs.SwapGathered.{IsWanted, wanted_all}
+use Rattle.cell_swap.specs.declared.asked.Asked.{Asked}
+use Rattle.cell_swap.specs.Asking.{AreAsked}
+use Rattle.cell_swap.specs.OldCells.{AreThere, CanReturn, IsAside}
+use Rattle.cell_swap.specs.Planning.{IsBegun}
+use Rattle.cell_swap.specs.Swapped.{Exchanges, HasExchanged}
+use Rattle.cell_swap.proofs.SwapLanded.{unasked}
+
+attached_state : (standing : Standing) → is_attached standing ≡ true → state_of standing ≡ Attached
+attached_state IsAttached e = refl
+attached_state (IsDetached k) e = cc
+
+-- the old cells stand aside also where there is other room
+pub aside_same : (before : Machine) (old : List CellId) (m n : Machine) → IsAside before old m → IsSame m n → IsAside before old n
+aside_same before old m n aside same = record {
+  cells = same.cells ∙ aside.cells;
+  next = same.next ∙ aside.next;
+  swaps = same.swaps ∙ aside.swaps;
+  namespaces = same.namespaces ∙ aside.namespaces;
+  known = same.known ∙ aside.known;
+  space = same.space ∙ aside.space;
+  spare = same.spare;
+  memory = same.memory ∙ ap (λ (s : MemoryState). record s { spare = same.spare }) aside.memory;
+  sections = same.sections ∙ aside.sections;
+  rows = same.rows ∙ aside.rows;
+  tasks = same.tasks ∙ aside.tasks;
+}
+
+module _ (files : List File) (before : Machine) (sound : IsSound before) (items : List SwapItem) where
+  abbrev sources : List Source
+  sources = map source_of files
+
+  abbrev w : World
+  w = world_of before
+
+  -- the cells that items name are attached
+  pub old_there : (asked : Asked) → AreAsked sources w items asked → AreThere before.spaces.cells asked.replaced.items
+  old_there asked found = In-All (λ (c : CellId). option_map (λ (x : SpaceCell). x.state) (cell_numbered before.spaces.cells c.0) ≡ Some Attached) asked.replaced.items there
+    where
+      all : (want : Wanted) → In want found.wants → IsWanted sources w want
+      all = (wanted_all sources w items found.wants found.all).0
+
+      there : (c : CellId) → In c asked.replaced.items → option_map (λ (x : SpaceCell). x.state) (cell_numbered before.spaces.cells c.0) ≡ Some Attached
+      there c i =
+          let want = In-map (λ (want : Wanted). want.old.id.0) found.wants c.0 (subst (λ (ns : List ℕ). In c.0 ns) found.old (map-In (λ (c : CellId). c.0) asked.replaced.items c i)) in
+          let is : IsWanted sources w want.0 = all want.0 want.1 in
+          ap (λ (n : ℕ). option_map (λ (x : SpaceCell). x.state) (cell_numbered before.spaces.cells n)) want.2
+          ∙ (ap (option_map (λ (x : SpaceCell). x.state)) (known_at before sound want.0.old is.present)
+          ∙ ap (λ (state : CellState). let o : Option CellState = Some state in o) (attached_state want.0.old.standing is.attached))
+
+  module _ (reexport : Bool) (budget : ℕ) where
+    abbrev said : Outcome Done
+    said = next_swap sources w items reexport false [] budget
+
+    abbrev after_transfer : SwapPlan → World → Outcome Done
+    after_transfer plan second = refused_by (first_held_old false second plan) >> done (swap_reply plan second) (purged second)
+
+    abbrev after_plan : SwapPlan → Outcome Done
+    after_plan plan = with_transfer plan [] budget >>= after_transfer plan
+
+    by_plan : said ≡ (plan_swap sources w items reexport [] >>= after_plan)
+    by_plan = refl
+
+    refused : (r : Refusal) → plan_swap sources w items reexport [] ≡ Err r → said ≡ Err r
+    refused r e = by_plan ∙ ap (λ (o : Outcome SwapPlan). o >>= after_plan) e
+
+    planned : (plan : SwapPlan) → plan_swap sources w items reexport [] ≡ Ok plan → said ≡ done (swap_reply plan plan.linked) (purged plan.linked)
+    planned plan e = by_plan ∙ (ap (λ (o : Outcome SwapPlan). o >>= after_plan) e ∙ ap (λ (o : Outcome World). o >>= after_transfer plan) (no_routines sources w items reexport plan budget e))
+
+    -- an item names nothing
+    pub not_asked : (fail : Fail) → FailsAs fail (all_wanted sources w items) → Does said 0 before (Err fail) before
+    not_asked (Refused r) e = (refused r (unasked sources w items reexport r e), same_itself before)
+    not_asked OutOfMemory e = same_itself before
+
+    module _ (asked : Asked) (found : AreAsked sources w items asked) (small : All (λ f. length f.bytes ≤ max_file_bytes) files) (some : 0 < length items) (m : Machine) (aside : IsAside before asked.replaced.items m) where
+      abbrev pub begun : IsBegun files asked m
+      begun = record { before = before; sound = sound; small = small; items = items; some = some; found = found; aside = aside }
+
+      pub same_then : (fail : Fail) (n : Machine) → Exchanges files asked m begun reexport (Err fail) n → IsSame m n
+      same_then (Refused r) n e = e.1
+      same_then OutOfMemory n e = e
+
+      -- the old cells may be taken back
+      pub can_return : (n : Machine) → IsSame m n → CanReturn n asked.replaced.items
+      can_return n same = record { before = before; sound = sound; there = old_there asked found; aside = aside_same before asked.replaced.items m n aside same }
+
+      -- they were
+      pub taken_back : (fail : Fail) (n last : Machine) → Exchanges files asked m begun reexport (Err fail) n → IsSame before last → Does said 0 before (Err fail) last
+      taken_back (Refused r) n last e same = (refused r e.0, same)
+      taken_back OutOfMemory n last e same = same
+
+      pub swap_done : (reply : Reply) (n : Machine) → HasExchanged files asked m begun reexport reply n → Does said 0 before (Ok reply) n
+      swap_done reply n x = record {
+        sound = x.swapped.sound;
+        is = record {
+          step = planned x.plan x.is ∙ ap₂ done (sym x.swapped.said) (sym x.swapped.world);
+          patches = x.swapped.patches ∙ ap (λ (s : MemoryState). raised s.patches (patched_by reply)) aside.memory;
+          maps = x.swapped.maps
+              ∙ (ap (λ (s : MemoryState). raised s.maps (new_runs reply (world_of n))) aside.memory
+              ∙ ap (raised before.memory.maps) (let e : new_runs reply (world_of n) ≡ new_runs reply (world_of n) + 0 = omega arith in e));
+        };
+      }

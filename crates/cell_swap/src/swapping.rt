@@ -1,0 +1,196 @@
+//! `swap`, where no routine runs.
+
+ghost use Rattle.std.specs.Prelude.{◌≡◌, ◌+◌, ◌<◌, ◌≤◌, ◌++◌, ℕ, [], All, IfOk, false, length, map, vec_capacity, vec_len};
+ghost use Rattle.cell_machine.specs.Does.{Does};
+ghost use Rattle.cell_machine.specs.Machine.{IsSound, world_of};
+ghost use Rattle.cell_machine.specs.Same.{IsSame};
+ghost use Rattle.cell_world.specs.Answer.{ids};
+ghost use Rattle.cell_world.specs.Gather.{source_of};
+ghost use Rattle.cell_world.specs.Limits.{max_file_bytes};
+ghost use Rattle.cell_world.specs.SwapCommand.{next_swap};
+ghost use Rattle.cell_world.specs.UnloadCommand.{detached_of};
+ghost use Rattle.cell_swap.specs.Swapped.{AreEmpty, CanFinish, Exchanges, HasBegun, HasSwapped, IsReadyFor, unless_attached};
+
+use crate::asked::Asked;
+use crate::old_cells::{put_aside, take_back};
+use crate::planning::{Plan, plan_swap};
+use crate::roots::roots;
+use crate::sweep::sweep_all;
+use cell_depot::Depot;
+use cell_hold::Root;
+use cell_load::{Prepared, commit, count, numbers, reserve};
+use cell_machine::Machine;
+use cell_num::{CellId, Listed};
+use cell_world::{Fail, Reply, SwapItem};
+use std::alloc::{AllocError, Global};
+use std::mem::replace;
+
+/// Empty lists that the last steps fill, each with room for all cells.
+#[derive(Drop)]
+struct Lists {
+    kept: Vec<CellId>,
+    removed: Vec<CellId>,
+    detached: Vec<CellId>,
+}
+
+impl Lists {
+    /// With room for so many cells.
+    fn with_room(alloc: Global, cells: usize) -> Result<Lists, AllocError>
+        ensures { IfOk result (AreEmpty cells) }
+    {
+        Ok(Lists {
+            kept: Vec::with_capacity(alloc, cells)?,
+            removed: Vec::with_capacity(alloc, cells)?,
+            detached: Vec::with_capacity(alloc, cells)?,
+        })
+    }
+}
+
+/// All that the last steps of a swap take: they need no memory and can't fail.
+#[derive(Drop)]
+struct Ready {
+    /// The names of its cells are in `prepared`.
+    plan: Plan,
+    prepared: Prepared,
+    lists: Lists,
+    /// The new cells, as they are answered.
+    fresh: Listed<CellId>,
+    /// How many fields are patched, those of the new cells and those of others.
+    patched: u32,
+}
+
+impl Ready {
+    /// Makes room for the plan in the machine, and for the answer.
+    fn of(alloc: Global, machine: &mut Machine, mut plan: Plan) -> Result<Ready, AllocError>
+        requires { length plan.staged.names.items ≡ length plan.staged.cells.items }
+        ensures ready { IfOk result (IsReadyFor machine.old plan machine.new) }
+        ensures same { IsSame machine.old machine.new }
+    {
+        let lists = Lists::with_room(alloc, machine.cells.len() + plan.staged.cells.len())?;
+        let patched = count(plan.staged.fields.len() + plan.patches.len())?;
+        let fresh = numbers(alloc, &plan.staged.cells)?;
+        let names = replace(&mut plan.staged.names, Vec::new(alloc));
+        let prepared = Prepared::of(alloc, &plan.staged.cells, names)?;
+        reserve(machine, &plan.staged, &prepared)?;
+        Ok(Ready {
+            plan,
+            prepared,
+            lists,
+            fresh,
+            patched,
+        })
+    }
+
+    /// Adds the new cells, has the others lead to them, and removes all cells that nobody keeps then.
+    fn finish(self, machine: &mut Machine) -> Reply
+        requires { CanFinish machine.old self }
+        ensures { (c : CanFinish machine.old self) → HasSwapped c.is.plan machine.old result machine.new }
+    {
+        let Ready {
+            plan,
+            prepared,
+            lists,
+            fresh,
+            patched,
+        } = self;
+        let Plan {
+            staged,
+            patches,
+            moves,
+            outlook,
+        } = plan;
+        let Lists {
+            kept,
+            mut removed,
+            mut detached,
+        } = lists;
+        commit(machine, staged, prepared, &patches, &moves);
+        sweep_all(machine, outlook, kept, &mut removed);
+        list_detached(machine, &mut detached);
+        Reply::Swap {
+            number: machine.swaps,
+            fresh,
+            patched,
+            removed: Listed::from_vec(removed),
+            kept: Listed::from_vec(detached),
+        }
+    }
+}
+
+/// Adds the cell to a list with room for it, if a swap put it aside.
+fn add_detached(cell: CellId, group: Option<u32>, into: &mut Vec<CellId>)
+    requires { vec_len into.old < vec_capacity into.old }
+    ensures cells { into.new.items ≡ into.old.items ++ unless_attached cell group }
+    ensures room { vec_capacity into.old ≤ vec_capacity into.new }
+    ensures more { vec_len into.new ≤ vec_len into.old + 1 }
+{
+    if group.is_none() {
+        return;
+    }
+    let _ = into.push(cell);
+}
+
+/// Lists the cells that are put aside, ascending, in a list that is empty and has room for all cells.
+/// This takes no memory.
+fn list_detached(machine: &Machine, into: &mut Vec<CellId>)
+    requires sound { IsSound machine.now }
+    requires empty { into.old.items ≡ [] }
+    requires room { length machine.now.cells.items ≤ vec_capacity into.old }
+    ensures { into.new.items ≡ ids (detached_of (world_of machine.now)) }
+{
+    let cells = machine.cells.as_slice();
+    for place in 0..cells.len() {
+        let cell = &cells[place];
+        add_detached(cell.id, machine.group(cell), into);
+    }
+}
+
+/// Exchanges the old cells, which are put aside, for new ones. `roots` are where holding began before,
+/// but for the old cells.
+fn exchange(
+    alloc: Global,
+    depot: &Depot,
+    machine: &mut Machine,
+    asked: &Asked,
+    reexport: bool,
+    roots: Vec<Root>,
+) -> Result<Reply, Fail>
+    requires { HasBegun depot.now asked.now machine.old roots.items }
+    ensures { (h : HasBegun depot.now asked.now machine.old roots.items) → Exchanges depot.now asked.now machine.old h.begun reexport result machine.new }
+{
+    let plan = plan_swap(alloc, depot, machine, asked, reexport, roots)?;
+    let ready = Ready::of(alloc, machine, plan)?;
+    Ok(ready.finish(machine))
+}
+
+/// Puts new cells in the place of attached ones, which keep all that tasks and data still need of
+/// them, and removes every cell that nobody keeps then. The new cells of a `reexport` take on the names
+/// of the old ones that they don't define.
+///
+/// Refusals, of which the first that holds is answered: an item whose cell or file is unknown, those
+/// of gathering, a need of another cell that nobody provides any more, a run of pages that is too
+/// long, an entry of a new cell and then one of another cell that doesn't fit, and a task that stands
+/// inside what changes.
+pub fn swap(
+    alloc: Global,
+    depot: &Depot,
+    machine: &mut Machine,
+    items: &[SwapItem],
+    reexport: bool,
+) -> Result<Reply, Fail>
+    requires sound { IsSound machine.old }
+    requires small { All (λ f. length f.bytes ≤ max_file_bytes) depot.now }
+    requires some { 0 < length items.now }
+    ensures { (budget : ℕ) → Does (next_swap (map source_of depot.now) (world_of machine.old) items.now reexport false [] budget) 0 machine.old result machine.new }
+{
+    let asked = Asked::of(alloc, depot, machine, items)?;
+    let roots = roots(alloc, machine, &asked.replaced)?;
+    put_aside(machine, &asked.replaced);
+    match exchange(alloc, depot, machine, &asked, reexport, roots) {
+        Ok(reply) => Ok(reply),
+        Err(fail) => {
+            take_back(machine, &asked.replaced);
+            Err(fail)
+        }
+    }
+}
