@@ -5,34 +5,78 @@ use crate::samples::first_example;
 use crate::sources::{SourceFile, object_file, object_files};
 use cell_run::Status;
 use std::alloc::{AllocError, Global};
+use std::process::Abort;
 use std::test::Fail;
 
 const USAGE: &str = "usage: cells DIR SCRIPT [--base HEX] [--pages N] | --generate N --seed S\n";
 
-/// What a command line comes to over a folder with the empty script `s`, words between single spaces.
-const LINES: [(&str, Status, &str); 22] = [
-    ("d s", Status::Done, ""),
-    ("--base=0x1000 d s", Status::Done, ""),
-    ("d --pages 4096 s", Status::Done, ""),
-    ("-- d s", Status::Done, ""),
-    ("d -- s", Status::Done, ""),
-    ("d t", Status::NoScript, "no script t\n"),
-    ("d ", Status::NoScript, "no script \n"),
-    ("d -- --base", Status::NoScript, "no script --base\n"),
-    ("d", Status::Usage, USAGE),
-    ("", Status::Usage, USAGE),
-    ("d s x", Status::Usage, USAGE),
-    ("d s --help", Status::Usage, USAGE),
-    ("d s --base", Status::Usage, USAGE),
-    ("d s --base 0x10000001", Status::Usage, USAGE),
-    ("d s --base 0x0", Status::Usage, USAGE),
-    ("d s --base 0xA0000000", Status::Usage, USAGE),
-    ("d s --base 0x01000", Status::Usage, USAGE),
-    ("d s --base 0x1000 --base 0x1000", Status::Usage, USAGE),
-    ("d s --pages 15", Status::Usage, USAGE),
-    ("d s --pages 4097", Status::Usage, USAGE),
-    ("d s --pages 016", Status::Usage, USAGE),
-    ("--generate 1 --seed 1", Status::Usage, USAGE),
+/// A command line, words between single spaces, and what comes of it over a folder with the empty script `s`.
+#[derive(Drop)]
+struct Line {
+    words: &'static str,
+    status: Status,
+    text: &'static str,
+}
+
+const LINES: [Line; 8] = [
+    Line {
+        words: "d s",
+        status: Status::Done,
+        text: "",
+    },
+    Line {
+        words: "--base=0x1000 d s",
+        status: Status::Done,
+        text: "",
+    },
+    Line {
+        words: "d --pages 4096 s",
+        status: Status::Done,
+        text: "",
+    },
+    Line {
+        words: "-- d s",
+        status: Status::Done,
+        text: "",
+    },
+    Line {
+        words: "d -- s",
+        status: Status::Done,
+        text: "",
+    },
+    Line {
+        words: "d t",
+        status: Status::NoScript,
+        text: "no script t\n",
+    },
+    Line {
+        words: "d ",
+        status: Status::NoScript,
+        text: "no script \n",
+    },
+    Line {
+        words: "d -- --base",
+        status: Status::NoScript,
+        text: "no script --base\n",
+    },
+];
+
+/// Command lines without a reading.
+const UNREADABLE: [&str; 14] = [
+    "d",
+    "",
+    "d s x",
+    "d s --help",
+    "d s --base",
+    "d s --base 0x10000001",
+    "d s --base 0x0",
+    "d s --base 0xA0000000",
+    "d s --base 0x01000",
+    "d s --base 0x1000 --base 0x1000",
+    "d s --pages 15",
+    "d s --pages 4097",
+    "d s --pages 016",
+    "--generate 1 --seed 1",
 ];
 
 fn split(alloc: Global, line: &'static str) -> Result<Vec<&'static str>, AllocError> {
@@ -43,13 +87,32 @@ fn split(alloc: Global, line: &'static str) -> Result<Vec<&'static str>, AllocEr
     Ok(words)
 }
 
+/// Sees what comes of a command line.
+fn try_line(rt: &impl Abort, alloc: Global, line: &Line) -> Result<(), Fail> {
+    let words = split(alloc, line.words)?;
+    let (status, sink) = outcome(alloc, words.as_slice(), "", &[])?;
+    assert!(rt; status == line.status, "{}", line.words);
+    assert!(rt; sink.written() == line.text.as_bytes(), "{}", line.words);
+    Ok(())
+}
+
 #[test]
 fn command_lines(rt: HostRuntime) -> Result<(), Fail> {
-    for (line, want, text) in LINES {
-        let words = split(rt.alloc(), line)?;
-        let (status, sink) = outcome(rt.alloc(), words.as_slice(), "", &[])?;
-        assert!(rt; status == want, "{line}");
-        assert!(rt; sink.written() == text.as_bytes(), "{line}");
+    for line in &LINES {
+        try_line(&rt, rt.alloc(), line)?;
+    }
+    Ok(())
+}
+
+#[test]
+fn command_lines_without_a_reading(rt: HostRuntime) -> Result<(), Fail> {
+    for words in &UNREADABLE {
+        let line = Line {
+            words: *words,
+            status: Status::Usage,
+            text: USAGE,
+        };
+        try_line(&rt, rt.alloc(), &line)?;
     }
     Ok(())
 }

@@ -40,16 +40,33 @@ fn a_full_stream(rt: HostRuntime) -> Result<(), Fail> {
     Ok(())
 }
 
+/// The number of a put that fails, and how much of the text was written before. Each answer is one put.
+struct Failing {
+    put: u32,
+    written: usize,
+}
+
+const FAILING: [Failing; 3] = [
+    Failing { put: 0, written: 0 },
+    Failing {
+        put: 1,
+        written: 23,
+    },
+    Failing {
+        put: 2,
+        written: 46,
+    },
+];
+
 #[test]
 fn a_put_that_fails(rt: HostRuntime) -> Result<(), Fail> {
     let files = first_example(rt.alloc())?;
-    // Each answer is one put.
-    for (put, written) in [(0, 0), (1, 23), (2, 46)] {
-        let failing = Vec::from_slice(rt.alloc(), &[put])?;
+    for case in &FAILING {
+        let failing = Vec::from_slice(rt.alloc(), &[case.put])?;
         let mut sink = MemSink::new(rt.alloc(), 1000, failing)?;
         let status = write_to(rt.alloc(), &files, &mut sink)?;
-        assert!(rt; status == Status::WriteFault, "put {put}");
-        assert!(rt; sink.written() == &TEXT[..written], "put {put}");
+        assert!(rt; status == Status::WriteFault, "put {}", case.put);
+        assert!(rt; sink.written() == &TEXT[..case.written], "put {}", case.put);
     }
     Ok(())
 }

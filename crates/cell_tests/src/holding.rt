@@ -1,35 +1,9 @@
 //! What keeps cells, and what goes.
 
-use crate::folder::outcome;
-use crate::sources::{SourceFile, object_files};
+use crate::cases::{Case, try_all};
+use crate::sources::SourceFile;
 use cell_run::Status;
-use std::alloc::Global;
-use std::process::Abort;
 use std::test::Fail;
-
-/// A script over all files, and what it writes.
-struct Case {
-    script: &'static str,
-    status: Status,
-    text: &'static str,
-}
-
-/// Does the scripts over the files.
-fn try_all(
-    rt: &impl Abort,
-    alloc: Global,
-    sources: &[SourceFile],
-    cases: &[Case],
-) -> Result<(), Fail> {
-    let files = object_files(alloc, sources)?;
-    for case in cases {
-        let (status, sink) = outcome(alloc, &["d", "s"], case.script, &files)?;
-        let text = std::str::from_utf8(sink.written()).ok().ok_or("UTF-8")?;
-        assert!(rt; text == case.text, "{} gave {}", case.script, text);
-        assert!(rt; status == case.status, "{} gave {:?}", case.script, status);
-    }
-    Ok(())
-}
 
 /// Three crates, each of which needs the next one, in a cycle.
 static CYCLE: [SourceFile; 3] = [
@@ -71,7 +45,7 @@ static OF_CYCLE: [Case; 2] = [
 
 #[test]
 fn cycles(rt: HostRuntime) -> Result<(), Fail> {
-    try_all(&rt, rt.alloc(), &CYCLE, &OF_CYCLE)
+    try_all(&rt, rt.alloc(), &["d", "s"], &CYCLE, &OF_CYCLE)
 }
 
 /// A crate that goes on in another one, whose code has an end.
@@ -111,7 +85,7 @@ static OF_TASKS: [Case; 2] = [
 
 #[test]
 fn tasks_hold(rt: HostRuntime) -> Result<(), Fail> {
-    try_all(&rt, rt.alloc(), &PASSES, &OF_TASKS)
+    try_all(&rt, rt.alloc(), &["d", "s"], &PASSES, &OF_TASKS)
 }
 
 /// A call inside a call: the return addresses stand on the stack. Then x2 moves: above the last one,
@@ -145,7 +119,7 @@ static OF_STACKS: [Case; 1] = [Case {
 
 #[test]
 fn stacks_hold(rt: HostRuntime) -> Result<(), Fail> {
-    try_all(&rt, rt.alloc(), &CALLS, &OF_STACKS)
+    try_all(&rt, rt.alloc(), &["d", "s"], &CALLS, &OF_STACKS)
 }
 
 /// Data of 12 bytes, a crate that writes another crate's address so many bytes behind their start,
@@ -199,7 +173,7 @@ static OF_WORDS: [Case; 4] = [
 
 #[test]
 fn words_hold(rt: HostRuntime) -> Result<(), Fail> {
-    try_all(&rt, rt.alloc(), &WRITES, &OF_WORDS)
+    try_all(&rt, rt.alloc(), &["d", "s"], &WRITES, &OF_WORDS)
 }
 
 /// Data of 8 bytes, constants and data with numbers that are addresses in it or beside it.
@@ -257,7 +231,7 @@ static OF_NUMBERS: [Case; 4] = [
 
 #[test]
 fn numbers_hold(rt: HostRuntime) -> Result<(), Fail> {
-    try_all(&rt, rt.alloc(), &NUMBERS, &OF_NUMBERS)
+    try_all(&rt, rt.alloc(), &["d", "s"], &NUMBERS, &OF_NUMBERS)
 }
 
 /// Data, three crates in a cycle, and a crate that writes the address of one of them to the data.
@@ -295,7 +269,7 @@ static OF_ONE_WORD: [Case; 1] = [Case {
 
 #[test]
 fn one_word_holds_a_cycle(rt: HostRuntime) -> Result<(), Fail> {
-    try_all(&rt, rt.alloc(), &CYCLE_AND_DATA, &OF_ONE_WORD)
+    try_all(&rt, rt.alloc(), &["d", "s"], &CYCLE_AND_DATA, &OF_ONE_WORD)
 }
 
 /// Two crates that hold only each other, and one that links to one of them in several ways.
@@ -338,5 +312,5 @@ static OF_PAIR: [Case; 2] = [
 
 #[test]
 fn pairs(rt: HostRuntime) -> Result<(), Fail> {
-    try_all(&rt, rt.alloc(), &PAIR, &OF_PAIR)
+    try_all(&rt, rt.alloc(), &["d", "s"], &PAIR, &OF_PAIR)
 }

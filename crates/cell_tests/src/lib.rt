@@ -4,6 +4,8 @@
 #[cfg(test)]
 mod broken;
 #[cfg(test)]
+mod cases;
+#[cfg(test)]
 mod command_line;
 #[cfg(test)]
 mod crowded;
@@ -34,7 +36,19 @@ mod sources;
 #[cfg(test)]
 mod spaces;
 #[cfg(test)]
+mod swap_crowd;
+#[cfg(test)]
+mod swap_keeping;
+#[cfg(test)]
+mod swap_names;
+#[cfg(test)]
+mod swap_refusals;
+#[cfg(test)]
+mod swaps;
+#[cfg(test)]
 mod tasks;
+#[cfg(test)]
+mod torn;
 #[cfg(test)]
 mod transcripts;
 #[cfg(test)]

@@ -218,21 +218,52 @@ fn a_file_cut_short(rt: HostRuntime) -> Result<(), Fail> {
 
 const USAGE: &str = "usage: cells DIR SCRIPT [--base HEX] [--pages N] | --generate N --seed S\n";
 
-const WORDS: [(&[&str], Status, &str); 6] = [
-    (&[], Status::Usage, USAGE),
-    (&["d"], Status::Usage, USAGE),
-    (&["d", "s", "s"], Status::Usage, USAGE),
-    (&["-d", "s"], Status::Usage, USAGE),
-    (&["d", "-s"], Status::Usage, USAGE),
-    (&["d", "t"], Status::NoScript, "no script t\n"),
+/// Words over a folder with the empty script `s`, and what comes of them.
+struct Words {
+    words: &'static [&'static str],
+    status: Status,
+    text: &'static str,
+}
+
+const WORDS: [Words; 6] = [
+    Words {
+        words: &[],
+        status: Status::Usage,
+        text: USAGE,
+    },
+    Words {
+        words: &["d"],
+        status: Status::Usage,
+        text: USAGE,
+    },
+    Words {
+        words: &["d", "s", "s"],
+        status: Status::Usage,
+        text: USAGE,
+    },
+    Words {
+        words: &["-d", "s"],
+        status: Status::Usage,
+        text: USAGE,
+    },
+    Words {
+        words: &["d", "-s"],
+        status: Status::Usage,
+        text: USAGE,
+    },
+    Words {
+        words: &["d", "t"],
+        status: Status::NoScript,
+        text: "no script t\n",
+    },
 ];
 
 #[test]
 fn words(rt: HostRuntime) -> Result<(), Fail> {
     for case in &WORDS {
-        let (status, sink) = outcome(rt.alloc(), case.0, "", &[])?;
-        assert!(rt; status == case.1, "{:?} gave {:?}", case.0, status);
-        assert!(rt; sink.written() == case.2.as_bytes(), "{:?}", case.0);
+        let (status, sink) = outcome(rt.alloc(), case.words, "", &[])?;
+        assert!(rt; status == case.status, "{:?} gave {:?}", case.words, status);
+        assert!(rt; sink.written() == case.text.as_bytes(), "{:?}", case.words);
     }
     Ok(())
 }

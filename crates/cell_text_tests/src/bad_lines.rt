@@ -21,6 +21,14 @@ fn long_symbols(rt: HostRuntime) {
     assert_eq!(rt; bad_line(rt.alloc(), &text), Some(1));
 }
 
+#[test]
+fn long_files(rt: HostRuntime) {
+    let mut text = [b'a'; 265];
+    text[..9].copy_from_slice(b"swap k/a=");
+    assert_eq!(rt; bad_line(rt.alloc(), &text[..264]), None);
+    assert_eq!(rt; bad_line(rt.alloc(), &text), Some(1));
+}
+
 /// A script, and the number of its first line without a reading.
 struct Bad(&'static [u8], u32);
 
@@ -32,7 +40,7 @@ const LATER: [Bad; 4] = [
 ];
 
 /// Scripts whose first line has no reading.
-const FIRST: [&[u8]; 77] = [
+const FIRST: [&[u8]; 97] = [
     b"load k",
     b"load k a\r\n",
     b"load k a b",
@@ -86,6 +94,26 @@ const FIRST: [&[u8]; 77] = [
     b"kill 1 1",
     b"tasks 1",
     b"task",
+    b"swap",
+    b"swap reexport",
+    b"swap k/a",
+    b"swap k/a=",
+    b"swap k=n#a.o",
+    b"swap k/=n#a.o",
+    b"swap /a=n#a.o",
+    b"swap a=n#a.o",
+    b"swap =n#a.o",
+    b"swap k/a/b=n#a.o",
+    b"swap K/a=n#a.o",
+    b"swap k/a=n#a.o again",
+    b"swap k/a=n#a.o reexport reexport",
+    b"swap reexport k/a=n#a.o",
+    b"swap k/a=n#a.o k/b",
+    b"swap k/a=n#a.o reexport k/b=n#a.o",
+    b"swap k/a=n#a.o k/a=n#a.o",
+    b"swap k/a=n#a.o n/a=n#a.o k/a=n#c.o",
+    b"swap k/a=n#a.o\r\n",
+    b"swaps k/a=n#a.o",
     b"unload",
     b"unload k",
     b"unload k a",

@@ -22,6 +22,48 @@ fn loads(rt: HostRuntime) -> Result<(), Fail> {
     Ok(())
 }
 
+/// The new cells of a swap, how many fields were patched, the cells that were removed, those that are kept, and the
+/// line that says so.
+struct Swap {
+    fresh: &'static [CellId],
+    patched: u32,
+    removed: &'static [CellId],
+    kept: &'static [CellId],
+    text: &'static str,
+}
+
+const SWAPS: [Swap; 2] = [
+    Swap {
+        fresh: &[CellId(4), CellId(5)],
+        patched: 6,
+        removed: &[],
+        kept: &[CellId(1), CellId(30)],
+        text: "9 ok swap 12 new #4 #5 patched 6 removed - kept #1 #30\n",
+    },
+    Swap {
+        fresh: &[CellId(65535)],
+        patched: 0,
+        removed: &[CellId(2), CellId(3)],
+        kept: &[],
+        text: "9 ok swap 12 new #65535 patched 0 removed #2 #3 kept -\n",
+    },
+];
+
+#[test]
+fn swaps(rt: HostRuntime) -> Result<(), Fail> {
+    for case in &SWAPS {
+        let swap = Reply::Swap {
+            number: 12,
+            fresh: cells(rt.alloc(), case.fresh)?,
+            patched: case.patched,
+            removed: cells(rt.alloc(), case.removed)?,
+            kept: cells(rt.alloc(), case.kept)?,
+        };
+        replies(rt.alloc(), swap, case.text)?;
+    }
+    Ok(())
+}
+
 /// Bytes from a start on, and the rows that show them.
 struct Dump {
     start: u64,

@@ -58,6 +58,17 @@ fn of_numbers(rt: HostRuntime) -> Result<(), Fail> {
     refuses(rt.alloc(), overflow, "7 E12 overflow #3.1+1c CALL_PLT\n")
 }
 
+#[test]
+fn of_torn_tasks(rt: HostRuntime) -> Result<(), Fail> {
+    let torn = Refusal::Torn {
+        task: 64,
+        cell: CellId(3),
+        section: 1,
+        offset: 0x1c,
+    };
+    refuses(rt.alloc(), torn, "7 E13 torn t64 #3.1+1c\n")
+}
+
 /// What there are too many of, their limit, and the line.
 struct TooMany {
     kind: Many,

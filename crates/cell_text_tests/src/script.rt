@@ -58,6 +58,22 @@ fn is_said(alloc: Global, command: &Command, said: &Said) -> Result<bool, AllocE
         Command::Dump { cell, section } => {
             said.is("dump", &[], &[u64::from(*cell), u64::from(*section)])
         }
+        Command::Swap {
+            items,
+            reexport,
+            strict: false,
+            routines,
+            budget,
+        } if routines.as_slice().is_empty() => {
+            let mut names = Vec::new(alloc);
+            for item in items.as_slice() {
+                names.push(&item.ns)?;
+                names.push(&item.stem)?;
+                names.push(&item.file)?;
+            }
+            let numbers = [u64::from(*reexport), u64::from(*budget)];
+            said.is("swap", names.as_slice(), &numbers)
+        }
         Command::Swap { .. } => false,
     })
 }
@@ -68,7 +84,7 @@ struct Case {
     lines: &'static [Said],
 }
 
-const CASES: [Case; 4] = [
+const CASES: [Case; 5] = [
     Case {
         text: b"load k a\n\n # load\n#load\n\tdump 4294967295  0",
         lines: &[
@@ -106,6 +122,15 @@ const CASES: [Case; 4] = [
             Said(3, "purge", &[], &[]),
             Said(4, "deps", &[], &[4294967295]),
             Said(5, "users", &[], &[0]),
+        ],
+    },
+    // The numbers are 1 where names are taken over, and the turns of routines.
+    Case {
+        text: b"swap k/a=n#a-2.o\nswap  k/a=k/a=b\tn/a=~! reexport \nswap k/reexport=reexport\n",
+        lines: &[
+            Said(1, "swap", &["k", "a", "n#a-2.o"], &[0, 10000]),
+            Said(2, "swap", &["k", "a", "k/a=b", "n", "a", "~!"], &[1, 10000]),
+            Said(3, "swap", &["k", "reexport", "reexport"], &[0, 10000]),
         ],
     },
 ];

@@ -1,0 +1,55 @@
+//! A swap with more cells than there may be.
+
+use crate::folder::words_of;
+use crate::sources::assembled;
+use cell_io::{MemSink, RepeatHost};
+use cell_run::{Status, cells};
+use std::alloc::{AllocError, Global};
+use std::test::Fail;
+
+/// Adds a swap of so many cells, each for a new one of its own file.
+fn add_swap(script: &mut String, cells: u32) -> Result<(), AllocError> {
+    let alloc = *script.allocator();
+    script.push_str("swap")?;
+    for number in 1..cells + 1 {
+        script.push_str(format!(in alloc; " k/c{number}=k#c{number}.o")?.as_str())?;
+    }
+    script.push_str("\n")
+}
+
+/// Loads of 513 crates, a swap of all of them, an unload of the last one, and a swap of the others.
+fn crowd(alloc: Global) -> Result<String, AllocError> {
+    let mut script = String::new(alloc);
+    for number in 1..514 {
+        script.push_str(format!(in alloc; "load k c{number}\n")?.as_str())?;
+    }
+    add_swap(&mut script, 513)?;
+    script.push_str("unload k/c513\n")?;
+    add_swap(&mut script, 512)?;
+    Ok(script)
+}
+
+/// Old and new cells are counted together.
+#[test]
+fn too_many_cells(rt: HostRuntime) -> Result<(), Fail> {
+    let alloc = rt.alloc();
+    let words = words_of(alloc, &["d", "s"])?;
+    let mut host = RepeatHost {
+        alloc,
+        names: 0,
+        objects: 513,
+        script: crowd(alloc)?.into_bytes(),
+        object: assembled(alloc, "k#c.o", "")?.bytes,
+    };
+    let mut sink = MemSink::new(alloc, 30000, Vec::new(alloc))?;
+    let status = cells(alloc, &words, &mut host, &mut sink);
+    let text = std::str::from_utf8(sink.written()).ok().ok_or("UTF-8")?;
+    let refused =
+        "\n514 E4 too-many cells 1024\n515 ok unload removed #513\n516 ok swap 1 new #514 #515 ";
+    assert!(rt; text.contains(refused), "{text}");
+    let done = " #1024 #1025 patched 0 removed #1 #2 ";
+    assert!(rt; text.contains(done), "{text}");
+    assert!(rt; text.ends_with(" #511 #512 kept -\n"), "{text}");
+    assert_eq!(rt; status, Status::SomeRefused);
+    Ok(())
+}
