@@ -1,0 +1,130 @@
+#!/bin/bash
+# Prints how long one swap of one cell takes, among 500 and among 1000 cells of ten fields each and with 64 tasks: tasks
+# that have just begun, and tasks whose stacks are full of addresses. The cell that is swapped has ten users' fields and
+# ten of its own. And how long a script takes with 900 loads and then 2,000 swaps of a cell that these 900 name in 1,800
+# fields.
+#
+#     bench/swaps.sh [CELLS CELLAS]
+#
+# Without the two programs it proves and builds crates/cells and crates/cellas first.
+set -u
+top=$(cd "$(dirname "$0")/.." && pwd)
+work=$(mktemp -d)
+trap 'rm -rf "$work"' EXIT
+
+if [ $# -gt 1 ]; then
+    cells=$1
+    cellas=$2
+else
+    for crate in cells cellas; do
+        (cd "$top/crates/$crate" && rt run -- > "$work/build.txt" 2>&1)
+    done
+    cells=$top/crates/cells/out/cells
+    cellas=$top/crates/cellas/out/cellas
+fi
+
+swaps=20
+
+# assemble FOLDER NAME: the object file of that name, of the source on standard input
+assemble() {
+    mkdir -p "$1"
+    cat > "$work/source.s"
+    "$cellas" "$work" source.s > "$1/$2" || exit 1
+}
+
+# The task fills its stack with addresses, as often as its argument says, and then turns for ever; x2 is 0 then, so the
+# whole stack counts.
+turning() {
+    cat << 'SOURCE'
+.text
+.globl f::go
+f::go: beq a0,zero,f::wait
+la t0,g0::x
+mv t1,sp
+li sp,0
+f::fill: sd t0,0(t1)
+addi t1,t1,-8
+addi a0,a0,-1
+bne a0,zero,f::fill
+f::wait: j f::wait
+SOURCE
+}
+
+# linked NUMBER: data, a function, and ten links to the crates before it
+linked() {
+    echo ".data"
+    echo ".globl g$1::x"
+    echo "g$1::x: .zero 440"
+    for back in $(seq 9); do
+        if [ "$back" -le "$1" ]; then echo ".quad g$(($1 - back))::x"; else echo ".quad g$1::x"; fi
+    done
+    echo ".text"
+    echo ".globl g$1::f"
+    echo "g$1::f: ret"
+    if [ "$1" -gt 0 ]; then echo "call g$(($1 - 1))::f"; else echo "call g0::f"; fi
+}
+
+# begun CELLS WORDS: the load of so many cells, and 64 tasks, each of which puts so many words on its stack
+begun() {
+    echo 'load k f'
+    echo "load k g$(($1 - 2))"
+    for _ in $(seq 64); do echo "spawn k f::go $2"; done
+    echo 'run 8300'
+}
+
+# alternate CELL TIMES: so many swaps of a cell, between its file in the folder and the same under another name
+alternate() {
+    for _ in $(seq $(($2 / 2))); do
+        echo "swap k/$1=n#$1-2.o"
+        echo "swap k/$1=k#$1.o"
+    done
+}
+
+# seconds FOLDER SCRIPT: the processor time of a run, of which the transcript goes to $work/text.txt
+seconds() {
+    "$cells" "$1" "$2" --pages 4096 > "$work/text.txt"
+    TIMEFORMAT='%U %S'
+    { time "$cells" "$1" "$2" --pages 4096 > "$work/text.txt"; } 2>&1 | awk '{ print $1 + $2 }'
+}
+
+# swapped TIMES FIELDS: sees that so many swaps were done, and that each of them patched so many fields
+swapped() {
+    if [ "$(grep -c "ok swap .* patched $2 removed #.* kept -" "$work/text.txt")" != "$1" ]; then
+        echo 'unexpected text'
+        exit 1
+    fi
+}
+
+# one_swap CELLS WORDS: puts the milliseconds of one swap into $one
+one_swap() {
+    begun "$1" "$2" > "$crowd/before"
+    { begun "$1" "$2"; alternate g100 $swaps; } > "$crowd/swaps"
+    before=$(seconds "$crowd" before)
+    with=$(seconds "$crowd" swaps)
+    swapped $swaps 20
+    one=$(awk -v a="$before" -v b="$with" -v n=$swaps 'BEGIN { printf "%.3f", (b - a) * 1000 / n }')
+    printf 'one swap among %4d cells, and 64 tasks with %4d words on their stacks: %8.3f ms\n' "$1" "$2" "$one"
+}
+
+crowd=$work/crowd
+turning | assemble "$crowd" 'k#f.o'
+for i in $(seq 0 998); do linked "$i" | assemble "$crowd" "k#g$i.o"; done
+cp "$crowd/k#g100.o" "$crowd/n#g100-2.o"
+for words in 0 2047; do
+    one_swap 500 $words
+    half=$one
+    one_swap 1000 $words
+    awk -v a="$half" -v b="$one" 'BEGIN { printf "  with twice the cells %.2f times as long\n", b / a }'
+done
+
+users=$work/users
+printf '.data\n.globl x::v\nx::v: .quad 1\n' | assemble "$users" 'k#x.o'
+cp "$users/k#x.o" "$users/n#x-2.o"
+printf '.rodata\n.quad x::v, x::v\n' | assemble "$users" 'k#u1.o'
+for i in $(seq 2 900); do cp "$users/k#u1.o" "$users/k#u$i.o"; done
+for i in $(seq 900); do echo "load k u$i"; done > "$users/loads"
+{ cat "$users/loads"; alternate x 2000; } > "$users/all"
+loads=$(seconds "$users" loads)
+all=$(seconds "$users" all)
+swapped 2000 1800
+awk -v a="$loads" -v b="$all" 'BEGIN { printf "900 loads: %.3f s; with 2,000 swaps of 1,800 fields: %.3f s, %.3f ms each\n", a, b, (b - a) / 2 }'
