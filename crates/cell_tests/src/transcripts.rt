@@ -219,39 +219,39 @@ fn a_file_cut_short(rt: HostRuntime) -> Result<(), Fail> {
 const USAGE: &str = "usage: cells DIR SCRIPT [--base HEX] [--pages N] | --generate N --seed S\n";
 
 /// Words over a folder with the empty script `s`, and what comes of them.
-struct Words {
+struct Invocation {
     words: &'static [&'static str],
     status: Status,
     text: &'static str,
 }
 
-const WORDS: [Words; 6] = [
-    Words {
+const WORDS: [Invocation; 6] = [
+    Invocation {
         words: &[],
         status: Status::Usage,
         text: USAGE,
     },
-    Words {
+    Invocation {
         words: &["d"],
         status: Status::Usage,
         text: USAGE,
     },
-    Words {
+    Invocation {
         words: &["d", "s", "s"],
         status: Status::Usage,
         text: USAGE,
     },
-    Words {
+    Invocation {
         words: &["-d", "s"],
         status: Status::Usage,
         text: USAGE,
     },
-    Words {
+    Invocation {
         words: &["d", "-s"],
         status: Status::Usage,
         text: USAGE,
     },
-    Words {
+    Invocation {
         words: &["d", "t"],
         status: Status::NoScript,
         text: "no script t\n",
