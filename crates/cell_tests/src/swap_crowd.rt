@@ -7,11 +7,11 @@ use cell_run::{Status, cells};
 use std::alloc::{AllocError, Global};
 use std::test::Fail;
 
-/// Adds a swap of so many cells, each for a new one of its own file.
-fn add_swap(script: &mut String, cells: u32) -> Result<(), AllocError> {
+/// Adds a swap of the cells of lower numbers than `end`, each for a new one of its own file.
+fn add_swap(script: &mut String, end: u32) -> Result<(), AllocError> {
     let alloc = *script.allocator();
     script.push_str("swap")?;
-    for number in 1..cells + 1 {
+    for number in 1..end {
         script.push_str(format!(in alloc; " k/c{number}=k#c{number}.o")?.as_str())?;
     }
     script.push_str("\n")
@@ -23,9 +23,9 @@ fn crowd(alloc: Global) -> Result<String, AllocError> {
     for number in 1..514 {
         script.push_str(format!(in alloc; "load k c{number}\n")?.as_str())?;
     }
-    add_swap(&mut script, 513)?;
+    add_swap(&mut script, 514)?;
     script.push_str("unload k/c513\n")?;
-    add_swap(&mut script, 512)?;
+    add_swap(&mut script, 513)?;
     Ok(script)
 }
 
