@@ -4,7 +4,6 @@
 --     links_of w                 one link for each entry whose target is a section
 --     relink w                   w with each region and the links made anew
 use Rattle.std.specs.Prelude.{ℕ, ◌==◌, Bool, false, List, ◌++◌, Option, Some, None, map, filter, filter_map, flat_map, fold, option_map}
-use Rattle.cell_object.specs.declared.object.Object.{Object}
 use Rattle.cell_object.specs.declared.object.Entry.{Entry}
 use Rattle.cell_world.specs.declared.state.LinkRow.{LinkRow}
 use Rattle.cell_world.specs.declared.state.Target.{Target}

@@ -12,19 +12,14 @@ use Rattle.cell_num.specs.declared.ids.Why.{Why}
 use Rattle.cell_num.specs.declared.ids.Why.TheVariants.{Returned, Trap, Budget}
 use Rattle.cell_num.specs.Lists.{equals, from_on, where_true}
 use Rattle.cell_world.specs.declared.reply.TaskState.TheVariants.{Ready, Done, Fault as Faulted}
+pub use Rattle.cell_world.specs.declared.transfer.Failure.{Failure}
+pub use Rattle.cell_world.specs.declared.transfer.NameAddr.{NameAddr}
+pub use Rattle.cell_world.specs.declared.transfer.Routine.{Routine}
 use Rattle.cell_world.specs.World.{World, Region}
 use Rattle.cell_world.specs.Execute.{Seen, seen_in, allows, number_read}
 use Rattle.cell_world.specs.Move.{Hart, Row, Column, Ends, Passes, Answers, Refuses, move}
 use Rattle.cell_world.specs.Turn.{without_region}
 use Rattle.cell_world.specs.SpawnCommand.{first_registers, with_stack}
-
-pub record Routine : Type 0 where
-  pub name : ℕ
-  pub entry : ℕ
-
-pub record NameAddr : Type 0 where
-  pub name : List ℕ
-  pub addr : ℕ
 
 -- in the swap's order; the first row of a name counts
 pub record Addresses : Type 0 where
@@ -79,11 +74,6 @@ abbrev pub is_success : Why → Bool
 is_success (Returned code) = code == 0
 is_success (Trap cause pc) = false
 is_success Budget = false
-
--- a routine that didn't end with 0
-pub record Failure : Type 0 where
-  pub routine : ℕ
-  pub why : Why
 
 -- the regions after the routines, and the first that failed
 pub record Transferred : Type 0 where

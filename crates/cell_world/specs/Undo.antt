@@ -4,18 +4,13 @@
 --     undone regions records      the regions with each number put back, that of the last record first
 --     puts, journal_of            many writes in turn, and their records in the same order
 --     ArePuts regions writes      each write has its bytes in a region
-use Rattle.std.specs.Prelude.{ℕ, ◌+◌, ◌<◌, nat_le, All, IsTrue, List, [], ◌∷◌, map, is_some, if◌then◌else◌}
+use Rattle.std.specs.Prelude.{◌+◌, ◌<◌, nat_le, All, IsTrue, List, [], ◌∷◌, map, is_some, if◌then◌else◌}
 use Rattle.cell_num.specs.Bits.{bytes_of}
+pub use Rattle.cell_world.specs.declared.transfer.Record.{Record}
 use Rattle.cell_world.specs.World.{Region}
 use Rattle.cell_world.specs.Memory.{end_of, read_in, written}
 pub use Rattle.cell_world.specs.Memory.{Write, put_in}
 use Rattle.cell_world.specs.Execute.{number_read}
-
--- the number that these bytes held before
-pub record Record : Type 0 where
-  pub addr : ℕ
-  pub width : ℕ
-  pub before : ℕ
 
 abbrev pub record_of : List Region → Write → Record
 record_of regions x = record { addr = x.addr; width = x.width; before = number_read regions x.addr x.width }

@@ -10,6 +10,7 @@ mod limits;
 mod refusal;
 mod reply;
 mod state;
+mod transfer;
 
 pub use command::{CellName, Command, SwapItem};
 pub use fail::Fail;
@@ -22,3 +23,4 @@ pub use limits::{
 pub use refusal::{Many, Refusal};
 pub use reply::{Found, LinkLine, MapCell, MapSection, Reply, TaskLine, TaskRun, TaskState};
 pub use state::{LinkRow, Namespace, NewCell, Permission, Placed, Region, SecPlace, Target};
+pub use transfer::{Failure, NameAddr, Record, Routine};
