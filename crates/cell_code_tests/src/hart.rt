@@ -38,7 +38,7 @@ fn page(alloc: Global, words: &[u32]) -> Result<Vec<u8>, Fail>
 
 /// A memory of 16 pages: the first has the code, the second may be read and written.
 fn memory_with_code(rt: &HostRuntime) -> Result<Memory, Fail>
-    ensures { IfOk result (λ m. m.writes_left ≡ None) }
+    ensures { IfOk result (λ m. m.undo ≡ None) }
 {
     let alloc = rt.alloc();
     let mut memory = Memory::new(alloc, BASE, 16)?;
@@ -52,8 +52,8 @@ fn memory_with_code(rt: &HostRuntime) -> Result<Memory, Fail>
 
 #[tactic(auto, using(cell_hart::proofs::Undo::no_undo))]
 fn step(hart: &mut Hart, memory: &mut Memory) -> Stop
-    requires { memory.old.writes_left ≡ None }
-    ensures { memory.new.writes_left ≡ None }
+    requires { memory.old.undo ≡ None }
+    ensures { memory.new.undo ≡ None }
 {
     hart.step(memory)
 }

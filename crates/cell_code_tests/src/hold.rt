@@ -115,7 +115,7 @@ fn links(alloc: Global) -> Result<Graph, AllocError>
 
 /// Eight pages of zeros, the last four of which are a stack.
 fn memory(alloc: Global) -> Result<Memory, Fail>
-    ensures { IfOk result (λ m. m.writes_left ≡ None) }
+    ensures { IfOk result (λ m. m.undo ≡ None) }
 {
     let mut memory = Memory::new(alloc, BASE, 16)?;
     memory.reserve(1)?;

@@ -42,18 +42,18 @@ fn bytes_in(width: Width) -> u8
     }
 }
 
-#[tactic(auto, using(cell_mem::proofs::Undo::no_undo))]
+#[tactic(auto, using(cell_mem::proofs::Noting::no_undo))]
 fn store(memory: &mut Memory, addr: u64, width: Width, value: u64) -> Result<u64, MemFault>
-    requires { memory.old.writes_left ≡ None }
-    ensures { memory.new.writes_left ≡ None }
+    requires { memory.old.undo ≡ None }
+    ensures { memory.new.undo ≡ None }
 {
     memory.store(addr, bytes_in(width), value)?;
     Ok(0)
 }
 
 fn answer(memory: &mut Memory, addr: u64, access: Access) -> Result<u64, MemFault>
-    requires { memory.old.writes_left ≡ None }
-    ensures { memory.new.writes_left ≡ None }
+    requires { memory.old.undo ≡ None }
+    ensures { memory.new.undo ≡ None }
 {
     match access {
         Load(width) => memory.load(addr, bytes_in(width)),
@@ -64,8 +64,8 @@ fn answer(memory: &mut Memory, addr: u64, access: Access) -> Result<u64, MemFaul
 
 /// The accesses, one after the other.
 fn walk(rt: &impl Abort, memory: &mut Memory, cases: &[Case])
-    requires { memory.old.writes_left ≡ None }
-    ensures { memory.new.writes_left ≡ None }
+    requires { memory.old.undo ≡ None }
+    ensures { memory.new.undo ≡ None }
 {
     for (addr, access, want) in cases {
         assert_eq!(rt;
@@ -88,7 +88,7 @@ fn zeros(alloc: Global, count: usize) -> Result<Vec<u8>, Fail>
 
 /// A memory of 16 pages: page 0 may be read and executed, page 1 read, pages 4 and 5 read and written.
 fn three_regions(alloc: Global) -> Result<Memory, Fail>
-    ensures { IfOk result (λ m. m.writes_left ≡ None) }
+    ensures { IfOk result (λ m. m.undo ≡ None) }
 {
     let mut memory = Memory::new(alloc, BASE, 16)?;
     memory.reserve(3)?;

@@ -55,7 +55,7 @@ fn stack_bytes(alloc: Global) -> Result<Vec<u8>, Fail>
 
 /// A memory of 16 pages: the first has the code, the next four are a stack.
 fn memory_with(alloc: Global, code: &[u32]) -> Result<Memory, Fail>
-    ensures undo { IfOk result (λ m. m.writes_left ≡ None) }
+    ensures undo { IfOk result (λ m. m.undo ≡ None) }
     ensures stack { IfOk result (λ m. is_some (region_from m 268439552) ≡ true) }
 {
     let mut memory = Memory::new(alloc, BASE, 16)?;
@@ -69,10 +69,10 @@ fn memory_with(alloc: Global, code: &[u32]) -> Result<Memory, Fail>
 
 /// A turn of task 1, where it is ready.
 fn one_turn(tasks: &mut Tasks, memory: &mut Memory, out: &mut Vec<u8>) -> Result<Turned, Fail>
-    requires undo { memory.old.writes_left ≡ None }
+    requires undo { memory.old.undo ≡ None }
     requires stack { (t : WorldTask) → live_in tasks.old 1 ≡ Some t → is_some (region_from memory.old t.stack) ≡ true }
     requires room { vec_len out.old + 20 ≤ vec_capacity out.old }
-    ensures undo { memory.new.writes_left ≡ None }
+    ensures undo { memory.new.undo ≡ None }
     ensures stack { (t : WorldTask) → live_in tasks.new 1 ≡ Some t → is_some (region_from memory.new t.stack) ≡ true }
 {
     let Some(live) = tasks.get(1) else {

@@ -1,9 +1,11 @@
 -- The fields that are left, while those before them are written.
-use Rattle.std.proofs.Common.{◌≡◌, sym, ap, ◌∙◌, subst, ℕ, ◌+◌, ◌*◌, ◌<◌, ◌≤◌, List, None, length, drop, get_or}
+use Rattle.std.proofs.Common.{◌≡◌, sym, ap, ◌∙◌, subst, arith, ℕ, ◌+◌, ◌-◌, ◌*◌, ◌<◌, ◌≤◌, List, length, drop, get_or}
 use Rattle.std.specs.Prelude.{All, fold}
 use Rattle.std.proofs.lemmas.List.{at_drop_more, at_drop_all}
 use Rattle.cell_num.specs.Bits.{bytes_of}
-use Rattle.cell_mem.specs.State.{MemoryState, one_less, sealed_at}
+use Rattle.cell_mem.specs.State.{HasWrites, MemoryState, sealed_at, write_at}
+use Rattle.cell_mem.proofs.Noting.{fewer_writes, one_taken}
+use Rattle.cell_world.specs.Undo.{record_of}
 use Rattle.cell_mem.proofs.Writes.{length-bytes_of}
 use Rattle.cell_link.specs.declared.value.FieldValue.{FieldValue}
 use Rattle.cell_commit.specs.Commit.{IsLaidOut, IsMapped, field_patched, field_written}
@@ -16,26 +18,31 @@ patched_kept m f g laid this other =
     let fits : AllFit m.regions f.addr (length (bytes_of f.width f.value)) = subst (λ (n : ℕ). AllFit m.regions f.addr n) (sym (length-bytes_of f.width f.value)) there in
     (other.0, reached_same m.regions f.addr (bytes_of f.width f.value) g.addr g.width fits ∙ other.1)
 
--- and no undo is begun
-pub patched_undo : (m : MemoryState) (f : FieldValue) → m.writes_left ≡ None → (field_patched m f).writes_left ≡ None
-patched_undo m f none = ap one_less none
+-- and one of the writes of a begun undo is taken
+pub patched_takes : (m : MemoryState) (f : FieldValue) (n : ℕ) → HasWrites m n → HasWrites (field_patched m f) (n - 1)
+patched_takes m f n has = one_taken m (record_of m.regions (write_at f.addr f.width f.value)) n has
 
 -- the same where it is sealed before
 pub written_kept : (m : MemoryState) (f g : FieldValue) → IsLaidOut m → IsMapped m f → IsMapped m g → IsMapped (field_written m f) g
 written_kept m f g = patched_kept (sealed_at m f.addr f.width) f g
 
-pub written_undo : (m : MemoryState) (f : FieldValue) → m.writes_left ≡ None → (field_written m f).writes_left ≡ None
-written_undo m f = patched_undo (sealed_at m f.addr f.width) f
+pub written_takes : (m : MemoryState) (f : FieldValue) (n : ℕ) → HasWrites m n → HasWrites (field_written m f) (n - 1)
+written_takes m f = patched_takes (sealed_at m f.addr f.width) f
+
+pub one_left : (m : MemoryState) (count i : ℕ) → i < count → HasWrites m (count - i) → HasWrites m 1
+one_left m count i lt has = fewer_writes m (count - i) 1 (omega arith) has
 
 -- what stands past the end of a list of fields
 abbrev pub no_field : FieldValue
 no_field = record { addr = 0; width = 0; value = 0 }
 
 -- fields are written one after another, by a step that leaves mapped what is
-module _ (step : MemoryState → FieldValue → MemoryState) (undone : (m : MemoryState) (f : FieldValue) → m.writes_left ≡ None → (step m f).writes_left ≡ None)
+module _ (step : MemoryState → FieldValue → MemoryState) (takes : (m : MemoryState) (f : FieldValue) (n : ℕ) → HasWrites m n → HasWrites (step m f) (n - 1))
     (kept : (m : MemoryState) (f g : FieldValue) → IsLaidOut m → IsMapped m f → IsMapped m g → IsMapped (step m f) g) where
-  pub undo_kept : (m n : MemoryState) (f : FieldValue) → n ≡ step m f → m.writes_left ≡ None → n.writes_left ≡ None
-  undo_kept m n f e none = ap (λ (s : MemoryState). s.writes_left) e ∙ undone m f none
+  -- for each field that is left there is a write left
+  pub writes_kept : (m n : MemoryState) (f : FieldValue) (count i : ℕ) → n ≡ step m f → HasWrites m (count - i) → HasWrites n (count - (i + 1))
+  writes_kept m n f count i e has =
+      subst (λ (s : MemoryState). HasWrites s (count - (i + 1))) (sym e) (fewer_writes (step m f) (count - i - 1) (count - (i + 1)) (omega arith) (takes m f (count - i) has))
 
   pub all_mapped_kept : (m n : MemoryState) (f : FieldValue) (fields : List FieldValue) → IsLaidOut m → IsMapped m f → n ≡ step m f → All (IsMapped m) fields → All (IsMapped n) fields
   all_mapped_kept m n f fields laid this e all =

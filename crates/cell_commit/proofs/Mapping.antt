@@ -1,9 +1,10 @@
 -- What mapping regions leaves of a memory, part by part.
-use Rattle.std.proofs.Common.{◌≡◌, refl, ◌∙◌, arith, ℕ, suc, ◌+◌, ◌-◌, ◌^◌, ◌≤◌, List, [], ◌∷◌, length, min}
-use Rattle.std.specs.Prelude.{fold}
+use Rattle.std.proofs.Common.{◌≡◌, refl, sym, ap, subst, ◌∙◌, arith, Option, ℕ, suc, ◌+◌, ◌-◌, ◌^◌, ◌≤◌, List, [], ◌∷◌, length, min}
+use Rattle.std.specs.Prelude.{fold, IfSome}
 use Rattle.cell_world.specs.World.{Region}
 use Rattle.cell_world.specs.Place.{with_region}
-use Rattle.cell_mem.specs.State.{MemoryState, one_more}
+use Rattle.cell_mem.specs.State.{HasWrites, MemoryState, one_more}
+use Rattle.cell_mem.specs.Undo.{UndoState}
 use Rattle.cell_commit.specs.Commit.{all_mapped, mapped_one}
 
 -- a count that stands still at its last value
@@ -43,9 +44,13 @@ pub mapped_sealed : (m : MemoryState) (regions : List Region) → (all_mapped m 
 mapped_sealed m [] = refl
 mapped_sealed m (r ∷ regions) = mapped_sealed (mapped_one m r) regions
 
-pub mapped_undo : (m : MemoryState) (regions : List Region) → (all_mapped m regions).writes_left ≡ m.writes_left
+pub mapped_undo : (m : MemoryState) (regions : List Region) → (all_mapped m regions).undo ≡ m.undo
 mapped_undo m [] = refl
 mapped_undo m (r ∷ regions) = mapped_undo (mapped_one m r) regions
+
+pub mapped_writes : (m n : MemoryState) (regions : List Region) (count : ℕ) → n ≡ all_mapped m regions → HasWrites m count → HasWrites n count
+mapped_writes m n regions count e has =
+    subst (λ (o : Option UndoState). IfSome o (λ u. count ≤ u.left)) (sym (ap (λ (k : MemoryState). k.undo) e ∙ mapped_undo m regions)) has
 
 pub mapped_patches : (m : MemoryState) (regions : List Region) → (all_mapped m regions).patches ≡ m.patches
 mapped_patches m [] = refl

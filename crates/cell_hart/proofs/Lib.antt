@@ -1,3 +1,5 @@
 pub mod Alike
 pub mod Sizes
+pub mod Stores
 pub mod Undo
+pub mod Puts

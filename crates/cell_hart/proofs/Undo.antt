@@ -3,16 +3,18 @@ use Rattle.std.proofs.Common.{◌≡◌, ap, ◌∙◌, Option, Some, None}
 use Rattle.cell_hart.specs.declared.hart.Hart.{Hart}
 use Rattle.cell_hart.specs.declared.stop.Stop.{Stop}
 use Rattle.cell_hart.specs.Step.{Steps, written_by}
-use Rattle.cell_mem.specs.State.{MemoryState, one_less}
+use Rattle.cell_mem.specs.State.{MemoryState}
+use Rattle.cell_mem.specs.Undo.{noted}
+use Rattle.cell_world.specs.Undo.{record_of}
 use Rattle.cell_world.specs.Memory.{Write}
 use Rattle.cell_world.specs.Execute.{Effect, Goes, Calls, Traps}
 
-written_none : (store : Option Write) (old : MemoryState) → old.writes_left ≡ None → (written_by store old).writes_left ≡ None
+written_none : (store : Option Write) (old : MemoryState) → old.undo ≡ None → (written_by store old).undo ≡ None
 written_none None old none = none
-written_none (Some x) old none = ap one_less none
+written_none (Some x) old none = ap (noted (record_of old.regions x)) none
 
 pub no_undo : (stop : Stop) (effect : Effect) (before after : Hart) (old new : MemoryState)
-    → old.writes_left ≡ None → Steps stop effect before after old new → new.writes_left ≡ None
-no_undo stop (Goes registers pc store) before after old new none s = ap (λ m. m.writes_left) s.3 ∙ written_none store old none
-no_undo stop Calls before after old new none s = ap (λ m. m.writes_left) s.1.2 ∙ none
-no_undo stop (Traps cause) before after old new none s = ap (λ m. m.writes_left) s.1.2 ∙ none
+    → old.undo ≡ None → Steps stop effect before after old new → new.undo ≡ None
+no_undo stop (Goes registers pc store) before after old new none s = ap (λ m. m.undo) s.3 ∙ written_none store old none
+no_undo stop Calls before after old new none s = ap (λ m. m.undo) s.1.2 ∙ none
+no_undo stop (Traps cause) before after old new none s = ap (λ m. m.undo) s.1.2 ∙ none

@@ -1,8 +1,9 @@
 //! The hart.
 
-ghost use Rattle.std.specs.Prelude.{◌≡◌, ◌+◌, ◌%◌, ◌≢◌, Some, None, true, slice_index};
-ghost use Rattle.cell_mem.specs.State.{is_width};
+ghost use Rattle.std.specs.Prelude.{◌≡◌, ◌+◌, ◌%◌, ◌<◌, ◌^◌, true, slice_index};
+ghost use Rattle.cell_mem.specs.State.{HasWrites, is_width};
 ghost use Rattle.cell_num.specs.Bits.{wrap};
+ghost use Rattle.cell_world.specs.SpawnCommand.{first_registers as registers_of};
 ghost use Rattle.cell_world.specs.Execute.{with_register as register_with, extended as extended_of};
 
 use crate::causes::{load_cause, store_cause};
@@ -11,6 +12,9 @@ use cell_alu::{Access, access, address, aim, is_taken, result};
 use cell_isa::{Insn, Op, decode};
 use cell_mem::Memory;
 use cell_num::{Cause, sign_extend};
+
+/// The bytes of a stack.
+pub const STACK_SIZE: u64 = 16384;
 
 /// The pc, which is the address of the instruction to come, and x0 to x31; x0 is 0.
 #[derive(Drop)]
@@ -36,9 +40,33 @@ fn extended(with_sign: bool, width: u8, value: u64) -> u64
     }
 }
 
+/// All are 0 but x2, 16 bytes below the stack's end, and x10.
+fn first_registers(arg: u64, stack: u64) -> [u64; 32]
+    requires { stack + 16384 < 2 ^ 64 }
+    ensures { result ≡ registers_of arg stack }
+{
+    let mut x = [0u64; 32];
+    x[10] = arg;
+    x[2] = stack + (STACK_SIZE - 16);
+    x
+}
+
 impl Hart {
     ghost use Rattle.cell_hart.specs.Step.{Steps, seen_of, IsAccess};
     ghost use Rattle.cell_world.specs.Execute.{accessed, computed, execute, execute_word, jumped, loaded, performed, stepped, stored};
+
+    /// A hart at its first instruction, with an argument in x10 and a stack, which is named by its
+    /// first address.
+    pub fn begin(entry: u64, arg: u64, stack: u64) -> Hart
+        requires { stack + 16384 < 2 ^ 64 }
+        ensures pc { result.pc ≡ entry }
+        ensures x { result.x ≡ registers_of arg stack }
+    {
+        Hart {
+            pc: entry,
+            x: first_registers(arg, stack),
+        }
+    }
 
     /// What stands in a register.
     fn register(&self, n: u8) -> u64
@@ -114,7 +142,7 @@ impl Hart {
     /// The low bytes of a number, so many, go to the address.
     fn store(&mut self, memory: &mut Memory, addr: u64, width: u8, value: u64) -> Stop
         requires width { is_width width ≡ true }
-        requires undo { memory.old.writes_left ≢ Some 0 }
+        requires undo { HasWrites memory.old 1 }
         ensures { Steps result (stored (seen_of memory.old) self.old.x self.old.pc addr width value) self.old self.new memory.old memory.new }
     {
         match memory.store(addr, width, value) {
@@ -126,7 +154,7 @@ impl Hart {
     /// A load, a store, or neither.
     fn access(&mut self, memory: &mut Memory, insn: Insn, a: u64, b: u64, access: Access) -> Stop
         requires width { IsAccess access }
-        requires undo { memory.old.writes_left ≢ Some 0 }
+        requires undo { HasWrites memory.old 1 }
         ensures { Steps result (accessed (seen_of memory.old) self.old.x self.old.pc insn a b access) self.old self.new memory.old memory.new }
     {
         match access {
@@ -143,7 +171,7 @@ impl Hart {
 
     /// Any instruction but a fence, a call and a break.
     fn perform_step(&mut self, memory: &mut Memory, insn: Insn, a: u64, b: u64) -> Stop
-        requires { memory.old.writes_left ≢ Some 0 }
+        requires { HasWrites memory.old 1 }
         ensures { Steps result (stepped (seen_of memory.old) self.old.x self.old.pc insn a b) self.old self.new memory.old memory.new }
     {
         if is_taken(insn.op, a, b) {
@@ -156,7 +184,7 @@ impl Hart {
 
     /// Any instruction.
     fn perform(&mut self, memory: &mut Memory, insn: Insn) -> Stop
-        requires { memory.old.writes_left ≢ Some 0 }
+        requires { HasWrites memory.old 1 }
         ensures { Steps result (performed (seen_of memory.old) self.old.x self.old.pc insn insn.op) self.old self.new memory.old memory.new }
     {
         match insn.op {
@@ -173,7 +201,7 @@ impl Hart {
 
     /// The instruction that a word is.
     fn perform_word(&mut self, memory: &mut Memory, word: u32) -> Stop
-        requires { memory.old.writes_left ≢ Some 0 }
+        requires { HasWrites memory.old 1 }
         ensures { Steps result (execute_word (seen_of memory.old) self.old.x self.old.pc word) self.old self.new memory.old memory.new }
     {
         match decode(word) {
@@ -184,7 +212,7 @@ impl Hart {
 
     /// The instruction at the pc.
     pub fn step(&mut self, memory: &mut Memory) -> Stop
-        requires { memory.old.writes_left ≢ Some 0 }
+        requires { HasWrites memory.old 1 }
         ensures { Steps result (execute (seen_of memory.old) self.old.x self.old.pc) self.old self.new memory.old memory.new }
     {
         match memory.fetch(self.pc) {

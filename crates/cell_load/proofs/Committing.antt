@@ -23,7 +23,7 @@ use Rattle.cell_space.specs.declared.cell.SpaceCell.{SpaceCell}
 use Rattle.cell_space.specs.Joined.{placed_of}
 use Rattle.cell_commit.specs.Cells.{AreAbove, AreFree}
 use Rattle.cell_commit.specs.Commit.{AreRoom, IsMapped, all_mapped}
-use Rattle.cell_commit.proofs.Mapping.{mapped_undo}
+use Rattle.cell_mem.proofs.Noting.{any_writes}
 use Rattle.cell_machine.specs.declared.machine.Machine.{Machine}
 use Rattle.cell_machine.specs.declared.staged.Staged.{Staged}
 use Rattle.cell_machine.specs.Machine.{keys_of, section_keys, world_of}
@@ -153,7 +153,7 @@ module _ (m : Machine) (s : Staged) (p : Prepared) (patches : List FieldValue) (
     room = room;
     regions = regions_room;
     mapped = fields_are_mapped;
-    undo = mapped_undo m.memory s.regions.items ∙ r.parts.undo;
+    undo = any_writes m.memory (length patches + length s.fields.items) r.parts.undo;
     change = change;
     above = all_above;
     present = all_present;

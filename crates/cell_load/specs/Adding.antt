@@ -6,7 +6,7 @@
 --     CanChange m s patches moves     these fields of others may be written, and these links of others moved
 --     IsCommittable m s p patches moves   what the calls of the commit ask
 --     IsAdded old patches moves s newcomers new   the machine with the staged cells, to which others lead so
-use Rattle.std.specs.Prelude.{◌≡◌, ◌≤◌, ◌+◌, ℕ, List, ◌++◌, None, All, Contains, IsTrue, length, map, vec_len, vec_capacity}
+use Rattle.std.specs.Prelude.{◌≡◌, ◌≤◌, ◌+◌, ℕ, List, ◌++◌, All, Contains, IsTrue, length, map, vec_len, vec_capacity}
 use Rattle.cell_num.specs.declared.ids.CellId.{CellId}
 use Rattle.cell_world.specs.declared.state.LinkRow.{LinkRow}
 use Rattle.cell_world.specs.declared.state.NewCell.{NewCell}
@@ -22,7 +22,7 @@ use Rattle.cell_graph.specs.Links.{is_bound}
 use Rattle.cell_graph.specs.Moves.{AreApart, moved}
 use Rattle.cell_graph.specs.Order.{Rises, below_link}
 use Rattle.cell_link.specs.declared.value.FieldValue.{FieldValue}
-use Rattle.cell_mem.specs.State.{MemoryState}
+use Rattle.cell_mem.specs.State.{HasWrites, MemoryState}
 use Rattle.cell_machine.specs.declared.machine.Machine.{Machine}
 use Rattle.cell_machine.specs.declared.staged.Staged.{Staged}
 use Rattle.cell_machine.specs.Machine.{AreParts, keys_of, world_of}
@@ -80,7 +80,7 @@ pub record IsCommittable (m : Machine) (s : Staged) (p : Prepared) (patches : Li
   pub room : HasRoomFor m s p
   pub regions : AreRoom m.memory s.regions.items
   pub mapped : All (IsMapped (all_mapped m.memory s.regions.items)) s.fields.items
-  pub undo : (all_mapped m.memory s.regions.items).writes_left ≡ None
+  pub undo : HasWrites m.memory (length patches + length s.fields.items)
   pub change : CanChange m s patches moves
   pub above : AreAbove m.graph.sections p.sections.items
   pub present : All (λ r. Contains (m.graph.sections ++ keys_of s.cells.items) r.user × Contains (m.graph.sections ++ keys_of s.cells.items) r.target) s.rows.items

@@ -50,7 +50,7 @@ module _ (old new : Machine) (same : IsSame old new) where
         ∙ (s.seals
         ∙ (ap (λ (m : MemoryState). seal_table m.base (4096 * m.pages) (field_bytes old.cells.items)) (sym same.memory)
         ∙ ap (λ (cells : List NewCell). seal_table new.memory.base (4096 * new.memory.pages) (field_bytes cells)) (sym same.cells)));
-    undo = ap (λ (m : MemoryState). m.writes_left) same.memory ∙ s.undo;
+    undo = ap (λ (m : MemoryState). m.undo) same.memory ∙ s.undo;
     patches = subst (λ (m : MemoryState). m.patches ≤ 2 ^ 64 - 1) (sym same.memory) s.patches;
     maps = subst (λ (m : MemoryState). m.maps ≤ 2 ^ 64 - 1) (sym same.memory) s.maps;
   }

@@ -157,7 +157,7 @@ module _ (m n : Machine) (s : Staged) (parts : AreParts m) (new : List Cell) (st
         ap (λ (spans : List (ℕ × ℕ)). sealed_before ++ spans) (ap spans_of st.fields ∙ (spans_are placed newcomers ∙ ap field_bytes (sym st.cells)))
         ∙ (sym (flat_map-append own_field_bytes m.cells.items s.cells.items) ∙ ap field_bytes (sym c.cells))
 
-    module _ (mid_sealed : mid.sealed ≡ m.memory.sealed) (mid_undo : mid.writes_left ≡ None) (few_patches : mid.patches ≤ 2 ^ 64 - 1) (few_maps : mid.maps ≤ 2 ^ 64 - 1) where
+    module _ (mid_sealed : mid.sealed ≡ m.memory.sealed) (mid_undo : mid.undo ≡ None) (few_patches : mid.patches ≤ 2 ^ 64 - 1) (few_maps : mid.maps ≤ 2 ^ 64 - 1) where
       seals_before : mid.sealed ≡ seal_table mid.base (4096 * mid.pages) sealed_before
       seals_before =
           mid_sealed
@@ -183,7 +183,7 @@ module _ (m n : Machine) (s : Staged) (parts : AreParts m) (new : List Cell) (st
           base = ap (λ (x : SpaceState). x.base) c.space ∙ (st.base ∙ sym base_is);
           sections = keys_are;
           seals = seals_are;
-          undo = ap (λ (x : MemoryState). x.writes_left) c.memory ∙ written_undo mid s.fields.items mid_undo;
+          undo = ap (λ (x : MemoryState). x.undo) c.memory ∙ written_undo mid s.fields.items mid_undo;
           patches = let k = patches_raised few_patches in omega (arith, k);
           maps = let k = maps_raised in omega (arith, k, few_maps);
         };

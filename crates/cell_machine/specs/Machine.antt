@@ -60,7 +60,7 @@ pub record AreParts (m : Machine) : Type 0 where
   pub base : m.space.base ≡ m.memory.base
   pub sections : m.graph.sections ≡ keys_of m.cells.items
   pub seals : m.memory.sealed ≡ seal_table m.memory.base (4096 * m.memory.pages) (field_bytes m.cells.items)
-  pub undo : m.memory.writes_left ≡ None
+  pub undo : m.memory.undo ≡ None
   pub patches : m.memory.patches ≤ 2 ^ 64 - 1
   pub maps : m.memory.maps ≤ 2 ^ 64 - 1
 

@@ -1,5 +1,5 @@
 -- Regions that stand at the pages that they begin at.
-use Rattle.std.proofs.Common.{◌≡◌, ℕ, zero, suc, ◌+◌, ◌-◌, ◌*◌, ◌/◌, ◌<◌, ◌≤◌, Bool, true, false, not, cond, ◌&&◌, List, [], ◌∷◌, Option, Some, None, length, map, filter, replicate, get_or, ltb, refl, sym, ap, ◌∙◌, subst, arith}
+use Rattle.std.proofs.Common.{◌≡◌, ℕ, zero, suc, ◌+◌, ◌*◌, ◌<◌, ◌≤◌, Bool, true, false, not, cond, List, [], ◌∷◌, Option, Some, None, length, map, filter, replicate, get_or, refl, sym, ap, ◌∙◌, subst, arith}
 use Rattle.std.specs.List.{find, list_all}
 use Rattle.std.proofs.Math.ListN.{set}
 use Rattle.std.proofs.lemmas.Bool.{and_parts, lt-ltb, le-ltb, ne_eqb, eq-eqb}
@@ -8,7 +8,7 @@ use Rattle.cell_world.specs.Memory.{covers, end_of, written}
 use Rattle.cell_world.specs.Place.{with_region}
 use Rattle.cell_mem.specs.Index.{IsLaid, AreInPlace, held}
 use Rattle.cell_mem.specs.Writing.{put}
-use Rattle.cell_mem.proofs.Laid.{Lies, laid_low, covers_low, covers_high, not_below, not_above}
+use Rattle.cell_mem.proofs.Laid.{Lies, laid_low, covers_low, covers_high, not_above}
 use Rattle.cell_mem.proofs.Removing.{starts_at}
 use Rattle.cell_mem.proofs.Writes.{untouched}
 

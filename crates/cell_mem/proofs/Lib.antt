@@ -8,5 +8,6 @@ pub mod Inserting
 pub mod Removing
 pub mod Reading
 pub mod Soundness
-pub mod Undo
+pub mod Noting
 pub mod Writes
+pub mod Back

@@ -1,5 +1,5 @@
 -- Which region has the bytes of an access.
-use Rattle.std.proofs.Common.{◌≡◌, ℕ, zero, suc, ◌+◌, ◌%◌, ◌<◌, ◌≤◌, Bool, true, false, List, [], ◌∷◌, Option, Some, None, length, get_or, leb, refl, sym, ap, ◌∙◌, subst, ⊎_elim, ◌⊎◌, inl, inr, arith}
+use Rattle.std.proofs.Common.{◌≡◌, ℕ, ◌+◌, ◌%◌, ◌<◌, ◌≤◌, Bool, true, false, Option, Some, None, leb, refl, sym, ap, ◌∙◌, ⊎_elim, ◌⊎◌, inl, inr, arith}
 use Rattle.std.specs.Prelude.{option_map, option_and_then, is_some, IfSome, IfOk, OnOk, eqb, ◌||◌}
 use Rattle.std.specs.Borrow.{Bor}
 use Rattle.std.specs.Option.{ok_or}
@@ -27,6 +27,14 @@ pub record Mapped (m : MemoryState) (addr n : ℕ) : Type 0 where
   pub region : Region
   pub found : region_of m addr ≡ Some region
   pub has : HasBytes region addr n
+
+-- the region that is found has them
+pub has_found : (m : MemoryState) (addr n : ℕ) (r : Region) → region_of m addr ≡ Some r → is_some (region_with m addr n) ≡ true → HasBytes r addr n
+has_found m addr n r found e =
+    record {
+      low = covers_low r addr (found_passes (λ s. covers s addr) m.regions r found);
+      high = enough r addr n (sym (ap (λ o. is_some (option_and_then (λ s. where_true (leb (addr + n) (end_of s)) s) o)) found) ∙ e);
+    }
 
 pub mapped_is : (m : MemoryState) (addr n : ℕ) (high : ℕ) → IsLaid m.base m.regions high → is_some (region_with m addr n) ≡ true → Mapped m addr n
 mapped_is m addr n high laid e = go (region_of m addr) refl e

@@ -1,5 +1,5 @@
 -- What always holds of a memory's fields, seen from its value, and after its regions changed.
-use Rattle.std.proofs.Common.{◌≡◌, ℕ, suc, ◌+◌, ◌-◌, ◌*◌, ◌^◌, ◌/◌, ◌<◌, ◌≤◌, Bool, true, false, not, cond, List, Option, Some, None, length, map, filter, leb, ◌⊎◌, ⊎_elim, get_or, refl, sym, ap, ◌∙◌, subst, arith}
+use Rattle.std.proofs.Common.{◌≡◌, ℕ, suc, ◌+◌, ◌-◌, ◌*◌, ◌^◌, ◌/◌, ◌<◌, ◌≤◌, Bool, true, false, not, List, Option, Some, None, length, map, filter, leb, ⊎_elim, get_or, refl, sym, ap, ◌∙◌, subst, arith}
 use Rattle.std.specs.Prelude.{is_some, option_map, IfSome, IsSomeAnd}
 use Rattle.std.specs.List.{find, list_all}
 use Rattle.std.proofs.Math.ListN.{set}
@@ -11,15 +11,15 @@ use Rattle.cell_world.specs.World.{Region, Permission}
 use Rattle.cell_world.specs.Memory.{covers, end_of, written}
 use Rattle.cell_world.specs.Pages.{filled}
 use Rattle.cell_world.specs.Place.{with_region}
+use Rattle.cell_world.specs.Undo.{put_in}
 use Rattle.cell_mem.specs.declared.memory.Memory.TheInside.{Inside}
 use Rattle.cell_mem.specs.Inside.{IsSound, state_of}
 use Rattle.cell_mem.specs.Index.{IsLaid, IsWhole, IsIndex, AreInPlace, held, first_page, covers_page}
-use Rattle.cell_mem.specs.State.{MemoryState, IsRoom, region_of, region_with, region_from, size_of, one_less, one_more, written_at, mapped, unmapped}
+use Rattle.cell_mem.specs.State.{MemoryState, IsRoom, region_of, region_with, region_from, size_of, one_more, write_at, mapped, unmapped}
 use Rattle.cell_mem.specs.Writing.{HasBytes, put}
-use Rattle.cell_mem.proofs.Filling.{length-filled}
-use Rattle.cell_mem.proofs.Held.{Stands, found_stands, in_place_set, held_new, held_less, held_put, passes_at, starts, lies_at, one_held_more, one_held_less}
+use Rattle.cell_mem.proofs.Held.{found_stands, in_place_set, held_new, held_less, held_put, passes_at, starts, lies_at, one_held_more, one_held_less}
 use Rattle.cell_mem.proofs.Inserting.{is_apart, laid_with, find_with, find_new, apart_covers}
-use Rattle.cell_mem.proofs.Laid.{Lies, find_lies, covers_from}
+use Rattle.cell_mem.proofs.Laid.{Lies, find_lies}
 use Rattle.cell_mem.proofs.Marking.{marked, run_inside}
 use Rattle.cell_mem.proofs.Reading.{mapped_is}
 use Rattle.cell_mem.proofs.Removing.{starts_at, laid_less, find_left, find_gone}
@@ -260,10 +260,13 @@ pub few_written : (i : Inside) (addr : ℕ) (new : List ℕ) (pages : List (Opti
 few_written i addr new pages s w = omega (arith, s.few, ap length w.regions, length-map (held i.regions.items) (λ r. written r addr new))
 
 pub state_written : (i : Inside) (addr width value : ℕ) (pages : List (Option Region)) → Written i addr (bytes_of width value) pages
-    → (let old : MemoryState = state_of i in let new : MemoryState = record old { regions = held pages; writes_left = one_less old.writes_left } in new ≡ written_at old addr width value)
+    → (let old : MemoryState = state_of i in
+    let new : MemoryState = record old { regions = held pages } in
+    let wanted : MemoryState = record old { regions = put_in old.regions (write_at addr width value) } in
+    new ≡ wanted)
 state_written i addr width value pages w =
     let old : MemoryState = state_of i in
-    ap (λ (rs : List Region). let new : MemoryState = record old { regions = rs; writes_left = one_less old.writes_left } in new) w.regions
+    ap (λ (rs : List Region). let new : MemoryState = record old { regions = rs } in new) w.regions
 
 module _ (i : Inside) (m : MemoryState) (start : ℕ) (p : Permission) (bytes : List ℕ) (s : IsSound i) (e : state_of i ≡ m) (room : IsRoom m start (length bytes)) where
   here : IsRoom (state_of i) start (length bytes)

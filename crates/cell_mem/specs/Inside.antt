@@ -13,7 +13,7 @@ state_of m =
       regions = held m.regions.items;
       sealed = m.sealed.items;
       spare = m.spare;
-      writes_left = m.writes_left;
+      undo = m.undo;
       patches = m.patches;
       maps = m.maps;
     }

@@ -2,6 +2,8 @@ pub mod Access
 pub mod Index
 pub mod Inside
 pub mod Perm
+pub mod Records
 pub mod Region
 pub mod State
+pub mod Undo
 pub mod Writing

@@ -6,26 +6,31 @@
 --     is_sealed m addr n                one of these bytes is sealed
 --     written_at m addr width value     m with the number's low bytes from the address on
 --     patched_at, sealed_at             what a patch and a seal leave
---     IsRoom m start n, mapped, unmapped, one_less, one_more
-use Rattle.std.specs.Prelude.{◌≡◌, ◌≤◌, ℕ, ◌+◌, ◌-◌, ◌*◌, ◌%◌, ◌^◌, ◌==◌, nat_le, Bool, true, false, not, ◌||◌, List, [], ◌∷◌, Option, Some, None, length, filter, find, map, min, max, replicate, slice_range, option_map, option_and_then}
+--     IsRoom m start n, mapped, unmapped, one_more
+--     HasWrites m n                     where an undo is begun, so many writes are left
+--     begun_at m n, undone_at m         with an undo begun, and gone back by it
+--     journal_in m                      the records of the begun undo
+use Rattle.std.specs.Prelude.{◌≡◌, ◌≤◌, ℕ, ◌+◌, ◌-◌, ◌*◌, ◌%◌, ◌^◌, ◌==◌, nat_le, Bool, true, false, not, ◌||◌, List, [], ◌∷◌, Option, Some, None, length, filter, find, min, max, replicate, slice_range, option_map, option_and_then, unwrap_or, IfSome}
 use Rattle.std.specs.List.{list_any, list_all}
-use Rattle.cell_num.specs.Bits.{bytes_of}
 use Rattle.cell_num.specs.Lists.{holds, where_true}
 use Rattle.cell_world.specs.World.{Region, Permission}
-use Rattle.cell_world.specs.Memory.{covers, end_of, written}
+use Rattle.cell_world.specs.Memory.{covers, end_of}
 pub use Rattle.cell_world.specs.Memory.{part_of}
 use Rattle.cell_world.specs.Pages.{filled}
 use Rattle.cell_world.specs.Place.{with_region}
+use Rattle.cell_world.specs.declared.transfer.Record.{Record}
+use Rattle.cell_world.specs.Undo.{Write, put_in, record_of, undone}
+use Rattle.cell_mem.specs.Undo.{UndoState, begun, noted}
 
 -- regions ascend by their starts; `sealed` has one Bool a byte of the space; `spare` is how many regions
--- more can be mapped without memory; writes are counted only while an undo is begun
+-- more can be mapped without memory
 pub record MemoryState : Type 0 where
   pub base : ℕ
   pub pages : ℕ
   pub regions : List Region
   pub sealed : List Bool
   pub spare : ℕ
-  pub writes_left : Option ℕ
+  pub undo : Option UndoState
   pub patches : ℕ
   pub maps : ℕ
 
@@ -49,19 +54,23 @@ is_sealed m addr n = list_any (λ sealed. sealed) (slice_range m.sealed (addr - 
 abbrev pub is_width : ℕ → Bool
 is_width = holds (1 ∷ 2 ∷ 4 ∷ 8 ∷ [])
 
-abbrev pub one_less : Option ℕ → Option ℕ
-one_less = option_map (λ left. left - 1)
-
 -- a count stands still at the last value of 64 bits
 abbrev pub one_more : ℕ → ℕ
 one_more count = min (count + 1) (2 ^ 64 - 1)
 
--- the lowest byte first, whatever the region's permission; it takes one of the writes of a begun undo
+-- where an undo is begun, so many writes are left
+abbrev pub HasWrites : MemoryState → ℕ → Type 0
+HasWrites m n = IfSome m.undo (λ u. n ≤ u.left)
+
+abbrev pub write_at : ℕ → ℕ → ℕ → Write
+write_at addr width value = record { addr = addr; width = width; value = value }
+
+-- the lowest byte first, whatever the region's permission; a begun undo notes what is displaced
 abbrev pub written_at : MemoryState → ℕ → ℕ → ℕ → MemoryState
 written_at m addr width value =
     record m {
-      regions = map (λ r. written r addr (bytes_of width value)) m.regions;
-      writes_left = one_less m.writes_left;
+      regions = put_in m.regions (write_at addr width value);
+      undo = noted (record_of m.regions (write_at addr width value)) m.undo;
     }
 
 abbrev pub patched_at : MemoryState → ℕ → ℕ → ℕ → MemoryState
@@ -107,6 +116,17 @@ unmapped m start =
 abbrev pub reserved : MemoryState → ℕ → MemoryState
 reserved m regions = record m { spare = max m.spare regions }
 
+abbrev pub begun_at : MemoryState → ℕ → MemoryState
+begun_at m writes = record m { undo = Some (begun writes) }
+
+-- none where no undo is begun
+abbrev pub journal_in : MemoryState → List Record
+journal_in m = unwrap_or (option_map (λ u. u.journal) m.undo) []
+
+-- what each write displaced is there again, where it is still mapped
+abbrev pub undone_at : MemoryState → MemoryState
+undone_at m = record m { regions = undone m.regions (journal_in m); undo = None }
+
 -- the memory of a space before the first region is mapped
 abbrev pub empty_memory : ℕ → ℕ → MemoryState
 empty_memory base pages =
@@ -116,7 +136,7 @@ empty_memory base pages =
       regions = [];
       sealed = replicate (4096 * pages) false;
       spare = 0;
-      writes_left = None;
+      undo = None;
       patches = 0;
       maps = 0;
     }

@@ -1,5 +1,5 @@
 //! The modelled memory: regions with permissions, seals, and the calls that read and write them.
-//! Its memory is taken by `new`.
+//! Their memory is taken by `new`, and that of an undo's records by `begin_undo`.
 #![tactic(auto)]
 
 mod fault;
@@ -8,6 +8,7 @@ mod memory;
 mod number;
 mod perm;
 mod region;
+mod undo;
 
 pub use fault::MemFault;
 pub use memory::Memory;

@@ -1,26 +1,30 @@
 //! The memory and its calls.
 
-ghost use Rattle.std.specs.Prelude.{◌≡◌, ◌≢◌, ◌<◌, ◌+◌, ◌*◌, ◌/◌, ◌-◌, ◌≤◌, Some, None, Ok, Err, true, false, length, find, replicate, slice_set, slice_index_or, is_some, option_map, IfSome, IsSomeAnd, IfOk, IfErr, OnOk, OnErr};
+ghost use Rattle.std.specs.Prelude.{ℕ, ◌≡◌, ◌≢◌, ◌<◌, ◌+◌, ◌*◌, ◌/◌, ◌-◌, ◌≤◌, Some, None, Ok, Err, true, false, length, find, replicate, slice_set, slice_index_or, is_some, option_map, IfSome, IsSomeAnd, IfOk, IfErr, OnOk, OnErr};
 ghost use Rattle.std.specs.Result.{result_map_both};
 ghost use Rattle.cell_num.specs.Bits.{bytes_of};
 ghost use Rattle.cell_world.specs.Memory.{covers};
 ghost use Rattle.cell_world.specs.Pages.{IsSpace};
+ghost use Rattle.cell_world.specs.Undo.{put_back, put_in, record_of};
 ghost use Rattle.cell_mem.specs.Access.{fetched, loaded, region_for, storable, stored};
 ghost use Rattle.cell_mem.specs.Index.{IsLaid, IsWhole, first_page};
 ghost use Rattle.cell_mem.specs.Perm.{permission_of};
-ghost use Rattle.cell_mem.specs.State.{IsRoom, MemoryState, bytes_at, empty_memory, is_sealed, is_width, mapped, one_less, patched_at, region_from, region_of, region_with, reserved, sealed_at, size_of, unmapped, written_at};
+ghost use Rattle.cell_mem.specs.State.{HasWrites, IsRoom, MemoryState, begun_at, bytes_at, empty_memory, is_sealed, is_width, journal_in, mapped, patched_at, region_from, region_of, region_with, reserved, sealed_at, size_of, undone_at, unmapped, write_at, written_at};
+ghost use Rattle.cell_mem.specs.Undo.{noted};
 ghost use Rattle.cell_mem.specs.Writing.{HasBytes, put};
 
 use crate::fault::MemFault;
 use crate::fill::{fill, nothing, repeated};
 use crate::perm::Perm;
 use crate::region::Region;
+use crate::undo::Undo;
+use cell_world::Record;
 use std::alloc::{AllocError, Global};
 use std::marker::Model;
 
 /// The regions of the space, each at the page that it begins at; `firsts` has the number of that
 /// page at each page of the region. `sealed` has a mark for each byte of the space. `spare` is how
-/// many regions more a caller may map. `writes_left` is None while no undo is begun.
+/// many regions more a caller may map. `undo` is None while no undo is begun.
 #[derive(Drop)]
 pub struct Memory {
     base: u64,
@@ -29,7 +33,7 @@ pub struct Memory {
     firsts: Vec<Option<usize>>,
     sealed: Vec<bool>,
     spare: usize,
-    writes_left: Option<u32>,
+    undo: Option<Undo>,
     patches: u64,
     maps: u64,
 }
@@ -71,7 +75,7 @@ impl Memory {
             firsts: repeated(alloc, None, pages as usize)?,
             sealed: repeated(alloc, false, 4096 * pages as usize)?,
             spare: 0,
-            writes_left: None,
+            undo: None,
             patches: 0,
             maps: 0,
         })
@@ -224,31 +228,62 @@ impl Memory {
         Ok(())
     }
 
-    /// Takes one of the writes of a begun undo.
-    fn count_write(&mut self)
-        ensures { self.new ≡ record self.old { writes_left = one_less self.old.writes_left } }
+    /// What a write of so many bytes displaces.
+    fn displaced_by(&self, addr: u64, width: u8) -> Record
+        requires width { is_width width ≡ true }
+        requires mapped { is_some (region_with self.now addr width) ≡ true }
+        ensures { (value : ℕ) → result ≡ record_of self.now.regions (write_at addr width value) }
     {
-        self.writes_left = self.writes_left.map(|left| left.saturating_sub(1));
+        match self.region(addr) {
+            Some(region) => Record {
+                addr,
+                width,
+                before: region.number(addr, width),
+            },
+            None => unreachable!(),
+        }
+    }
+
+    /// A begun undo notes what a write is to displace.
+    fn note(&mut self, displaced: Record)
+        requires { HasWrites self.old 1 }
+        ensures { self.new ≡ record self.old { undo = noted displaced self.old.undo } }
+    {
+        match &mut self.undo {
+            Some(undo) => undo.note(displaced),
+            None => {}
+        }
+    }
+
+    /// Puts the number's low bytes in their place, whatever the permission and the seals.
+    fn put(&mut self, addr: u64, width: u8, value: u64)
+        requires { is_some (region_with self.old addr width) ≡ true }
+        ensures { self.new ≡ record self.old { regions = put_in self.old.regions (write_at addr width value) } }
+    {
+        let Some(first) = self.first(addr) else {
+            unreachable!();
+        };
+        write_in(&mut self.regions, first, addr, width, value);
     }
 
     /// Writes the number's low bytes, whatever the permission and the seals.
     fn write(&mut self, addr: u64, width: u8, value: u64)
         requires width { is_width width ≡ true }
         requires mapped { is_some (region_with self.old addr width) ≡ true }
+        requires undo { HasWrites self.old 1 }
         ensures { self.new ≡ written_at self.old addr width value }
     {
-        let Some(first) = self.first(addr) else {
-            unreachable!();
-        };
-        write_in(&mut self.regions, first, addr, width, value);
-        self.count_write();
+        if self.undo.is_some() {
+            self.note(self.displaced_by(addr, width));
+        }
+        self.put(addr, width, value);
     }
 
     /// Writes so many of the number's low bytes, the lowest first, where the region may be written
     /// and none of the bytes is sealed.
     pub fn store(&mut self, addr: u64, width: u8, value: u64) -> Result<(), MemFault>
         requires width { is_width width ≡ true }
-        requires undo { self.old.writes_left ≢ Some 0 }
+        requires undo { HasWrites self.old 1 }
         ensures ok { OnOk result (stored self.old addr width value ≡ Ok self.new) }
         ensures fault { IfErr result (λ fault. stored self.old addr width value ≡ Err fault) }
         ensures err { OnErr result (self.new ≡ self.old) }
@@ -263,7 +298,7 @@ impl Memory {
     pub fn patch(&mut self, addr: u64, width: u8, value: u64)
         requires width { is_width width ≡ true }
         requires mapped { is_some (region_with self.old addr width) ≡ true }
-        requires undo { self.old.writes_left ≢ Some 0 }
+        requires undo { HasWrites self.old 1 }
         ensures { self.new ≡ patched_at self.old addr width value }
     {
         self.write(addr, width, value);
@@ -326,5 +361,61 @@ impl Memory {
         fill(&mut self.firsts, first, size / 4096, None);
         fill(&mut self.sealed, at, size, false);
         self.spare += 1;
+    }
+
+    /// From here on so many writes may be undone: stores that succeed, and patches. The room for their
+    /// records is taken here.
+    pub fn begin_undo(&mut self, alloc: Global, writes: u32) -> Result<(), AllocError>
+        requires { self.old.undo ≡ None }
+        ensures ok { OnOk result (self.new ≡ begun_at self.old writes) }
+        ensures err { OnErr result (self.new ≡ self.old) }
+    {
+        self.undo = Some(Undo::of(alloc, writes)?);
+        Ok(())
+    }
+
+    /// The records of what the writes displaced since the undo was begun, the first first. There are
+    /// none where none is begun.
+    pub fn journal(&self) -> &[Record]
+        ensures { result.now ≡ journal_in self.now }
+    {
+        match &self.undo {
+            Some(undo) => undo.records(),
+            None => &[],
+        }
+    }
+
+    /// Puts back what a write displaced, where it is still mapped.
+    fn put_back(&mut self, displaced: Record)
+        ensures { self.new ≡ record self.old { regions = put_back self.old.regions displaced } }
+    {
+        self.laid_out();
+        let there = self.bytes(displaced.addr, u64::from(displaced.width));
+        if there.is_some() {
+            self.put(displaced.addr, displaced.width, displaced.before);
+        }
+    }
+
+    /// Goes back to where the undo was begun: puts back what each write displaced, the last first.
+    /// Regions that were mapped since stay, and what was unmapped stays so. This takes no memory.
+    pub fn undo(&mut self)
+        requires { is_some self.old.undo ≡ true }
+        ensures { self.new ≡ undone_at self.old }
+    {
+        let Some(undo) = self.undo.take() else {
+            unreachable!();
+        };
+        let records = undo.records();
+        for passed in 0..records.len() {
+            self.put_back(records[records.len() - 1 - passed]);
+        }
+    }
+
+    /// Ends the undo: what was written stays. This takes no memory.
+    pub fn forget(&mut self)
+        requires { is_some self.old.undo ≡ true }
+        ensures { self.new ≡ record self.old { undo = None } }
+    {
+        self.undo = None;
     }
 }

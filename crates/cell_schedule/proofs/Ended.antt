@@ -109,7 +109,7 @@ module _ (old : Machine) (sound : IsSound old) (t : Task) (live : task_of (world
         base = ap (λ (s : SpaceState). s.base) is.space ∙ (sound.base ∙ ap (λ (m : MemoryState). m.base) (sym is.memory));
         sections = is.sections ∙ (sound.sections ∙ ap keys_of (sym is.cells));
         seals = seals_ended;
-        undo = ap (λ (m : MemoryState). m.writes_left) is.memory ∙ sound.undo;
+        undo = ap (λ (m : MemoryState). m.undo) is.memory ∙ sound.undo;
         patches = subst (λ (n : ℕ). n ≤ 2 ^ 64 - 1) (sym patches_ended) sound.patches;
         maps = subst (λ (n : ℕ). n ≤ 2 ^ 64 - 1) (sym maps_ended) sound.maps;
       };

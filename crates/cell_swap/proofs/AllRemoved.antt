@@ -210,7 +210,7 @@ module _ (old : Machine) (sound : IsSound old) (cells : List CellId) where
       base = is.tabled.base;
       sections = is.sections ∙ (ap (sections_without cells) sound.sections ∙ (keys_left cells old.cells.items ∙ ap keys_of (sym is.left)));
       seals = seals_is;
-      undo = ap (λ (m : MemoryState). m.writes_left) is.memory ∙ (same_undo starts old.memory ∙ sound.undo);
+      undo = ap (λ (m : MemoryState). m.undo) is.memory ∙ (same_undo starts old.memory ∙ sound.undo);
       patches = ap (λ (m : MemoryState). m.patches) is.memory ∙ same_patches starts old.memory;
       maps = ap (λ (m : MemoryState). m.maps) is.memory ∙ same_maps starts old.memory;
     }

@@ -36,7 +36,7 @@ pub same_pages : (starts : List ℕ) (m : MemoryState) → (without_regions m st
 same_pages [] m = refl
 same_pages (s ∷ starts) m = same_pages starts (unmapped m s)
 
-pub same_undo : (starts : List ℕ) (m : MemoryState) → (without_regions m starts).writes_left ≡ m.writes_left
+pub same_undo : (starts : List ℕ) (m : MemoryState) → (without_regions m starts).undo ≡ m.undo
 same_undo [] m = refl
 same_undo (s ∷ starts) m = same_undo starts (unmapped m s)
 

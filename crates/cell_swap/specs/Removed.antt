@@ -16,6 +16,6 @@ pub record IsRemoved (old : Machine) (cells : List CellId) (new : Machine) : Typ
   pub base : new.space.base ≡ new.memory.base
   pub sections : new.graph.sections ≡ keys_of new.cells.items
   pub seals : new.memory.sealed ≡ seal_table new.memory.base (4096 * new.memory.pages) (field_bytes new.cells.items)
-  pub undo : new.memory.writes_left ≡ None
+  pub undo : new.memory.undo ≡ None
   pub patches : new.memory.patches ≡ old.memory.patches
   pub maps : new.memory.maps ≡ old.memory.maps

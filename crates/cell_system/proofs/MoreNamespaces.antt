@@ -97,7 +97,7 @@ module _ (old new : Machine) (sound : IsSound old) (name parent : List ℕ) (up 
       seals =
           ap (λ (m : Machine). m.memory.sealed) others
           ∙ (sound.seals ∙ ap (λ (m : Machine). seal_table m.memory.base (4096 * m.memory.pages) (field_bytes m.cells.items)) (sym others));
-      undo = ap (λ (m : Machine). m.memory.writes_left) others ∙ sound.undo;
+      undo = ap (λ (m : Machine). m.memory.undo) others ∙ sound.undo;
       patches = subst (λ (m : Machine). m.memory.patches ≤ 2 ^ 64 - 1) (sym others) sound.patches;
       maps = subst (λ (m : Machine). m.memory.maps ≤ 2 ^ 64 - 1) (sym others) sound.maps;
     };

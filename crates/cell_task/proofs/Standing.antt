@@ -54,15 +54,15 @@ module _ (s : TasksState) (m : MemoryState) (number : ℕ) (t : LiveTask) (laid 
       (subst (λ (x : MemoryState). let y : TasksState = record s { tasks = (turned_in s m (seen_as number t)).world.tasks } in Stacked y x) (sym turn.memory) (leaves (moved m t laid).state))
 
 pub undo_stays : (s : TasksState) (m : MemoryState) (t : Task) (out : List ℕ) (answer : Answer) (s' : TasksState) (m' : MemoryState) (out' : List ℕ)
-    → IsTurn s m t out answer s' m' out' → m.writes_left ≡ None → m'.writes_left ≡ None
-undo_stays s m t out answer s' m' out' turn none = ap (λ (k : MemoryState). k.writes_left) turn.memory ∙ go (turned_in s m t).state (turned_in s m t).world.regions ∙ none
+    → IsTurn s m t out answer s' m' out' → m.undo ≡ None → m'.undo ≡ None
+undo_stays s m t out answer s' m' out' turn none = ap (λ (k : MemoryState). k.undo) turn.memory ∙ go (turned_in s m t).state (turned_in s m t).world.regions ∙ none
   where
     go : (state : TaskState) (regions : List Region)
         → (elim state as (λ _. MemoryState) [
           | IsReady ↦ record m { regions = regions }
           | IsDone code ↦ record (unmapped m t.stack) { regions = regions }
           | IsFault cause pc ↦ record m { regions = regions }
-        ]).writes_left ≡ m.writes_left
+        ]).undo ≡ m.undo
     go IsReady regions = refl
     go (IsDone code) regions = refl
     go (IsFault cause pc) regions = refl

@@ -11,6 +11,6 @@ mod words;
 
 pub use numbers::Numbers;
 pub use task::{Task, TaskFault};
-pub use tasks::{STACK_SIZE, Tasks};
+pub use tasks::Tasks;
 pub use turned::Turned;
 pub use words::stack_bytes;

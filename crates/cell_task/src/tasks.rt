@@ -18,9 +18,6 @@ use slab::Slab;
 use std::alloc::{AllocError, Global};
 use std::marker::Model;
 
-/// The bytes of a stack.
-pub const STACK_SIZE: u64 = 16384;
-
 /// The arena of the live tasks, their numbers, ascending, and for each number the task's key in
 /// the arena. Contracts see the tasks in the order of their numbers, and the next number.
 #[derive(Drop)]
@@ -41,17 +38,6 @@ impl Model for Tasks {
     ghost view = { state_of };
 
     ghost invariant = { IsSound };
-}
-
-/// The registers of a new task: all are 0 but x2, 16 bytes below the stack's end, and x10.
-fn first_registers(arg: u64, stack: u64) -> [u64; 32]
-    requires { stack + 16384 < 2 ^ 64 }
-    ensures { result ≡ slice_set (slice_set (replicate 32 0) 10 arg) 2 (stack + 16384 - 16) }
-{
-    let mut x = [0u64; 32];
-    x[10] = arg;
-    x[2] = stack + (STACK_SIZE - 16);
-    x
 }
 
 /// The place of a number among numbers that rise.
@@ -125,10 +111,7 @@ impl Tasks {
         self.arena.reserve(1)?;
         let task = Task {
             root,
-            hart: Hart {
-                pc: entry,
-                x: first_registers(arg, stack),
-            },
+            hart: Hart::begin(entry, arg, stack),
             stack,
             fault: None,
         };
@@ -162,7 +145,7 @@ impl Tasks {
     pub fn turn(&mut self, task: u32, memory: &mut Memory, out: &mut Vec<u8>) -> Turned
         requires ready { IsReady self.old task }
         requires stack { (t : WorldTask) → live_in self.old task ≡ Some t → is_some (region_from memory.old t.stack) ≡ true }
-        requires undo { memory.old.writes_left ≡ None }
+        requires undo { memory.old.undo ≡ None }
         requires room { vec_len out.old + 20 ≤ vec_capacity out.old }
         ensures turned { (t : WorldTask) → live_in self.old task ≡ Some t → IsTurn self.old memory.old t out.old.items result self.new memory.new out.new.items }
         ensures room { vec_capacity out.new ≡ vec_capacity out.old }

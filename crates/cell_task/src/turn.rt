@@ -68,7 +68,7 @@ impl Task {
 
     /// An instruction, or a call, which puts out at most 20 bytes.
     pub(crate) fn turn(&mut self, memory: &mut Memory, out: &mut Vec<u8>) -> Turned
-        requires undo { memory.old.writes_left ≡ None }
+        requires undo { memory.old.undo ≡ None }
         requires room { vec_len out.old + 20 ≤ vec_capacity out.old }
         ensures ran { IsRan (move task_column (seen_of memory.old) (hart_as self.old.hart)) result self.old self.new out.old.items out.new.items }
         ensures memory { memory.new ≡ record memory.old { regions = (move task_column (seen_of memory.old) (hart_as self.old.hart)).regions } }

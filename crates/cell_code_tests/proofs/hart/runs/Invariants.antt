@@ -3,4 +3,4 @@ use Rattle.cell_code_tests.proofs.hart.runs.Given as goal
 
 -- no undo is begun
 abbrev pub invariant-loop-want : goal.invariant-loop-want
-invariant-loop-want g l = l.memory.writes_left ≡ None
+invariant-loop-want g l = l.memory.undo ≡ None

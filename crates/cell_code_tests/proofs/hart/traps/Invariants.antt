@@ -3,4 +3,4 @@ use Rattle.cell_code_tests.proofs.hart.traps.Given as goal
 
 -- no undo is begun
 abbrev pub invariant-loop-pc : goal.invariant-loop-pc
-invariant-loop-pc g l = l.memory.writes_left ≡ None
+invariant-loop-pc g l = l.memory.undo ≡ None

@@ -3,4 +3,4 @@ use Rattle.cell_code_tests.proofs.mem.walk.Given as goal
 
 -- no undo is begun
 abbrev pub invariant-loop-addr : goal.invariant-loop-addr
-invariant-loop-addr g l = l.memory.writes_left ≡ None
+invariant-loop-addr g l = l.memory.undo ≡ None

@@ -7,6 +7,6 @@ use Rattle.cell_code_tests.proofs.task.run_code.Given as goal
 -- no undo is begun, and the stack is mapped while the task is live
 abbrev pub invariant-loop : goal.invariant-loop
 invariant-loop l = record {
-  undo : l.memory.writes_left ≡ None;
+  undo : l.memory.undo ≡ None;
   stack : (t : Task) → live_in l.tasks 1 ≡ Some t → is_some (region_from l.memory t.stack) ≡ true;
 }

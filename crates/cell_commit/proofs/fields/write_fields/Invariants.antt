@@ -1,5 +1,6 @@
-use Rattle.std.proofs.Common.{◌≡◌, None, drop}
+use Rattle.std.proofs.Common.{◌≡◌, ◌-◌, drop, length}
 use Rattle.std.specs.Prelude.{All}
+use Rattle.cell_mem.specs.State.{HasWrites}
 use Rattle.cell_commit.specs.Commit.{IsMapped, fields_written}
 use Rattle.cell_commit.proofs.fields.write_fields.Given as goal
 
@@ -7,6 +8,6 @@ use Rattle.cell_commit.proofs.fields.write_fields.Given as goal
 abbrev pub invariant-loop-field : goal.invariant-loop-field
 invariant-loop-field l = record {
   written : fields_written l.memory (drop l.field-index l.fields) ≡ fields_written l.fn.memory l.fields;
-  undo : l.memory.writes_left ≡ None;
+  undo : HasWrites l.memory (length l.fields - l.field-index);
   mapped : All (IsMapped l.memory) l.fields;
 }

@@ -3,17 +3,27 @@ use Rattle.std.specs.Prelude.{All, Contains}
 use Rattle.cell_num.specs.declared.ids.SecKey.{SecKey}
 use Rattle.cell_world.specs.declared.state.LinkRow.{LinkRow}
 use Rattle.cell_commit.specs.Commit.{fields_patched, fields_written}
-use Rattle.cell_commit.proofs.Writing.{patched_undo}
+use Rattle.cell_commit.proofs.Mapping.{mapped_writes}
+use Rattle.cell_commit.proofs.Writing.{patched_leaves}
+use Rattle.cell_mem.proofs.Noting.{fewer_writes}
 use Rattle.cell_graph.specs.Moves.{moved}
 use Rattle.cell_link.specs.declared.value.FieldValue.{FieldValue}
-use Rattle.cell_mem.specs.State.{MemoryState}
+use Rattle.cell_mem.specs.State.{HasWrites, MemoryState}
 use Rattle.cell_load.proofs.Committed.{sections_are}
 use Rattle.cell_load.proofs.add.commit.Goals as goal
 
+pub patch_fields-requires-clause-undo : goal.patch_fields-requires-clause-undo
+patch_fields-requires-clause-undo c =
+    mapped_writes c.args.machine.now.memory c.map_regions.new.memory c.args.staged.regions.items (length c.args.patches.now) c.map_regions.ensures
+    (fewer_writes c.args.machine.now.memory (length c.args.patches.now + length c.args.staged.fields.items) (length c.args.patches.now) (omega arith) c.requires.undo)
+
 pub write_fields-requires-clause-undo : goal.write_fields-requires-clause-undo
 write_fields-requires-clause-undo c =
-    ap (λ (m : MemoryState). m.writes_left) c.patch_fields.ensures.patched
-    ∙ patched_undo _ c.args.patches.now (ap (λ (m : MemoryState). m.writes_left) c.map_regions.ensures ∙ c.requires.undo)
+    let patches = c.args.patches.now in
+    let fields = c.args.staged.fields.items in
+    let before = mapped_writes c.args.machine.now.memory c.map_regions.new.memory c.args.staged.regions.items (length patches + length fields) c.map_regions.ensures c.requires.undo in
+    subst (λ (m : MemoryState). HasWrites m (length c.deref.result.now)) (sym c.patch_fields.ensures.patched)
+    (subst (λ (xs : List FieldValue). HasWrites (fields_patched c.map_regions.new.memory patches) (length xs)) (sym c.deref.ensures.value) (patched_leaves c.map_regions.new.memory patches (length fields) before))
 
 pub move_rows-requires-clause-present : goal.move_rows-requires-clause-present
 move_rows-requires-clause-present c =
