@@ -1,16 +1,15 @@
 -- Putting back what a write displaced is a write into the one region that covers the address, where it has all the bytes.
-use Rattle.std.proofs.Common.{◌≡◌, ℕ, ◌+◌, ◌-◌, ◌<◌, ◌≤◌, Bool, true, false, cond, List, [], ◌∷◌, Option, Some, None, length, map, drop, get_or, leb, refl, sym, ap, ◌∙◌, arith}
+use Rattle.std.proofs.Common.{◌≡◌, ℕ, ◌+◌, ◌-◌, ◌<◌, ◌≤◌, Bool, true, false, cond, List, [], ◌∷◌, Option, Some, None, map, leb, refl, sym, ap, ◌∙◌, arith}
 use Rattle.std.specs.Borrow.{Bor}
 use Rattle.std.specs.Prelude.{is_some, option_and_then, option_map, slice_range}
 use Rattle.std.specs.List.{find}
 use Rattle.std.proofs.lemmas.Bool.{leb-true, le-leb}
-use Rattle.std.proofs.lemmas.List.{drop_more}
 use Rattle.cell_num.specs.Bits.{bytes_of}
 use Rattle.cell_num.specs.Lists.{where_true}
 use Rattle.cell_world.specs.declared.transfer.Record.{Record}
 use Rattle.cell_world.specs.World.{Region}
 use Rattle.cell_world.specs.Memory.{covers, end_of, part_of, written}
-use Rattle.cell_world.specs.Undo.{put_back, put_back_in, put_in, undone}
+use Rattle.cell_world.specs.Undo.{put_back, put_back_in, put_in}
 use Rattle.cell_mem.specs.Index.{IsLaid}
 use Rattle.cell_mem.specs.State.{MemoryState, bytes_at, write_at}
 use Rattle.cell_mem.specs.Writing.{put}

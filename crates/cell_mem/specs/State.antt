@@ -117,15 +117,18 @@ abbrev pub reserved : MemoryState → ℕ → MemoryState
 reserved m regions = record m { spare = max m.spare regions }
 
 abbrev pub begun_at : MemoryState → ℕ → MemoryState
-begun_at m writes = record m { undo = Some (begun writes) }
+begun_at m writes = record m { undo = Some (begun writes m.patches m.maps) }
 
 -- none where no undo is begun
 abbrev pub journal_in : MemoryState → List Record
 journal_in m = unwrap_or (option_map (λ u. u.journal) m.undo) []
 
--- what each write displaced is there again, where it is still mapped
+-- what each write displaced is there again, where it is still mapped, and neither the patches nor the maps count
+abbrev pub undone_by : MemoryState → UndoState → MemoryState
+undone_by m u = record m { regions = undone m.regions u.journal; undo = None; patches = u.patches; maps = u.maps }
+
 abbrev pub undone_at : MemoryState → MemoryState
-undone_at m = record m { regions = undone m.regions (journal_in m); undo = None }
+undone_at m = elim m.undo [ None ↦ m | Some u ↦ undone_by m u ]
 
 -- the memory of a space before the first region is mapped
 abbrev pub empty_memory : ℕ → ℕ → MemoryState

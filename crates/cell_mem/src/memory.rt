@@ -95,14 +95,14 @@ impl Memory {
         self.pages
     }
 
-    /// How many patches there were. The count stands still at its last value.
+    /// How many patches there were, but for those that were undone. The count stands still at its last value.
     pub fn patches(&self) -> u64
         ensures { result ≡ self.now.patches }
     {
         self.patches
     }
 
-    /// How many regions were mapped. The count stands still at its last value.
+    /// How many regions were mapped, but for those of an undo that went back. The count stands still at its last value.
     pub fn maps(&self) -> u64
         ensures { result ≡ self.now.maps }
     {
@@ -370,7 +370,7 @@ impl Memory {
         ensures ok { OnOk result (self.new ≡ begun_at self.old writes) }
         ensures err { OnErr result (self.new ≡ self.old) }
     {
-        self.undo = Some(Undo::of(alloc, writes)?);
+        self.undo = Some(Undo::of(alloc, writes, self.patches, self.maps)?);
         Ok(())
     }
 
@@ -396,8 +396,9 @@ impl Memory {
         }
     }
 
-    /// Goes back to where the undo was begun: puts back what each write displaced, the last first.
-    /// Regions that were mapped since stay, and what was unmapped stays so. This takes no memory.
+    /// Goes back to where the undo was begun: puts back what each write displaced, the last first, and
+    /// what was patched and mapped since doesn't count. Regions that were mapped since stay mapped, and
+    /// what was unmapped stays so. This takes no memory.
     pub fn undo(&mut self)
         requires { is_some self.old.undo ≡ true }
         ensures { self.new ≡ undone_at self.old }
@@ -409,6 +410,8 @@ impl Memory {
         for passed in 0..records.len() {
             self.put_back(records[records.len() - 1 - passed]);
         }
+        self.patches = undo.patches();
+        self.maps = undo.maps();
     }
 
     /// Ends the undo: what was written stays. This takes no memory.

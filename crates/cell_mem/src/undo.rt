@@ -7,11 +7,14 @@ use cell_world::Record;
 use std::alloc::{AllocError, Global};
 use std::marker::Model;
 
-/// The records of what writes displaced, with room for those of the writes that are left.
+/// The records of what writes displaced, with room for those of the writes that are left, and how
+/// many patches and maps there were before.
 #[derive(Drop)]
 pub struct Undo {
     left: u32,
     records: Vec<Record>,
+    patches: u64,
+    maps: u64,
 }
 
 impl Model for Undo {
@@ -28,13 +31,15 @@ impl Model for Undo {
 
 impl Undo {
     /// For so many writes. The room for their records is taken here.
-    pub fn of(alloc: Global, writes: u32) -> Result<Undo, AllocError>
-        ensures { IfOk result (λ undo. undo ≡ begun writes) }
+    pub fn of(alloc: Global, writes: u32, patches: u64, maps: u64) -> Result<Undo, AllocError>
+        ensures { IfOk result (λ undo. undo ≡ begun writes patches maps) }
     {
         let records = Vec::with_capacity(alloc, writes as usize)?;
         Ok(Undo {
             left: writes,
             records,
+            patches,
+            maps,
         })
     }
 
@@ -43,6 +48,20 @@ impl Undo {
         ensures { result.now ≡ self.now.journal }
     {
         self.records.as_slice()
+    }
+
+    /// How many patches there were before.
+    pub fn patches(&self) -> u64
+        ensures { result ≡ self.now.patches }
+    {
+        self.patches
+    }
+
+    /// How many maps there were before.
+    pub fn maps(&self) -> u64
+        ensures { result ≡ self.now.maps }
+    {
+        self.maps
     }
 
     /// Appends the record of a write.
