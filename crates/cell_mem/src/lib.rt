@@ -13,3 +13,4 @@ mod undo;
 pub use fault::MemFault;
 pub use memory::Memory;
 pub use perm::Perm;
+pub use undo::Undo;

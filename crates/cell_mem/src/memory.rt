@@ -421,4 +421,24 @@ impl Memory {
     {
         self.undo = None;
     }
+
+    /// Takes the undo out for a while: meanwhile nothing may be written that it is to undo.
+    pub fn suspend_undo(&mut self) -> Undo
+        requires { is_some self.old.undo ≡ true }
+        ensures undo { self.old.undo ≡ Some result }
+        ensures out { self.new ≡ record self.old { undo = None } }
+    {
+        match self.undo.take() {
+            Some(undo) => undo,
+            None => unreachable!(),
+        }
+    }
+
+    /// Goes on with an undo that was taken out.
+    pub fn resume_undo(&mut self, undo: Undo)
+        requires { self.old.undo ≡ None }
+        ensures { self.new ≡ record self.old { undo = Some undo } }
+    {
+        self.undo = Some(undo);
+    }
 }
