@@ -5,8 +5,9 @@ use Rattle.cell_num.specs.Bits.{bytes_of}
 use Rattle.cell_world.specs.World.{Region}
 use Rattle.cell_world.specs.Layout.{permission_of}
 use Rattle.cell_world.specs.declared.layout.Class.TheVariants.{Text, Writable}
-use Rattle.cell_world.specs.Transfer.{Addresses, Failure, Transferred, transferred}
-use Rattle.cell_world.specs.Undo.{Record}
+use Rattle.cell_world.specs.declared.transfer.Failure.{Failure}
+use Rattle.cell_world.specs.Transfer.{Addresses, Transferred, transferred}
+use Rattle.cell_world.specs.declared.transfer.Record.{Record}
 
 -- at 0x10000
 abbrev pub text : List ℕ → Region

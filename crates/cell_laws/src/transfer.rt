@@ -6,7 +6,8 @@ ghost use Rattle.cell_num.specs.declared.ids.Why.TheVariants.{Budget, Returned, 
 ghost use Rattle.cell_world.specs.Coherent.{IsCoherent};
 ghost use Rattle.cell_world.specs.Execute.{Seen, seen_in};
 ghost use Rattle.cell_world.specs.Place.{start_of_run};
-ghost use Rattle.cell_world.specs.Transfer.{Addresses, Routine, after_turns, transfer, transferred};
+ghost use Rattle.cell_world.specs.declared.transfer.Routine.{Routine};
+ghost use Rattle.cell_world.specs.Transfer.{Addresses, after_turns, transfer, transferred};
 ghost use Rattle.cell_world.specs.Undo.{undone};
 ghost use Rattle.cell_world.specs.World.{World};
 ghost use Rattle.cell_turns.specs.Kept.{KeepsFields, KeepsReadOnly, KeepsSealed, KeepsShapes};

@@ -14,7 +14,7 @@ use Rattle.cell_world.specs.Layout.{offset_in, sections_in}
 use Rattle.cell_world.specs.declared.layout.Class.TheVariants.{Text}
 use Rattle.cell_world.specs.Target.{start_of}
 use Rattle.cell_world.specs.SpawnCommand.{entry_offset, inside_of, is_entry_in}
-use Rattle.cell_world.specs.Transfer.{Routine}
+use Rattle.cell_world.specs.declared.transfer.Routine.{Routine}
 use Rattle.cell_world.specs.SwapTransfer.{Begin, begin_of, definition_named, entry_at, first_definition, routines_in}
 use Rattle.cell_world.specs.SwapCommand.{Plan, plan_swap}
 use Rattle.cell_world.specs.Outcome.{◌>>=◌, found, each}

@@ -13,7 +13,8 @@ use Rattle.cell_world.specs.Place.{is_taken, page_table, start_of_run}
 use Rattle.cell_world.specs.Relink.{relink}
 use Rattle.cell_world.specs.Gather.{Source}
 use Rattle.cell_world.specs.Outcome.{Outcome}
-use Rattle.cell_world.specs.Transfer.{Failure, after_turns, transfer}
+use Rattle.cell_world.specs.declared.transfer.Failure.{Failure}
+use Rattle.cell_world.specs.Transfer.{after_turns, transfer}
 use Rattle.cell_world.specs.SwapTransfer.{stack_for, transferred_by}
 use Rattle.cell_world.specs.SwapCommand.{Plan, plan_swap, addresses_of, with_transfer}
 use Rattle.cell_world.specs.Coherent.{AreSound, IsReady, IsCoherent, Shape, shape_of}

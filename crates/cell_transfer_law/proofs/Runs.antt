@@ -7,7 +7,8 @@ use Rattle.cell_world.specs.World.{World, Region}
 use Rattle.cell_world.specs.Execute.{Seen, seen_in}
 use Rattle.cell_world.specs.Move.{Hart, Move, move}
 use Rattle.cell_world.specs.SpawnCommand.{first_registers}
-use Rattle.cell_world.specs.Transfer.{Addresses, Routine, Ending, Transferred, routine_column, routine_from, is_success, transferred}
+use Rattle.cell_world.specs.declared.transfer.Routine.{Routine}
+use Rattle.cell_world.specs.Transfer.{Addresses, Ending, Transferred, routine_column, routine_from, is_success, transferred}
 
 -- the memory of the machine, with these regions
 abbrev pub seen_with : World → List Region → Seen

@@ -9,7 +9,9 @@ use Rattle.cell_world.specs.SpawnCommand.{with_stack}
 use Rattle.cell_world.specs.Execute.{seen_in}
 use Rattle.cell_world.specs.Memory.{read_in}
 use Rattle.cell_world.specs.Move.{Hart, move}
-use Rattle.cell_world.specs.Transfer.{Addresses, Routine, Failure, routine_column, transferred, transfer, after_turns}
+use Rattle.cell_world.specs.declared.transfer.Routine.{Routine}
+use Rattle.cell_world.specs.declared.transfer.Failure.{Failure}
+use Rattle.cell_world.specs.Transfer.{Addresses, routine_column, transferred, transfer, after_turns}
 use Rattle.cell_world.specs.Turn.{without_region}
 use Rattle.cell_coherent.proofs.Elements.{In, In-All, filter_all}
 use Rattle.cell_coherent.proofs.Places.{Disjoint}

@@ -13,7 +13,8 @@ use Rattle.cell_world.specs.Coherent.{Shape, ends_before, shape_of}
 use Rattle.cell_world.specs.Execute.{number_read}
 use Rattle.cell_world.specs.Place.{with_region}
 use Rattle.cell_world.specs.Turn.{without_region}
-use Rattle.cell_world.specs.Undo.{Write, Record, put_in, put_back, put_back_in, record_of, undone, puts, journal_of, IsPut, ArePuts, AreBytes}
+use Rattle.cell_world.specs.declared.transfer.Record.{Record}
+use Rattle.cell_world.specs.Undo.{Write, put_in, put_back, put_back_in, record_of, undone, puts, journal_of, IsPut, ArePuts, AreBytes}
 use Rattle.cell_coherent.proofs.Elements.{In, In-All, All-In, In-append, In-filtered, In-map, all-In, filter-In, filter-Passes, found-In, map-In, map_same}
 use Rattle.cell_coherent.proofs.FieldsInside.{length-bytes_of}
 use Rattle.cell_coherent.proofs.Patches.{length-pasted}

@@ -1,7 +1,8 @@
 -- An undo that is under way.
 use Rattle.std.specs.Prelude.{All, List}
 use Rattle.cell_world.specs.World.{Region}
-use Rattle.cell_world.specs.Undo.{Record, undone}
+use Rattle.cell_world.specs.declared.transfer.Record.{Record}
+use Rattle.cell_world.specs.Undo.{undone}
 use Rattle.cell_coherent.specs.Grown.{In}
 
 -- going back by the records leaves each region of `saved` as it is there

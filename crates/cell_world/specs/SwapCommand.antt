@@ -16,7 +16,8 @@ use Rattle.cell_world.specs.Reexport.{Exchange, with_reexports}
 use Rattle.cell_world.specs.Changed.{FieldAt, changed_fields, first_changed_misfit}
 use Rattle.cell_world.specs.Torn.{first_torn}
 use Rattle.cell_world.specs.Fit.{first_misfit}
-use Rattle.cell_world.specs.Transfer.{Addresses, Routine, transfer}
+use Rattle.cell_world.specs.declared.transfer.Routine.{Routine}
+use Rattle.cell_world.specs.Transfer.{Addresses, transfer}
 use Rattle.cell_world.specs.SwapTransfer.{Begin, begins_of, stack_for, routines_in, addresses_in, transferred_by}
 use Rattle.cell_world.specs.Outcome.{Outcome, ◌>>=◌, ◌>>◌, found, refused_by, each}
 use Rattle.cell_world.specs.Answer.{Done, done, ids, numbers_of}

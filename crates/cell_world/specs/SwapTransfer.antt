@@ -13,7 +13,9 @@ use Rattle.cell_world.specs.Names.{definitions_of, names_of}
 use Rattle.cell_world.specs.Target.{start_of, own_target, address_of}
 use Rattle.cell_world.specs.Place.{start_of_run}
 use Rattle.cell_world.specs.SpawnCommand.{entry_offset}
-use Rattle.cell_world.specs.Transfer.{Routine, NameAddr, Failure}
+use Rattle.cell_world.specs.declared.transfer.Routine.{Routine}
+use Rattle.cell_world.specs.declared.transfer.NameAddr.{NameAddr}
+use Rattle.cell_world.specs.declared.transfer.Failure.{Failure}
 use Rattle.cell_world.specs.Outcome.{Outcome, ◌>>=◌, found, each}
 
 -- a place in a section of a cell

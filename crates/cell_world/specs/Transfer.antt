@@ -12,9 +12,9 @@ use Rattle.cell_num.specs.declared.ids.Why.{Why}
 use Rattle.cell_num.specs.declared.ids.Why.TheVariants.{Returned, Trap, Budget}
 use Rattle.cell_num.specs.Lists.{equals, from_on, where_true}
 use Rattle.cell_world.specs.declared.reply.TaskState.TheVariants.{Ready, Done, Fault as Faulted}
-pub use Rattle.cell_world.specs.declared.transfer.Failure.{Failure}
-pub use Rattle.cell_world.specs.declared.transfer.NameAddr.{NameAddr}
-pub use Rattle.cell_world.specs.declared.transfer.Routine.{Routine}
+use Rattle.cell_world.specs.declared.transfer.Failure.{Failure}
+use Rattle.cell_world.specs.declared.transfer.NameAddr.{NameAddr}
+use Rattle.cell_world.specs.declared.transfer.Routine.{Routine}
 use Rattle.cell_world.specs.World.{World, Region}
 use Rattle.cell_world.specs.Execute.{Seen, seen_in, allows, number_read}
 use Rattle.cell_world.specs.Move.{Hart, Row, Column, Ends, Passes, Answers, Refuses, move}

@@ -6,7 +6,7 @@
 --     ArePuts regions writes      each write has its bytes in a region
 use Rattle.std.specs.Prelude.{◌+◌, ◌<◌, nat_le, All, IsTrue, List, [], ◌∷◌, map, is_some, if◌then◌else◌}
 use Rattle.cell_num.specs.Bits.{bytes_of}
-pub use Rattle.cell_world.specs.declared.transfer.Record.{Record}
+use Rattle.cell_world.specs.declared.transfer.Record.{Record}
 use Rattle.cell_world.specs.World.{Region}
 use Rattle.cell_world.specs.Memory.{end_of, read_in, written}
 pub use Rattle.cell_world.specs.Memory.{Write, put_in}
