@@ -1,10 +1,9 @@
 -- Links of which no user and entry has two, and what is bound among them.
-use Rattle.std.proofs.Common.{◌≡◌, ℕ, Bool, true, false, ◌&&◌, ◌||◌, cond, eqb, List, [], ◌∷◌, ◌++◌, refl, ap, ◌∙◌, arith, tests}
-use Rattle.std.specs.Prelude.{filter}
+use Rattle.std.proofs.Common.{◌≡◌, ℕ, true, ◌&&◌, ◌||◌, eqb, List, [], ◌∷◌, refl, ap, arith, tests}
 use Rattle.cell_num.specs.declared.ids.SecKey.{SecKey}
 use Rattle.cell_world.specs.declared.state.LinkRow.{LinkRow}
 use Rattle.cell_graph.specs.Links.{is_bound}
-use Rattle.cell_graph.specs.Moves.{is_link_of, AreApart, moved}
+use Rattle.cell_graph.specs.Moves.{is_link_of, moved}
 
 -- a number equals another where the other equals it
 eqb_swapped : (a b : ℕ) → eqb a b ≡ eqb b a

@@ -1,18 +1,17 @@
 -- Places of an arena that are emptied one after another, and what is left of the lists.
-use Rattle.std.proofs.Common.{◌≡◌, ◌≢◌, ◌⊎◌, inl, inr, ℕ, zero, suc, ◌+◌, ◌<◌, Bool, true, false, cond, not, List, [], ◌∷◌, ◌++◌, Option, Some, None, length, get_or, take, map, refl, sym, ap, subst, ◌∙◌, arith, Contains}
+use Rattle.std.proofs.Common.{◌≡◌, ◌≢◌, inl, inr, ℕ, zero, suc, ◌+◌, ◌<◌, Bool, true, false, cond, not, List, [], ◌∷◌, ◌++◌, Option, Some, length, get_or, take, map, refl, sym, ap, subst, ◌∙◌, arith, Contains}
 use Rattle.std.specs.Prelude.{filter, option_map}
-use Rattle.std.specs.List.{AllByRecursion}
 use Rattle.std.proofs.lemmas.Bool.{cases_eq, false≢true}
 use Rattle.std.proofs.lemmas.List.{take_more}
 use Rattle.std.proofs.lemmas.Option.{same_Some}
-use Rattle.slab.proofs.SlabLemmas.{Contains-cons, Contains-cons_cases}
+use Rattle.slab.proofs.SlabLemmas.{Contains-cons_cases}
 use Rattle.cell_world.specs.declared.state.LinkRow.{LinkRow}
 use Rattle.cell_graph.specs.declared.rows.ChainRow.{ChainRow}
 use Rattle.cell_graph.specs.declared.section.Section.{Section}
 use Rattle.cell_graph.specs.declared.order.SectionPlace.{SectionPlace}
 use Rattle.cell_graph.specs.declared.order.RowPlace.{RowPlace}
 use Rattle.cell_graph.specs.Chains.{AreChained, IsHome, SameKeys}
-use Rattle.cell_graph.specs.Dropped.{AreDropped, DropsIf, HasNone, links_at}
+use Rattle.cell_graph.specs.Dropped.{AreDropped, DropsIf, links_at}
 use Rattle.cell_graph.specs.Listed.{IsWhole, RowsListed, SectionsListed, IsListed}
 use Rattle.cell_graph.specs.Lists.{below_row_place, below_section_place}
 use Rattle.cell_graph.specs.Order.{Rises}

@@ -17,7 +17,7 @@ use Rattle.cell_graph.specs.Listed.{IsWhole, IsListed}
 use Rattle.cell_graph.specs.Lists.{IsSectionRange}
 use Rattle.cell_graph.specs.Order.{IsCut}
 use Rattle.cell_graph.specs.Places.{link_at}
-use Rattle.cell_graph.specs.Removal.{is_listed, is_outside_use, is_used_outside, links_without, uses_from_outside, IsCellUsedBy}
+use Rattle.cell_graph.specs.Removal.{is_listed, is_outside_use, is_used_outside, links_without}
 use Rattle.cell_graph.proofs.Ranges.{all_drop, filter_drop, filter_take}
 use Rattle.cell_graph.proofs.Rising.{all_at, of_map, Contains-head, no_element}
 use Rattle.cell_graph.proofs.Sights.{same_key, key_same}

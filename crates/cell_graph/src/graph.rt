@@ -12,8 +12,8 @@ ghost use Rattle.cell_graph.specs.Order.{below_link, below_section, with_link, w
 ghost use Rattle.cell_graph.specs.Weaks.{made_for};
 
 use crate::links::{
-    add_section, bind_row, cell_rows, cell_sections, has_section, move_row, remove_rows,
-    remove_sections, row_index, section_place, unbind_at,
+    add_section, bind_row, cell_rows, cell_sections, has_section, link_named, move_row,
+    remove_rows, remove_sections, row_index, section_place, unbind_at,
 };
 use crate::order::{RowPlace, SectionPlace};
 use crate::removal::{StillUsed, is_listed};
@@ -154,6 +154,17 @@ impl Graph {
         ensures { result ≡ filter (λ r. r.user.cell.0 == cell.0) self.now.rows }
     {
         CellDeps::of(&self.rows, cell_rows(&self.row_list, cell))
+    }
+
+    /// The link of that user and entry, which is there.
+    pub fn link(&self, user: SecKey, entry: u32) -> LinkRow
+        requires { IsTrue (is_bound self.now.rows user entry) }
+        ensures there { Contains self.now.rows result }
+        ensures user { result.user ≡ user }
+        ensures entry { result.entry ≡ entry }
+    {
+        let index = row_index(&self.row_list, user, entry);
+        link_named(&self.rows, &self.row_list, index)
     }
 
     /// The links of others to a section that is there, in no stated order.

@@ -1,7 +1,7 @@
 //! The links by both their arenas and both their lists.
 
 ghost use Rattle.std.specs.Prelude.{◌≡◌, ◌≢◌, ◌↔◌, ℕ, ◌+◌, ◌*◌, ◌<◌, ◌≤◌, ◌∷◌, ◌++◌, [], List, Option, Some, true, false, Contains, IsTrue, length, map, slice_index_or, vec_capacity, vec_len};
-ghost use Rattle.std.specs.List.{remove};
+ghost use Rattle.std.specs.List.{AllByRecursion, remove};
 ghost use Rattle.slab.specs.Slab.{ContainsKey, HasRoomFor, get, slab_len};
 ghost use Rattle.cell_graph.specs.Chains.{AreChained, SameKeys};
 ghost use Rattle.cell_graph.specs.Dropped.{AreDropped, DropsIf, HasNone, links_at};
@@ -9,7 +9,7 @@ ghost use Rattle.cell_graph.specs.Removal.{is_listed, links_without, sections_wi
 ghost use Rattle.cell_graph.specs.declared.rows.ChainRow.{ChainRow};
 ghost use Rattle.cell_graph.specs.declared.order.SectionPlace.{SectionPlace};
 ghost use Rattle.cell_graph.specs.declared.order.RowPlace.{RowPlace};
-ghost use Rattle.cell_graph.specs.Listed.{IsWhole, SectionsListed};
+ghost use Rattle.cell_graph.specs.Listed.{IsListed, IsWhole, SectionsListed};
 ghost use Rattle.cell_graph.specs.Lists.{IsCellRange, IsRowAt, IsSectionAt, IsSectionRange, RowsRise, SectionsRise, has_row};
 ghost use Rattle.cell_graph.specs.Moves.{moved};
 ghost use Rattle.cell_graph.specs.Order.{below_section, with_link};
@@ -106,6 +106,21 @@ pub fn row_index(list: &[RowPlace], user: SecKey, entry: u32) -> usize
     ensures { IsRowAt list.now result user entry }
 {
     row_cut(list, user, entry)
+}
+
+/// The link that the list names at an index.
+pub fn link_named(rows: &Rows, list: &[RowPlace], index: usize) -> LinkRow
+    requires inside { index < length list.now }
+    requires listed { AllByRecursion (λ r. IsListed (get rows.now) r) list.now }
+    ensures { (d : RowPlace) → result ≡ link_at (get rows.now) (slice_index_or list.now index d) }
+{
+    let at = &list[index];
+    let chain = read_at(rows, at.place);
+    LinkRow {
+        user: at.user,
+        entry: at.entry,
+        target: chain.row.target,
+    }
 }
 
 /// Gives a link its new target. One link is read.
