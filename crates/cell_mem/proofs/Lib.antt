@@ -11,3 +11,4 @@ pub mod Soundness
 pub mod Noting
 pub mod Writes
 pub mod Back
+pub mod Small

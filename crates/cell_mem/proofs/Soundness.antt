@@ -11,7 +11,7 @@ use Rattle.cell_world.specs.World.{Region, Permission}
 use Rattle.cell_world.specs.Memory.{covers, end_of, written}
 use Rattle.cell_world.specs.Pages.{filled}
 use Rattle.cell_world.specs.Place.{with_region}
-use Rattle.cell_world.specs.Undo.{put_in}
+use Rattle.cell_world.specs.Undo.{AreBytes, put_in}
 use Rattle.cell_mem.specs.declared.memory.Memory.TheInside.{Inside}
 use Rattle.cell_mem.specs.Inside.{IsSound, state_of}
 use Rattle.cell_mem.specs.Index.{IsLaid, IsWhole, IsIndex, AreInPlace, held, first_page, covers_page}
@@ -22,6 +22,7 @@ use Rattle.cell_mem.proofs.Inserting.{is_apart, laid_with, find_with, find_new, 
 use Rattle.cell_mem.proofs.Laid.{Lies, find_lies}
 use Rattle.cell_mem.proofs.Marking.{marked, run_inside}
 use Rattle.cell_mem.proofs.Reading.{mapped_is}
+use Rattle.cell_mem.proofs.Small.{small_written}
 use Rattle.cell_mem.proofs.Removing.{starts_at, laid_less, find_left, find_gone}
 use Rattle.cell_mem.proofs.Writes.{laid_written, index_written, length-bytes_of}
 
@@ -88,6 +89,7 @@ pub record Written (i : Inside) (addr : ℕ) (new : List ℕ) (pages : List (Opt
   pub in_place : AreInPlace i.base pages
   pub length_is : length pages ≡ length i.regions.items
   pub regions : held pages ≡ map (λ r. written r addr new) (held i.regions.items)
+  pub bytes : AreBytes (held pages)
   pub laid : IsLaid i.base (held pages) (i.base + 4096 * i.pages)
   pub index : IsIndex i.base (held pages) i.firsts.items
 
@@ -106,6 +108,7 @@ written_is i addr width value page s h =
       in_place = in_place_set i.base i.regions.items page (Some (put addr new h.region)) s.in_place (λ r e. let same : put addr new h.region ≡ r = cc in ap (λ t. t.start) (sym same) ∙ h.is_at.start_is);
       length_is = length-set i.regions.items page (Some (put addr new h.region));
       regions = now;
+      bytes = subst AreBytes (sym now) (small_written (held i.regions.items) addr width value s.bytes);
       laid = subst (λ rs. IsLaid i.base rs (i.base + 4096 * i.pages)) (sym now) (laid_written addr new i.base (held i.regions.items) _ s.laid fits);
       index = subst (λ rs. IsIndex i.base rs i.firsts.items) (sym now) (index_written addr new i.base i.base (held i.regions.items) _ i.firsts.items s.laid fits s.index);
     } in

@@ -1,6 +1,7 @@
 -- What the fields of a memory mean, and what always holds of them.
 use Rattle.std.specs.Prelude.{◌≡◌, ◌≤◌, ◌+◌, ◌*◌, ◌^◌, length}
 use Rattle.cell_world.specs.Pages.{IsSpace}
+use Rattle.cell_world.specs.Undo.{AreBytes}
 use Rattle.cell_mem.specs.declared.memory.Memory.TheInside.{Inside}
 use Rattle.cell_mem.specs.Index.{IsLaid, IsIndex, AreInPlace, held}
 use Rattle.cell_mem.specs.State.{MemoryState}
@@ -25,6 +26,7 @@ pub record IsSound (m : Inside) : Type 0 where
   pub laid : IsLaid m.base (held m.regions.items) (m.base + 4096 * m.pages)
   pub firsts : length m.firsts.items ≡ m.pages
   pub index : IsIndex m.base (held m.regions.items) m.firsts.items
+  pub bytes : AreBytes (held m.regions.items)
   pub sealed : length m.sealed.items ≡ 4096 * m.pages
   -- far below the numbers of 64 bits
   pub few : m.spare + length (held m.regions.items) ≤ 2 ^ 32 + m.pages

@@ -5,7 +5,7 @@ ghost use Rattle.std.specs.Result.{result_map_both};
 ghost use Rattle.cell_num.specs.Bits.{bytes_of};
 ghost use Rattle.cell_world.specs.Memory.{covers};
 ghost use Rattle.cell_world.specs.Pages.{IsSpace};
-ghost use Rattle.cell_world.specs.Undo.{put_back, put_in, record_of};
+ghost use Rattle.cell_world.specs.Undo.{AreBytes, put_back, put_in, record_of};
 ghost use Rattle.cell_mem.specs.Access.{fetched, loaded, region_for, storable, stored};
 ghost use Rattle.cell_mem.specs.Index.{IsLaid, IsWhole, first_page};
 ghost use Rattle.cell_mem.specs.Perm.{permission_of};
@@ -112,6 +112,13 @@ impl Memory {
     /// The regions are whole pages of the space, ascending by their starts and apart.
     pub fn laid_out(&self)
         ensures { IsLaid self.now.base self.now.regions (self.now.base + 4096 * self.now.pages) }
+    {
+        let _ = &self.base;
+    }
+
+    /// What stands in the regions are bytes.
+    pub fn holds_bytes(&self)
+        ensures { AreBytes self.now.regions }
     {
         let _ = &self.base;
     }

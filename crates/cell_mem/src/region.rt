@@ -1,6 +1,6 @@
 //! A region: where it starts, what it may be used for, and its bytes.
 
-ghost use Rattle.std.specs.Prelude.{◌≡◌, ◌+◌, ◌≤◌, true, length, option_map};
+ghost use Rattle.std.specs.Prelude.{All, ◌<◌, ◌≡◌, ◌+◌, ◌≤◌, true, length, option_map};
 ghost use Rattle.cell_num.specs.Bits.{bytes_of};
 ghost use Rattle.cell_world.specs.Memory.{covers, end_of};
 ghost use Rattle.cell_mem.specs.Access.{number_in};
@@ -35,7 +35,8 @@ impl Model for Region {
 
 impl Region {
     pub fn new(start: u64, perm: Perm, bytes: Vec<u8>) -> Region
-        ensures { result ≡ record { start = start; permission = permission_of perm; bytes = bytes.items } }
+        ensures all { result ≡ record { start = start; permission = permission_of perm; bytes = bytes.items } }
+        ensures bytes { All (λ b. b < 256) bytes.items }
     {
         Region {
             start,

@@ -1,5 +1,5 @@
 -- What the parts of the machine are once the cells have gone from each of them.
-use Rattle.std.proofs.Common.{◌≡◌, refl, sym, ◌∙◌, ap, ap₂, subst, ℕ, ◌+◌, ◌*◌, Bool, true, false, not, true≢false, cond, ◌&&◌, ◌||◌, List, [], ◌∷◌, ◌++◌, length, map}
+use Rattle.std.proofs.Common.{◌≡◌, refl, sym, ◌∙◌, ap, ap₂, subst, ℕ, ◌*◌, Bool, true, false, not, true≢false, cond, ◌&&◌, ◌||◌, List, [], ◌∷◌, ◌++◌, length, map}
 use Rattle.std.specs.Prelude.{◌==◌, All, IsTrue, filter, flat_map, is_some, nat_lt, slice_index_or}
 use Rattle.std.proofs.lemmas.Bool.{eqb-true, eq-eqb}
 use Rattle.cell_coherent.proofs.Elements.{In, In-All, In-map, any-Has, find_there, map-In, none-In}
@@ -8,7 +8,6 @@ use Rattle.cell_graph.specs.Removal.{is_listed, is_outside_use, is_used_outside,
 use Rattle.cell_machine.specs.Machine.{IsSound, field_bytes, keys_of, section_keys, world_of}
 use Rattle.cell_machine.specs.Staged.{all_attached}
 use Rattle.cell_machine.specs.declared.machine.Machine.{Machine}
-use Rattle.cell_mem.specs.Index.{IsLaid}
 use Rattle.cell_mem.specs.State.{MemoryState}
 use Rattle.cell_num.specs.Lists.{each_pair, holds}
 use Rattle.cell_num.specs.declared.ids.CellId.{CellId}
@@ -29,7 +28,7 @@ use Rattle.cell_world.specs.declared.state.LinkRow.{LinkRow}
 use Rattle.cell_world.specs.declared.state.Namespace.{Namespace}
 use Rattle.cell_world.specs.declared.state.NewCell.{NewCell}
 use Rattle.cell_world.specs.declared.state.SecPlace.{SecPlace}
-use Rattle.cell_swap.specs.Removed.{IsRemoved}
+use Rattle.cell_swap.specs.Removed.{CanGo, IsRemoved, IsTaken}
 use Rattle.cell_swap.specs.Unmapped.{CanLeave, IsTabled, lost_starts, without_regions}
 use Rattle.cell_swap.proofs.Leaving.{lost_apart, lost_there}
 use Rattle.cell_swap.proofs.Leftovers.{filter_equal, filter_flat, filter_mapped, holds_numbers}
@@ -115,20 +114,17 @@ module _ (old : Machine) (sound : IsSound old) (cells : List CellId) where
           let i : In (called c.0) old.spaces.cells = subst (λ (xs : List SpaceCell). In (called c.0) xs) sound.joined.called (map-In called w.cells c.0 c.1) in
           ap is_some (find_there (is_numbered n) old.spaces.cells (called c.0) i (eq-eqb c.0.id.0 n (sym c.2 ∙ eqb-true y.0 n y.2))).1
 
-  pub record IsTaken (new : Machine) : Type 0 where
-    pub laid : IsLaid old.memory.base old.memory.regions (old.memory.base + 4096 * old.memory.pages)
-    pub memory : new.memory ≡ without_regions old.memory starts
-    pub tabled : IsTabled new.memory new.space
-    pub names : new.spaces.cells ≡ filter (λ c. not (holds (numbers cells) c.cell.0)) old.spaces.cells
-    pub namespaces : new.spaces.namespaces ≡ old.spaces.namespaces
-    pub rows : new.graph.rows ≡ links_without cells old.graph.rows
-    pub sections : new.graph.sections ≡ sections_without cells old.graph.sections
-    pub left : new.cells.items ≡ filter (stay cells) old.cells.items
-    pub next : new.next ≡ old.next
-    pub swaps : new.swaps ≡ old.swaps
-    pub tasks : new.tasks ≡ old.tasks
+  pub can_go : IsTrue (each_pair nat_lt (numbers cells)) → All (λ c. IsTrue (holds (numbers_of w.cells) c.0)) cells → is_used_outside cells old.graph.rows ≡ false → CanGo old cells
+  can_go rising present unused = record {
+    places = places_rise;
+    tabled = tabled;
+    regions = can_leave;
+    named = all_named present;
+    rising = rising;
+    unused = unused;
+  }
 
-  module _ (unused : is_used_outside cells old.graph.rows ≡ false) (new : Machine) (is : IsTaken new) where
+  module _ (unused : is_used_outside cells old.graph.rows ≡ false) (new : Machine) (is : IsTaken old cells new) where
     base_is : new.memory.base ≡ old.memory.base
     base_is = ap (λ (m : MemoryState). m.base) is.memory ∙ same_base starts old.memory
 

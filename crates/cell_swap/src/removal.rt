@@ -8,7 +8,7 @@ ghost use Rattle.cell_machine.specs.Staged.{all_attached};
 ghost use Rattle.cell_num.specs.Lists.{each_pair, holds};
 ghost use Rattle.cell_space.specs.Spaces.{HasCell};
 ghost use Rattle.cell_world.specs.Answer.{numbers_of};
-ghost use Rattle.cell_swap.specs.Removed.{IsRemoved};
+ghost use Rattle.cell_swap.specs.Removed.{CanGo, IsRemoved, IsTaken};
 ghost use Rattle.cell_swap.specs.Unmapped.{CanLeave, IsTabled, lost_starts, without_regions};
 
 use crate::regions::unmap_cell;
@@ -73,13 +73,10 @@ fn leave_others(present: &mut Vec<NewCell>, cells: &[CellId])
     present.retain(|cell| !is_listed(cells, cell.id));
 }
 
-/// Removes the cells with their names, links, sections, regions and pages.
-pub fn remove(machine: &mut Machine, cells: &[CellId])
-    requires sound { IsSound machine.old }
-    requires rising { IsTrue (each_pair nat_lt (map (λ c. c.0) cells.now)) }
-    requires present { All (λ c. IsTrue (holds (numbers_of (world_of machine.old).cells) c.0)) cells.now }
-    requires unused { list_any (is_outside_use cells.now) machine.old.graph.rows ≡ false }
-    ensures { IsRemoved machine.old cells.now machine.new }
+/// Takes the cells with their names, links, sections, regions and pages away.
+pub fn take_away(machine: &mut Machine, cells: &[CellId])
+    requires { CanGo machine.old cells.now }
+    ensures { IsTaken machine.old cells.now machine.new }
 {
     // The regions stand apart, so none that stays loses a seal.
     machine.memory.laid_out();
@@ -92,4 +89,15 @@ pub fn remove(machine: &mut Machine, cells: &[CellId])
     drop_cells(&mut machine.spaces, cells);
     remove_links(&mut machine.graph, cells);
     leave_others(&mut machine.cells, cells);
+}
+
+/// Removes the cells from a machine that is coherent and is so without them.
+pub fn remove(machine: &mut Machine, cells: &[CellId])
+    requires sound { IsSound machine.old }
+    requires rising { IsTrue (each_pair nat_lt (map (λ c. c.0) cells.now)) }
+    requires present { All (λ c. IsTrue (holds (numbers_of (world_of machine.old).cells) c.0)) cells.now }
+    requires unused { list_any (is_outside_use cells.now) machine.old.graph.rows ≡ false }
+    ensures { IsRemoved machine.old cells.now machine.new }
+{
+    take_away(machine, cells);
 }

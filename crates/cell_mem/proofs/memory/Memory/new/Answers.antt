@@ -1,6 +1,7 @@
 use Rattle.std.proofs.Common.{◌≡◌, ℕ, ◌+◌, ◌*◌, List, Option, Bool, None, [], false, length, replicate, subst, sym, ap, ◌∙◌, arith}
 use Rattle.std.proofs.lemmas.List.{length-replicate, get_or-replicate}
 use Rattle.cell_world.specs.World.{Region}
+use Rattle.cell_world.specs.Undo.{AreBytes}
 use Rattle.cell_mem.specs.Index.{AreInPlace, IsLaid, IsIndex, held}
 use Rattle.cell_mem.specs.State.{MemoryState, empty_memory}
 use Rattle.cell_mem.proofs.Held.{none_held, none_in_place}
@@ -21,6 +22,7 @@ invariant_of-result c =
       regions = ap length regions ∙ length-replicate n None;
       in_place = subst (AreInPlace c.args.base) (sym regions) (none_in_place c.args.base n);
       laid = subst (λ (rs : List Region). IsLaid c.args.base rs (c.args.base + 4096 * n)) (sym none) (omega arith);
+      bytes = subst (λ (rs : List Region). AreBytes rs) (sym none) (λ k d lt. absurd (omega (arith, lt)));
       firsts = ap length firsts ∙ length-replicate n None;
       index = subst (λ (rs : List Region). IsIndex c.args.base rs c.in_ok-repeated.field-0.items) (sym none)
           (subst (λ (xs : List (Option ℕ)). IsIndex c.args.base [] xs) (sym firsts) (none_indexed c.args.base n));

@@ -40,6 +40,7 @@ invariant_of-self c =
       regions = w.length_is ∙ c.self.invariant.regions;
       in_place = w.in_place;
       laid = w.laid;
+      bytes = w.bytes;
       firsts = c.self.invariant.firsts;
       index = w.index;
       sealed = c.self.invariant.sealed;

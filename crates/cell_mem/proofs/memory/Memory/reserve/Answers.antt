@@ -10,6 +10,7 @@ invariant_of-self c =
       regions = s.regions;
       in_place = s.in_place;
       laid = s.laid;
+      bytes = s.bytes;
       firsts = s.firsts;
       index = s.index;
       sealed = s.sealed;

@@ -4,6 +4,12 @@ use Rattle.std.specs.Vec.{with_items}
 use Rattle.std.proofs.lemmas.List.{with_items_is, length-set, get_or_default}
 use Rattle.cell_world.specs.World.{Region}
 use Rattle.cell_world.specs.Pages.{filled}
+use Rattle.std.specs.Prelude.{not}
+use Rattle.std.proofs.lemmas.List.Elements.{All-filter}
+use Rattle.cell_world.specs.Undo.{AreBytes}
+use Rattle.cell_mem.specs.Index.{held}
+use Rattle.cell_mem.proofs.Removing.{starts_at}
+use Rattle.cell_mem.proofs.Small.{HasBytesAlone}
 use Rattle.cell_mem.proofs.Soundness.{Unmapped, above_base, begins_at, pages_within, unmapped_by, state_unmapped}
 use Rattle.cell_mem.proofs.memory.Memory.unmap.Goals as goal
 
@@ -64,6 +70,7 @@ invariant_of-self c =
       regions = length-set i.regions.items c.page_at-first.result c.take.new.self ∙ s.regions;
       in_place = f.in_place;
       laid = f.laid;
+      bytes = subst AreBytes (sym f.regions) (All-filter (λ r. not (starts_at c.args.start r)) HasBytesAlone (held i.regions.items) s.bytes);
       firsts = ap length firsts ∙ c.fill.auto.items ∙ ap length c.deref_mut.ensures.value ∙ s.firsts;
       index = f.index;
       sealed = ap length sealed ∙ c.fill-2.auto.items ∙ ap length c.deref_mut-2.ensures.value ∙ s.sealed;
