@@ -1,7 +1,7 @@
 #!/bin/bash
-# Prints how long `cells` takes to read and link objects of just under 1 MiB, and objects of half
-# that size, so that growth faster than the size shows. It fails only where `cells` ends otherwise
-# than by a status of its own.
+# Prints the processor time that `cells` takes to read and link objects of just under 1 MiB, and
+# objects of half that size, so that growth faster than the size shows. It fails only where `cells`
+# ends otherwise than by a status of its own.
 #
 #     bench/read.sh [PROGRAM]
 #
@@ -23,15 +23,19 @@ if [ ! -x "$program" ]; then
 fi
 
 PYTHONDONTWRITEBYTECODE=1 python3 "$top/bench/objects.py" large "$work" || exit 1
+# Does the script of a folder, in at most 4 GB.
+run() {
+    (ulimit -v 4000000 && timeout 300 "$program" "$1" script)
+}
+
+TIMEFORMAT='%U %S'
 failed=0
 for folder in "$work"/*/; do
     name=$(basename "$folder")
     bytes=$(cat "$folder"/*.o | wc -c)
-    begin=$(date +%s%N)
-    (ulimit -v 4000000 && exec timeout 300 "$program" "$folder" script) > "$work/text.txt" 2>&1
+    spent=$({ time run "$folder" > "$work/text.txt" 2>&1; } 2>&1)
     status=$?
-    end=$(date +%s%N)
-    printf '%-28s %8d bytes %7d ms  status %d  %s\n' "$name" "$bytes" $(((end - begin) / 1000000)) \
+    printf '%-28s %8d bytes %7.0f ms  status %d  %s\n' "$name" "$bytes" "$(echo "$spent" | awk '{print ($1 + $2) * 1000}')" \
         "$status" "$(tail -n 1 "$work/text.txt" | cut -c 1-60)"
     if [ "$status" -gt 5 ]; then
         failed=1

@@ -1,6 +1,6 @@
 #!/bin/bash
-# Prints how long `cells` takes to write a transcript of some 6 MB of many short answers, and one of some 9 MB of a
-# few long ones.
+# Prints the processor time that `cells` takes to write a transcript of some 6 MB of many short answers,
+# and one of some 9 MB of a few long ones.
 #
 #     bench/transcript.sh [PROGRAM]
 #
@@ -31,13 +31,12 @@ folder() {
     } > "$work/$1/script"
 }
 
+TIMEFORMAT='%U %S'
 measure() {
-    begin=$(date +%s%N)
-    "$program" "$work/$1" script > "$work/text.txt"
+    spent=$({ time "$program" "$work/$1" script > "$work/text.txt"; } 2>&1)
     status=$?
-    end=$(date +%s%N)
-    printf '%-12s %9d bytes %6d ms  status %d\n' "$1" "$(wc -c < "$work/text.txt")" \
-        $(((end - begin) / 1000000)) "$status"
+    printf '%-12s %9d bytes %6.0f ms  status %d\n' "$1" "$(wc -c < "$work/text.txt")" \
+        "$(echo "$spent" | awk '{print ($1 + $2) * 1000}')" "$status"
 }
 
 folder short "$top/examples/first/k#a.o" 116000

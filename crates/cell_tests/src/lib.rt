@@ -26,9 +26,13 @@ mod limits;
 #[cfg(test)]
 mod namespaces;
 #[cfg(test)]
+mod numbers;
+#[cfg(test)]
 mod objects;
 #[cfg(test)]
 mod places;
+#[cfg(test)]
+mod repeated;
 #[cfg(test)]
 mod samples;
 #[cfg(test)]

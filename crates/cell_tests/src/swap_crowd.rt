@@ -1,9 +1,7 @@
 //! A swap with more cells than there may be.
 
-use crate::folder::words_of;
-use crate::sources::assembled;
-use cell_io::{MemSink, RepeatHost};
-use cell_run::{Status, cells};
+use crate::repeated::outcome;
+use cell_run::Status;
 use std::alloc::{AllocError, Global};
 use std::test::Fail;
 
@@ -33,16 +31,7 @@ fn crowd(alloc: Global) -> Result<String, AllocError> {
 #[test]
 fn too_many_cells(rt: HostRuntime) -> Result<(), Fail> {
     let alloc = rt.alloc();
-    let words = words_of(alloc, &["d", "s"])?;
-    let mut host = RepeatHost {
-        alloc,
-        names: 0,
-        objects: 513,
-        script: crowd(alloc)?.into_bytes(),
-        object: assembled(alloc, "k#c.o", "")?.bytes,
-    };
-    let mut sink = MemSink::new(alloc, 30000, Vec::new(alloc))?;
-    let status = cells(alloc, &words, &mut host, &mut sink);
+    let (status, sink) = outcome(alloc, 513, "", crowd(alloc)?, 30000)?;
     let text = std::str::from_utf8(sink.written()).ok().ok_or("UTF-8")?;
     let refused =
         "\n514 E4 too-many cells 1024\n515 ok unload removed #513\n516 ok swap 1 new #514 #515 ";
