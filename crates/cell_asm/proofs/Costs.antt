@@ -13,15 +13,15 @@ use Rattle.cell_asm.specs.declared.block.Mark.{Mark}
 use Rattle.cell_asm.specs.declared.statement.Part.{Part}
 use Rattle.cell_asm.specs.declared.statement.Part.TheVariants.{Text}
 use Rattle.cell_asm.specs.declared.statement.Statement.{Statement}
-use Rattle.cell_asm.specs.declared.statement.Statement.TheVariants.{Nothing, Choose, Global, Zeros, Align, Bytes}
+use Rattle.cell_asm.specs.declared.statement.Statement.TheVariants.{Bytes}
 use Rattle.cell_asm.specs.declared.statement.Line.{Line}
 use Rattle.cell_asm.specs.declared.laid.Laid.{Laid}
 use Rattle.cell_asm.specs.declared.laid.Label.{Label}
 use Rattle.cell_asm.specs.declared.laid.Key.{Key}
 use Rattle.cell_asm.specs.declared.laid.Key.TheVariants.{Named, Made}
-use Rattle.cell_asm.specs.Places.{is_same_part, is_at, is_in, placed, is_made, makes_label, may_stand, lays_nothing, taken, size_in, own_key, made_key, keys_of, label, labels_at, labels}
+use Rattle.cell_asm.specs.Places.{is_same_part, is_at, is_in, placed, is_made, makes_label, may_stand, lays_nothing, taken, size_in, own_key, made_key, keys_of, label, labels_at, labels, is_key, holds_key}
 use Rattle.cell_asm.specs.Objects as objects
-use Rattle.cell_asm.specs.Objects.{marks_in, globals, local_labels, label_names, statement_names, mentions, is_key, holds_key, other_names, key_name, local_symbol, global_symbol, symbols}
+use Rattle.cell_asm.specs.Objects.{marks_in, globals, local_labels, label_names, statement_names, mentions, other_names, key_name, local_symbol, global_symbol, symbols}
 use Rattle.cell_asm.specs.Assembled.{placed_lines}
 use Rattle.cell_asm.proofs.Growth.{GoesOn, grows_with}
 use Rattle.cell_asm.proofs.Members.{In, In-left, filter-In, any-In, In-any}
@@ -110,11 +110,7 @@ some_there (n ∷ marks) m k = omega arith
 
 made_mark : (s : Statement) → makes_label s ≡ true → (m : Mark) × In m (marks_in s) × (is_made m.fix.target ≡ true)
 made_mark (Bytes content b) t = any-In (λ m. is_made m.fix.target) b.marks t
-made_mark Nothing t = absurd cc
-made_mark (Choose part) t = absurd cc
-made_mark (Global name) t = absurd cc
-made_mark (Zeros n) t = absurd cc
-made_mark (Align unit) t = absurd cc
+made_mark _ t = absurd cc
 
 in_text_by : (o : Option Part) (line : Line) (m : Mark) → may_stand o line ≡ true → In m (marks_in line.statement) → is_code (content_of line.statement) ≡ true → is_at Text o ≡ true
 in_text_by None line m t k code = absurd (none_laid line.statement m (and_parts (is_none line.label) (lays_nothing line.statement) t).1 k)

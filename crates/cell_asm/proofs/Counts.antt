@@ -8,7 +8,7 @@ use Rattle.std.proofs.lemmas.List.Sums.{sum_by-cons}
 use Rattle.cell_num.specs.Lists.{last}
 use Rattle.cell_text.specs.Text.{lines_in}
 use Rattle.cell_asm.specs.declared.statement.Part.{Part}
-use Rattle.cell_asm.specs.declared.statement.Part.TheVariants.{Text, Rodata, Data, Bss}
+use Rattle.cell_asm.specs.declared.statement.Part.TheVariants.{Bss}
 use Rattle.cell_asm.specs.declared.laid.Laid.{Laid}
 use Rattle.cell_object.specs.declared.object.Entry.{Entry}
 use Rattle.cell_asm.specs.Places.{is_at, is_in, is_long, largest, choices, taken, size_in, size_at, placed}
@@ -53,10 +53,8 @@ pub section_fits : (source : List ℕ) (lines : List Laid) (part : Part) → pla
 section_fits source lines part e = grows (Fits part) (goes part) (lines_in source) lines (least (largest part)) e
 
 pub largest_most : (part : Part) → largest part ≤ 16777216
-largest_most Text = omega arith
-largest_most Rodata = omega arith
-largest_most Data = omega arith
 largest_most Bss = omega arith
+largest_most _ = omega arith
 
 through : (a b c : ℕ) → a ≤ b → b ≤ c → a ≤ c
 through a b c h k = omega arith

@@ -1,8 +1,7 @@
 -- One line more behind those that are in their places.
-use Rattle.std.proofs.Common.{◌≡◌, ℕ, ◌+◌, Bool, true, false, ◌||◌, List, [], ◌∷◌, ◌++◌, cond, Some, None, refl, sym, ap, ◌∙◌, append-nil, add-zero, zero-add}
-use Rattle.std.specs.Prelude.{Option, if◌then◌else◌, filter, sum_by}
-use Rattle.std.specs.List.{list_any, cons_option}
-use Rattle.std.proofs.lemmas.List.Folds.{list_any-append}
+use Rattle.std.proofs.Common.{◌≡◌, ℕ, ◌+◌, Bool, true, false, List, [], ◌∷◌, ◌++◌, cond, Some, None, refl, sym, ap, ◌∙◌, append-nil, add-zero, zero-add}
+use Rattle.std.specs.Prelude.{Option, is_some, if◌then◌else◌, filter, sum_by}
+use Rattle.std.specs.List.{cons_option}
 use Rattle.std.proofs.lemmas.List.Sums.{sum_by-append}
 use Rattle.std.proofs.lemmas.List.Elements.{filter-append, filter_map-append}
 use Rattle.cell_num.specs.Lists.{last, or_else}
@@ -10,8 +9,10 @@ use Rattle.cell_asm.specs.declared.statement.Part.{Part}
 use Rattle.cell_asm.specs.declared.statement.Line.{Line}
 use Rattle.cell_asm.specs.declared.laid.Laid.{Laid}
 use Rattle.cell_asm.specs.declared.place.Progress.{Progress}
-use Rattle.cell_asm.specs.Places.{is_at, is_in, choice, choices, taken, size_in, size_at, makes_label, made_in, has_own, is_twice, placed}
-use Rattle.cell_asm.specs.Progress.{size_of, size_chosen, offset_of, twice_of, laid_after, Adds, Follows}
+use Rattle.cell_asm.specs.Places.{fault_at, is_at, is_in, choice, choices, taken, size_in, size_at, makes_label, made_in, labels, is_twice, placed}
+use Rattle.cell_asm.specs.Progress.{size_of, size_chosen, offset_of, twice_of, fault_after, laid_after, Adds, Follows}
+use Rattle.cell_asm.specs.Known.{about_with}
+use Rattle.cell_asm.proofs.NamesKnown.{about_more, taken_is}
 use Rattle.cell_asm.proofs.Parts.{same_part}
 
 size_is : (p : Progress) (before : List Laid) (part : Option Part) → Follows p before → size_chosen p.sizes part ≡ size_at part before
@@ -23,7 +24,11 @@ offset_is p before h = ap (size_chosen p.sizes) h.chosen ∙ size_is p before (l
 
 twice_is : (p : Progress) (before : List Laid) (name : Option (List ℕ)) → Follows p before → twice_of p name ≡ is_twice before name
 twice_is p before None h = refl
-twice_is p before (Some name) h = h.names name
+twice_is p before (Some name) h = ap (λ a. is_some a.spot) (h.names name) ∙ taken_is (labels before) name
+
+-- what is wrong with the next line
+pub fault_is : (p : Progress) (before : List Laid) (line : Line) → Follows p before → fault_after p line ≡ fault_at before line
+fault_is p before line h = rw (offset_is p before h, twice_is p before line.label h, h.chosen) refl
 
 pub laid_is : (p : Progress) (before : List Laid) (n : ℕ) (line : Line) → Follows p before → laid_after p n line ≡ placed before n line
 laid_is p before n line h = rw (offset_is p before h, h.made, h.chosen) refl
@@ -55,15 +60,6 @@ made_more : (before : List Laid) (l : Laid) → made_in (before ++ l ∷ []) ≡
 made_more before l =
     sum_by-append (λ m. cond (makes_label m.line.statement) 1 0) before (l ∷ []) ∙ ap (λ n. made_in before + n) (zero-add (cond (makes_label l.line.statement) 1 0))
 
-turned : (a b : Bool) → (a || (b || false)) ≡ (b || a)
-turned true true = refl
-turned true false = refl
-turned false true = refl
-turned false false = refl
-
-own_more : (q : List ℕ) (before : List Laid) (l : Laid) → list_any (has_own q) (before ++ l ∷ []) ≡ (has_own q l || list_any (has_own q) before)
-own_more q before l = list_any-append (has_own q) before (l ∷ []) ∙ turned (list_any (has_own q) before) (has_own q l)
-
 -- where a line stands in a section, its offset is the section's size
 stands_at : (part : Part) (before : List Laid) (o : Option Part) → is_at part o ≡ true → size_at o before ≡ size_in part before
 stands_at part before None e = absurd cc
@@ -79,5 +75,5 @@ follows_more p q before l h at a = record {
   chosen = a.chosen ∙ ap (or_else (choice l.line.statement)) h.chosen ∙ sym (chosen_more before l);
   sizes = λ part. a.sizes part ∙ joined part before l (is_in part l) (size_of p.sizes part) refl at (h.sizes part) ∙ sym (size_more part before l);
   made = a.made ∙ ap (λ n. n + (if makes_label l.line.statement then 1 else 0)) h.made ∙ sym (made_more before l);
-  names = λ name. a.names name ∙ ap (λ b. has_own name l || b) (h.names name) ∙ sym (own_more name before l);
+  names = λ q. a.names q ∙ ap (about_with l q) (h.names q) ∙ sym (about_more before l q);
 }

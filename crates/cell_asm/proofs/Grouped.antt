@@ -16,6 +16,7 @@ use Rattle.cell_asm.specs.declared.laid.Laid.{Laid}
 use Rattle.cell_asm.specs.Places.{is_same_part}
 use Rattle.cell_asm.specs.Objects.{parts_of, part_number, section_of, sections, entries_in, entries}
 use Rattle.cell_asm.specs.Assembled.{placed_lines}
+use Rattle.std.proofs.lemmas.Option.{slice_get_within}
 use Rattle.cell_asm.proofs.Members.{In}
 use Rattle.std.proofs.lemmas.Map.Keys.{IsDistinct-head, IsDistinct-tail}
 use Rattle.cell_asm.proofs.Parts.{same_part, part_itself, parts_distinct}
@@ -65,17 +66,6 @@ place_is (p ∷ parts) zero q d e = ap (λ b. cond (not b) (1 + position_or_len 
 place_is (p ∷ parts) (suc n) q d e =
     place_by p q parts n (is_same_part q p) refl (not_first p q parts (none_same p parts (IsDistinct-head is_same_part p parts d)) (get_any parts n q e)) (place_is parts n q (IsDistinct-tail is_same_part p parts d) e)
 
-get_below : (parts : List Part) (n : ℕ) (q : Part) → slice_get parts n ≡ Some q → n < length parts
-get_below [] n q e = absurd cc
-get_below (p ∷ parts) zero q e = go (length parts)
-  where
-    go : (m : ℕ) → 0 < suc m
-    go m = omega arith
-get_below (p ∷ parts) (suc n) q e = go n (length parts) (get_below parts n q e)
-  where
-    go : (m k : ℕ) → m < k → suc m < suc k
-    go m k h = omega arith
-
 below_test : (m n : ℕ) → m < n → nat_lt m n ≡ true
 below_test m n h = grind (arith, nat_tests)
 
@@ -87,7 +77,7 @@ number_by parts n m q e h =
 pub part_numbered : (lines : List Laid) (n : ℕ) (part : Part) → slice_get (parts_of lines) n ≡ Some part → part_number lines part ≡ n + 1
 part_numbered lines n part e =
     let parts = parts_of lines in
-    number_by parts n (position_or_len (is_same_part part) parts) part (place_is parts n part (parts_distinct lines) e) (get_below parts n part e)
+    number_by parts n (position_or_len (is_same_part part) parts) part (place_is parts n part (parts_distinct lines) e) (slice_get_within parts n part e)
 
 -- THE ENTRIES WITH A NUMBER
 

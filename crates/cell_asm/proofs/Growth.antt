@@ -1,13 +1,15 @@
 -- Lines in their places: what holds of none, and goes on with each line, holds of all.
-use Rattle.std.proofs.Common.{append-nil, append_assoc, sym, ◌≡◌, ℕ, suc, List, [], ◌∷◌, ◌++◌, Result, Ok, Err, Some, None, refl, subst}
+use Rattle.std.proofs.Common.{append-nil, append_assoc, sym, ◌≡◌, ℕ, suc, List, [], ◌∷◌, ◌++◌, ◌⊎◌, inl, inr, Result, Ok, Err, Some, None, refl, subst}
 use Rattle.std.specs.Prelude.{Option}
 use Rattle.cell_asm.specs.declared.kind.AsmKind.{AsmKind}
 use Rattle.cell_asm.specs.declared.statement.Line.{Line}
 use Rattle.cell_asm.specs.declared.laid.Laid.{Laid}
 use Rattle.cell_asm.specs.Lines.{line_of}
 use Rattle.cell_asm.specs.Places.{placed, fault_at}
-use Rattle.cell_asm.specs.Assembled.{with_line, placed_line, placed_unless, placed_texts}
+use Rattle.cell_asm.specs.Assembled.{with_line, placed_line, placed_unless, placed_texts, placed_lines}
+use Rattle.cell_text.specs.Text.{lines_in}
 use Rattle.cell_asm.proofs.SourceLemmas.{placed_from, after_fault}
+use Rattle.cell_asm.proofs.Members.{In, In-append}
 
 -- what goes on with each line that is read and has no fault behind those before it; and the same of the texts that are read
 abbrev pub Goes : (List Laid → Type 0) → Type 0
@@ -50,3 +52,19 @@ module _ (P : List (List ℕ) → List Laid → Type 0) (goes : GoesOn P) where
 
 pub grows : (P : List Laid → Type 0) → Goes P → (texts : List (List ℕ)) (lines : List Laid) → P [] → placed_texts texts ≡ Ok lines → P lines
 grows P goes texts lines p e = grows_with (λ done ls. P ls) (λ done before n text line q r f. goes before n text line q r f) texts lines p e
+
+-- LINE BY LINE
+
+pub pushed : (Q : Laid → Type 0) (before : List Laid) (new : Laid) → ((l : Laid) → In l before → Q l) → Q new → (l : Laid) → In l (before ++ new ∷ []) → Q l
+pushed Q before new h s l k = go (In-append before (new ∷ []) l k)
+  where
+    go : In l before ⊎ In l (new ∷ []) → Q l
+    go (inl i) = h l i
+    go (inr (inl e)) = subst Q (sym e) s
+    go (inr (inr i)) = absurd i
+
+-- what holds of each line in its place
+pub each_line : (Q : Laid → Type 0) → ((before : List Laid) (n : ℕ) (text : List ℕ) (line : Line) → line_of text ≡ Ok line → fault_at before line ≡ None → Q (placed before n line))
+    → (source : List ℕ) (lines : List Laid) → placed_lines source ≡ Ok lines → (l : Laid) → In l lines → Q l
+each_line Q one source lines e =
+    grows (λ ls. (l : Laid) → In l ls → Q l) (λ before n text line h read f. pushed Q before (placed before n line) h (one before n text line read f)) (lines_in source) lines (λ l k. absurd k) e

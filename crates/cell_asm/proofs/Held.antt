@@ -1,6 +1,6 @@
 -- Each line stands in a section that is chosen, and its bytes are within it.
 --     all_held source lines        so it is of each line of a source
-use Rattle.std.proofs.Common.{◌≡◌, ℕ, ◌+◌, ◌≤◌, cond, List, [], ◌∷◌, ◌++◌, ◌⊎◌, inl, inr, Ok, Some, None, refl, sym, ap, subst, ◌∙◌, arith}
+use Rattle.std.proofs.Common.{◌≡◌, ℕ, ◌+◌, ◌≤◌, cond, List, [], ◌∷◌, ◌++◌, inl, inr, Ok, Some, None, refl, sym, subst, ◌∙◌, arith}
 use Rattle.std.specs.Prelude.{Option}
 use Rattle.std.proofs.lemmas.List.Elements.{filter_map-append}
 use Rattle.cell_num.specs.Lists.{last}
@@ -10,8 +10,8 @@ use Rattle.cell_asm.specs.declared.statement.Statement.{Statement}
 use Rattle.cell_asm.specs.declared.laid.Laid.{Laid}
 use Rattle.cell_asm.specs.Places.{is_same_part, is_at, is_in, choice, choices, taken, size_in, size_at, placed}
 use Rattle.cell_asm.specs.Assembled.{placed_lines}
-use Rattle.cell_asm.proofs.Growth.{Goes, grows}
-use Rattle.cell_asm.proofs.Members.{In, In-append, In-left}
+use Rattle.cell_asm.proofs.Growth.{Goes, grows, pushed}
+use Rattle.cell_asm.proofs.Members.{In, In-left}
 use Rattle.cell_asm.proofs.InFours.{size_push}
 use Rattle.cell_asm.proofs.Parts.{part_itself}
 
@@ -68,16 +68,10 @@ new_held before new part h e = record {
       (subst (λ o. o + taken new.line.statement o ≤ size_in part before + cond (is_in part new) (taken new.line.statement o) 0) (sym h.1) (new_inside part new.part before new.line.statement e));
 }
 
-pushed : (before : List Laid) (new : Laid) → AllHeld before → IsNext before new → AllHeld (before ++ new ∷ [])
-pushed before new h s l k part e = go (In-append before (new ∷ []) l k)
-  where
-    go : In l before ⊎ In l (new ∷ []) → IsHeld (before ++ new ∷ []) part l
-    go (inl i) = old_held before new l part (h l i part e)
-    go (inr (inl f)) = subst (λ m. IsHeld (before ++ new ∷ []) part m) (sym f) (new_held before new part s (ap (λ m. m.part) (sym f) ∙ e))
-    go (inr (inr i)) = absurd i
-
 goes : Goes AllHeld
-goes before n text line h e f = pushed before (placed before n line) h (refl, refl)
+goes before n text line h e f =
+    let new : Laid = placed before n line in
+    pushed (λ l. (part : Part) → l.part ≡ Some part → IsHeld (before ++ new ∷ []) part l) before new (λ l i part at. old_held before new l part (h l i part at)) (λ part at. new_held before new part (refl, refl) at)
 
 pub all_held : (source : List ℕ) (lines : List Laid) → placed_lines source ≡ Ok lines → (l : Laid) → In l lines → (part : Part) → l.part ≡ Some part → IsHeld lines part l
 all_held source lines e = grows AllHeld goes (lines_in source) lines (λ l k. absurd k) e

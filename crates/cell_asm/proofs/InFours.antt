@@ -1,7 +1,7 @@
 -- In .text each line stands at a multiple of four.
 --     in_fours source lines         so does each line of a source
 --     size_in_fours source lines    and so many bytes .text has
-use Rattle.std.proofs.Common.{◌≡◌, ℕ, zero, suc, ◌+◌, ◌-◌, ◌*◌, ◌/◌, ◌%◌, ◌^◌, ◌≤◌, ◌==◌, Bool, true, false, cond, List, [], ◌∷◌, ◌++◌, ◌⊎◌, inl, inr, Ok, Some, None, refl, sym, ap, ◌∙◌, zero-add, div-add-mod', pow-suc, arith}
+use Rattle.std.proofs.Common.{◌≡◌, ℕ, zero, suc, ◌+◌, ◌-◌, ◌*◌, ◌/◌, ◌%◌, ◌^◌, ◌≤◌, ◌==◌, Bool, true, false, cond, List, [], ◌∷◌, ◌++◌, Ok, Some, None, refl, sym, ap, ◌∙◌, zero-add, div-add-mod', pow-suc, arith}
 use Rattle.std.specs.Prelude.{Option, if◌then◌else◌, nat_le, filter, sum_by}
 use Rattle.std.proofs.Math.Nat.{mul_left_comm}
 use Rattle.std.proofs.lemmas.Bool.Decides.{nat_tests}
@@ -10,16 +10,16 @@ use Rattle.std.proofs.lemmas.List.Sums.{sum_by-append}
 use Rattle.cell_num.specs.Lists.{last}
 use Rattle.cell_text.specs.Text.{lines_in}
 use Rattle.cell_asm.specs.declared.statement.Part.{Part}
-use Rattle.cell_asm.specs.declared.statement.Part.TheVariants.{Text, Rodata, Data, Bss}
+use Rattle.cell_asm.specs.declared.statement.Part.TheVariants.{Text}
 use Rattle.cell_asm.specs.declared.statement.Content.TheVariants.{Code, Narrow, Wide}
 use Rattle.cell_asm.specs.declared.statement.Statement.{Statement}
-use Rattle.cell_asm.specs.declared.statement.Statement.TheVariants.{Nothing, Choose, Global, Zeros, Align, Bytes}
+use Rattle.cell_asm.specs.declared.statement.Statement.TheVariants.{Zeros, Align, Bytes}
 use Rattle.cell_asm.specs.declared.statement.Line.{Line}
 use Rattle.cell_asm.specs.declared.laid.Laid.{Laid}
 use Rattle.cell_asm.specs.Places.{is_at, is_in, choices, gap, taken, takes, may_stand, size_in, size_at, placed}
 use Rattle.cell_asm.specs.Assembled.{placed_lines}
-use Rattle.cell_asm.proofs.Growth.{Goes, grows}
-use Rattle.cell_asm.proofs.Members.{In, In-append}
+use Rattle.cell_asm.proofs.Growth.{Goes, grows, pushed}
+use Rattle.cell_asm.proofs.Members.{In}
 use Rattle.cell_asm.proofs.GoodBlocks.{IsGoodStatement}
 use Rattle.cell_asm.proofs.ReadLines.{read_line}
 use Rattle.cell_asm.proofs.Standing.{allowed}
@@ -63,9 +63,6 @@ le_of : (m n : ℕ) → nat_le m n ≡ true → m ≤ n
 le_of m n e = grind (arith, nat_tests)
 
 pub taken_fours : (s : Statement) (offset : ℕ) → takes Text s ≡ true → IsGoodStatement s → offset % 4 ≡ 0 → taken s offset % 4 ≡ 0
-taken_fours Nothing offset t g h = refl
-taken_fours (Choose part) offset t g h = refl
-taken_fours (Global name) offset t g h = refl
 taken_fours (Zeros n) offset t g h = four_zeros n t
 taken_fours (Align unit) offset t g h =
     let r : (m : ℕ) × (unit ≡ 4 * m) = four_of unit g.0 (le_of 4 unit t) g.2 in
@@ -73,6 +70,7 @@ taken_fours (Align unit) offset t g h =
 taken_fours (Bytes Code b) offset t g h = g.sound.whole (λ e. absurd cc)
 taken_fours (Bytes Narrow b) offset t g h = absurd cc
 taken_fours (Bytes Wide b) offset t g h = g.sound.whole (λ e. absurd cc)
+taken_fours _ offset t g h = refl
 
 -- LINE BY LINE
 
@@ -98,30 +96,16 @@ size_by : (o : Option Part) (before : List Laid) (line : Line) → may_stand o l
     → (size_in Text before + cond (is_at Text o) (taken line.statement (size_at o before)) 0) % 4 ≡ 0
 size_by None before line m g h = no_more (size_in Text before) h
 size_by (Some Text) before line m g h = sum_more (size_in Text before) (taken line.statement (size_in Text before)) h (taken_fours line.statement (size_in Text before) m g h)
-size_by (Some Rodata) before line m g h = no_more (size_in Text before) h
-size_by (Some Data) before line m g h = no_more (size_in Text before) h
-size_by (Some Bss) before line m g h = no_more (size_in Text before) h
+size_by (Some part) before line m g h = no_more (size_in Text before) h
 
 offset_by : (o : Option Part) (before : List Laid) → size_in Text before % 4 ≡ 0 → is_at Text o ≡ true → size_at o before % 4 ≡ 0
-offset_by None before h e = absurd cc
 offset_by (Some Text) before h e = h
-offset_by (Some Rodata) before h e = absurd cc
-offset_by (Some Data) before h e = absurd cc
-offset_by (Some Bss) before h e = absurd cc
-
-pushed : (before : List Laid) (new : Laid) → ((l : Laid) → In l before → is_in Text l ≡ true → l.offset % 4 ≡ 0) → (is_in Text new ≡ true → new.offset % 4 ≡ 0)
-    → (l : Laid) → In l (before ++ new ∷ []) → is_in Text l ≡ true → l.offset % 4 ≡ 0
-pushed before new h s l k t = go (In-append before (new ∷ []) l k)
-  where
-    go : In l before ⊎ In l (new ∷ []) → l.offset % 4 ≡ 0
-    go (inl i) = h l i t
-    go (inr (inl e)) = ap (λ m. m.offset % 4) e ∙ s (ap (is_in Text) (sym e) ∙ t)
-    go (inr (inr i)) = absurd i
+offset_by _ before h e = absurd cc
 
 goes : Goes AreFours
 goes before n text line h e f = record {
   size = ap (λ k. k % 4) (size_push Text before (placed before n line)) ∙ size_by (last (choices before)) before line (allowed before line f).stands (read_line text line e).good h.size;
-  offsets = pushed before (placed before n line) h.offsets (offset_by (last (choices before)) before h.size);
+  offsets = pushed (λ l. is_in Text l ≡ true → l.offset % 4 ≡ 0) before (placed before n line) h.offsets (offset_by (last (choices before)) before h.size);
 }
 
 fours : (source : List ℕ) (lines : List Laid) → placed_lines source ≡ Ok lines → AreFours lines

@@ -5,9 +5,9 @@ pub mod Digits
 pub mod Tables
 pub mod Each
 pub mod LineLemmas
-pub mod NameLemmas
 pub mod SectionLemmas
 pub mod LabelLemmas
+pub mod NamesKnown
 pub mod Follow
 pub mod SourceLemmas
 pub mod KeyMaps

@@ -14,7 +14,7 @@ use Rattle.cell_asm.specs.declared.statement.Part.TheVariants.{Text, Rodata, Dat
 use Rattle.cell_asm.specs.declared.statement.Content.{Content}
 use Rattle.cell_asm.specs.declared.statement.Content.TheVariants.{Code, Narrow, Wide}
 use Rattle.cell_asm.specs.declared.statement.Statement.{Statement}
-use Rattle.cell_asm.specs.declared.statement.Statement.TheVariants.{Nothing, Choose, Global, Zeros, Align, Bytes}
+use Rattle.cell_asm.specs.declared.statement.Statement.TheVariants.{Zeros, Align, Bytes}
 use Rattle.cell_asm.specs.declared.laid.Laid.{Laid}
 use Rattle.cell_asm.specs.Places.{taken, takes, lays_nothing}
 use Rattle.cell_asm.specs.Objects.{part_number, symbol_number, target_key, marks_in, entry_of, entries_of}
@@ -26,12 +26,10 @@ content_of (Bytes content b) = content
 content_of _ = Code
 
 pub statement_marks : (s : Statement) (offset : ℕ) → IsGoodStatement s → AreMarks (IsGoodFix (content_of s)) (content_of s) (taken s offset) (marks_in s)
-statement_marks Nothing offset g = no_marks (IsGoodFix Code) Code 0
-statement_marks (Choose part) offset g = no_marks (IsGoodFix Code) Code 0
-statement_marks (Global name) offset g = no_marks (IsGoodFix Code) Code 0
 statement_marks (Zeros n) offset g = no_marks (IsGoodFix Code) Code n
 statement_marks (Align unit) offset g = no_marks (IsGoodFix Code) Code (taken (Align unit) offset)
 statement_marks (Bytes content b) offset g = g.sound.marks_are
+statement_marks _ offset g = no_marks (IsGoodFix Code) Code 0
 
 -- what a section takes: instructions only .text, one or two bytes not .text, and .bss none
 pub record IsTaken (part : Part) (content : Content) : Type 0 where
@@ -41,34 +39,21 @@ pub record IsTaken (part : Part) (content : Content) : Type 0 where
 
 bytes_taken : (part : Part) (content : Content) (b : Block) → takes part (Bytes content b) ≡ true → IsTaken part content
 bytes_taken Text Code b t = record { coded = λ _. refl; wide = λ p c. absurd cc; filled = λ p. absurd cc }
-bytes_taken Text Narrow b t = absurd cc
 bytes_taken Text Wide b t = record { coded = λ _. refl; wide = λ p c. absurd cc; filled = λ p. absurd cc }
-bytes_taken Rodata Code b t = absurd cc
 bytes_taken Rodata Narrow b t = record { coded = λ c. absurd cc; wide = λ p c. absurd cc; filled = λ p. absurd cc }
 bytes_taken Rodata Wide b t = record { coded = λ c. absurd cc; wide = λ p c. absurd cc; filled = λ p. absurd cc }
-bytes_taken Data Code b t = absurd cc
 bytes_taken Data Narrow b t = record { coded = λ c. absurd cc; wide = λ p c. absurd cc; filled = λ p. absurd cc }
 bytes_taken Data Wide b t = record { coded = λ c. absurd cc; wide = λ p c. absurd cc; filled = λ p. absurd cc }
-bytes_taken Bss Code b t = absurd cc
-bytes_taken Bss Narrow b t = absurd cc
-bytes_taken Bss Wide b t = absurd cc
+bytes_taken _ _ b t = absurd cc
 
 pub statement_taken : (part : Part) (s : Statement) (m : Mark) → takes part s ≡ true → In m (marks_in s) → IsTaken part (content_of s)
-statement_taken part Nothing m t k = absurd k
-statement_taken part (Choose other) m t k = absurd k
-statement_taken part (Global name) m t k = absurd k
-statement_taken part (Zeros n) m t k = absurd k
-statement_taken part (Align unit) m t k = absurd k
 statement_taken part (Bytes content b) m t k = bytes_taken part content b t
+statement_taken part _ m t k = absurd k
 
 -- what lays nothing has no entries
 pub none_laid : (s : Statement) (m : Mark) → lays_nothing s ≡ true → In m (marks_in s) → ⊥
-none_laid Nothing m e k = k
-none_laid (Choose part) m e k = k
-none_laid (Global name) m e k = k
-none_laid (Zeros n) m e k = k
-none_laid (Align unit) m e k = k
 none_laid (Bytes content b) m e k = true≢false (sym e)
+none_laid _ m e k = k
 
 -- THE ENTRIES OF A LINE
 

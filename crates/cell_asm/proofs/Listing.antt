@@ -8,16 +8,18 @@ use Rattle.cell_object.specs.declared.object.Symbol.{Symbol}
 use Rattle.cell_asm.specs.declared.statement.Part.{Part}
 use Rattle.cell_asm.specs.declared.laid.Key.{Key}
 use Rattle.cell_asm.specs.declared.laid.Key.TheVariants.{Named}
-use Rattle.cell_asm.specs.declared.spot.Spot.{Spot}
-use Rattle.cell_asm.specs.declared.spot.Spots.{Spots}
+use Rattle.cell_asm.specs.declared.known.Spot.{Spot}
+use Rattle.cell_asm.specs.declared.known.Known.{Known}
 use Rattle.cell_asm.specs.declared.symbol.Symbols.{Symbols}
 use Rattle.cell_object.specs.declared.object.Bind.{Bind}
 use Rattle.cell_object.specs.declared.object.Bind.TheVariants.{Global}
 use Rattle.cell_object.specs.declared.object.Sort.TheVariants.{NoType}
 use Rattle.cell_object.specs.declared.object.Home.{Home}
-use Rattle.cell_asm.specs.Objects.{is_key, key_name, symbol}
-use Rattle.cell_asm.specs.Numberings.{number_of, place_among, has_key, keys_with, mentioned, spot_of, home_in, other_in, Lists, Mentions}
-use Rattle.cell_asm.proofs.KeyPlaces.{place_more, placed_if}
+use Rattle.cell_asm.specs.Objects.{key_name, number_from, symbol}
+use Rattle.cell_asm.specs.Known.{about}
+use Rattle.cell_asm.specs.Numberings.{number_of, has_key, keys_with, mentioned, home_in, other_in, Lists, Mentions}
+use Rattle.cell_asm.proofs.KeyPlaces.{number_more, numbered_if}
+use Rattle.cell_asm.specs.Places.{is_key}
 
 length_push : {X : Type 0} (xs : List X) (x : X) → length (xs ++ x ∷ []) ≡ suc (length xs)
 length_push [] x = refl
@@ -40,12 +42,12 @@ lists_more old new keys list k s n h items number numbers = record {
   numbers = λ q.
       numbers q
       ∙ ap (λ o. or_else o (where_true (is_key k q) n)) (h.numbers q)
-      ∙ ap (λ m. or_else (place_among keys q) (where_true (is_key k q) m)) (number ∙ next_number old keys list h)
-      ∙ sym (place_more keys k q);
+      ∙ ap (λ m. or_else (number_from 1 keys q) (where_true (is_key k q) m)) (number ∙ next_number old keys list h)
+      ∙ sym (number_more 1 keys k q);
 }
 
 known : (s : Symbols) (keys : List Key) (list : List Symbol) (q : Key) → Lists s keys list → has_key keys q ≡ is_some (number_of s.numbers q)
-known s keys list q h = sym (placed_if keys q) ∙ sym (ap is_some (h.numbers q))
+known s keys list q h = sym (numbered_if 1 keys q) ∙ sym (ap is_some (h.numbers q))
 
 not_true : (b : Bool) → not b ≡ true → b ≡ false
 not_true true e = cc
@@ -56,7 +58,7 @@ not_false true e = refl
 not_false false e = cc
 
 -- a name that is there already
-pub mention_known : (s : Symbols) (parts : List Part) (spots : Spots) (locals : List Key) (list : List Symbol) (names : List (List ℕ)) (name : List ℕ)
+pub mention_known : (s : Symbols) (parts : List Part) (spots : Known) (locals : List Key) (list : List Symbol) (names : List (List ℕ)) (name : List ℕ)
     → not (is_some (number_of s.numbers (Named name))) ≡ false → Mentions s parts spots locals list names → Mentions s parts spots locals list (mentioned locals names name)
 mention_known s parts spots locals list names name e h =
     let there : has_key (keys_with locals names) (Named name) ≡ true = known s _ _ (Named name) h ∙ not_false _ e in
@@ -69,7 +71,7 @@ list_more : (list : List Symbol) (other : List ℕ → Symbol) (names : List (Li
 list_more list other names name = ap (λ ss. list ++ ss) (map-append other names (name ∷ [])) ∙ sym (append_assoc list (map other names) (other name ∷ []))
 
 -- a new name
-mention_new : (old new : Symbols) (parts : List Part) (spots : Spots) (locals : List Key) (list : List Symbol) (names : List (List ℕ)) (name : List ℕ) (s : Symbol)
+mention_new : (old new : Symbols) (parts : List Part) (spots : Known) (locals : List Key) (list : List Symbol) (names : List (List ℕ)) (name : List ℕ) (s : Symbol)
     → not (is_some (number_of old.numbers (Named name))) ≡ true → s ≡ other_in parts spots name → Mentions old parts spots locals list names
     → Lists new (keys_with locals names ++ Named name ∷ []) ((list ++ map (other_in parts spots) names) ++ s ∷ [])
     → Mentions new parts spots locals list (mentioned locals names name)
@@ -80,8 +82,8 @@ mention_new old new parts spots locals list names name s e is h more =
     (subst (λ ss. Lists new (keys_with locals names ++ Named name ∷ []) ss) (ap (λ t. (list ++ map (other_in parts spots) names) ++ t ∷ []) is ∙ sym (list_more list (other_in parts spots) names name)) more))
 
 -- a new name, as it is added
-pub mention_by : (old new : Symbols) (parts : List Part) (spots : Spots) (locals : List Key) (list : List Symbol) (names : List (List ℕ)) (name n : List ℕ) (spot : Option Spot)
-    → not (is_some (number_of old.numbers (Named name))) ≡ true → n ≡ name → spot ≡ spot_of spots name → Mentions old parts spots locals list names
+pub mention_by : (old new : Symbols) (parts : List Part) (spots : Known) (locals : List Key) (list : List Symbol) (names : List (List ℕ)) (name n : List ℕ) (spot : Option Spot)
+    → not (is_some (number_of old.numbers (Named name))) ≡ true → n ≡ name → spot ≡ (about spots name).spot → Mentions old parts spots locals list names
     → Lists new (keys_with locals names ++ Named n ∷ []) ((list ++ map (other_in parts spots) names) ++ symbol (Named n) Global (home_in parts spot) (option_map_or (λ s. s.offset) spot 0) ∷ [])
     → Mentions new parts spots locals list (mentioned locals names name)
 mention_by old new parts spots locals list names name n spot e same at h more =
@@ -91,7 +93,7 @@ mention_by old new parts spots locals list names name n spot e same at h more =
     (subst (λ m. Lists new (keys_with locals names ++ Named m ∷ []) ((list ++ map (other_in parts spots) names) ++ symbol (Named m) Global (home_in parts spot) (option_map_or (λ s. s.offset) spot 0) ∷ [])) same more)
 
 -- the same names
-pub same_names : (s : Symbols) (parts : List Part) (spots : Spots) (locals : List Key) (list : List Symbol) (ns ms : List (List ℕ)) → ns ≡ ms
+pub same_names : (s : Symbols) (parts : List Part) (spots : Known) (locals : List Key) (list : List Symbol) (ns ms : List (List ℕ)) → ns ≡ ms
     → Mentions s parts spots locals list ns → Mentions s parts spots locals list ms
 same_names s parts spots locals list ns ms e h = subst (λ xs. Mentions s parts spots locals list xs) e h
 

@@ -1,64 +1,27 @@
 -- The names of symbols, as they are mentioned one after the other.
-use Rattle.std.proofs.Common.{◌≡◌, ℕ, ◌+◌, ◌<◌, Bool, true, false, ◌||◌, not, List, [], ◌∷◌, ◌++◌, cond, length, take, get_or, map, Some, None, refl, sym, ap, subst, ◌∙◌, append-nil}
+use Rattle.std.proofs.Common.{◌≡◌, ℕ, Bool, true, false, ◌||◌, not, List, [], ◌∷◌, ◌++◌, cond, map, Some, None, refl, sym, ap, subst, ◌∙◌, append-nil}
 use Rattle.std.specs.Prelude.{Option, option_map, if◌then◌else◌, filter, fold}
 use Rattle.std.specs.Option.{option_map_or, unwrap_or}
-use Rattle.std.specs.List.{list_any, cons_option}
-use Rattle.std.specs.Str.{bytes_eq}
-use Rattle.std.proofs.lemmas.List.{take_more, map-append}
+use Rattle.std.specs.List.{list_any}
+use Rattle.std.proofs.lemmas.List.{map-append}
 use Rattle.std.proofs.lemmas.List.Folds.{list_any-append}
-use Rattle.std.proofs.lemmas.List.Elements.{filter-append, filter_map-append}
-use Rattle.cell_num.specs.Lists.{equals, holds_name}
+use Rattle.std.proofs.lemmas.List.Elements.{filter-append}
+use Rattle.cell_num.specs.Lists.{holds_name}
 use Rattle.cell_object.specs.declared.object.Symbol.{Symbol}
 use Rattle.cell_object.specs.declared.object.Bind.TheVariants.{Local}
 use Rattle.cell_object.specs.declared.object.Home.TheVariants.{Inside}
 use Rattle.cell_asm.specs.declared.statement.Part.{Part}
-use Rattle.cell_asm.specs.declared.statement.Statement.{Statement}
-use Rattle.cell_asm.specs.declared.statement.Statement.TheVariants.{Nothing, Choose, Global, Zeros, Align, Bytes}
 use Rattle.cell_asm.specs.declared.laid.Laid.{Laid}
 use Rattle.cell_asm.specs.declared.laid.Label.{Label}
 use Rattle.cell_asm.specs.declared.laid.Key.{Key}
 use Rattle.cell_asm.specs.declared.laid.Key.TheVariants.{Named, Made}
-use Rattle.cell_asm.specs.declared.names_taken.Names.{Names}
-use Rattle.cell_asm.specs.declared.spot.Spots.{Spots}
+use Rattle.cell_asm.specs.declared.known.Known.{Known}
 use Rattle.cell_asm.specs.declared.symbol.Symbols.{Symbols}
-use Rattle.cell_asm.specs.Named.{is_named}
-use Rattle.cell_asm.specs.Places.{labels}
-use Rattle.cell_asm.specs.Objects.{is_key, is_global, globals, global_name, local_labels, holds_key, adds_name, other_names, mentions, parts_of, home_at, label_named, number_in, symbol, global_symbol, local_symbol, symbols, symbol_keys}
-use Rattle.cell_asm.specs.Numberings.{number_of, place_among, has_key, keys_with, mentioned, spot_of, spot_at, spot_among, home_in, other_in, local_in, Lists, Mentions}
-use Rattle.cell_asm.specs.Making.{declares, is_global_in, locals_in, Locals, Numbered}
-use Rattle.cell_asm.proofs.KeyMaps.{turned}
-use Rattle.cell_asm.proofs.KeyPlaces.{number_is}
-
--- THE NAMES THAT A DIRECTIVE MAKES GLOBAL
-
-or_false : (b : Bool) → (b || false) ≡ b
-or_false true = refl
-or_false false = refl
-
-declared : (q : List ℕ) (s : Statement) → list_any (λ other. equals other q) (cons_option (global_name s) []) ≡ declares q s
-declared q Nothing = refl
-declared q (Choose part) = refl
-declared q (Global name) = or_false (bytes_eq name q) ∙ turned name q
-declared q (Zeros n) = refl
-declared q (Align unit) = refl
-declared q (Bytes content pieces) = refl
-
-swapped : (a b : Bool) → (a || b) ≡ (b || a)
-swapped true true = refl
-swapped true false = refl
-swapped false true = refl
-swapped false false = refl
-
--- one line more
-pub globals_more : (lines : List Laid) (i : ℕ) (d : Laid) (q : List ℕ) → i < length lines
-    → holds_name (globals (take (i + 1) lines)) q ≡ (declares q (get_or lines i d).line.statement || holds_name (globals (take i lines)) q)
-globals_more lines i d q lt =
-    let s = (get_or lines i d).line.statement in
-    ap (λ ls. holds_name (globals ls) q) (take_more lines i d lt)
-    ∙ ap (λ names. holds_name names q) (filter_map-append (λ l. global_name l.line.statement) (take i lines) (get_or lines i d ∷ []))
-    ∙ list_any-append (λ other. equals other q) (globals (take i lines)) (cons_option (global_name s) [])
-    ∙ ap (λ b. holds_name (globals (take i lines)) q || b) (declared q s)
-    ∙ swapped (holds_name (globals (take i lines)) q) (declares q s)
+use Rattle.cell_asm.specs.Known.{about, spot_at, spot_among, about_in}
+use Rattle.cell_asm.specs.Places.{labels, is_key, holds_key}
+use Rattle.cell_asm.specs.Objects.{is_global, globals, local_labels, adds_name, other_names, mentions, parts_of, home_at, label_named, number_in, number_from, symbol, global_symbol, local_symbol, symbols, symbol_keys}
+use Rattle.cell_asm.specs.Numberings.{number_of, has_key, keys_with, mentioned, home_in, other_in, local_in, Lists, Mentions}
+use Rattle.cell_asm.specs.Making.{is_global_in, locals_in, Locals, Numbered}
 
 -- LOCAL LABELS
 
@@ -66,11 +29,11 @@ filter_same : {X : Type 0} (p q : X → Bool) (xs : List X) → ((x : X) → p x
 filter_same p q [] same = refl
 filter_same p q (x ∷ xs) same = ap (λ b. cond b (x ∷ filter p xs) (filter p xs)) (same x) ∙ ap (λ ys. cond (q x) (x ∷ ys) ys) (filter_same p q xs same)
 
-global_same : (names : Names) (lines : List Laid) (key : Key) → ((q : List ℕ) → is_named names q ≡ holds_name (globals lines) q) → is_global_in names key ≡ is_global (globals lines) key
-global_same names lines (Named name) same = same name
+global_same : (names : Known) (lines : List Laid) (key : Key) → ((q : List ℕ) → about names q ≡ about_in lines q) → is_global_in names key ≡ is_global (globals lines) key
+global_same names lines (Named name) same = ap (λ a. a.global) (same name)
 global_same names lines (Made n) same = refl
 
-pub locals_are : (names : Names) (lines : List Laid) → ((q : List ℕ) → is_named names q ≡ holds_name (globals lines) q) → locals_in names (labels lines) ≡ local_labels lines
+pub locals_are : (names : Known) (lines : List Laid) → ((q : List ℕ) → about names q ≡ about_in lines q) → locals_in names (labels lines) ≡ local_labels lines
 locals_are names lines same =
     filter_same (λ l. not (is_global_in names l.key)) (λ l. not (is_global (globals lines) l.key)) (labels lines) (λ l. ap not (global_same names lines l.key same))
 
@@ -78,7 +41,7 @@ one_left : (before : List Label) (l : Label) (global : Bool) (e : Bool) → glob
 one_left before l global true e = ap (λ b. before ++ cond (not b) (l ∷ []) []) e ∙ append-nil before
 one_left before l global false e = ap (λ b. before ++ cond (not b) (l ∷ []) []) e
 
-locals_more : (names : Names) (before : List Label) (l : Label) (e : Bool) → is_global_in names l.key ≡ e
+locals_more : (names : Known) (before : List Label) (l : Label) (e : Bool) → is_global_in names l.key ≡ e
     → locals_in names (before ++ l ∷ []) ≡ (if e then locals_in names before else locals_in names before ++ l ∷ [])
 locals_more names before l e global =
     filter-append (λ m. not (is_global_in names m.key)) before (l ∷ []) ∙ one_left (locals_in names before) l (is_global_in names l.key) e global
@@ -92,13 +55,13 @@ not_false true e = refl
 not_false false e = cc
 
 -- a label that is GLOBAL
-pub local_same : (s : Symbols) (parts : List Part) (names : Names) (before : List Label) (l : Label) → not (is_global_in names l.key) ≡ false
+pub local_same : (s : Symbols) (parts : List Part) (names : Known) (before : List Label) (l : Label) → not (is_global_in names l.key) ≡ false
     → Locals s parts names before → Locals s parts names (before ++ l ∷ [])
 local_same s parts names before l e h =
     subst (λ ls. Lists s (map (λ m. m.key) ls) (map (local_in parts) ls)) (sym (locals_more names before l true (not_false (is_global_in names l.key) e))) h
 
 -- a LOCAL label
-pub local_added : (s : Symbols) (parts : List Part) (names : Names) (before : List Label) (l : Label) (number : ℕ) → not (is_global_in names l.key) ≡ true → number ≡ number_in parts l.part
+pub local_added : (s : Symbols) (parts : List Part) (names : Known) (before : List Label) (l : Label) (number : ℕ) → not (is_global_in names l.key) ≡ true → number ≡ number_in parts l.part
     → Lists s (map (λ m. m.key) (locals_in names before) ++ l.key ∷ []) (map (local_in parts) (locals_in names before) ++ symbol l.key Local (Inside number) l.offset ∷ [])
     → Locals s parts names (before ++ l ∷ [])
 local_added s parts names before l number e is h =
@@ -108,7 +71,7 @@ local_added s parts names before l number e is h =
     (ap (λ n. map (local_in parts) (locals_in names before) ++ symbol l.key Local (Inside n) l.offset ∷ []) is ∙ sym (map-append (local_in parts) (locals_in names before) (l ∷ []))) h))
 
 -- the same labels
-pub same_labels : (s : Symbols) (parts : List Part) (names : Names) (ls ms : List Label) → ls ≡ ms → Locals s parts names ls → Locals s parts names ms
+pub same_labels : (s : Symbols) (parts : List Part) (names : Known) (ls ms : List Label) → ls ≡ ms → Locals s parts names ls → Locals s parts names ms
 same_labels s parts names ls ms e h = subst (λ xs. Locals s parts names xs) e h
 
 -- OTHER NAMES
@@ -167,44 +130,37 @@ map_same : {X Y : Type 0} (f g : X → Y) (xs : List X) → ((x : X) → f x ≡
 map_same f g [] same = refl
 map_same f g (x ∷ xs) same = ap (λ y. y ∷ map f xs) (same x) ∙ ap (λ ys. g x ∷ ys) (map_same f g xs same)
 
-other_is : (lines : List Laid) (spots : Spots) (name : List ℕ) → spot_of spots name ≡ spot_among (labels lines) name → other_in (parts_of lines) spots name ≡ global_symbol lines name
+other_is : (lines : List Laid) (spots : Known) (name : List ℕ) → (about spots name).spot ≡ spot_among (labels lines) name → other_in (parts_of lines) spots name ≡ global_symbol lines name
 other_is lines spots name e = rw (e, home_is lines (label_named lines name), offset_is (label_named lines name)) refl
 
-pub symbols_are : (lines : List Laid) (spots : Spots) → ((q : List ℕ) → spot_of spots q ≡ spot_among (labels lines) q)
+pub symbols_are : (lines : List Laid) (spots : Known) → ((q : List ℕ) → about spots q ≡ about_in lines q)
     → map (local_in (parts_of lines)) (local_labels lines) ++ map (other_in (parts_of lines) spots) (other_names lines) ≡ symbols lines
 symbols_are lines spots e =
-    ap (λ ss. map (local_symbol lines) (local_labels lines) ++ ss) (map_same (other_in (parts_of lines) spots) (global_symbol lines) (other_names lines) (λ name. other_is lines spots name (e name)))
+    ap (λ ss. map (local_symbol lines) (local_labels lines) ++ ss) (map_same (other_in (parts_of lines) spots) (global_symbol lines) (other_names lines) (λ name. other_is lines spots name (ap (λ a. a.spot) (e name))))
 
-pub numbered_by : (lines : List Laid) (s : Symbols) → ((key : Key) → number_of s.numbers key ≡ place_among (symbol_keys lines) key) → Numbered s lines
-numbered_by lines s e = λ key. ap (λ o. unwrap_or o 0) (e key) ∙ number_is _
+pub numbered_by : (lines : List Laid) (s : Symbols) → ((key : Key) → number_of s.numbers key ≡ number_from 1 (symbol_keys lines) key) → Numbered s lines
+numbered_by lines s e = λ key. ap (λ o. unwrap_or o 0) (e key)
 
 -- none is mentioned yet
-pub none_yet : (s : Symbols) (parts : List Part) (spots : Spots) (keys : List Key) (list : List Symbol) → Lists s keys list → Mentions s parts spots keys list []
+pub none_yet : (s : Symbols) (parts : List Part) (spots : Known) (keys : List Key) (list : List Symbol) → Lists s keys list → Mentions s parts spots keys list []
 none_yet s parts spots keys list h =
     subst (λ ks. Lists s ks (list ++ [])) (sym (append-nil keys)) (subst (λ ss. Lists s keys ss) (sym (append-nil list)) h)
 
 -- the symbols of the LOCAL labels and those of the names that the lines mention
-abbrev Whole : Symbols → List Laid → List Part → Spots → List Label → Type 0
+abbrev Whole : Symbols → List Laid → List Part → Known → List Label → Type 0
 Whole s lines parts spots locals =
     Mentions s parts spots (map (λ l. l.key) locals) (map (local_in parts) locals) (fold (mentioned (map (λ l. l.key) locals)) [] (mentions lines))
 
-whole_is : (s : Symbols) (lines : List Laid) (parts : List Part) (found : List Label) (names : Names) (spots : Spots) → parts ≡ parts_of lines → found ≡ labels lines
-    → ((q : List ℕ) → is_named names q ≡ holds_name (globals lines) q) → Whole s lines parts spots (locals_in names found)
-    → Mentions s (parts_of lines) spots (map (λ l. l.key) (local_labels lines)) (map (local_in (parts_of lines)) (local_labels lines)) (other_names lines)
-whole_is s lines parts found names spots chosen labelled named h =
-    subst (λ ns. Mentions s (parts_of lines) spots (map (λ l. l.key) (local_labels lines)) (map (local_in (parts_of lines)) (local_labels lines)) ns) (others_are lines)
-    (subst (λ locals. Whole s lines (parts_of lines) spots locals) (ap (locals_in names) labelled ∙ locals_are names lines named)
-    (subst (λ ps. Whole s lines ps spots (locals_in names found)) chosen h))
+module _ (s : Symbols) (lines : List Laid) (parts : List Part) (found : List Label) (known : Known) (chosen : parts ≡ parts_of lines) (labelled : found ≡ labels lines)
+    (is : (q : List ℕ) → about known q ≡ about_in lines q) (h : Whole s lines parts known (locals_in known found)) where
+  whole_is : Mentions s (parts_of lines) known (map (λ l. l.key) (local_labels lines)) (map (local_in (parts_of lines)) (local_labels lines)) (other_names lines)
+  whole_is =
+      subst (λ ns. Mentions s (parts_of lines) known (map (λ l. l.key) (local_labels lines)) (map (local_in (parts_of lines)) (local_labels lines)) ns) (others_are lines)
+      (subst (λ locals. Whole s lines (parts_of lines) known locals) (ap (locals_in known) labelled ∙ locals_are known lines is)
+      (subst (λ ps. Whole s lines ps known (locals_in known found)) chosen h))
 
-pub list_is : (s : Symbols) (lines : List Laid) (parts : List Part) (found : List Label) (names : Names) (spots : Spots) → parts ≡ parts_of lines → found ≡ labels lines
-    → ((q : List ℕ) → is_named names q ≡ holds_name (globals lines) q) → ((q : List ℕ) → spot_of spots q ≡ spot_among found q)
-    → Whole s lines parts spots (locals_in names found) → s.list.items ≡ symbols lines
-list_is s lines parts found names spots chosen labelled named spotted h =
-    let whole = whole_is s lines parts found names spots chosen labelled named h in
-    whole.list ∙ symbols_are lines spots (λ q. spotted q ∙ ap (λ ls. spot_among ls q) labelled)
+  pub list_is : s.list.items ≡ symbols lines
+  list_is = whole_is.list ∙ symbols_are lines known is
 
-pub numbers_are : (s : Symbols) (lines : List Laid) (parts : List Part) (found : List Label) (names : Names) (spots : Spots) → parts ≡ parts_of lines → found ≡ labels lines
-    → ((q : List ℕ) → is_named names q ≡ holds_name (globals lines) q)
-    → Whole s lines parts spots (locals_in names found) → Numbered s lines
-numbers_are s lines parts found names spots chosen labelled named h =
-    numbered_by lines s (whole_is s lines parts found names spots chosen labelled named h).numbers
+  pub numbers_are : Numbered s lines
+  numbers_are = numbered_by lines s whole_is.numbers

@@ -1,19 +1,18 @@
 -- The names that lines mention, and the labels that they define.
 --     all_named source lines        each mentioned name is a name
 --     labels_fit source lines       each label stands in a section that is chosen, within it, and has a fit name
-use Rattle.std.proofs.Common.{◌≡◌, ℕ, ◌+◌, ◌≤◌, Bool, true, false, List, [], ◌∷◌, ◌++◌, ◌⊎◌, inl, inr, Ok, Some, None, sym, ap, subst, arith}
+use Rattle.std.proofs.Common.{◌≡◌, ℕ, ◌+◌, ◌≤◌, Bool, true, false, List, [], ◌∷◌, ◌⊎◌, inl, inr, Ok, Some, None, sym, ap, subst, arith}
 use Rattle.std.specs.Prelude.{Option, if◌then◌else◌}
 use Rattle.std.specs.List.{list_any}
-use Rattle.cell_text.specs.Text.{lines_in}
 use Rattle.cell_asm.specs.declared.statement.Part.{Part}
 use Rattle.cell_asm.specs.declared.laid.Laid.{Laid}
 use Rattle.cell_asm.specs.declared.laid.Key.{Key}
 use Rattle.cell_asm.specs.declared.laid.Key.TheVariants.{Named, Made}
 use Rattle.cell_asm.specs.declared.laid.Label.{Label}
-use Rattle.cell_asm.specs.Places.{is_same_part, taken, size_in, makes_label, own_key, made_key, keys_of, label, labels_at, labels, placed}
+use Rattle.cell_asm.specs.Places.{is_same_part, taken, size_in, makes_label, own_key, made_key, keys_of, label, labels_at, labels}
 use Rattle.cell_asm.specs.Objects.{parts_of, key_name, label_names, mentions, statement_names}
 use Rattle.cell_asm.specs.Assembled.{placed_lines}
-use Rattle.cell_asm.proofs.Growth.{Goes, grows}
+use Rattle.cell_asm.proofs.Growth.{each_line}
 use Rattle.cell_asm.proofs.Members.{In, In-append, In-left, In-flat, In-map}
 use Rattle.cell_asm.proofs.Chosen.{part_there}
 use Rattle.cell_asm.proofs.Held.{IsHeld, all_held}
@@ -24,22 +23,8 @@ use Rattle.cell_asm.proofs.NamedOperands.{AreNames}
 
 -- MENTIONS
 
-abbrev AllNamed : List Laid → Type 0
-AllNamed lines = (l : Laid) → In l lines → AreNames (line_names l.line)
-
-pushed : (before : List Laid) (new : Laid) → AllNamed before → AreNames (line_names new.line) → AllNamed (before ++ new ∷ [])
-pushed before new h s l k = go (In-append before (new ∷ []) l k)
-  where
-    go : In l before ⊎ In l (new ∷ []) → AreNames (line_names l.line)
-    go (inl i) = h l i
-    go (inr (inl e)) = subst (λ m. AreNames (line_names m.line)) (sym e) s
-    go (inr (inr i)) = absurd i
-
-goes : Goes AllNamed
-goes before n text line h e f = pushed before (placed before n line) h (read_line text line e).names.named
-
-lines_named : (source : List ℕ) (lines : List Laid) → placed_lines source ≡ Ok lines → AllNamed lines
-lines_named source lines e = grows AllNamed goes (lines_in source) lines (λ l k. absurd k) e
+lines_named : (source : List ℕ) (lines : List Laid) → placed_lines source ≡ Ok lines → (l : Laid) → In l lines → AreNames (line_names l.line)
+lines_named = each_line (λ l. AreNames (line_names l.line)) (λ before n text line e f. (read_line text line e).names.named)
 
 pub all_named : (source : List ℕ) (lines : List Laid) → placed_lines source ≡ Ok lines → AreNames (mentions lines)
 all_named source lines e n k =

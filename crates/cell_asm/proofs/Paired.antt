@@ -1,12 +1,13 @@
 -- Each entry of the kinds PCREL_LO12 names the label of one of the kind PCREL_HI20 in its section.
 --     entry_paired      is_unpaired is false
 use Rattle.std.proofs.Common.{◌≡◌, ℕ, ◌+◌, ◌-◌, ◌==◌, pos, Bool, true, false, ◌&&◌, ◌||◌, not, List, [], ◌∷◌, ◌++◌, inl, inr, map, slice_get, Ok, Some, None, refl, sym, ap, subst, ◌∙◌, true≢false, int_eq, arith}
-use Rattle.std.specs.Prelude.{if◌then◌else◌, filter, find}
+use Rattle.std.specs.Prelude.{Option, if◌then◌else◌, filter, find}
+use Rattle.std.specs.Option.{option_map_or}
 use Rattle.std.specs.List.{list_any}
 use Rattle.std.proofs.lemmas.Bool.{and_parts, and_from}
 use Rattle.std.proofs.lemmas.Bool.Decides.{nat_tests}
 use Rattle.cell_num.specs.declared.kinds.RelKind.{RelKind}
-use Rattle.cell_num.specs.declared.kinds.RelKind.TheVariants.{Abs32, Abs64, Branch, Jal, Call, CallPlt, GotHi20, PcrelHi20, PcrelLo12I, PcrelLo12S, Hi20, Lo12I, Lo12S, Add8, Add16, Add32, Add64, Sub8, Sub16, Sub32, Sub64, Sub6, Set6, Set8, Set16, Set32, Pcrel32}
+use Rattle.cell_num.specs.declared.kinds.RelKind.TheVariants.{PcrelHi20, PcrelLo12I, PcrelLo12S}
 use Rattle.cell_num.specs.Kinds.{is_instruction, is_pcrel_lo12, is_pcrel_hi20}
 use Rattle.cell_object.specs.declared.object.Entry.{Entry}
 use Rattle.cell_object.specs.declared.object.Home.TheVariants.{Inside}
@@ -17,15 +18,15 @@ use Rattle.cell_asm.specs.declared.statement.Target.{Target}
 use Rattle.cell_asm.specs.declared.statement.Target.TheVariants as targets
 use Rattle.cell_asm.specs.declared.block.Mark.{Mark}
 use Rattle.cell_asm.specs.declared.statement.Statement.{Statement}
-use Rattle.cell_asm.specs.declared.statement.Statement.TheVariants.{Nothing, Choose, Global, Zeros, Align, Bytes}
+use Rattle.cell_asm.specs.declared.statement.Statement.TheVariants.{Bytes}
 use Rattle.cell_asm.specs.declared.laid.Laid.{Laid}
 use Rattle.cell_asm.specs.declared.laid.Label.{Label}
 use Rattle.cell_asm.specs.declared.laid.Key.{Key}
 use Rattle.cell_asm.specs.declared.laid.Key.TheVariants.{Named, Made}
-use Rattle.cell_asm.specs.Places.{is_in, is_same_part, may_stand, is_made, makes_label, own_key, made_key, keys_of, label, labels_at, labels}
-use Rattle.cell_asm.specs.Objects.{marks_in, entries_of, part_number, is_key, target_names, statement_names, label_names, mentions, symbols, symbol_number, target_key, entry_of, entries_in}
+use Rattle.cell_asm.specs.Places.{is_in, is_same_part, may_stand, is_made, makes_label, own_key, made_key, keys_of, label, labels_at, labels, is_key}
+use Rattle.cell_asm.specs.Objects.{marks_in, label_named, entries_of, part_number, target_names, statement_names, label_names, mentions, symbols, symbol_number, target_key, entry_of, entries_in}
 use Rattle.cell_asm.specs.Assembled.{has_upper, is_upper_label, is_lost, is_lost_mark, has_lost, placed_lines}
-use Rattle.cell_asm.proofs.Members.{map-In, In, In-right, filter-In, flat-In, find_none, any-In, In-any, In-none}
+use Rattle.cell_asm.proofs.Members.{map-In, In, In-right, filter-In, flat-In, find_none, found-In, any-In, In-any, In-none}
 use Rattle.cell_asm.proofs.GoodBlocks.{is_code, any_upper, IsGoodStatement}
 use Rattle.cell_asm.proofs.Standing.{IsStanding, all_stand}
 use Rattle.cell_asm.proofs.Parts.{same_part}
@@ -37,33 +38,10 @@ use Rattle.cell_asm.proofs.SymbolPlaces.{has_symbol, mentioned_there, made_there
 
 -- the kinds that name the label of another entry, and that entry's, are of instructions
 label_code : (kind : RelKind) → (is_pcrel_lo12 kind || is_pcrel_hi20 kind) ≡ true → is_instruction kind ≡ true
-label_code Abs32 e = absurd cc
-label_code Abs64 e = absurd cc
-label_code Branch e = refl
-label_code Jal e = refl
-label_code Call e = refl
-label_code CallPlt e = refl
-label_code GotHi20 e = refl
 label_code PcrelHi20 e = refl
 label_code PcrelLo12I e = refl
 label_code PcrelLo12S e = refl
-label_code Hi20 e = refl
-label_code Lo12I e = refl
-label_code Lo12S e = refl
-label_code Add8 e = absurd cc
-label_code Add16 e = absurd cc
-label_code Add32 e = absurd cc
-label_code Add64 e = absurd cc
-label_code Sub8 e = absurd cc
-label_code Sub16 e = absurd cc
-label_code Sub32 e = absurd cc
-label_code Sub64 e = absurd cc
-label_code Sub6 e = absurd cc
-label_code Set6 e = absurd cc
-label_code Set8 e = absurd cc
-label_code Set16 e = absurd cc
-label_code Set32 e = absurd cc
-label_code Pcrel32 e = absurd cc
+label_code _ e = absurd cc
 
 lo12_code : (kind : RelKind) → is_pcrel_lo12 kind ≡ true → is_instruction kind ≡ true
 lo12_code kind e = label_code kind (ap (λ b. b || is_pcrel_hi20 kind) e)
@@ -100,11 +78,7 @@ line_upper lines part l i p s h =
 
     head_of : (s : Statement) → IsGoodStatement s → any_upper (marks_in s) ≡ true → (m : Mark) × In m (marks_in s) × (m.at ≡ 0) × (is_pcrel_hi20 m.fix.kind ≡ true)
     head_of (Bytes content b) g t = g.headed t
-    head_of Nothing g t = absurd (true≢false (sym t))
-    head_of (Choose q) g t = absurd (true≢false (sym t))
-    head_of (Global name) g t = absurd (true≢false (sym t))
-    head_of (Zeros n) g t = absurd (true≢false (sym t))
-    head_of (Align unit) g t = absurd (true≢false (sym t))
+    head_of _ g t = absurd (true≢false (sym t))
 
 same_test : (m n : ℕ) → m ≡ n → (m == n) ≡ true
 same_test m n e = grind (arith, nat_tests)
@@ -133,6 +107,10 @@ second_false : (a b : Bool) → (a && b) ≡ false → a ≡ true → b ≡ fals
 second_false true b e t = e
 second_false false b e t = absurd (true≢false (sym t))
 
+passing : (p : Label → Bool) (o : Option Label) → option_map_or p o false ≡ true → (l : Label) × (o ≡ Some l) × (p l ≡ true)
+passing p None e = absurd (true≢false (sym e))
+passing p (Some l) e = (l, refl, e)
+
 -- the keys of lines are those of labels
 pub in_labels : (lines : List Laid) (l : Laid) (part : Part) (k : Key) → In l lines → l.part ≡ Some part → In k (keys_of l) → In (label part l.offset k) (labels lines)
 in_labels lines l part k i p h = flat-In (λ m. labels_at m.part m.offset (keys_of m)) lines l (label part l.offset k) i (subst (λ o. In (label part l.offset k) (labels_at o l.offset (keys_of l))) (sym p) (mapped (keys_of l) h))
@@ -153,28 +131,16 @@ mentions_target lines l m name i j t =
     (In-right (label_names l.line.label) (statement_names l.line.statement) name (of_statement l.line.statement j))
   where
     of_statement : (s : Statement) → In m (marks_in s) → In name (statement_names s)
-    of_statement Nothing k = absurd k
-    of_statement (Choose part) k = absurd k
-    of_statement (Global other) k = absurd k
-    of_statement (Zeros n) k = absurd k
-    of_statement (Align unit) k = absurd k
     of_statement (Bytes content b) k = flat-In (λ x. target_names x.fix.target) b.marks m name k (subst (λ u. In name (target_names u)) (sym t) (inl refl))
+    of_statement _ k = absurd k
 
 makes_by : (s : Statement) (m : Mark) → In m (marks_in s) → is_made m.fix.target ≡ true → makes_label s ≡ true
-makes_by Nothing m k e = absurd k
-makes_by (Choose part) m k e = absurd k
-makes_by (Global other) m k e = absurd k
-makes_by (Zeros n) m k e = absurd k
-makes_by (Align unit) m k e = absurd k
 makes_by (Bytes content b) m k e = In-any (λ x. is_made x.fix.target) b.marks m k e
+makes_by _ m k e = absurd k
 
 pub made_head : (s : Statement) (m : Mark) → IsGoodStatement s → In m (marks_in s) → is_made m.fix.target ≡ true → any_upper (marks_in s) ≡ true
-made_head Nothing m g k e = absurd k
-made_head (Choose part) m g k e = absurd k
-made_head (Global other) m g k e = absurd k
-made_head (Zeros n) m g k e = absurd k
-made_head (Align unit) m g k e = absurd k
 made_head (Bytes content b) m g k e = g.made (In-any (λ x. is_made x.fix.target) b.marks m k e)
+made_head _ m g k e = absurd k
 
 -- what a section takes where a line of it has an entry
 pub line_taken : (part : Part) (l : Laid) (m : Mark) → IsStanding l → is_in part l ≡ true → In m (marks_in l.line.statement) → IsTaken part (content_of l.line.statement)
@@ -202,18 +168,17 @@ module _ (source : List ℕ) (lines : List Laid) (read : placed_lines source ≡
   -- the label with a name that isn't lost
   named_upper : (name : List ℕ) → is_lost lines (targets.Named name) ≡ false → IsUpperAt lines (Named name)
   named_upper name e =
-      let r : (l : Label) × In l (labels lines) × ((is_key l.key (Named name) && is_upper_label lines l) ≡ true) =
-      any-In (λ l. is_key l.key (Named name) && is_upper_label lines l) (labels lines) (not_false _ e) in
-      let both : (is_key r.0.key (Named name) ≡ true) × (is_upper_label lines r.0 ≡ true) = and_parts (is_key r.0.key (Named name)) (is_upper_label lines r.0) r.2 in
+      let r : (l : Label) × (label_named lines name ≡ Some l) × (is_upper_label lines l ≡ true) = passing (is_upper_label lines) (label_named lines name) (not_false _ e) in
+      let is : In r.0 (labels lines) × (is_key r.0.key (Named name) ≡ true) = found-In (λ l. is_key l.key (Named name)) (labels lines) r.0 r.1 in
       let text : (is_same_part Text r.0.part ≡ true) × (list_any (λ l. is_in Text l && l.offset == r.0.offset && has_upper l) lines ≡ true) =
-      and_parts (is_same_part Text r.0.part) (list_any (λ l. is_in Text l && l.offset == r.0.offset && has_upper l) lines) both.1 in
+      and_parts (is_same_part Text r.0.part) (list_any (λ l. is_in Text l && l.offset == r.0.offset && has_upper l) lines) r.2 in
       let at : (l : Laid) × In l lines × ((is_in Text l && l.offset == r.0.offset && has_upper l) ≡ true) = any-In (λ l. is_in Text l && l.offset == r.0.offset && has_upper l) lines text.1 in
       let tests : ((is_in Text at.0 && at.0.offset == r.0.offset) ≡ true) × (has_upper at.0 ≡ true) = and_parts (is_in Text at.0 && at.0.offset == r.0.offset) (has_upper at.0) at.2 in
       let places : (is_in Text at.0 ≡ true) × ((at.0.offset == r.0.offset) ≡ true) = and_parts (is_in Text at.0) (at.0.offset == r.0.offset) tests.0 in
       record {
         l = r.0;
-        there = r.1;
-        key_is = same_key r.0.key (Named name) both.0;
+        there = is.0;
+        key_is = same_key r.0.key (Named name) is.1;
         in_text = sym (same_part Text r.0.part text.0);
         upper = subst (λ n. HasUpper (entries_in lines Text) n) (same_of at.0.offset r.0.offset places.1) (line_upper lines Text at.0 at.1 places.0 (all_stand source lines read at.0 at.1) tests.1);
       }

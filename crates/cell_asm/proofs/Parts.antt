@@ -16,27 +16,14 @@ use Rattle.cell_asm.specs.Objects.{adds_part, parts_of}
 
 pub same_part : (p q : Part) → is_same_part p q ≡ true → p ≡ q
 same_part Text Text e = refl
-same_part Text Rodata e = absurd cc
-same_part Text Data e = absurd cc
-same_part Text Bss e = absurd cc
-same_part Rodata Text e = absurd cc
 same_part Rodata Rodata e = refl
-same_part Rodata Data e = absurd cc
-same_part Rodata Bss e = absurd cc
-same_part Data Text e = absurd cc
-same_part Data Rodata e = absurd cc
 same_part Data Data e = refl
-same_part Data Bss e = absurd cc
-same_part Bss Text e = absurd cc
-same_part Bss Rodata e = absurd cc
-same_part Bss Data e = absurd cc
 same_part Bss Bss e = refl
+same_part _ _ e = absurd cc
 
 pub part_itself : (p : Part) → is_same_part p p ≡ true
 part_itself Text = refl
-part_itself Rodata = refl
-part_itself Data = refl
-part_itself Bss = refl
+part_itself _ = refl
 
 turned : (p q : Part) (b : Bool) → is_same_part p q ≡ b → b ≡ is_same_part q p
 turned p q true e = sym (ap (λ x. is_same_part x p) (sym (same_part p q e)) ∙ part_itself p)
@@ -63,9 +50,7 @@ parts_distinct lines = distinct [] (choices lines) tt
 
 there : (p : Part) → list_any (is_same_part p) (Text ∷ Rodata ∷ Data ∷ Bss ∷ []) ≡ true
 there Text = refl
-there Rodata = refl
-there Data = refl
-there Bss = refl
+there _ = refl
 
 pub few : (lines : List Laid) (parts : List Part) → parts ≡ parts_of lines → length parts ≤ 4
 few lines parts e = subst (λ ps. length ps ≤ 4) (sym e) (length-le_from_is_member laws (parts_of lines) (Text ∷ Rodata ∷ Data ∷ Bss ∷ []) (parts_distinct lines) (λ q t. there q))

@@ -19,7 +19,7 @@ use Rattle.cell_asm.specs.declared.statement.Content.TheVariants.{Code}
 use Rattle.cell_asm.specs.declared.block.Mark.{Mark}
 use Rattle.cell_asm.specs.declared.block.Block.{Block}
 use Rattle.cell_asm.specs.declared.statement.Statement.{Statement}
-use Rattle.cell_asm.specs.declared.statement.Statement.TheVariants.{Nothing, Choose, Global, Zeros, Align, Bytes}
+use Rattle.cell_asm.specs.declared.statement.Statement.TheVariants.{Choose, Global, Zeros, Align, Bytes}
 use Rattle.cell_asm.specs.declared.statement.Line.{Line}
 use Rattle.cell_asm.specs.Faults.{both, with_value, each}
 use Rattle.cell_asm.specs.Names.{is_name}
@@ -124,10 +124,7 @@ marks_named (m ∷ marks) g = join_names (target_names m.fix.target) (flat_map (
 statement_named : (s : Statement) → IsGoodStatement s → AreNames (statement_names s)
 statement_named (Global n) g = more_names n [] g no_names
 statement_named (Bytes content b) g = marks_named b.marks (λ m k. (g.sound.marks_are.fixes m k).named)
-statement_named Nothing g = no_names
-statement_named (Choose part) g = no_names
-statement_named (Zeros n) g = no_names
-statement_named (Align unit) g = no_names
+statement_named _ g = no_names
 
 -- LINES
 

@@ -6,7 +6,7 @@ use Rattle.std.specs.Prelude.{Option, IfOk, All, is_none}
 use Rattle.std.proofs.lemmas.Bool.{and_parts}
 use Rattle.cell_num.specs.Kinds.{width_of}
 use Rattle.cell_asm.specs.declared.statement.Part.{Part}
-use Rattle.cell_asm.specs.declared.statement.Part.TheVariants.{Text, Rodata, Data, Bss}
+use Rattle.cell_asm.specs.declared.statement.Part.TheVariants.{Bss}
 use Rattle.cell_asm.specs.declared.laid.Laid.{Laid}
 use Rattle.cell_asm.specs.declared.statement.Line.{Line}
 use Rattle.cell_asm.specs.Places.{taken, is_long, may_stand, lays_nothing}
@@ -30,9 +30,7 @@ all_of P (x ∷ xs) h (suc k) d lt = all_of P xs (λ y i. h y (inr i)) k d (omeg
 
 not_long : (part : Part) (n : ℕ) → is_long (Some part) n ≡ false → n ≤ 16777216
 not_long Bss n e = not_past 16777216 n e
-not_long Text n e = let h : n ≤ 1048576 = not_past 1048576 n e in omega (arith, h)
-not_long Rodata n e = let h : n ≤ 1048576 = not_past 1048576 n e in omega (arith, h)
-not_long Data n e = let h : n ≤ 1048576 = not_past 1048576 n e in omega (arith, h)
+not_long _ n e = let h : n ≤ 1048576 = not_past 1048576 n e in omega (arith, h)
 
 near : (o a w t : ℕ) → a + w ≤ t → o + t ≤ 16777216 → o + a < 2 ^ 32
 near o a w t h k = omega (arith, h, k)

@@ -10,9 +10,9 @@ use Rattle.cell_object.specs.declared.object.Section.{Section}
 use Rattle.cell_object.specs.Writable.{IsPlain}
 use Rattle.cell_image.proofs.Ruled.{IsWhole, IsWritableSection}
 use Rattle.cell_asm.specs.declared.statement.Part.{Part}
-use Rattle.cell_asm.specs.declared.statement.Part.TheVariants.{Text, Rodata, Data, Bss}
+use Rattle.cell_asm.specs.declared.statement.Part.TheVariants.{Text, Bss}
 use Rattle.cell_asm.specs.declared.statement.Statement.{Statement}
-use Rattle.cell_asm.specs.declared.statement.Statement.TheVariants.{Nothing, Choose, Global, Zeros, Align, Bytes}
+use Rattle.cell_asm.specs.declared.statement.Statement.TheVariants.{Zeros, Align}
 use Rattle.cell_asm.specs.declared.statement.Line.{Line}
 use Rattle.cell_asm.specs.declared.laid.Laid.{Laid}
 use Rattle.cell_asm.specs.Places.{is_at, is_in, gap, taken, takes, may_stand, size_in}
@@ -43,26 +43,19 @@ whole_words n h = omega arith
 
 padding_length : (part : Part) (n : ℕ) → (is_text part ≡ true → n % 4 ≡ 0) → length (padding part n) ≡ n
 padding_length Text n h = nops_count (n / 4) ∙ whole_words n (h refl)
-padding_length Rodata n h = length-replicate n 0
-padding_length Data n h = length-replicate n 0
-padding_length Bss n h = length-replicate n 0
+padding_length _ n h = length-replicate n 0
 
 at_length : (part : Part) (offset : ℕ) (s : Statement) → (is_text part ≡ true → taken s offset % 4 ≡ 0) → length (bytes_at part offset s) ≡ taken s offset
-at_length part offset Nothing h = refl
-at_length part offset (Choose other) h = refl
-at_length part offset (Global name) h = refl
 at_length part offset (Zeros n) h = length-replicate n 0
 at_length part offset (Align unit) h = padding_length part (gap unit offset) h
-at_length part offset (Bytes content b) h = refl
+at_length part offset _ h = refl
 
 -- THE BYTES OF A SECTION
 
 takes_text : (o : Option Part) (line : Line) → may_stand o line ≡ true → is_at Text o ≡ true → takes Text line.statement ≡ true
 takes_text None line h e = absurd cc
 takes_text (Some Text) line h e = h
-takes_text (Some Rodata) line h e = absurd cc
-takes_text (Some Data) line h e = absurd cc
-takes_text (Some Bss) line h e = absurd cc
+takes_text (Some _) line h e = absurd cc
 
 -- what a line of the section takes, in whole instructions where it is .text
 abbrev InWords : Part → List Laid → Type 0
@@ -75,9 +68,7 @@ text_words source lines e l k t same =
 
 in_words : (source : List ℕ) (lines : List Laid) (part : Part) → placed_lines source ≡ Ok lines → InWords part lines
 in_words source lines Text e = text_words source lines e
-in_words source lines Rodata e = λ l k t same. absurd cc
-in_words source lines Data e = λ l k t same. absurd cc
-in_words source lines Bss e = λ l k t same. absurd cc
+in_words source lines _ e = λ l k t same. absurd cc
 
 filled_length : (part : Part) (lines : List Laid) → InWords part lines
     → length (flat_map (λ l. bytes_at part l.offset l.line.statement) (filter (is_in part) lines)) ≡ size_in part lines
@@ -88,10 +79,8 @@ filled_length part lines words =
     ∙ sym (sum_is_total (λ l. taken l.line.statement l.offset) (filter (is_in part) lines))
 
 whole : (part : Part) (lines : List Laid) → InWords part lines → IsWhole (fill_of part) (contents part lines) (size_in part lines)
-whole Text lines words = filled_length Text lines words
-whole Rodata lines words = filled_length Rodata lines words
-whole Data lines words = filled_length Data lines words
 whole Bss lines words = refl
+whole part lines words = filled_length part lines words
 
 -- ALIGNMENTS
 
@@ -109,17 +98,11 @@ one_unit = (0, at_start, refl)
 
 first_unit : (part : Part) → IsUnit (first_alignment part)
 first_unit Text = (2, second_power, refl)
-first_unit Rodata = (3, third_power, refl)
-first_unit Data = (3, third_power, refl)
-first_unit Bss = (3, third_power, refl)
+first_unit _ = (3, third_power, refl)
 
 asked_unit : (s : Statement) → IsGoodStatement s → IsUnit (alignment_asked s)
-asked_unit Nothing g = one_unit
-asked_unit (Choose part) g = one_unit
-asked_unit (Global name) g = one_unit
-asked_unit (Zeros n) g = one_unit
 asked_unit (Align unit) g = g
-asked_unit (Bytes content pieces) g = one_unit
+asked_unit _ g = one_unit
 
 second_larger : (a b : ℕ) → a < b → b ≡ max a b
 second_larger a b h = omega (arith, h)
@@ -171,15 +154,11 @@ unit_aligned n g = subst IsAligned (sym g.2) (power g.0 g.1)
 
 plain_name : (part : Part) → IsPlain (part_name part)
 plain_name Text = refl
-plain_name Rodata = refl
-plain_name Data = refl
-plain_name Bss = refl
+plain_name _ = refl
 
 not_both : (part : Part) → (may_write part && is_text part) ≡ false
 not_both Text = refl
-not_both Rodata = refl
-not_both Data = refl
-not_both Bss = refl
+not_both _ = refl
 
 section_fits : (source : List ℕ) (lines : List Laid) (k : ℕ) (part : Part) → placed_lines source ≡ Ok lines → slice_get (parts_of lines) k ≡ Some part → IsWritableSection (k + 1) (section_of lines part)
 section_fits source lines k part e h =

@@ -17,7 +17,7 @@ use Rattle.cell_object.specs.ImageParts as parts
 use Rattle.cell_object.specs.ImageParts.{padded, offset_after, symtab_number, entries_for, has_entries, relocated, content, filled, symbol_part_bytes, symbols_part, symbol_strings, table, own_names, table_name, names_before_tables, section_strings, parts_before_tables, parts_before_strings, parts_before_names}
 use Rattle.cell_object.specs.Image.{own_row, symtab_row, strtab_row, shstrtab_row, table_row, section_rows, local_count}
 use Rattle.cell_asm.specs.declared.statement.Part.{Part}
-use Rattle.cell_asm.specs.declared.statement.Part.TheVariants.{Text, Rodata, Data, Bss}
+use Rattle.cell_asm.specs.declared.statement.Part.TheVariants.{Text}
 use Rattle.cell_asm.specs.declared.laid.Laid.{Laid}
 use Rattle.cell_asm.specs.Objects.{parts_of, part_name, section_of, sections, local_labels, other_names, local_symbol, global_symbol, symbols, entries, object_of}
 use Rattle.cell_asm.specs.Assembled.{placed_lines}
@@ -143,9 +143,7 @@ texts_fit source lines e h =
 
 part_short : (part : Part) → length (part_name part) ≤ 7
 part_short Text = lit≤ tt
-part_short Rodata = lit≤ tt
-part_short Data = lit≤ tt
-part_short Bss = lit≤ tt
+part_short _ = lit≤ tt
 
 section_short : (lines : List Laid) (s : Section) → In s (sections lines) → length s.name ≤ 7
 section_short lines s k =

@@ -1,9 +1,8 @@
 -- What holds of each line in its place.
 --     all_stand source lines        each line of a source has a good statement, which may stand there and has room
-use Rattle.std.proofs.Common.{◌≡◌, ℕ, ◌+◌, Bool, true, false, not, List, [], ◌∷◌, ◌++◌, ◌⊎◌, inl, inr, Ok, None, refl, subst, sym}
+use Rattle.std.proofs.Common.{◌≡◌, ℕ, ◌+◌, Bool, true, false, not, List, Ok, None, refl}
 use Rattle.std.specs.Prelude.{Option}
 use Rattle.cell_num.specs.Lists.{last, or_else, where_true}
-use Rattle.cell_text.specs.Text.{lines_in}
 use Rattle.cell_asm.specs.declared.kind.AsmKind.TheVariants.{Section, Twice, Long}
 use Rattle.cell_asm.specs.declared.statement.Part.{Part}
 use Rattle.cell_asm.specs.declared.statement.Line.{Line}
@@ -11,8 +10,8 @@ use Rattle.cell_asm.specs.declared.laid.Laid.{Laid}
 use Rattle.cell_asm.specs.Lines.{line_of}
 use Rattle.cell_asm.specs.Places.{choices, size_at, taken, is_long, is_twice, may_stand, placed, fault_at, fault_by}
 use Rattle.cell_asm.specs.Assembled.{placed_lines}
-use Rattle.cell_asm.proofs.Growth.{Goes, grows}
-use Rattle.cell_asm.proofs.Members.{In, In-append}
+use Rattle.cell_asm.proofs.Growth.{each_line}
+use Rattle.cell_asm.proofs.Members.{In}
 use Rattle.cell_asm.proofs.GoodBlocks.{IsGoodStatement}
 use Rattle.cell_asm.proofs.ReadLines.{read_line}
 
@@ -43,24 +42,10 @@ pub record IsStanding (l : Laid) : Type 0 where
   pub stands : may_stand l.part l.line ≡ true
   pub room : is_long l.part (l.offset + taken l.line.statement l.offset) ≡ false
 
-abbrev AllStand : List Laid → Type 0
-AllStand lines = (l : Laid) → In l lines → IsStanding l
-
 one_stands : (before : List Laid) (n : ℕ) (text : List ℕ) (line : Line) → line_of text ≡ Ok line → fault_at before line ≡ None → IsStanding (placed before n line)
 one_stands before n text line e f =
     let a = allowed before line f in
     record { good = (read_line text line e).good; stands = a.stands; room = a.room }
 
-pushed : (before : List Laid) (new : Laid) → AllStand before → IsStanding new → AllStand (before ++ new ∷ [])
-pushed before new h s l k = go (In-append before (new ∷ []) l k)
-  where
-    go : In l before ⊎ In l (new ∷ []) → IsStanding l
-    go (inl i) = h l i
-    go (inr (inl e)) = subst IsStanding (sym e) s
-    go (inr (inr i)) = absurd i
-
-goes : Goes AllStand
-goes before n text line h e f = pushed before (placed before n line) h (one_stands before n text line e f)
-
 pub all_stand : (source : List ℕ) (lines : List Laid) → placed_lines source ≡ Ok lines → (l : Laid) → In l lines → IsStanding l
-all_stand source lines e = grows AllStand goes (lines_in source) lines (λ l k. absurd k) e
+all_stand = each_line IsStanding one_stands

@@ -2,12 +2,12 @@
 --     number_small, number_usable     an entry may name the symbol that a key has
 --     mentioned_there, made_there     each name that is mentioned has a symbol, and each label that is made
 --     label_symbol                    the symbol of a label's key has its section and its offset
-use Rattle.std.proofs.Common.{◌≡◌, ℕ, zero, suc, ◌+◌, ◌-◌, ◌<◌, ◌≤◌, ◌==◌, Bool, true, false, ◌||◌, not, cond, List, [], ◌∷◌, ◌++◌, ◌⊎◌, inl, inr, map, length, slice_get, Some, None, refl, sym, ap, subst, ◌∙◌, one-add, true≢false, arith}
-use Rattle.std.specs.Prelude.{Option, nat_lt, filter, find, fold, position}
-use Rattle.std.specs.Option.{option_map_or}
-use Rattle.std.specs.List.{list_any, position_or_len}
+use Rattle.std.proofs.Common.{◌≡◌, ℕ, zero, suc, ◌+◌, ◌-◌, ◌<◌, ◌≤◌, ◌==◌, Bool, true, false, ◌||◌, not, List, [], ◌∷◌, ◌++◌, ◌⊎◌, inl, inr, map, length, slice_get, Some, None, refl, sym, ap, subst, ◌∙◌, zero-add, true≢false, arith}
+use Rattle.std.specs.Prelude.{Option, is_some, if◌then◌else◌, filter, find, fold}
+use Rattle.std.specs.Option.{option_map_or, unwrap_or}
+use Rattle.std.specs.List.{list_any}
 use Rattle.std.proofs.lemmas.Bool.{and_right}
-use Rattle.std.proofs.lemmas.Bool.Decides.{nat_tests}
+use Rattle.std.proofs.lemmas.Option.{slice_get_within}
 use Rattle.cell_num.specs.Lists.{equals}
 use Rattle.cell_object.specs.declared.object.Symbol.{Symbol}
 use Rattle.cell_object.specs.declared.object.Home.TheVariants.{Inside}
@@ -16,61 +16,12 @@ use Rattle.cell_asm.specs.declared.laid.Laid.{Laid}
 use Rattle.cell_asm.specs.declared.laid.Label.{Label}
 use Rattle.cell_asm.specs.declared.laid.Key.{Key}
 use Rattle.cell_asm.specs.declared.laid.Key.TheVariants.{Named, Made}
-use Rattle.cell_asm.specs.Places.{labels}
-use Rattle.cell_asm.specs.Objects.{part_number, is_key, is_global, globals, local_labels, holds_key, mentions, adds_name, other_names, label_named, home_at, local_symbol, global_symbol, symbols, symbol_keys, symbol_number}
+use Rattle.cell_asm.specs.Places.{labels, is_key, holds_key}
+use Rattle.cell_asm.specs.Objects.{part_number, is_global, globals, local_labels, mentions, adds_name, other_names, label_named, home_at, local_symbol, global_symbol, symbols, symbol_keys, number_from, symbol_number}
 use Rattle.cell_asm.proofs.Members.{In, In-left, In-right, In-filtered, filter-In, found-In, find_there, any-In, In-any, map-In}
+use Rattle.cell_asm.proofs.KeyPlaces.{next_place, numbered_if}
 use Rattle.cell_asm.proofs.Tallies.{fold_there}
 use Rattle.cell_asm.proofs.Unique.{names_apart, name_itself, same_name, same_key, key_itself}
-
--- THE PLACE OF THE FIRST THAT PASSES
-
-record IsFound {X : Type 0} (p : X → Bool) (xs : List X) (n : ℕ) : Type 0 where
-  x : X
-  there : slice_get xs n ≡ Some x
-  passes : p x ≡ true
-  below : n < length xs
-
-first_found : {X : Type 0} (p : X → Bool) (y : X) (ys : List X) → p y ≡ true → IsFound p (y ∷ ys) 0
-first_found p y ys e = record { x = y; there = refl; passes = e; below = go (length ys) }
-  where
-    go : (n : ℕ) → 0 < suc n
-    go n = omega arith
-
-next_found : {X : Type 0} (p : X → Bool) (y : X) (ys : List X) (n : ℕ) → IsFound p ys n → IsFound p (y ∷ ys) (suc n)
-next_found p y ys n h = record { x = h.x; there = h.there; passes = h.passes; below = go n (length ys) h.below }
-  where
-    go : (m k : ℕ) → m < k → suc m < suc k
-    go m k l = omega arith
-
-found_by : {X : Type 0} (p : X → Bool) (y : X) (ys : List X) (b : Bool) → p y ≡ b → (b || list_any p ys) ≡ true → (list_any p ys ≡ true → IsFound p ys (position_or_len p ys))
-    → IsFound p (y ∷ ys) (cond (not b) (1 + position_or_len p ys) 0)
-found_by p y ys true e h f = first_found p y ys e
-found_by p y ys false e h f = subst (λ n. IsFound p (y ∷ ys) n) (sym (one-add (position_or_len p ys))) (next_found p y ys (position_or_len p ys) (f h))
-
-found_there : {X : Type 0} (p : X → Bool) (xs : List X) → list_any p xs ≡ true → IsFound p xs (position_or_len p xs)
-found_there p [] h = absurd (true≢false (sym h))
-found_there p (y ∷ ys) h = found_by p y ys (p y) refl h (found_there p ys)
-
-none_by : {X : Type 0} (p : X → Bool) (ys : List X) (b : Bool) → (b || list_any p ys) ≡ false → (list_any p ys ≡ false → position_or_len p ys ≡ length ys)
-    → cond (not b) (1 + position_or_len p ys) 0 ≡ suc (length ys)
-none_by p ys true h f = absurd (true≢false h)
-none_by p ys false h f = one-add (position_or_len p ys) ∙ ap suc (f h)
-
-none_there : {X : Type 0} (p : X → Bool) (xs : List X) → list_any p xs ≡ false → position_or_len p xs ≡ length xs
-none_there p [] h = refl
-none_there p (y ∷ ys) h = none_by p ys (p y) h (none_there p ys)
-
-below_test : (m n : ℕ) → m < n → nat_lt m n ≡ true
-below_test m n h = grind (arith, nat_tests)
-
-same_test : (m n : ℕ) → m ≡ n → nat_lt m n ≡ false
-same_test m n h = grind (arith, nat_tests)
-
-place_found : {X : Type 0} (p : X → Bool) (xs : List X) → list_any p xs ≡ true → position p xs ≡ Some (position_or_len p xs)
-place_found p xs h = ap (λ b. cond b (Some (position_or_len p xs)) None) (below_test (position_or_len p xs) (length xs) (found_there p xs h).below)
-
-place_none : {X : Type 0} (p : X → Bool) (xs : List X) → list_any p xs ≡ false → position p xs ≡ None
-place_none p xs h = ap (λ b. cond b (Some (position_or_len p xs)) None) (same_test (position_or_len p xs) (length xs) (none_there p xs h))
 
 -- THE SYMBOL AT A PLACE
 
@@ -130,8 +81,24 @@ symbol_at lines i x e =
 abbrev pub has_symbol : List Laid → Key → Bool
 has_symbol lines key = list_any (λ k. is_key k key) (symbol_keys lines)
 
-number_of : (lines : List Laid) (key : Key) (o : Option ℕ) → position (λ k. is_key k key) (symbol_keys lines) ≡ o → symbol_number lines key ≡ option_map_or (λ i. i + 1) o 0
-number_of lines key o e = ap (λ p. option_map_or (λ i. i + 1) p 0) e
+record IsNumbered (n : ℕ) (keys : List Key) (q : Key) : Type 0 where
+  i : ℕ
+  number : number_from n keys q ≡ Some (i + n)
+  there : slice_get keys i ≡ Some q
+
+numbered : (n : ℕ) (keys : List Key) (q : Key) → list_any (λ k. is_key k q) keys ≡ true → IsNumbered n keys q
+numbered n [] q h = absurd (true≢false (sym h))
+numbered n (k ∷ keys) q h = go (is_key k q) refl h (numbered (suc n) keys q)
+  where
+    go : (b : Bool) → is_key k q ≡ b → (b || list_any (λ x. is_key x q) keys) ≡ true → (list_any (λ x. is_key x q) keys ≡ true → IsNumbered (suc n) keys q) → IsNumbered n (k ∷ keys) q
+    go true e t f = record {
+      i = 0;
+      number = ap (λ b. if b then Some n else number_from (suc n) keys q) e ∙ ap Some (sym (zero-add n));
+      there = ap Some (same_key k q e);
+    }
+    go false e t f =
+        let r : IsNumbered (suc n) keys q = f t in
+        record { i = suc r.i; number = ap (λ b. if b then Some n else number_from (suc n) keys q) e ∙ r.number ∙ ap Some (next_place r.i n); there = r.there }
 
 -- the symbol that a key has
 record HasSymbol (lines : List Laid) (key : Key) : Type 0 where
@@ -139,32 +106,20 @@ record HasSymbol (lines : List Laid) (key : Key) : Type 0 where
   number : symbol_number lines key ≡ i + 1
   at : IsLocalAt lines i key ⊎ IsOtherAt lines i key
 
-with_key : (lines : List Laid) (i : ℕ) (x key : Key) → x ≡ key → IsLocalAt lines i x ⊎ IsOtherAt lines i x → IsLocalAt lines i key ⊎ IsOtherAt lines i key
-with_key lines i x key e h = subst (λ k. IsLocalAt lines i k ⊎ IsOtherAt lines i k) e h
-
 symbol_there : (lines : List Laid) (key : Key) → has_symbol lines key ≡ true → HasSymbol lines key
 symbol_there lines key h =
-    let p : Key → Bool = λ k. is_key k key in
-    let found : IsFound p (symbol_keys lines) (position_or_len p (symbol_keys lines)) = found_there p (symbol_keys lines) h in
-    record {
-      i = position_or_len p (symbol_keys lines);
-      number = number_of lines key (Some (position_or_len p (symbol_keys lines))) (place_found p (symbol_keys lines) h);
-      at = with_key lines (position_or_len p (symbol_keys lines)) found.x key (same_key found.x key found.passes) (symbol_at lines (position_or_len p (symbol_keys lines)) found.x found.there);
-    }
+    let r : IsNumbered 1 (symbol_keys lines) key = numbered 1 (symbol_keys lines) key h in
+    record { i = r.i; number = ap (λ o. unwrap_or o 0) r.number; at = symbol_at lines r.i key r.there }
+
+none_is : (o : Option ℕ) → is_some o ≡ false → unwrap_or o 0 ≡ 0
+none_is None e = refl
+none_is (Some n) e = absurd (true≢false e)
 
 symbol_none : (lines : List Laid) (key : Key) → has_symbol lines key ≡ false → symbol_number lines key ≡ 0
-symbol_none lines key h = number_of lines key None (place_none (λ k. is_key k key) (symbol_keys lines) h)
+symbol_none lines key h = none_is (number_from 1 (symbol_keys lines) key) (numbered_if 1 (symbol_keys lines) key ∙ h)
 
 get_below : {X : Type 0} (xs : List X) (i : ℕ) (x : X) → slice_get xs i ≡ Some x → i + 1 ≤ length xs
-get_below [] i x e = absurd cc
-get_below (y ∷ xs) zero x e = go (length xs)
-  where
-    go : (n : ℕ) → 0 + 1 ≤ suc n
-    go n = omega arith
-get_below (y ∷ xs) (suc i) x e = go i (length xs) (get_below xs i x e)
-  where
-    go : (m n : ℕ) → m + 1 ≤ n → suc m + 1 ≤ suc n
-    go m n h = omega arith
+get_below xs i x e = let h : i < length xs = slice_get_within xs i x e in omega (arith, h)
 
 either_below : (lines : List Laid) (i : ℕ) (key : Key) → IsLocalAt lines i key ⊎ IsOtherAt lines i key → i + 1 ≤ length (symbols lines)
 either_below lines i key (inl r) = get_below (symbols lines) i (local_symbol lines r.l) r.symbol_is

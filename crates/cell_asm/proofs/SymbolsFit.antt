@@ -21,12 +21,13 @@ use Rattle.cell_asm.specs.declared.laid.Laid.{Laid}
 use Rattle.cell_asm.specs.declared.laid.Key.TheVariants.{Named}
 use Rattle.cell_asm.specs.declared.laid.Label.{Label}
 use Rattle.cell_asm.specs.Names.{is_name}
-use Rattle.cell_asm.specs.Places.{is_same_part, size_in, labels}
+use Rattle.cell_asm.specs.Places.{is_same_part, size_in, labels, holds_key, is_key}
 use Rattle.cell_asm.specs.Objects as objects
-use Rattle.cell_asm.specs.Objects.{parts_of, part_number, number_in, section_of, sections, globals, local_labels, mentions, holds_key, other_names, is_key, key_name, label_named, home_at, local_symbol, global_symbol, symbols, object_of}
+use Rattle.cell_asm.specs.Objects.{parts_of, part_number, number_in, section_of, sections, globals, local_labels, mentions, other_names, key_name, label_named, home_at, local_symbol, global_symbol, symbols, object_of}
 use Rattle.cell_asm.specs.Assembled.{placed_lines}
 use Rattle.cell_asm.proofs.Members.{In, In-filtered, found-In, get-In}
-use Rattle.cell_asm.proofs.Tallies.{get_below, get_split, get_map, take_behind, mapped_length, AreApart, fold_apart, fold_In, before_fails}
+use Rattle.std.proofs.lemmas.Option.{slice_get_within}
+use Rattle.cell_asm.proofs.Tallies.{get_split, get_map, take_behind, mapped_length, AreApart, fold_apart, fold_In, before_fails}
 use Rattle.cell_asm.proofs.Unique.{names_apart}
 use Rattle.cell_asm.proofs.Parts.{same_part}
 use Rattle.cell_asm.proofs.Grouped.{part_numbered}
@@ -108,7 +109,7 @@ local_fits source lines k l e h =
     record {
       name = fit.name;
       first = λ less. refl;
-      last = λ more. not_last k (length (local_labels lines)) (local_count (object_of lines)) (get_below (local_labels lines) k l h) (locals_count lines) more;
+      last = λ more. not_last k (length (local_labels lines)) (local_count (object_of lines)) (slice_get_within (local_labels lines) k l h) (locals_count lines) more;
       sort = refl;
       filed = λ is. absurd (true≢false (sym is));
       home = label_within lines l.part l.offset fit.chosen fit.inside;

@@ -1,9 +1,9 @@
 -- Lists: what stands at a place, sums over the elements, and elements that a test tells apart.
---     get_below, get_split, get_map      an element at a place
+--     get_split, get_map      an element at a place
 --     total f xs                         the sum of f over the elements
 --     AreApart t xs                      no element passes the test of one before it
 --     adds t xs x                        the element behind the others, unless one of them passes its test
-use Rattle.std.proofs.Common.{◌≡◌, ℕ, zero, suc, ◌+◌, ◌*◌, ◌<◌, ◌≤◌, Bool, true, false, cond, not, ◌||◌, List, [], ◌∷◌, ◌++◌, map, length, take, drop, Some, slice_get, refl, sym, ap, subst, ◌∙◌, ◌⊎◌, inl, inr, length-append, zero-add, suc-add, arith}
+use Rattle.std.proofs.Common.{◌≡◌, ℕ, zero, suc, ◌+◌, ◌*◌, ◌≤◌, Bool, true, false, cond, not, ◌||◌, List, [], ◌∷◌, ◌++◌, map, length, take, drop, Some, slice_get, refl, sym, ap, subst, ◌∙◌, ◌⊎◌, inl, inr, length-append, zero-add, suc-add, arith}
 use Rattle.std.specs.Prelude.{if◌then◌else◌, filter, flat_map, fold, sum_by}
 use Rattle.std.specs.List.{list_any}
 use Rattle.std.proofs.lemmas.Bool.{or_parts, or_left, or_right}
@@ -16,21 +16,10 @@ use Rattle.cell_asm.proofs.Members.{In, In-append, get-In}
 next : (k n j : ℕ) → k ≡ n + j → suc k ≡ suc n + j
 next k n j e = omega (arith, e)
 
-below_next : (k n : ℕ) → k < n → suc k < suc n
-below_next k n h = omega (arith, h)
-
-below_first : (n : ℕ) → 0 < suc n
-below_first n = omega arith
-
 from_none : (k : ℕ) → k ≡ 0 + k
 from_none k = omega arith
 
 module _ {X : Type 0} where
-  pub get_below : (xs : List X) (k : ℕ) (x : X) → slice_get xs k ≡ Some x → k < length xs
-  get_below [] k x e = absurd cc
-  get_below (y ∷ ys) zero x e = below_first (length ys)
-  get_below (y ∷ ys) (suc k) x e = below_next k (length ys) (get_below ys k x e)
-
   -- an element of the first list, or one of the second
   abbrev pub IsSplit : List X → List X → ℕ → X → Type 0
   IsSplit xs ys k x = (slice_get xs k ≡ Some x) ⊎ ((j : ℕ) × (k ≡ length xs + j) × (slice_get ys j ≡ Some x))

@@ -1,13 +1,11 @@
 -- No two labels have the same key.
 --     labels_once source lines      two labels of the lines with the same key are one
-use Rattle.std.proofs.Common.{◌≡◌, ℕ, ◌+◌, ◌≤◌, ◌==◌, Bool, true, false, ◌||◌, cond, List, [], ◌∷◌, ◌++◌, ◌⊎◌, inl, inr, Ok, Some, None, refl, sym, ap, subst, ◌∙◌, append-nil, zero-add, true≢false, arith}
+use Rattle.std.proofs.Common.{◌≡◌, ℕ, ◌+◌, ◌≤◌, ◌==◌, Bool, true, false, cond, List, [], ◌∷◌, ◌++◌, ◌⊎◌, inl, inr, Ok, Some, None, refl, sym, ap, subst, ◌∙◌, append-nil, zero-add, true≢false, arith}
 use Rattle.std.specs.Prelude.{Option, if◌then◌else◌}
-use Rattle.std.specs.List.{list_any}
 use Rattle.std.specs.Str.{bytes_eq}
 use Rattle.std.proofs.lemmas.Bool.Decides.{nat_tests}
 use Rattle.std.proofs.lemmas.Slice.Eq.{bytes_eq-Decides}
 use Rattle.std.proofs.lemmas.List.Concat.{flat_map-append}
-use Rattle.std.proofs.lemmas.List.Folds.{list_any-append}
 use Rattle.std.proofs.lemmas.List.Sums.{sum_by-append}
 use Rattle.cell_text.specs.Text.{lines_in}
 use Rattle.cell_num.specs.Lists.{equals}
@@ -17,11 +15,10 @@ use Rattle.cell_asm.specs.declared.laid.Laid.{Laid}
 use Rattle.cell_asm.specs.declared.laid.Label.{Label}
 use Rattle.cell_asm.specs.declared.laid.Key.{Key}
 use Rattle.cell_asm.specs.declared.laid.Key.TheVariants.{Named, Made}
-use Rattle.cell_asm.specs.Places.{makes_label, made_in, placed, own_key, made_key, keys_of, label, labels_at, labels, is_label, has_own, is_twice}
-use Rattle.cell_asm.specs.Objects.{is_key}
+use Rattle.cell_asm.specs.Places.{makes_label, made_in, placed, own_key, made_key, keys_of, label, labels_at, labels, is_twice, is_key}
 use Rattle.cell_asm.specs.Assembled.{placed_lines}
 use Rattle.cell_asm.proofs.Growth.{Goes, grows}
-use Rattle.cell_asm.proofs.Members.{In, In-append, In-map}
+use Rattle.cell_asm.proofs.Members.{In, In-append, In-map, In-any}
 use Rattle.cell_asm.proofs.Standing.{allowed}
 
 -- KEYS
@@ -108,7 +105,6 @@ one_place o offset keys a b h k e = same_label a b e (same_part_of o a.part b.pa
 
 record AreOnce (lines : List Laid) : Type 0 where
   once : (a b : Label) → In a (labels lines) → In b (labels lines) → a.key ≡ b.key → a ≡ b
-  named : (a : Label) → In a (labels lines) → (name : List ℕ) → a.key ≡ Named name → list_any (has_own name) lines ≡ true
   made : (a : Label) → In a (labels lines) → (n : ℕ) → a.key ≡ Made n → n ≤ made_in lines
 
 labels_push : (lines : List Laid) (l : Laid) → labels (lines ++ l ∷ []) ≡ labels lines ++ labels_at l.part l.offset (keys_of l)
@@ -126,9 +122,9 @@ cases before new a h = go (In-append (labels before) (labels_at new.part new.off
     go (inl i) = inl i
     go (inr i) = inr (label_at new.part new.offset (keys_of new) a i)
 
-twice_named : (before : List Laid) (o : Option (List ℕ)) (name : List ℕ) → o ≡ Some name → is_twice before o ≡ false → list_any (has_own name) before ≡ true → ⊥
-twice_named before None name e f h = absurd cc
-twice_named before (Some other) name e f h = true≢false (sym h ∙ ap (λ o. is_twice before o) (sym e) ∙ f)
+twice_named : (before : List Laid) (o : Option (List ℕ)) (name : List ℕ) (a : Label) → o ≡ Some name → is_twice before o ≡ false → In a (labels before) → a.key ≡ Named name → ⊥
+twice_named before o name a e f i k =
+    true≢false (sym (In-any (λ l. is_key l.key (Named name)) (labels before) a i (ap (λ q. is_key q (Named name)) k ∙ key_itself (Named name))) ∙ ap (is_twice before) (sym e) ∙ f)
 
 not_past : (m n k : ℕ) → m ≤ n → m ≡ n + 1 → ⊥
 not_past m n k h e = omega arith
@@ -139,29 +135,14 @@ not_again : (before : List Laid) (new : Laid) (a b : Label) → AreOnce before �
 not_again before new a b h twice number i k e = go (key_of_line new b.key k.key_in)
   where
     go : IsOwn new.line b.key ⊎ IsMade new.line new.made b.key → ⊥
-    go (inl own) = twice_named before new.line.label own.name own.labelled twice (h.named a i own.name (e ∙ own.named))
+    go (inl own) = twice_named before new.line.label own.name a own.labelled twice i (e ∙ own.named)
     go (inr m) = not_past new.made (made_in before) 0 (h.made a i new.made (e ∙ m.made)) number
-
-same_names : (a b : List ℕ) (k : Key) → k ≡ Named a → k ≡ Named b → a ≡ b
-same_names a b k e f = cc
 
 same_numbers : (m n : ℕ) (k : Key) → k ≡ Made m → k ≡ Made n → m ≡ n
 same_numbers m n k e f = cc
 
 not_both : (a : List ℕ) (n : ℕ) (k : Key) → k ≡ Named a → k ≡ Made n → ⊥
 not_both a n k e f = absurd cc
-
-has_label : (o : Option (List ℕ)) (name : List ℕ) → o ≡ Some name → is_label name o ≡ true
-has_label o name e = ap (is_label name) e ∙ name_itself name
-
-or_first : (a b : Bool) → a ≡ true → (a || b) ≡ true
-or_first true b e = refl
-or_first false b e = absurd (true≢false (sym e))
-
-or_second : (a b : Bool) → b ≡ true → (a || (b || false)) ≡ true
-or_second true b e = refl
-or_second false true e = refl
-or_second false false e = absurd (true≢false (sym e))
 
 grown_once : (before : List Laid) (new : Laid) → AreOnce before → is_twice before new.line.label ≡ false → new.made ≡ made_in before + 1
     → (a b : Label) → In a (labels (before ++ new ∷ [])) → In b (labels (before ++ new ∷ [])) → a.key ≡ b.key → a ≡ b
@@ -172,18 +153,6 @@ grown_once before new h twice number a b i j e = go (cases before new a i) (case
     go (inl p) (inr q) = absurd (not_again before new a b h twice number p q e)
     go (inr p) (inl q) = absurd (not_again before new b a h twice number q p (sym e))
     go (inr p) (inr q) = one_place new.part new.offset (keys_of new) a b p q e
-
-grown_named : (before : List Laid) (new : Laid) → AreOnce before → (a : Label) → In a (labels (before ++ new ∷ [])) → (name : List ℕ) → a.key ≡ Named name
-    → list_any (has_own name) (before ++ new ∷ []) ≡ true
-grown_named before new h a i name e = list_any-append (has_own name) before (new ∷ []) ∙ go (cases before new a i)
-  where
-    own : IsOwn new.line a.key ⊎ IsMade new.line new.made a.key → has_own name new ≡ true
-    own (inl o) = has_label new.line.label name (o.labelled ∙ ap Some (same_names o.name name a.key o.named e))
-    own (inr m) = absurd (not_both name new.made a.key e m.made)
-
-    go : In a (labels before) ⊎ IsAt new.part new.offset (keys_of new) a → (list_any (has_own name) before || (has_own name new || false)) ≡ true
-    go (inl p) = or_first (list_any (has_own name) before) (has_own name new || false) (h.named a p name e)
-    go (inr p) = or_second (list_any (has_own name) before) (has_own name new) (own (key_of_line new a.key p.key_in))
 
 grown_made : (before : List Laid) (new : Laid) → AreOnce before → new.made ≡ made_in before + 1 → (a : Label) → In a (labels (before ++ new ∷ [])) → (n : ℕ) → a.key ≡ Made n
     → n ≤ made_in (before ++ new ∷ [])
@@ -209,9 +178,8 @@ goes before n text line h e f =
     let twice : is_twice before line.label ≡ false = (allowed before line f).new in
     record {
       once = grown_once before (placed before n line) h twice refl;
-      named = grown_named before (placed before n line) h;
       made = grown_made before (placed before n line) h refl;
     }
 
 pub labels_once : (source : List ℕ) (lines : List Laid) → placed_lines source ≡ Ok lines → (a b : Label) → In a (labels lines) → In b (labels lines) → a.key ≡ b.key → a ≡ b
-labels_once source lines e = (grows AreOnce goes (lines_in source) lines (record { once = λ a b i. absurd i; named = λ a i. absurd i; made = λ a i. absurd i }) e).once
+labels_once source lines e = (grows AreOnce goes (lines_in source) lines (record { once = λ a b i. absurd i; made = λ a i. absurd i }) e).once

@@ -14,7 +14,7 @@ use Rattle.cell_object.specs.Sound.{is_known_kind}
 use Rattle.cell_object.specs.ImageParts.{entries_for}
 use Rattle.cell_image.proofs.Ruled.{IsStorable, IsWritableEntry}
 use Rattle.cell_asm.specs.declared.statement.Part.{Part}
-use Rattle.cell_asm.specs.declared.statement.Part.TheVariants.{Text, Rodata, Data, Bss}
+use Rattle.cell_asm.specs.declared.statement.Part.TheVariants.{Text, Bss}
 use Rattle.cell_asm.specs.declared.laid.Laid.{Laid}
 use Rattle.cell_asm.specs.Places.{is_in, is_long, largest, taken}
 use Rattle.cell_asm.specs.Objects.{parts_of, fill_of, is_text, section_of, sections, symbols, target_key, entries_in, entries, object_of}
@@ -38,10 +38,8 @@ below_all m n h k = omega arith
 
 -- a section that is filled with zeros
 zero_fill : (part : Part) → fill_of part ≡ Zero → part ≡ Bss
-zero_fill Text e = absurd cc
-zero_fill Rodata e = absurd cc
-zero_fill Data e = absurd cc
 zero_fill Bss e = refl
+zero_fill _ e = absurd cc
 
 zero_test : (n : ℕ) → n ≡ 0 → (n == 0) ≡ true
 zero_test n e = grind (arith, nat_tests)

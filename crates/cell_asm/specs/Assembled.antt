@@ -2,6 +2,7 @@
 --     assembled source      its object, or the number of a line and what is wrong with it
 use Rattle.std.specs.Prelude.{◌≡◌, ℕ, ◌==◌, Bool, false, not, ◌&&◌, List, [], ◌∷◌, ◌++◌, Option, Some, None, Result, Ok, Err, find, fold}
 use Rattle.std.specs.List.{list_any}
+use Rattle.std.specs.Option.{option_map_or}
 use Rattle.cell_num.specs.Lists.{numbered_from}
 use Rattle.cell_num.specs.Kinds.{is_pcrel_lo12, is_pcrel_hi20}
 use Rattle.cell_text.specs.Text.{lines_in}
@@ -17,10 +18,9 @@ use Rattle.cell_asm.specs.declared.block.Mark.{Mark}
 use Rattle.cell_asm.specs.declared.statement.Line.{Line}
 use Rattle.cell_asm.specs.declared.laid.Laid.{Laid}
 use Rattle.cell_asm.specs.declared.laid.Label.{Label}
-use Rattle.cell_asm.specs.declared.laid.Key.TheVariants as keys
 use Rattle.cell_asm.specs.Lines.{line_of}
-use Rattle.cell_asm.specs.Places.{is_in, is_same_part, placed, fault_at, labels}
-use Rattle.cell_asm.specs.Objects.{marks_in, is_key, object_of}
+use Rattle.cell_asm.specs.Places.{is_in, is_same_part, placed, fault_at}
+use Rattle.cell_asm.specs.Objects.{marks_in, label_named, object_of}
 
 -- a line of the source in its place, or what is wrong with it there
 abbrev pub placed_unless : List Laid → ℕ → Line → Option AsmKind → Result Laid AsmKind
@@ -57,10 +57,10 @@ abbrev pub is_upper_label : List Laid → Label → Bool
 is_upper_label lines label =
     is_same_part Text label.part && list_any (λ l. is_in Text l && l.offset == label.offset && has_upper l) lines
 
--- %pcrel_lo of a name that is no such label
+-- %pcrel_lo of a name that has no such label
 abbrev pub is_lost : List Laid → Target → Bool
 is_lost lines Made = false
-is_lost lines (Named name) = not (list_any (λ l. is_key l.key (keys.Named name) && is_upper_label lines l) (labels lines))
+is_lost lines (Named name) = not (option_map_or (is_upper_label lines) (label_named lines name) false)
 
 abbrev pub is_lost_mark : List Laid → Mark → Bool
 is_lost_mark lines m = is_pcrel_lo12 m.fix.kind && is_lost lines m.fix.target

@@ -1,6 +1,5 @@
 pub mod Faults
 pub mod Outcome
-pub mod Named
 pub mod Numbers
 pub mod Names
 pub mod Operands
@@ -12,8 +11,9 @@ pub mod Statements
 pub mod Gathering
 pub mod Lines
 pub mod Places
-pub mod Progress
 pub mod Objects
+pub mod Known
+pub mod Progress
 pub mod Numberings
 pub mod Making
 pub mod Assembled

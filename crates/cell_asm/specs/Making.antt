@@ -2,40 +2,32 @@
 --     Numbered symbols lines      the symbols have the numbers that the definition gives them
 use Rattle.std.specs.Prelude.{◌≡◌, ℕ, ◌+◌, ◌<◌, ◌^◌, All, Bool, false, not, List, map, filter, flat_map}
 use Rattle.std.specs.Option.{unwrap_or}
-use Rattle.std.specs.Str.{bytes_eq}
 use Rattle.cell_object.specs.declared.object.Entry.{Entry}
 use Rattle.cell_asm.specs.declared.statement.Part.{Part}
 use Rattle.cell_asm.specs.declared.block.Mark.{Mark}
-use Rattle.cell_asm.specs.declared.statement.Statement.{Statement}
-use Rattle.cell_asm.specs.declared.statement.Statement.TheVariants.{Global}
 use Rattle.cell_asm.specs.declared.laid.Laid.{Laid}
 use Rattle.cell_asm.specs.declared.laid.Label.{Label}
 use Rattle.cell_asm.specs.declared.laid.Key.{Key}
 use Rattle.cell_asm.specs.declared.laid.Key.TheVariants.{Named, Made}
-use Rattle.cell_asm.specs.declared.names_taken.Names.{Names}
+use Rattle.cell_asm.specs.declared.known.Known.{Known}
 use Rattle.cell_asm.specs.declared.symbol.Symbols.{Symbols}
-use Rattle.cell_asm.specs.Named.{is_named}
+use Rattle.cell_asm.specs.Known.{about}
 use Rattle.cell_asm.specs.Places.{is_in}
 use Rattle.cell_asm.specs.Objects.{symbol_number, target_key, marks_in, number_in}
 use Rattle.cell_asm.specs.Numberings.{number_of, local_in, Lists}
 
--- the statement makes the name GLOBAL
-abbrev pub declares : List ℕ → Statement → Bool
-declares q (Global name) = bytes_eq q name
-declares q _ = false
+abbrev pub is_global_in : Known → Key → Bool
+is_global_in known (Named name) = (about known name).global
+is_global_in known (Made n) = false
 
-abbrev pub is_global_in : Names → Key → Bool
-is_global_in names (Named name) = is_named names name
-is_global_in names (Made n) = false
-
--- the labels that are not in the set of GLOBAL names
-abbrev pub locals_in : Names → List Label → List Label
-locals_in names labels = filter (λ l. not (is_global_in names l.key)) labels
+-- the labels that no directive makes GLOBAL
+abbrev pub locals_in : Known → List Label → List Label
+locals_in known labels = filter (λ l. not (is_global_in known l.key)) labels
 
 -- the symbols are those of the LOCAL labels among these
-abbrev pub Locals : Symbols → List Part → Names → List Label → Type 0
-Locals symbols parts names labels =
-    Lists symbols (map (λ l. l.key) (locals_in names labels)) (map (local_in parts) (locals_in names labels))
+abbrev pub Locals : Symbols → List Part → Known → List Label → Type 0
+Locals symbols parts known labels =
+    Lists symbols (map (λ l. l.key) (locals_in known labels)) (map (local_in parts) (locals_in known labels))
 
 abbrev pub number_kept : Symbols → Key → ℕ
 number_kept symbols key = unwrap_or (number_of symbols.numbers key) 0

@@ -1,8 +1,7 @@
 -- Keys, and the numbers that the symbols have by them.
 --     number_of numbers key      the number that is kept for the key
---     place_among keys key       the place of the key, from 1
 --     Lists symbols keys list    the symbols are that list, and are known by these keys
-use Rattle.std.specs.Prelude.{◌≡◌, ℕ, ◌+◌, Bool, List, [], ◌∷◌, ◌++◌, map, length, Option, Some, None, option_map, if◌then◌else◌, position, find}
+use Rattle.std.specs.Prelude.{◌≡◌, ℕ, Bool, List, [], ◌∷◌, ◌++◌, map, length, Option, Some, None, if◌then◌else◌}
 use Rattle.std.specs.Option.{option_map_or}
 use Rattle.std.specs.List.{list_any}
 use Rattle.std.specs.Ordering.{nat_cmp}
@@ -17,39 +16,26 @@ use Rattle.cell_asm.specs.declared.laid.Key.{Key}
 use Rattle.cell_asm.specs.declared.laid.Key.TheVariants.{Named, Made}
 use Rattle.cell_asm.specs.declared.laid.Label.{Label}
 use Rattle.cell_asm.specs.declared.numbering.Numbering.{Numbering}
-use Rattle.cell_asm.specs.declared.spot.Spot.{Spot}
-use Rattle.cell_asm.specs.declared.spot.Spots.{Spots}
+use Rattle.cell_asm.specs.declared.known.Spot.{Spot}
+use Rattle.cell_asm.specs.declared.known.Known.{Known}
 use Rattle.cell_asm.specs.declared.symbol.Symbols.{Symbols}
-use Rattle.cell_asm.specs.Objects.{is_key, number_in, symbol}
+use Rattle.cell_asm.specs.Known.{about}
+use Rattle.cell_asm.specs.Places.{is_key}
+use Rattle.cell_asm.specs.Objects.{number_in, number_from, symbol}
 
 -- the number that is kept for the key
 abbrev pub number_of : Numbering → Key → Option ℕ
 number_of numbers (Named q) = get_by (λ k. slice_cmp nat_cmp q k.now) numbers.named
 number_of numbers (Made m) = get nat_cmp numbers.made m
 
--- where the label of a name is
-abbrev pub spot_of : Spots → List ℕ → Option Spot
-spot_of spots q = get_by (λ k. slice_cmp nat_cmp q k.now) spots.named
-
-abbrev pub spot_at : Label → Spot
-spot_at l = record { part = l.part; offset = l.offset }
-
--- the first label of a name
-abbrev pub spot_among : List Label → List ℕ → Option Spot
-spot_among labels q = option_map spot_at (find (λ l. is_key l.key (Named q)) labels)
-
 abbrev pub has_key : List Key → Key → Bool
 has_key keys q = list_any (λ k. is_key k q) keys
-
--- the place of the key, from 1
-abbrev pub place_among : List Key → Key → Option ℕ
-place_among keys q = option_map (λ i. i + 1) (position (λ k. is_key k q) keys)
 
 -- the symbols are that list, and are known by these keys, in their order
 pub record Lists (symbols : Symbols) (keys : List Key) (wanted : List Symbol) : Type 0 where
   pub list : symbols.list.items ≡ wanted
   pub count : length keys ≡ length wanted
-  pub numbers : (q : Key) → number_of symbols.numbers q ≡ place_among keys q
+  pub numbers : (q : Key) → number_of symbols.numbers q ≡ number_from 1 keys q
 
 -- a LOCAL label's symbol
 abbrev pub local_in : List Part → Label → Symbol
@@ -60,9 +46,9 @@ abbrev pub home_in : List Part → Option Spot → Home
 home_in parts None = Undef
 home_in parts (Some spot) = Inside (number_in parts spot.part)
 
-abbrev pub other_in : List Part → Spots → List ℕ → Symbol
-other_in parts spots name =
-    symbol (Named name) Global (home_in parts (spot_of spots name)) (option_map_or (λ s. s.offset) (spot_of spots name) 0)
+abbrev pub other_in : List Part → Known → List ℕ → Symbol
+other_in parts known name =
+    symbol (Named name) Global (home_in parts (about known name).spot) (option_map_or (λ s. s.offset) (about known name).spot 0)
 
 -- the keys of the LOCAL labels, and then the other names
 abbrev pub keys_with : List Key → List (List ℕ) → List Key
@@ -73,5 +59,5 @@ abbrev pub mentioned : List Key → List (List ℕ) → List ℕ → List (List 
 mentioned locals names name = if has_key (keys_with locals names) (Named name) then names else names ++ name ∷ []
 
 -- the symbols of the LOCAL labels, and then those of the other names
-abbrev pub Mentions : Symbols → List Part → Spots → List Key → List Symbol → List (List ℕ) → Type 0
-Mentions symbols parts spots locals list names = Lists symbols (keys_with locals names) (list ++ map (other_in parts spots) names)
+abbrev pub Mentions : Symbols → List Part → Known → List Key → List Symbol → List (List ℕ) → Type 0
+Mentions symbols parts known locals list names = Lists symbols (keys_with locals names) (list ++ map (other_in parts known) names)

@@ -1,8 +1,8 @@
 -- The object of the lines in their places: sections, symbols and entries.
-use Rattle.std.specs.Prelude.{ℕ, ◌==◌, ◌+◌, ◌/◌, max, Bool, true, false, not, List, [], ◌∷◌, ◌++◌, map, codes, decimal, Option, Some, None, if◌then◌else◌, filter, filter_map, flat_map, find, position, fold, replicate}
+use Rattle.std.specs.Prelude.{ℕ, suc, ◌+◌, ◌/◌, max, Bool, true, false, not, List, [], ◌∷◌, ◌++◌, map, codes, decimal, Option, Some, None, if◌then◌else◌, filter, filter_map, flat_map, find, position, fold, replicate}
 use Rattle.std.specs.List.{list_any, cons_option}
-use Rattle.std.specs.Option.{option_map_or}
-use Rattle.cell_num.specs.Lists.{equals, holds_name}
+use Rattle.std.specs.Option.{option_map_or, unwrap_or}
+use Rattle.cell_num.specs.Lists.{holds_name}
 use Rattle.cell_num.specs.Bits.{bytes_of}
 use Rattle.cell_object.specs.declared.object.Object.{Object}
 use Rattle.cell_object.specs.declared.object.Section.{Section}
@@ -27,7 +27,7 @@ use Rattle.cell_asm.specs.declared.laid.Laid.{Laid}
 use Rattle.cell_asm.specs.declared.laid.Key.{Key}
 use Rattle.cell_asm.specs.declared.laid.Key.TheVariants.{Named, Made}
 use Rattle.cell_asm.specs.declared.laid.Label.{Label}
-use Rattle.cell_asm.specs.Places.{is_same_part, is_in, choice, choices, gap, size_in, labels}
+use Rattle.cell_asm.specs.Places.{is_same_part, is_in, is_key, holds_key, choice, choices, gap, size_in, labels}
 
 -- SECTIONS, by first use
 
@@ -147,14 +147,6 @@ mentions lines = flat_map (λ l. label_names l.line.label ++ statement_names l.l
 abbrev pub adds_name : List (List ℕ) → List ℕ → List (List ℕ)
 adds_name names name = if holds_name names name then names else names ++ name ∷ []
 
-abbrev pub is_key : Key → Key → Bool
-is_key (Named a) (Named b) = equals a b
-is_key (Made m) (Made n) = m == n
-is_key _ _ = false
-
-abbrev pub holds_key : List Label → Key → Bool
-holds_key labels key = list_any (λ l. is_key l.key key) labels
-
 -- the other names, each where it is mentioned first
 abbrev pub other_names : List Laid → List (List ℕ)
 other_names lines = fold adds_name [] (filter (λ name. not (holds_key (local_labels lines) (Named name))) (mentions lines))
@@ -190,9 +182,14 @@ symbols lines = map (local_symbol lines) (local_labels lines) ++ map (global_sym
 abbrev pub symbol_keys : List Laid → List Key
 symbol_keys lines = map (λ l. l.key) (local_labels lines) ++ map (λ name. Named name) (other_names lines)
 
+-- the number of a key among these, which are numbered from n on
+abbrev pub number_from : ℕ → List Key → Key → Option ℕ
+number_from n [] q = None
+number_from n (k ∷ keys) q = if is_key k q then Some n else number_from (suc n) keys q
+
 -- the number of a symbol, from 1
 abbrev pub symbol_number : List Laid → Key → ℕ
-symbol_number lines key = option_map_or (λ i. i + 1) (position (λ k. is_key k key) (symbol_keys lines)) 0
+symbol_number lines key = unwrap_or (number_from 1 (symbol_keys lines) key) 0
 
 -- ENTRIES, by the number of their section and then in the order of the source
 

@@ -100,6 +100,14 @@ labels_at (Some part) offset keys = map (label part offset) keys
 abbrev pub labels : List Laid → List Label
 labels lines = flat_map (λ l. labels_at l.part l.offset (keys_of l)) lines
 
+abbrev pub is_key : Key → Key → Bool
+is_key (Named a) (Named b) = equals a b
+is_key (KeyMade m) (KeyMade n) = m == n
+is_key _ _ = false
+
+abbrev pub holds_key : List Label → Key → Bool
+holds_key labels key = list_any (λ l. is_key l.key key) labels
+
 -- which statements a section takes
 abbrev pub takes : Part → Statement → Bool
 takes Text (Zeros n) = n % 4 == 0
@@ -121,18 +129,10 @@ abbrev pub may_stand : Option Part → Line → Bool
 may_stand None line = is_none line.label && lays_nothing line.statement
 may_stand (Some part) line = takes part line.statement
 
--- the line has that label
-abbrev pub is_label : List ℕ → Option (List ℕ) → Bool
-is_label name None = false
-is_label name (Some own) = equals name own
-
-abbrev pub has_own : List ℕ → Laid → Bool
-has_own name l = is_label name l.line.label
-
 -- an earlier line has the label
 abbrev pub is_twice : List Laid → Option (List ℕ) → Bool
 is_twice before None = false
-is_twice before (Some name) = list_any (has_own name) before
+is_twice before (Some name) = holds_key (labels before) (Named name)
 
 abbrev pub largest : Part → ℕ
 largest Bss = 16777216

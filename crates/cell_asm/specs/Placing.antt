@@ -5,15 +5,13 @@ use Rattle.cell_asm.specs.declared.kind.AsmFail.{AsmFail}
 use Rattle.cell_asm.specs.declared.kind.AsmFail.TheVariants.{Fault, OutOfMemory}
 use Rattle.cell_asm.specs.declared.fault.Stop.{Stop}
 use Rattle.cell_asm.specs.declared.fault.Stop.TheVariants.{Fault as Stopped, OutOfMemory as NoMemory}
-use Rattle.cell_asm.specs.declared.statement.Part.{Part}
 use Rattle.cell_asm.specs.declared.laid.Laid.{Laid}
 use Rattle.cell_asm.specs.declared.source.Placed.{Placed}
-use Rattle.cell_asm.specs.Places.{size_in}
-use Rattle.cell_asm.specs.Progress.{size_of}
+use Rattle.cell_asm.specs.Progress.{Follows}
 
--- the lines, with the sizes of their sections; or the first line with a fault; or memory was wanting
+-- the lines, with what they come to; or the first line with a fault; or memory was wanting
 abbrev pub Places : Result Placed AsmFail → Result (List Laid) (ℕ × AsmKind) → Type 0
-Places (Ok p) said = (said ≡ Ok p.lines) × ((part : Part) → size_of p.sizes part ≡ size_in part p.lines)
+Places (Ok p) said = (said ≡ Ok p.lines) × Follows p.progress p.lines
 Places (Err (Fault line kind)) said = said ≡ Err (line, kind)
 Places (Err OutOfMemory) said = Unit {0}
 

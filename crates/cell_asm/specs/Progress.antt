@@ -1,6 +1,5 @@
 -- What is kept while lines are put in their places, as what the lines so far come to.
-use Rattle.std.specs.Prelude.{◌≡◌, ℕ, ◌+◌, Bool, false, ◌||◌, if◌then◌else◌, List, Option, Some, None}
-use Rattle.std.specs.List.{list_any}
+use Rattle.std.specs.Prelude.{◌≡◌, ℕ, ◌+◌, Bool, false, is_some, if◌then◌else◌, List, Option, Some, None}
 use Rattle.cell_num.specs.Lists.{last, or_else}
 use Rattle.cell_asm.specs.declared.kind.AsmKind.{AsmKind}
 use Rattle.cell_asm.specs.declared.statement.Line.{Line}
@@ -9,8 +8,8 @@ use Rattle.cell_asm.specs.declared.statement.Part.TheVariants.{Text, Rodata, Dat
 use Rattle.cell_asm.specs.declared.place.Sizes.{Sizes}
 use Rattle.cell_asm.specs.declared.place.Progress.{Progress}
 use Rattle.cell_asm.specs.declared.laid.Laid.{Laid}
-use Rattle.cell_asm.specs.Named.{is_named}
-use Rattle.cell_asm.specs.Places.{choices, choice, size_in, made_in, has_own, is_in, taken, makes_label, fault_by}
+use Rattle.cell_asm.specs.Known.{about, about_with, about_in}
+use Rattle.cell_asm.specs.Places.{choices, choice, size_in, made_in, is_in, taken, makes_label, fault_by}
 
 abbrev pub size_of : Sizes → Part → ℕ
 size_of sizes Text = sizes.text
@@ -28,7 +27,7 @@ offset_of progress = size_chosen progress.sizes progress.chosen
 
 abbrev pub twice_of : Progress → Option (List ℕ) → Bool
 twice_of progress None = false
-twice_of progress (Some name) = is_named progress.names name
+twice_of progress (Some name) = is_some (about progress.names name).spot
 
 -- what is wrong with a line, by what is kept
 abbrev pub fault_after : Progress → Line → Option AsmKind
@@ -44,11 +43,11 @@ pub record Adds (old new : Progress) (l : Laid) : Type 0 where
   pub chosen : new.chosen ≡ or_else (choice l.line.statement) old.chosen
   pub sizes : (part : Part) → size_of new.sizes part ≡ (if is_in part l then l.offset + taken l.line.statement l.offset else size_of old.sizes part)
   pub made : new.made ≡ old.made + (if makes_label l.line.statement then 1 else 0)
-  pub names : (q : List ℕ) → is_named new.names q ≡ (has_own q l || is_named old.names q)
+  pub names : (q : List ℕ) → about new.names q ≡ about_with l q (about old.names q)
 
 -- what is kept is what the lines come to
 pub record Follows (progress : Progress) (lines : List Laid) : Type 0 where
   pub chosen : progress.chosen ≡ last (choices lines)
   pub sizes : (part : Part) → size_of progress.sizes part ≡ size_in part lines
   pub made : progress.made ≡ made_in lines
-  pub names : (q : List ℕ) → is_named progress.names q ≡ list_any (has_own q) lines
+  pub names : (q : List ℕ) → about progress.names q ≡ about_in lines q

@@ -1,20 +1,20 @@
 //! The labels of a source.
 
-ghost use Rattle.std.specs.Prelude.{◌≡◌, ◌++◌, ◌==◌, ◌&&◌, ◌||◌, ℕ, List, Option, option_map, find, IfOk, OnOk};
+ghost use Rattle.std.specs.Prelude.{◌≡◌, ◌++◌, ◌==◌, ◌&&◌, ℕ, List, option_map, find, IfOk, OnOk};
 ghost use Rattle.std.specs.List.{list_any};
 ghost use Rattle.std.specs.Ordering.{nat_cmp};
 ghost use Rattle.std.specs.BTreeSet.{contains};
-ghost use Rattle.cell_asm.specs.Named.{is_named};
-ghost use Rattle.cell_asm.specs.Places.{is_same_part, is_in, keys_of, labels_at, labels as labels_of};
+ghost use Rattle.cell_asm.specs.Known.{about, about_in};
+ghost use Rattle.cell_asm.specs.Places.{is_in, keys_of, labels_at, labels as labels_of};
 ghost use Rattle.cell_num.specs.Kinds.{is_pcrel_hi20 as pcrel_hi20};
 ghost use Rattle.cell_asm.specs.Objects.{marks_in as marks_of};
 ghost use Rattle.cell_asm.specs.Assembled.{has_upper as upper_in, has_lost as lost_in};
-ghost use Rattle.cell_asm.specs.Uppers.{is_upper_at, target_lost_by, mark_lost_by, lost_by};
+ghost use Rattle.cell_asm.specs.Uppers.{is_upper_spot, target_lost_by, mark_lost_by, lost_by};
 ghost use Rattle.cell_asm.specs.declared.statement.Part.TheVariants as parts;
 
 use crate::block::Mark;
+use crate::known::{Known, Spot};
 use crate::laid::{Key, Label, Laid};
-use crate::names_taken::Names;
 use crate::place::makes_label;
 use crate::statement::{Part, Statement, Target};
 use cell_num::{is_pcrel_hi20, is_pcrel_lo12};
@@ -70,25 +70,13 @@ pub fn marks_in<'b, 'a>(statement: &'b Statement<'a>) -> &'b [Mark<'a>]
 pub fn first_lost<'a>(
     alloc: Global,
     lines: &[Laid<'a>],
-    labels: &[Label<'a>],
+    names: &Known<'a>,
 ) -> Result<Option<u32>, AllocError>
-    requires { labels.now ≡ labels_of lines.now }
+    requires { (q : List ℕ) → about names.now q ≡ about_in lines.now q }
     ensures { IfOk result (λ number. number ≡ option_map (λ l. l.number) (find (lost_in lines.now) lines.now)) }
 {
     let offsets = upper_offsets(alloc, lines)?;
-    let names = upper_names(alloc, labels, &offsets)?;
-    Ok(first_with_lost(&names, lines))
-}
-
-fn first_with_lost<'a>(names: &Names<'a>, lines: &[Laid<'a>]) -> Option<u32>
-    ensures { result ≡ option_map (λ l. l.number) (find (lost_by names.now) lines.now) }
-{
-    for laid in lines {
-        if has_lost(names, laid) {
-            return Some(laid.number);
-        }
-    }
-    None
+    Ok(first_with_lost(names, &offsets, lines))
 }
 
 /// The offsets in `.text` of instructions with `%pcrel_hi`.
@@ -116,73 +104,54 @@ fn has_upper(marks: &[Mark<'_>]) -> bool
     marks.iter().any(|mark| is_pcrel_hi20(mark.fix.kind))
 }
 
-/// The names of the labels in `.text` at these offsets.
-fn upper_names<'a>(
-    alloc: Global,
-    labels: &[Label<'a>],
+fn first_with_lost<'a>(
+    names: &Known<'a>,
     offsets: &BTreeSet<u32>,
-) -> Result<Names<'a>, AllocError>
-    ensures { IfOk result (λ names. (q : List ℕ) → is_named names q ≡ list_any (is_upper_at offsets.now q) labels.now) }
+    lines: &[Laid<'a>],
+) -> Option<u32>
+    ensures { result ≡ option_map (λ l. l.number) (find (lost_by names.now offsets.now) lines.now) }
 {
-    let mut names = Names::new(alloc);
-    for label in labels {
-        add_upper(&mut names, label, offsets)?;
+    for laid in lines {
+        if any_lost(names, offsets, marks_in(&laid.line.statement)) {
+            return Some(laid.number);
+        }
     }
-    Ok(names)
-}
-
-/// Adds the name of the label, where it stands in `.text` at one of these offsets.
-fn add_upper<'a>(
-    names: &mut Names<'a>,
-    label: &Label<'a>,
-    offsets: &BTreeSet<u32>,
-) -> Result<(), AllocError>
-    ensures { OnOk result ((q : List ℕ) → is_named names.new q ≡ (is_upper_at offsets.now q label.now || is_named names.old q)) }
-{
-    let Key::Named(name) = &label.key else {
-        return Ok(());
-    };
-    if !is_text(label.part) || !offsets.contains(&label.offset) {
-        return Ok(());
-    }
-    names.add(name.bytes())
-}
-
-fn is_text(part: Part) -> bool
-    ensures { result ≡ is_same_part parts.Text part }
-{
-    matches!(part, Part::Text)
-}
-
-fn has_lost<'a>(names: &Names<'a>, laid: &Laid<'a>) -> bool
-    ensures { result ≡ lost_by names.now laid.now }
-{
-    any_lost(names, marks_in(&laid.line.statement))
+    None
 }
 
 #[tactic(auto, using(crate::proofs::LabelLemmas::any_left))]
-fn any_lost<'a>(names: &Names<'a>, marks: &[Mark<'a>]) -> bool
-    ensures { result ≡ list_any (mark_lost_by names.now) marks.now }
+fn any_lost<'a>(names: &Known<'a>, offsets: &BTreeSet<u32>, marks: &[Mark<'a>]) -> bool
+    ensures { result ≡ list_any (mark_lost_by names.now offsets.now) marks.now }
 {
     for mark in marks {
-        if is_lost_mark(names, mark) {
+        if is_lost_mark(names, offsets, mark) {
             return true;
         }
     }
     false
 }
 
-fn is_lost_mark<'a>(names: &Names<'a>, mark: &Mark<'a>) -> bool
-    ensures { result ≡ mark_lost_by names.now mark.now }
+fn is_lost_mark<'a>(names: &Known<'a>, offsets: &BTreeSet<u32>, mark: &Mark<'a>) -> bool
+    ensures { result ≡ mark_lost_by names.now offsets.now mark.now }
 {
-    is_pcrel_lo12(mark.fix.kind) && is_lost(names, &mark.fix.target)
+    is_pcrel_lo12(mark.fix.kind) && is_lost(names, offsets, &mark.fix.target)
 }
 
-fn is_lost<'a>(names: &Names<'a>, target: &Target<'a>) -> bool
-    ensures { result ≡ target_lost_by names.now target.now }
+fn is_lost<'a>(names: &Known<'a>, offsets: &BTreeSet<u32>, target: &Target<'a>) -> bool
+    ensures { result ≡ target_lost_by names.now offsets.now target.now }
 {
     match target {
-        Target::Named(name) => !names.has(name.bytes()),
+        Target::Named(name) => !is_upper(offsets, names.about(name.bytes()).spot),
         Target::Made => false,
+    }
+}
+
+/// Whether the label stands in `.text` at one of these offsets.
+fn is_upper(offsets: &BTreeSet<u32>, spot: Option<Spot>) -> bool
+    ensures { result ≡ is_upper_spot offsets.now spot }
+{
+    match spot {
+        Some(spot) => matches!(spot.part, Part::Text) && offsets.contains(&spot.offset),
+        None => false,
     }
 }

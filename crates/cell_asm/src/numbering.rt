@@ -2,7 +2,7 @@
 
 ghost use Rattle.std.specs.Prelude.{◌≡◌, ◌==◌, ℕ, List, None, OnOk};
 ghost use Rattle.cell_num.specs.Lists.{equals, or_else, where_true};
-ghost use Rattle.cell_asm.specs.Objects.{is_key};
+ghost use Rattle.cell_asm.specs.Places.{is_key};
 ghost use Rattle.cell_asm.specs.Numberings.{number_of};
 ghost use Rattle.cell_asm.specs.declared.laid.Key.{Key as KeyValue};
 ghost use Rattle.cell_asm.specs.declared.laid.Key.TheVariants as keys;

@@ -1,11 +1,11 @@
 //! Lines in their places, one after the other.
 
-ghost use Rattle.std.specs.Prelude.{◌≡◌, ◌+◌, ◌-◌, ◌^◌, ◌<◌, ◌≤◌, [], ◌∷◌, ◌++◌, ◌||◌, true, false, ℕ, List, min, sum_by, Ok, IfOk, OnOk, if◌then◌else◌};
+ghost use Rattle.std.specs.Prelude.{◌≡◌, ◌+◌, ◌-◌, ◌^◌, ◌<◌, ◌≤◌, [], ◌∷◌, ◌++◌, true, false, ℕ, List, min, sum_by, Ok, IfOk, OnOk, if◌then◌else◌};
 ghost use Rattle.std.specs.List.{list_any};
 ghost use Rattle.cell_asm.specs.Assembled.{placed_line};
-ghost use Rattle.cell_asm.specs.Named.{is_named};
+ghost use Rattle.cell_asm.specs.Known.{about as about_of, with_spot, about_with, spot_here};
 ghost use Rattle.cell_asm.specs.Outcome.{Gives};
-ghost use Rattle.cell_asm.specs.Places.{is_same_part, is_label, gap as gap_of, taken as taken_of, is_made, makes_label as label_made, may_stand as may_stand_of, takes as takes_of, lays_nothing as lays_none, is_long as long_of};
+ghost use Rattle.cell_asm.specs.Places.{is_same_part, gap as gap_of, taken as taken_of, is_made, makes_label as label_made, may_stand as may_stand_of, takes as takes_of, lays_nothing as lays_none, is_long as long_of};
 ghost use Rattle.cell_asm.specs.Progress.{size_of, offset_of, twice_of, fault_after, laid_after, Adds, Follows};
 ghost use Rattle.cell_asm.specs.declared.laid.Laid.{Laid as LaidValue};
 ghost use Rattle.cell_asm.specs.declared.statement.Part.{Part as PartValue};
@@ -13,8 +13,8 @@ ghost use Rattle.cell_asm.specs.declared.statement.Part.{Part as PartValue};
 use crate::block::Mark;
 use crate::fault::Stop;
 use crate::kind::AsmKind;
+use crate::known::{Known, Spot};
 use crate::laid::Laid;
-use crate::names_taken::Names;
 use crate::statement::{Content, Line, Part, Statement, Target};
 use crate::text::Text;
 use std::alloc::{AllocError, Global};
@@ -58,13 +58,13 @@ impl Sizes {
 }
 
 /// What the lines so far come to: the section that is chosen, the sizes of all, how many labels
-/// were made, and the names of the labels.
+/// were made, and what is known of names.
 #[derive(Drop)]
 pub struct Progress<'a> {
     pub chosen: Option<Part>,
     pub sizes: Sizes,
     pub made: u32,
-    pub names: Names<'a>,
+    pub names: Known<'a>,
 }
 
 impl<'a> Progress<'a> {
@@ -80,7 +80,7 @@ impl<'a> Progress<'a> {
                 bss: 0,
             },
             made: 0,
-            names: Names::new(alloc),
+            names: Known::new(alloc),
         }
     }
 
@@ -144,7 +144,7 @@ impl<'a> Progress<'a> {
         ensures { result ≡ twice_of self.now label.now }
     {
         match label {
-            Some(name) => self.names.has(name.bytes()),
+            Some(name) => self.names.about(name.bytes()).spot.is_some(),
             None => false,
         }
     }
@@ -159,7 +159,7 @@ impl<'a> Progress<'a> {
         if makes_label(&laid.line.statement) {
             self.made += 1;
         }
-        self.add_label(&laid.line.label)?;
+        self.add_names(laid)?;
         if let Some(part) = laid.part {
             let size = end(&laid.line.statement, laid.offset) as u32;
             self.sizes.set(part, size);
@@ -170,12 +170,28 @@ impl<'a> Progress<'a> {
         Ok(())
     }
 
-    fn add_label(&mut self, label: &Option<Text<'a>>) -> Result<(), AllocError>
-        ensures names { OnOk result ((q : List ℕ) → is_named self.new.names q ≡ (is_label q label.now || is_named self.old.names q)) }
+    /// Keeps what the line says of names.
+    fn add_names(&mut self, laid: &Laid<'a>) -> Result<(), AllocError>
+        ensures names { OnOk result ((q : List ℕ) → about_of self.new.names q ≡ about_with laid.now q (about_of self.old.names q)) }
         ensures others { self.new ≡ record self.old { names = self.new.names } }
     {
-        if let Some(name) = label {
-            self.names.add(name.bytes())?;
+        self.add_label(laid)?;
+        if let Statement::Global(name) = &laid.line.statement {
+            self.names.add_global(name.bytes())?;
+        }
+        Ok(())
+    }
+
+    fn add_label(&mut self, laid: &Laid<'a>) -> Result<(), AllocError>
+        ensures names { OnOk result ((q : List ℕ) → about_of self.new.names q ≡ with_spot (spot_here laid.now.part laid.now.offset laid.now.line.label q) (about_of self.old.names q)) }
+        ensures others { self.new ≡ record self.old { names = self.new.names } }
+    {
+        let Some(part) = laid.part else {
+            return Ok(());
+        };
+        if let Some(name) = &laid.line.label {
+            let offset = laid.offset;
+            self.names.add_spot(name.bytes(), Spot { part, offset })?;
         }
         Ok(())
     }

@@ -8,18 +8,16 @@ ghost use Rattle.cell_asm.specs.Lines.{line_of};
 ghost use Rattle.cell_asm.specs.Outcome.{Gives};
 ghost use Rattle.cell_asm.specs.Placing.{Places, failure};
 ghost use Rattle.cell_asm.specs.Objects.{object_of};
-ghost use Rattle.cell_asm.specs.Places.{size_in, labels as labels_of};
-ghost use Rattle.cell_asm.specs.Progress.{size_of, Follows};
-ghost use Rattle.cell_asm.specs.declared.statement.Part.{Part as PartValue};
+ghost use Rattle.cell_asm.specs.Progress.{Follows};
 ghost use Rattle.cell_asm.specs.declared.laid.Laid.{Laid as LaidValue};
 
 use crate::entry::entries;
 use crate::fault::Stop;
 use crate::kind::{AsmFail, AsmKind};
 use crate::label::{first_lost, labels};
-use crate::laid::{Label, Laid};
+use crate::laid::Laid;
 use crate::line::read_line;
-use crate::place::{Progress, Sizes};
+use crate::place::Progress;
 use crate::section::{parts_of, sections};
 use crate::symbol::make_symbols;
 use cell_num::Listed;
@@ -39,14 +37,14 @@ pub fn assemble(alloc: Global, source: &[u8]) -> Result<Object, AsmFail>
 {
     let texts = lines(alloc, source)?;
     let placed = place_lines(alloc, &texts)?;
-    object(alloc, placed.lines.as_slice(), &placed.sizes)
+    object(alloc, placed.lines.as_slice(), &placed.progress)
 }
 
-/// The lines in their places, and the sizes of the sections.
+/// The lines in their places, and what they come to.
 #[derive(Drop)]
 pub struct Placed<'a> {
     pub lines: Listed<Laid<'a>>,
-    pub sizes: Sizes,
+    pub progress: Progress<'a>,
 }
 
 /// The lines in their places, or the first with a fault.
@@ -66,7 +64,7 @@ fn place_lines<'a>(alloc: Global, texts: &[&'a [u8]]) -> Result<Placed<'a>, AsmF
     }
     Ok(Placed {
         lines: Listed::from_vec(lines),
-        sizes: progress.sizes,
+        progress,
     })
 }
 
@@ -97,19 +95,18 @@ fn place_line<'a>(
 
 /// The object of the lines, unless one refers to a label that is none.
 #[tactic(auto, using(crate::proofs::SourceLemmas::answers))]
-fn object(alloc: Global, lines: &[Laid<'_>], sizes: &Sizes) -> Result<Object, AsmFail>
-    requires sizes { (part : PartValue) → size_of sizes.now part ≡ size_in part lines.now }
+fn object<'a>(alloc: Global, lines: &[Laid<'a>], progress: &Progress<'a>) -> Result<Object, AsmFail>
+    requires follows { Follows progress.now lines.now }
     requires room { All HasRoom lines.now }
     ensures { Assembles result (object_unless lines.now (find (has_lost lines.now) lines.now)) }
 {
-    let labels = labels(alloc, lines)?;
-    if let Some(line) = first_lost(alloc, lines, &labels)? {
+    if let Some(line) = first_lost(alloc, lines, &progress.names)? {
         return Err(AsmFail::Fault {
             line,
             kind: AsmKind::Label,
         });
     }
-    let object = whole_object(alloc, lines, &labels, sizes)?;
+    let object = whole_object(alloc, lines, progress)?;
     Ok(object)
 }
 
@@ -118,17 +115,16 @@ fn object(alloc: Global, lines: &[Laid<'_>], sizes: &Sizes) -> Result<Object, As
 fn whole_object<'a>(
     alloc: Global,
     lines: &[Laid<'a>],
-    labels: &[Label<'a>],
-    sizes: &Sizes,
+    progress: &Progress<'a>,
 ) -> Result<Object, AllocError>
-    requires labels { labels.now ≡ labels_of lines.now }
-    requires sizes { (part : PartValue) → size_of sizes.now part ≡ size_in part lines.now }
+    requires follows { Follows progress.now lines.now }
     requires room { All HasRoom lines.now }
     ensures { IfOk result (λ object. object ≡ object_of lines.now) }
 {
     let parts = parts_of(alloc, lines)?;
-    let sections = sections(alloc, lines, sizes, &parts)?;
-    let symbols = make_symbols(alloc, lines, labels, &parts)?;
+    let sections = sections(alloc, lines, &progress.sizes, &parts)?;
+    let labels = labels(alloc, lines)?;
+    let symbols = make_symbols(alloc, lines, &labels, &progress.names, &parts)?;
     let entries = entries(alloc, lines, &symbols, &parts)?;
     Ok(Object {
         sections,

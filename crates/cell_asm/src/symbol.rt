@@ -1,13 +1,12 @@
 //! The symbols of an object.
 
-ghost use Rattle.std.specs.Prelude.{◌≡◌, ◌≤◌, ◌+◌, ◌||◌, [], ◌∷◌, ◌++◌, flat_map, fold, length, not, is_some, ℕ, List, IfOk, OnOk};
+ghost use Rattle.std.specs.Prelude.{◌≡◌, ◌≤◌, ◌+◌, [], ◌∷◌, ◌++◌, flat_map, fold, length, not, is_some, ℕ, List, IfOk, OnOk};
 ghost use Rattle.std.specs.Option.{option_map_or};
-ghost use Rattle.cell_num.specs.Lists.{holds_name};
-ghost use Rattle.cell_asm.specs.Named.{is_named};
+ghost use Rattle.cell_asm.specs.Known.{about, about_in};
 ghost use Rattle.cell_asm.specs.Places.{labels as labels_of};
-ghost use Rattle.cell_asm.specs.Objects.{key_name as name_of, globals as globals_of, target_names, statement_names, mentions as mentions_of, parts_of, symbol as symbol_of, symbols as symbols_of};
+ghost use Rattle.cell_asm.specs.Objects.{key_name as name_of, target_names, statement_names, mentions as mentions_of, parts_of, symbol as symbol_of, symbols as symbols_of};
 ghost use Rattle.cell_asm.specs.Numberings.{number_of, Lists, Mentions, mentioned, home_in};
-ghost use Rattle.cell_asm.specs.Making.{declares, is_global_in, Locals, number_kept, Numbered};
+ghost use Rattle.cell_asm.specs.Making.{is_global_in, Locals, number_kept, Numbered};
 ghost use Rattle.cell_object.specs.declared.object.Bind.TheVariants as binds;
 ghost use Rattle.cell_asm.specs.declared.laid.Key.{Key as KeyValue};
 ghost use Rattle.cell_asm.specs.declared.laid.Key.TheVariants as keys;
@@ -15,11 +14,10 @@ ghost use Rattle.cell_asm.specs.declared.laid.Label.{Label as LabelValue};
 ghost use Rattle.cell_object.specs.declared.object.Symbol.{Symbol as SymbolValue};
 
 use crate::block::Mark;
+use crate::known::{Known, Spot};
 use crate::laid::{Key, Label, Laid};
-use crate::names_taken::Names;
 use crate::numbering::Numbering;
 use crate::section::part_number;
-use crate::spot::{Spot, Spots};
 use crate::statement::{Part, Statement, Target};
 use crate::text::Text;
 use cell_num::{Bytes, Listed};
@@ -39,41 +37,21 @@ pub fn make_symbols<'a>(
     alloc: Global,
     lines: &[Laid<'a>],
     labels: &[Label<'a>],
+    known: &Known<'a>,
     parts: &[Part],
 ) -> Result<Symbols<'a>, AllocError>
     requires few { length parts.now ≤ 4 }
     requires parts { parts.now ≡ parts_of lines.now }
     requires labels { labels.now ≡ labels_of lines.now }
+    requires known { (q : List ℕ) → about known.now q ≡ about_in lines.now q }
     ensures list { IfOk result (λ s. s.list.items ≡ symbols_of lines.now) }
     ensures numbers { IfOk result (λ s. Numbered s lines.now) }
 {
-    let globals = globals(alloc, lines)?;
-    let spots = Spots::of(alloc, labels)?;
     let mut symbols = Symbols::new(alloc);
-    symbols.add_locals(alloc, labels, &globals, parts)?;
+    symbols.add_locals(alloc, labels, known, parts)?;
     let names = mentions(alloc, lines)?;
-    symbols.mention_names(alloc, names.as_slice(), &spots, parts)?;
+    symbols.mention_names(alloc, names.as_slice(), known, parts)?;
     Ok(symbols)
-}
-
-/// The names that a directive makes GLOBAL.
-fn globals<'a>(alloc: Global, lines: &[Laid<'a>]) -> Result<Names<'a>, AllocError>
-    ensures { IfOk result (λ names. (q : List ℕ) → is_named names q ≡ holds_name (globals_of lines.now) q) }
-{
-    let mut names = Names::new(alloc);
-    for laid in lines {
-        add_global(&mut names, &laid.line.statement)?;
-    }
-    Ok(names)
-}
-
-fn add_global<'a>(names: &mut Names<'a>, statement: &Statement<'a>) -> Result<(), AllocError>
-    ensures { OnOk result ((q : List ℕ) → is_named names.new q ≡ (declares q statement.now || is_named names.old q)) }
-{
-    if let Statement::Global(name) = statement {
-        names.add(name.bytes())?;
-    }
-    Ok(())
 }
 
 /// The names that the lines mention, in order.
@@ -114,11 +92,11 @@ fn put_targets<'a>(names: &mut Vec<Text<'a>>, marks: &[Mark<'a>]) -> Result<(), 
 }
 
 /// Whether no directive makes the label GLOBAL.
-fn is_local<'a>(globals: &Names<'a>, key: &Key<'a>) -> bool
-    ensures { result ≡ not (is_global_in globals.now key.now) }
+fn is_local<'a>(known: &Known<'a>, key: &Key<'a>) -> bool
+    ensures { result ≡ not (is_global_in known.now key.now) }
 {
     match key {
-        Key::Named(name) => !globals.has(name.bytes()),
+        Key::Named(name) => !known.about(name.bytes()).global,
         Key::Made(_) => true,
     }
 }
@@ -202,15 +180,15 @@ impl<'a> Symbols<'a> {
         &mut self,
         alloc: Global,
         labels: &[Label<'a>],
-        globals: &Names<'a>,
+        known: &Known<'a>,
         parts: &[Part],
     ) -> Result<(), AllocError>
         requires few { length parts.now ≤ 4 }
-        requires none { Locals self.old parts.now globals.now [] }
-        ensures { OnOk result (Locals self.new parts.now globals.now labels.now) }
+        requires none { Locals self.old parts.now known.now [] }
+        ensures { OnOk result (Locals self.new parts.now known.now labels.now) }
     {
         for label in labels {
-            self.add_local(alloc, label, globals, parts)?;
+            self.add_local(alloc, label, known, parts)?;
         }
         Ok(())
     }
@@ -220,13 +198,13 @@ impl<'a> Symbols<'a> {
         &mut self,
         alloc: Global,
         label: &Label<'a>,
-        globals: &Names<'a>,
+        known: &Known<'a>,
         parts: &[Part],
     ) -> Result<(), AllocError>
         requires { length parts.now ≤ 4 }
-        ensures { OnOk result ((before : List LabelValue) → Locals self.old parts.now globals.now before → Locals self.new parts.now globals.now (before ++ label.now ∷ [])) }
+        ensures { OnOk result ((before : List LabelValue) → Locals self.old parts.now known.now before → Locals self.new parts.now known.now (before ++ label.now ∷ [])) }
     {
-        if is_local(globals, &label.key) {
+        if is_local(known, &label.key) {
             let home = Home::Inside(part_number(parts, label.part));
             self.add(alloc, &label.key, Bind::Local, home, label.offset)?;
         }
@@ -238,14 +216,14 @@ impl<'a> Symbols<'a> {
         &mut self,
         alloc: Global,
         names: &[Text<'a>],
-        spots: &Spots<'a>,
+        known: &Known<'a>,
         parts: &[Part],
     ) -> Result<(), AllocError>
         requires { length parts.now ≤ 4 }
-        ensures { OnOk result ((locals : List KeyValue) → (list : List SymbolValue) → Mentions self.old parts.now spots.now locals list [] → Mentions self.new parts.now spots.now locals list (fold (mentioned locals) [] names.now)) }
+        ensures { OnOk result ((locals : List KeyValue) → (list : List SymbolValue) → Mentions self.old parts.now known.now locals list [] → Mentions self.new parts.now known.now locals list (fold (mentioned locals) [] names.now)) }
     {
         for name in names {
-            self.mention(alloc, name, spots, parts)?;
+            self.mention(alloc, name, known, parts)?;
         }
         Ok(())
     }
@@ -262,14 +240,14 @@ impl<'a> Symbols<'a> {
         &mut self,
         alloc: Global,
         name: &Text<'a>,
-        spots: &Spots<'a>,
+        known: &Known<'a>,
         parts: &[Part],
     ) -> Result<(), AllocError>
         requires { length parts.now ≤ 4 }
-        ensures { OnOk result ((locals : List KeyValue) → (list : List SymbolValue) → (names : List (List ℕ)) → Mentions self.old parts.now spots.now locals list names → Mentions self.new parts.now spots.now locals list (mentioned locals names name.now)) }
+        ensures { OnOk result ((locals : List KeyValue) → (list : List SymbolValue) → (names : List (List ℕ)) → Mentions self.old parts.now known.now locals list names → Mentions self.new parts.now known.now locals list (mentioned locals names name.now)) }
     {
         if self.is_new(name) {
-            let spot = spots.get(name.bytes());
+            let spot = known.about(name.bytes()).spot;
             self.add_other(alloc, &Key::Named(name.again()), spot, parts)?;
         }
         Ok(())

@@ -5,4 +5,4 @@ use Rattle.cell_asm.proofs.label.first_with_lost.Given as goal
 
 -- none so far, so the first is among those that are left
 abbrev pub invariant-loop-laid : goal.invariant-loop-laid
-invariant-loop-laid l = find (lost_by l.names) (drop l.laid-index l.lines) ≡ find (lost_by l.names) l.lines
+invariant-loop-laid l = find (lost_by l.names l.offsets) (drop l.laid-index l.lines) ≡ find (lost_by l.names l.offsets) l.lines

@@ -9,5 +9,5 @@ loop-label-preserved c =
     let labels = c.args.labels.now in
     let within : i < length labels = omega arith in
     let l = c.label-item.result in
-    same_labels _ c.args.parts.now c.args.globals.now _ _ (ap (λ m. take i labels ++ m ∷ []) c.label-item.is ∙ sym (take_more labels i l within))
+    same_labels _ c.args.parts.now c.args.known.now _ _ (ap (λ m. take i labels ++ m ∷ []) c.label-item.is ∙ sym (take_more labels i l within))
     (c.in_ok-add_local.ensures (take i labels) c.loop-label.invariant)

@@ -4,4 +4,4 @@ use Rattle.cell_asm.proofs.symbol.Symbols.add_locals.Given as goal
 
 -- the symbols of the labels so far
 abbrev pub invariant-loop-label : goal.invariant-loop-label
-invariant-loop-label l = Locals l.self l.parts l.globals (take l.label-index l.labels)
+invariant-loop-label l = Locals l.self l.parts l.known (take l.label-index l.labels)

@@ -8,5 +8,5 @@ use Rattle.cell_asm.proofs.symbol.Symbols.mention_names.Given as goal
 -- the names so far
 abbrev pub invariant-loop-name : goal.invariant-loop-name
 invariant-loop-name l =
-    (locals : List Key) (list : List Symbol) → Mentions l.initial.self l.parts l.spots locals list []
-    → Mentions l.self l.parts l.spots locals list (fold (mentioned locals) [] (take l.name-index l.names))
+    (locals : List Key) (list : List Symbol) → Mentions l.initial.self l.parts l.known locals list []
+    → Mentions l.self l.parts l.known locals list (fold (mentioned locals) [] (take l.name-index l.names))

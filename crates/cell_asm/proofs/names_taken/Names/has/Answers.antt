@@ -1,6 +1,0 @@
-use Rattle.std.proofs.Common.{◌∙◌}
-use Rattle.cell_asm.proofs.NameLemmas.{has_is}
-use Rattle.cell_asm.proofs.names_taken.Names.has.Goals as goal
-
-pub returns : goal.returns
-returns c = c.contains.ensures ∙ has_is c.args.name.now (λ k. k.now) c.args.self.now.set.keys
