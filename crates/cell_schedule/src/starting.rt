@@ -10,10 +10,10 @@ ghost use Rattle.cell_machine.specs.Does.{Does};
 ghost use Rattle.cell_schedule.specs.Starts.{entry_as, may_start, started};
 
 use crate::entry::{Entry, entry_for};
+use cell_hart::STACK_SIZE;
 use cell_machine::{Machine, namespace};
 use cell_mem::Perm;
 use cell_place::NoRun;
-use cell_hart::STACK_SIZE;
 use cell_task::Tasks;
 use cell_world::{Fail, MAX_TASK_NUMBER, MAX_TASKS, Many, Permission, Refusal, Reply, STACK_PAGES};
 use std::alloc::{AllocError, Global};

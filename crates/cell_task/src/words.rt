@@ -7,8 +7,8 @@ ghost use Rattle.cell_world.specs.World.{Task as LiveTask};
 ghost use Rattle.cell_task.specs.State.{seen_as};
 
 use crate::Task;
-use cell_hart::STACK_SIZE;
 use byteorder::{ByteOrder, LittleEndian};
+use cell_hart::STACK_SIZE;
 use cell_mem::Memory;
 use std::alloc::AllocError;
 
