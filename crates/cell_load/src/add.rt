@@ -2,6 +2,8 @@
 
 ghost use Rattle.std.specs.Prelude.{◌≡◌, ◌+◌, ◌≤◌, ◌++◌, [], OnErr, OnOk, map, vec_capacity, vec_len};
 ghost use Rattle.cell_commit.specs.Cells.{arrived};
+ghost use Rattle.cell_commit.specs.Commit.{IsLaidOut, all_mapped};
+ghost use Rattle.cell_world.specs.Undo.{AreBytes};
 ghost use Rattle.cell_load.specs.Adding.{IsAdded, IsCommittable, IsReadyToAdd, memory_with};
 ghost use Rattle.cell_graph.specs.Moves.{moved};
 ghost use Rattle.cell_machine.specs.Same.{IsSame};
@@ -29,7 +31,11 @@ pub fn commit(
     moves: &[LinkRow],
 )
     requires { IsCommittable machine.old staged prepared patches.now moves.now }
-    ensures { IsCommitted machine.old (memory_with machine.old.memory staged.regions.items patches.now) (moved machine.old.graph.rows moves.now) (map arrived prepared.newcomers.items) staged machine.new }
+    ensures committed { IsCommitted machine.old (memory_with machine.old.memory staged.regions.items patches.now) (moved machine.old.graph.rows moves.now) (map arrived prepared.newcomers.items) staged machine.new }
+
+    // The new regions stand apart from the others, before a field is written.
+    ensures laid { IsLaidOut (all_mapped machine.old.memory staged.regions.items) }
+    ensures bytes { AreBytes (all_mapped machine.old.memory staged.regions.items).regions }
 {
     let Staged {
         cells,
@@ -44,6 +50,8 @@ pub fn commit(
         sections,
     } = prepared;
     map_regions(&mut machine.memory, regions);
+    machine.memory.laid_out();
+    machine.memory.holds_bytes();
     patch_fields(&mut machine.memory, patches);
     write_fields(&mut machine.memory, &fields);
     add_sections(&mut machine.graph, &sections);

@@ -1,12 +1,14 @@
 -- Where the items of a swap end, and what they and the options say.
-use Rattle.std.proofs.Common.{◌≡◌, refl, ap, ap₂, sym, ◌∙◌, arith, ℕ, ◌+◌, ◌-◌, ◌≤◌, Bool, not, cond, List, [], ◌∷◌, Option, Some, None, Bor, map, length, position, is_none, nat_lt, take, drop}
-use Rattle.std.specs.Prelude.{option_and_then, option_map, unwrap_or}
+use Rattle.std.proofs.Common.{◌≡◌, refl, ap, ap₂, sym, ◌∙◌, ℕ, ◌+◌, ◌-◌, Bool, not, cond, List, [], ◌∷◌, Option, Some, None, Bor, map, length, position, is_none, nat_lt, take, drop}
+use Rattle.std.specs.Prelude.{option_and_then, unwrap_or, codes, ◌==◌}
+use Rattle.cell_num.specs.Lists.{where_true}
 use Rattle.std.specs.List.{position_or_len}
 use Rattle.std.proofs.lemmas.List.{drop-map, length-drop, length-map, take-map}
 use Rattle.std.proofs.Math.Seq.{take-length}
 use Rattle.cell_world.specs.declared.command.Command.{Command}
+use Rattle.cell_world.specs.declared.command.Command.TheVariants.{Swap}
 use Rattle.cell_world.specs.declared.command.SwapItem.{SwapItem}
-use Rattle.cell_script.specs.Grammar.{first_equals, item_count, reexports, swap_items, swap_of, swap_words}
+use Rattle.cell_script.specs.Grammar.{after_option, first_equals, has_option, item_count, swap_items, swap_of, swap_words, usual_budget}
 
 module _ {A B : Type 0} (p : B → Bool) (f : A → B) where
   place_of_map : (xs : List A) → position_or_len p (map f xs) ≡ position_or_len (λ x. p (f x)) xs
@@ -34,9 +36,28 @@ counted words o e =
 abbrev seen : List (Bor (List ℕ)) → List (List ℕ)
 seen words = map (λ word. word.now) words
 
--- by what the words before that place say, and those from it on
-abbrev said : Option (List SwapItem) → Option Bool → Option Command
-said items reexport = option_and_then (λ items. option_map (swap_of items) reexport) items
+-- a swap of those items with those options, if no word is left
+abbrev swap_with : List SwapItem → Bool → Bool → List (List ℕ) → Option Command
+swap_with items reexport strict left = where_true (length left == 0) (Swap items reexport strict [] usual_budget)
+
+-- what the two options are, and what is left after each
+pub record AreOptions (options : List (List ℕ)) (one two : List ℕ) (reexport strict : Bool) (after left : List (List ℕ)) : Type 0 where
+  pub one_is : one ≡ codes "reexport"
+  pub reexports : reexport ≡ has_option one options
+  pub behind : after ≡ after_option one options
+  pub two_is : two ≡ codes "strict"
+  pub stricts : strict ≡ has_option two after
+  pub end : left ≡ after_option two after
+
+options_read : (items : List SwapItem) (options : List (List ℕ)) (one two : List ℕ) (reexport strict : Bool) (after left : List (List ℕ)) → AreOptions options one two reexport strict after left
+    → swap_with items reexport strict left ≡ swap_of options items
+options_read items options one two reexport strict after left are =
+    ap₂ (swap_with items reexport) are.stricts are.end
+    ∙ (ap (λ option. swap_with items reexport (has_option option after) (after_option option after)) are.two_is
+    ∙ (ap₂ (λ (given : Bool) (rest : List (List ℕ)). swap_with items given (has_option (codes "strict") rest) (after_option (codes "strict") rest)) are.reexports are.behind
+    ∙ ap
+    (λ option. swap_with items (has_option option options) (has_option (codes "strict") (after_option option options)) (after_option (codes "strict") (after_option option options)))
+    are.one_is))
 
 module _ (words : List (Bor (List ℕ))) (n : ℕ) (is : n ≡ item_count (seen words)) where
   front : seen (take n words) ≡ take (item_count (seen words)) (seen words)
@@ -48,9 +69,18 @@ module _ (words : List (Bor (List ℕ))) (n : ℕ) (is : n ≡ item_count (seen 
   back : seen (take (length words - n) (drop n words)) ≡ drop (item_count (seen words)) (seen words)
   back = ap seen rest ∙ (sym (drop-map (λ (word : Bor (List ℕ)). word.now) n words) ∙ ap (λ k. drop k (seen words)) is)
 
-  pub swap_is : (items : Option (List SwapItem)) (reexport : Option Bool) → items ≡ swap_items (seen (take n words)) → reexport ≡ reexports (seen (take (length words - n) (drop n words)))
-      → said items reexport ≡ swap_words (seen words)
-  swap_is items reexport first last = ap₂ said (first ∙ ap swap_items front) (last ∙ ap reexports back)
+  abbrev options : List (List ℕ)
+  options = seen (take (length words - n) (drop n words))
+
+  of_items : (items : Option (List SwapItem)) → items ≡ swap_items (seen (take n words)) → option_and_then (swap_of options) items ≡ swap_words (seen words)
+  of_items items first = ap₂ (λ (options : List (List ℕ)) (found : Option (List SwapItem)). option_and_then (swap_of options) found) back (first ∙ ap swap_items front)
 
   pub no_items : None ≡ swap_items (seen (take n words)) → None ≡ swap_words (seen words)
-  no_items first = ap (λ (o : Option (List SwapItem)). said o (reexports (drop (item_count (seen words)) (seen words)))) (first ∙ ap swap_items front)
+  no_items = of_items None
+
+  pub swap_is : (items : List SwapItem) → Some items ≡ swap_items (seen (take n words))
+      → (one two : List ℕ) (reexport strict : Bool) (after left : List (Bor (List ℕ))) → AreOptions options one two reexport strict (seen after) (seen left)
+      → (ends : Bool) → ends ≡ (length left == 0) → where_true ends (Swap items reexport strict [] usual_budget) ≡ swap_words (seen words)
+  swap_is items first one two reexport strict after left are ends e =
+      ap (λ b. where_true b (Swap items reexport strict [] usual_budget)) (e ∙ ap (λ n. n == 0) (sym (length-map left (λ (word : Bor (List ℕ)). word.now))))
+      ∙ (options_read items options one two reexport strict (seen after) (seen left) are ∙ of_items (Some items) first)

@@ -1,14 +1,15 @@
 -- Each command of a script is one that a line can say.
 use Rattle.std.proofs.Common.{◌≡◌, refl, ap, ◌∙◌, arith, ℕ, ◌+◌, Bool, true, false, cond, ◌&&◌, List, [], ◌∷◌}
 use Rattle.std.proofs.lemmas.Bool.{lt-ltb}
-use Rattle.std.specs.Prelude.{Option, Some, None, Result, Ok, Err, bytes_eq, codes, drop, length, map, nat_lt, option_and_then, option_map, take}
+use Rattle.std.specs.Prelude.{Option, Some, None, Result, Ok, Err, bytes_eq, codes, drop, length, map, nat_lt, option_and_then, option_map, take, ◌==◌}
+use Rattle.cell_num.specs.Lists.{where_true}
 use Rattle.cell_world.specs.declared.command.SwapItem.{SwapItem}
 use Rattle.cell_world.specs.declared.command.Command.{Command}
-use Rattle.cell_world.specs.declared.command.Command.TheVariants.{Ns, Load, Spawn, Step, Run, Kill, Unload, Purge, Find, Map, Tasks, Deps, Users, Dump}
+use Rattle.cell_world.specs.declared.command.Command.TheVariants.{Ns, Load, Spawn, Step, Run, Kill, Swap, Unload, Purge, Find, Map, Tasks, Deps, Users, Dump}
 use Rattle.cell_script.specs.declared.command.Reading.{Reading}
 use Rattle.cell_script.specs.declared.command.Reading.TheVariants.{Nothing, Does, Bad}
 use Rattle.cell_script.specs.declared.line.Line.{Line}
-use Rattle.cell_script.specs.Grammar.{Form, all_three, alone, are_different, argument, both, both_around, cell_names, cell_part, command_in, each_said, forms, item_count, name, number, reexports, several, single, swap_item, swap_items, swap_of, swap_words, symbol, turns_of_run, turns_of_step}
+use Rattle.cell_script.specs.Grammar.{Form, after_option, all_three, alone, are_different, argument, both, both_around, cell_names, cell_part, command_in, each_said, forms, has_option, item_count, name, number, several, single, swap_item, swap_items, swap_of, swap_words, symbol, turns_of_run, turns_of_step, usual_budget}
 use Rattle.cell_script.specs.Script.{add_line, are_said, does, is_comment, is_said, reading_in, reading_of, script_from}
 use Rattle.cell_text.specs.Text.{words_of}
 
@@ -92,16 +93,22 @@ items_filled (word ∷ words) = go (are_different (map cell_part (word ∷ words
     go true = each_filled word words
     go false = tt
 
+items_said : (options : List (List ℕ)) (items : List SwapItem) → nat_lt 0 (length items) ≡ true → IsSaid (swap_of options items)
+items_said options items filled = go (length (after_option (codes "strict") after) == 0)
+  where
+    after : List (List ℕ)
+    after = after_option (codes "reexport") options
+
+    go : (ends : Bool) → IsSaid (where_true ends (Swap items (has_option (codes "reexport") options) (has_option (codes "strict") after) [] usual_budget))
+    go true = filled
+    go false = tt
+
 swap_said : (words : List (List ℕ)) → IsSaid (swap_words words)
 swap_said words = go (swap_items (take (item_count words) words)) (items_filled (take (item_count words) words))
   where
-    one : (items : List SwapItem) → nat_lt 0 (length items) ≡ true → (o : Option Bool) → IsSaid (option_map (swap_of items) o)
-    one items filled None = tt
-    one items filled (Some reexport) = filled
-
-    go : (o : Option (List SwapItem)) → Filled o → IsSaid (option_and_then (λ items. option_map (swap_of items) (reexports (drop (item_count words) words))) o)
+    go : (o : Option (List SwapItem)) → Filled o → IsSaid (option_and_then (swap_of (drop (item_count words) words)) o)
     go None filled = tt
-    go (Some items) filled = one items filled (reexports (drop (item_count words) words))
+    go (Some items) filled = items_said (drop (item_count words) words) items filled
 
 abbrev AreSaid : List Form → Type 0
 AreSaid [] = Unit {0}

@@ -2,7 +2,7 @@
 --     command_in forms word arguments      the command of these words, if a form has them
 --     cell_names words                     the cells that the words of an `unload` name
 --     swap_words words                     what the words of a `swap` say
-use Rattle.std.specs.Prelude.{ℕ, nat_lt, nat_le, Bool, true, false, not, ◌&&◌, ◌||◌, ◌==◌, ◌+◌, List, [], ◌∷◌, map, length, take, drop, position, unwrap_or, is_none, Option, Some, None, if◌then◌else◌, bytes_eq, codes, option_map, option_and_then}
+use Rattle.std.specs.Prelude.{ℕ, nat_lt, nat_le, Bool, false, not, ◌&&◌, ◌||◌, ◌==◌, ◌+◌, List, [], ◌∷◌, map, length, take, drop, position, unwrap_or, is_none, Option, Some, None, if◌then◌else◌, bytes_eq, codes, option_map, option_and_then}
 use Rattle.std.specs.List.{list_all, slice_split}
 use Rattle.cell_num.specs.Lists.{where_true, equals, each_pair}
 use Rattle.cell_text.specs.Number.{number_in, hex_number_in}
@@ -132,25 +132,34 @@ abbrev pub swap_items : List (List ℕ) → Option (List SwapItem)
 swap_items [] = None
 swap_items (word ∷ words) = if are_different (map cell_part (word ∷ words)) then each_said swap_item (word ∷ words) else None
 
--- no word, or `reexport`
-abbrev pub reexports : List (List ℕ) → Option Bool
-reexports [] = Some false
-reexports (word ∷ []) = where_true (bytes_eq word (codes "reexport")) true
-reexports words = None
+-- the words begin with that option
+abbrev pub has_option : List ℕ → List (List ℕ) → Bool
+has_option option [] = false
+has_option option (word ∷ words) = bytes_eq word option
+
+-- the words after that option, or all of them where it isn't given
+abbrev pub after_option : List ℕ → List (List ℕ) → List (List ℕ)
+after_option option words = if has_option option words then drop 1 words else words
 
 -- how many words come before the options: an item has an equals sign, and the first option has none
 abbrev pub item_count : List (List ℕ) → ℕ
 item_count words = unwrap_or (position (λ word. is_none (first_equals word)) words) (length words)
 
-abbrev pub swap_of : List SwapItem → Bool → Command
-swap_of items reexport = Swap items reexport false [] 10000
+-- how many steps a routine may take where the line doesn't say it
+abbrev pub usual_budget : ℕ
+usual_budget = 10000
+
+-- the options: `reexport`, then `strict`
+abbrev pub swap_of : List (List ℕ) → List SwapItem → Option Command
+swap_of options items =
+    let after_reexport = after_option (codes "reexport") options in
+    let after_strict = after_option (codes "strict") after_reexport in
+    let command = Swap items (has_option (codes "reexport") options) (has_option (codes "strict") after_reexport) [] usual_budget in
+    where_true (length after_strict == 0) command
 
 -- the items, and then the options
 abbrev pub swap_words : List (List ℕ) → Option Command
-swap_words words =
-    option_and_then
-    (λ items. option_map (swap_of items) (reexports (drop (item_count words) words)))
-    (swap_items (take (item_count words) words))
+swap_words words = option_and_then (swap_of (drop (item_count words) words)) (swap_items (take (item_count words) words))
 
 -- a command's first word, and what its other words say
 pub record Form : Type 0 where

@@ -1,7 +1,7 @@
 //! The words of a swap.
 
 ghost use Rattle.std.specs.Prelude.{◌≡◌, ◌<◌, ◌≤◌, IfOk, IfSome, is_none, length, map, position};
-ghost use Rattle.cell_script.specs.Grammar.{are_different, cell_part, each_said, end_of_cell, is_equals, item_count, reexports, swap_item, swap_items, swap_words};
+ghost use Rattle.cell_script.specs.Grammar.{after_option, are_different, cell_part, each_said, end_of_cell, has_option, is_equals, item_count, swap_item, swap_items, swap_words};
 
 use crate::cells::{are_different, cell_of_word};
 use crate::words::is_file;
@@ -9,7 +9,10 @@ use cell_num::{Listed, Name};
 use cell_world::{Command, SwapItem};
 use std::alloc::{AllocError, Global};
 
-/// `NS/OLD=FILE ... [reexport]`
+/// How many steps a routine may take where the line doesn't say it.
+const USUAL_BUDGET: u32 = 10000;
+
+/// `NS/OLD=FILE ... [reexport] [strict]`
 pub fn read_swap(alloc: Global, words: &[&[u8]]) -> Result<Option<Command>, AllocError>
     ensures { IfOk result (λ command. command ≡ swap_words (map (λ word. word.now) words.now)) }
 {
@@ -17,15 +20,17 @@ pub fn read_swap(alloc: Global, words: &[&[u8]]) -> Result<Option<Command>, Allo
     let Some(items) = read_items(alloc, &words[..count])? else {
         return Ok(None);
     };
-    let Some(reexport) = read_reexport(&words[count..]) else {
+    let (reexport, options) = take_option(b"reexport".as_slice(), &words[count..]);
+    let (strict, options) = take_option(b"strict".as_slice(), options);
+    if !options.is_empty() {
         return Ok(None);
-    };
+    }
     Ok(Some(Command::Swap {
         items,
         reexport,
-        strict: false,
+        strict,
         routines: Listed::from_vec(Vec::new(alloc)),
-        budget: 10000,
+        budget: USUAL_BUDGET,
     }))
 }
 
@@ -67,14 +72,14 @@ fn end_of_cell(word: &[u8]) -> usize
     }
 }
 
-/// No word, or `reexport`.
-fn read_reexport(options: &[&[u8]]) -> Option<bool>
-    ensures { result ≡ reexports (map (λ word. word.now) options.now) }
+/// Whether the words begin with an option, and the words after it.
+fn take_option<'a, 'b>(option: &[u8], words: &'a [&'b [u8]]) -> (bool, &'a [&'b [u8]])
+    ensures given { result.0 ≡ has_option option.now (map (λ word. word.now) words.now) }
+    ensures rest { map (λ word. word.now) result.1.now ≡ after_option option.now (map (λ word. word.now) words.now) }
 {
-    match options {
-        [] => Some(false),
-        [word] if *word == b"reexport".as_slice() => Some(true),
-        _ => None,
+    match words {
+        [word, rest @ ..] if *word == option => (true, rest),
+        _ => (false, words),
     }
 }
 

@@ -87,7 +87,7 @@ module _ (old : Machine) (sound : IsSound old) (cells : List CellId) where
   abbrev starts : List ℕ
   starts = lost_starts (all_attached old.cells.items) (numbers cells)
 
-  starts_are : lost_starts w.cells (numbers cells) ≡ starts
+  pub starts_are : lost_starts w.cells (numbers cells) ≡ starts
   starts_are = sym (lost_same w.cells (numbers cells)) ∙ ap (λ (cs : List NewCell). lost_starts (all_attached cs) (numbers cells)) sound.joined.placed
 
   pub can_leave : CanLeave old.memory starts

@@ -1,7 +1,7 @@
 -- What is left to look at, one cell after another.
-use Rattle.std.proofs.Common.{◌≡◌, refl, sym, ◌∙◌, ap, ℕ, ◌<◌, ◌+◌, Bool, true, false, cond, List, [], ◌∷◌, ◌++◌, map, length, drop, take, get_or}
+use Rattle.std.proofs.Common.{◌≡◌, refl, sym, ◌∙◌, ap, ℕ, ◌<◌, ◌≤◌, ◌+◌, Bool, true, false, cond, List, [], ◌∷◌, ◌++◌, map, length, drop, take, get_or}
 use Rattle.std.specs.Prelude.{Option, Some, None, filter, not}
-use Rattle.std.proofs.lemmas.List.{drop_more, map-append, take_more}
+use Rattle.std.proofs.lemmas.List.{drop_all, drop_more, map-append, take_more}
 use Rattle.std.proofs.lemmas.List.Elements.{filter-append}
 use Rattle.cell_num.specs.declared.ids.CellId.{CellId}
 use Rattle.cell_num.specs.Lists.{holds, or_else}
@@ -27,6 +27,10 @@ module _ (h : Holding) where
       → held_in cells ≡ held_in (drop i cells) → held_in cells ≡ held_in (drop (i + 1) cells)
   held_later cells i d lt k e =
       e ∙ (ap held_in (drop_more cells i d lt) ∙ ap (λ (o : Option Refusal). or_else o (held_in (drop (i + 1) cells))) (sym k))
+
+-- where none of the cells is left, none is kept
+pub ended : (h : Holding) (cells : List CellId) (i : ℕ) → length cells ≤ i → held_in h cells ≡ held_in h (drop i cells) → None ≡ held_in h cells
+ended h cells i le e = sym (e ∙ ap (held_in h) (drop_all i cells le))
 
 module _ (kept : List ℕ) where
   -- the numbers of the cells that aren't kept

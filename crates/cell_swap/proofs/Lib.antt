@@ -36,3 +36,12 @@ pub mod SwapRuns
 pub mod SwapFinished
 pub mod SwapExchanged
 pub mod SwapAnswered
+pub mod Journals
+pub mod RowsBack
+pub mod MemoryBack
+pub mod TableBack
+pub mod Suspended
+pub mod GoneBack
+pub mod LinksBack
+pub mod SwapEnded
+pub mod LinksBefore

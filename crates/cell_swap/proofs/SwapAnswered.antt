@@ -1,6 +1,6 @@
 -- A swap by what its steps come to.
-use Rattle.std.proofs.Common.{◌≡◌, refl, sym, ◌∙◌, ap, ap₂, subst, arith, ℕ, ◌+◌, ◌<◌, ◌≤◌, Bool, true, false, List, [], length, map}
-use Rattle.std.specs.Prelude.{All, Option, Some, Ok, Err, option_map}
+use Rattle.std.proofs.Common.{◌≡◌, refl, sym, ◌∙◌, ap, ap₂, subst, arith, ℕ, ◌+◌, ◌<◌, ◌≤◌, Bool, true, List, [], length, map}
+use Rattle.std.specs.Prelude.{All, Option, Some, None, Ok, Err, option_map}
 use Rattle.cell_num.specs.declared.ids.CellId.{CellId}
 use Rattle.cell_world.specs.declared.command.SwapItem.{SwapItem}
 use Rattle.cell_world.specs.declared.fail.Fail.{Fail}
@@ -35,7 +35,7 @@ use Rattle.cell_swap.specs.declared.asked.Asked.{Asked}
 use Rattle.cell_swap.specs.Asking.{AreAsked}
 use Rattle.cell_swap.specs.OldCells.{AreThere, CanReturn, IsAside}
 use Rattle.cell_swap.specs.Planning.{IsBegun}
-use Rattle.cell_swap.specs.Swapped.{Exchanges, HasExchanged}
+use Rattle.cell_swap.specs.Swapped.{Exchanges, HasExchanged, unless_held}
 use Rattle.cell_swap.proofs.SwapLanded.{unasked}
 
 attached_state : (standing : Standing) → is_attached standing ≡ true → state_of standing ≡ Attached
@@ -80,12 +80,12 @@ module _ (files : List File) (before : Machine) (sound : IsSound before) (items 
           ∙ (ap (option_map (λ (x : SpaceCell). x.state)) (known_at before sound want.0.old is.present)
           ∙ ap (λ (state : CellState). let o : Option CellState = Some state in o) (attached_state want.0.old.standing is.attached))
 
-  module _ (reexport : Bool) (budget : ℕ) where
+  module _ (reexport strict : Bool) (budget : ℕ) where
     abbrev said : Outcome Done
-    said = next_swap sources w items reexport false [] budget
+    said = next_swap sources w items reexport strict [] budget
 
     abbrev after_transfer : SwapPlan → World → Outcome Done
-    after_transfer plan second = refused_by (first_held_old false second plan) >> done (swap_reply plan second) (purged second)
+    after_transfer plan second = refused_by (first_held_old strict second plan) >> done (swap_reply plan second) (purged second)
 
     abbrev after_plan : SwapPlan → Outcome Done
     after_plan plan = with_transfer plan [] budget >>= after_transfer plan
@@ -96,8 +96,21 @@ module _ (files : List File) (before : Machine) (sound : IsSound before) (items 
     refused : (r : Refusal) → plan_swap sources w items reexport [] ≡ Err r → said ≡ Err r
     refused r e = by_plan ∙ ap (λ (o : Outcome SwapPlan). o >>= after_plan) e
 
-    planned : (plan : SwapPlan) → plan_swap sources w items reexport [] ≡ Ok plan → said ≡ done (swap_reply plan plan.linked) (purged plan.linked)
+    -- the machine without routines is the one that is linked
+    planned : (plan : SwapPlan) → plan_swap sources w items reexport [] ≡ Ok plan → said ≡ after_transfer plan plan.linked
     planned plan e = by_plan ∙ (ap (λ (o : Outcome SwapPlan). o >>= after_plan) e ∙ ap (λ (o : Outcome World). o >>= after_transfer plan) (no_routines sources w items reexport plan budget e))
+
+    -- by the plan that isn't refused
+    by_exchange : said ≡ ((plan_swap sources w items reexport [] >>= unless_held strict) >>= (λ plan. done (swap_reply plan plan.linked) (purged plan.linked)))
+    by_exchange = go (plan_swap sources w items reexport []) refl
+      where
+        held : (plan : SwapPlan) (o : Option Refusal) → (refused_by o >> done (swap_reply plan plan.linked) (purged plan.linked)) ≡ ((refused_by o >> Ok plan) >>= (λ (x : SwapPlan). done (swap_reply x x.linked) (purged x.linked)))
+        held plan None = refl
+        held plan (Some r) = refl
+
+        go : (o : Outcome SwapPlan) → plan_swap sources w items reexport [] ≡ o → said ≡ ((o >>= unless_held strict) >>= (λ (x : SwapPlan). done (swap_reply x x.linked) (purged x.linked)))
+        go (Ok plan) e = planned plan e ∙ held plan (first_held_old strict plan.linked plan)
+        go (Err r) e = refused r e
 
     -- an item names nothing
     pub not_asked : (fail : Fail) → FailsAs fail (all_wanted sources w items) → Does said 0 before (Err fail) before
@@ -108,7 +121,7 @@ module _ (files : List File) (before : Machine) (sound : IsSound before) (items 
       abbrev pub begun : IsBegun files asked m
       begun = record { before = before; sound = sound; small = small; items = items; some = some; found = found; aside = aside }
 
-      pub same_then : (fail : Fail) (n : Machine) → Exchanges files asked m begun reexport (Err fail) n → IsSame m n
+      pub same_then : (fail : Fail) (n : Machine) → Exchanges files asked m begun reexport strict (Err fail) n → IsSame m n
       same_then (Refused r) n e = e.1
       same_then OutOfMemory n e = e
 
@@ -117,15 +130,15 @@ module _ (files : List File) (before : Machine) (sound : IsSound before) (items 
       can_return n same = record { before = before; sound = sound; there = old_there asked found; aside = aside_same before asked.replaced.items m n aside same }
 
       -- they were
-      pub taken_back : (fail : Fail) (n last : Machine) → Exchanges files asked m begun reexport (Err fail) n → IsSame before last → Does said 0 before (Err fail) last
-      taken_back (Refused r) n last e same = (refused r e.0, same)
+      pub taken_back : (fail : Fail) (n last : Machine) → Exchanges files asked m begun reexport strict (Err fail) n → IsSame before last → Does said 0 before (Err fail) last
+      taken_back (Refused r) n last e same = (by_exchange ∙ ap (λ (o : Outcome SwapPlan). o >>= (λ (x : SwapPlan). done (swap_reply x x.linked) (purged x.linked))) e.0, same)
       taken_back OutOfMemory n last e same = same
 
-      pub swap_done : (reply : Reply) (n : Machine) → HasExchanged files asked m begun reexport reply n → Does said 0 before (Ok reply) n
+      pub swap_done : (reply : Reply) (n : Machine) → HasExchanged files asked m begun reexport strict reply n → Does said 0 before (Ok reply) n
       swap_done reply n x = record {
         sound = x.swapped.sound;
         is = record {
-          step = planned x.plan x.is ∙ ap₂ done (sym x.swapped.said) (sym x.swapped.world);
+          step = by_exchange ∙ ap (λ (o : Outcome SwapPlan). o >>= (λ (y : SwapPlan). done (swap_reply y y.linked) (purged y.linked))) x.is ∙ ap₂ done (sym x.swapped.said) (sym x.swapped.world);
           patches = x.swapped.patches ∙ ap (λ (s : MemoryState). raised s.patches (patched_by reply)) aside.memory;
           maps = x.swapped.maps
               ∙ (ap (λ (s : MemoryState). raised s.maps (new_runs reply (world_of n))) aside.memory

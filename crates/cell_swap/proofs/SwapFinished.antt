@@ -73,14 +73,14 @@ module _ (m : Machine) (p : Plan) (x : IsPlanned m p) (k : Machine) (r : Ready) 
       (subst (λ (q : Plan). HasRoomFor k q.staged r.prepared) y.plan y.room) x.change)
 
   -- the new cells in their places
-  abbrev new : List Cell
+  abbrev pub new : List Cell
   new = F (world_of m) x.ready.new p.staged x.ready.staged
 
-  stand : (c : Cell) → In c new → c.standing ≡ Attached
+  pub stand : (c : Cell) → In c new → c.standing ≡ Attached
   stand = standing (world_of m) x.ready.new p.staged x.ready.staged
 
   module _ (n : Machine) (committed : HasAdded k r n) where
-    added : IsAdded m p.patches.items p.moves.items p.staged (arrivals p.staged.cells.items p.staged.names.items) n
+    pub added : IsAdded m p.patches.items p.moves.items p.staged (arrivals p.staged.cells.items p.staged.names.items) n
     added =
         added_same m k n y.same p.staged r.plan.staged.names p.patches.items p.moves.items (map arrived r.prepared.newcomers.items) (arrivals p.staged.cells.items p.staged.names.items) y.prepared.newcomers
         (subst (λ (q : Plan). IsCommitted k (memory_with k.memory q.staged.regions.items q.patches.items) (moved k.graph.rows q.moves.items) (map arrived r.prepared.newcomers.items) q.staged n) y.plan committed)
@@ -88,13 +88,13 @@ module _ (m : Machine) (p : Plan) (x : IsPlanned m p) (k : Machine) (r : Ready) 
     pub after : IsSound n
     after = sound_after m n p.staged p.patches.items p.moves.items (moved m.graph.rows p.moves.items) refl x.changed x.patches x.ready added
 
-    comes : world_of n ≡ x.ready.after
+    pub comes : world_of n ≡ x.ready.after
     comes = world_added m n p.staged p.patches.items p.moves.items (moved m.graph.rows p.moves.items) refl x.changed x.patches x.ready added
 
-    linked : world_of n ≡ x.plan.linked
+    pub linked : world_of n ≡ x.plan.linked
     linked = comes ∙ x.linked
 
-    cells_are : (world_of n).cells ≡ (world_of m).cells ++ new
+    pub cells_are : (world_of n).cells ≡ (world_of m).cells ++ new
     cells_are = ap (λ (w : World). w.cells) (comes ∙ x.ready.comes.is)
 
     pub looked : IsOutlook n [] r.plan.outlook
@@ -106,10 +106,10 @@ module _ (m : Machine) (p : Plan) (x : IsPlanned m p) (k : Machine) (r : Ready) 
     fits = ap length added.is.cells ∙ length-append m.cells.items p.staged.cells.items
 
     -- the cells that were there are those of before
-    old_placed : map placed_of (world_of m).cells ≡ map placed_of (world_of x.begun.before).cells
+    pub old_placed : map placed_of (world_of m).cells ≡ map placed_of (world_of x.begun.before).cells
     old_placed = x.ready.parts.joined.placed ∙ (x.begun.aside.cells ∙ sym x.begun.sound.joined.placed)
 
-    below : (c : Cell) → In c (world_of m).cells → c.id.0 < m.next
+    pub below : (c : Cell) → In c (world_of m).cells → c.id.0 < m.next
     below c i =
         let d = In-map placed_of (world_of x.begun.before).cells c.placed (subst (λ (cs : List NewCell). In c.placed cs) old_placed (map-In placed_of (world_of m).cells c i)) in
         let low : d.0.id.0 < x.begun.before.next = older (world_of x.begun.before) x.begun.sound.coherent d.0 d.1 in
@@ -125,10 +125,10 @@ module _ (m : Machine) (p : Plan) (x : IsPlanned m p) (k : Machine) (r : Ready) 
         came (world_of x.begun.before) (world_of n) x.begun.sound.coherent after.coherent (world_of m).cells new cells_are old_placed (ap (λ (ts : TasksState). ts.tasks) (added.is.tasks ∙ x.begun.aside.tasks)) (length p.staged.regions.items)
         (more_regions m n p.staged p.patches.items p.moves.items (moved m.graph.rows p.moves.items) refl x.changed x.patches x.ready added ∙ ap (λ (more : ℕ). more + length p.staged.regions.items) regions_before)
 
-    fields_are : field_count x.plan.fresh ≡ length p.staged.fields.items
+    pub fields_are : field_count x.plan.fresh ≡ length p.staged.fields.items
     fields_are = ap field_count x.fresh ∙ (count_is (W (world_of m) x.ready.new p.staged x.ready.staged) new ∙ ap length (sym x.ready.staged.fields))
 
-    fresh_are : r.fresh ≡ ids (numbers_of new)
+    pub fresh_are : r.fresh ≡ ids (numbers_of new)
     fresh_are = y.fresh ∙ (ap (map (λ (c : NewCell). c.id)) x.ready.staged.cells ∙ ids_placed new)
 
     module _ (removed : List CellId) (l : Machine) (swept : IsSwept n [] removed l) where

@@ -6,3 +6,5 @@ pub mod Asking
 pub mod OldCells
 pub mod Planning
 pub mod Swapped
+pub mod Back
+pub mod Before

@@ -3,6 +3,7 @@
 
 mod affected;
 mod asked;
+mod back;
 mod named;
 mod old_cells;
 mod outlook;

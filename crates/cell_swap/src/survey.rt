@@ -77,11 +77,10 @@ impl Survey {
     }
 
     /// The refusal for the first of the cells that is kept.
-    pub fn first_held(&self, machine: &Machine, aside: &[CellId]) -> Option<Refusal>
-        requires { IsSurvey machine.now aside.now self.now }
-        ensures { result ≡ first_held (holding_in machine.now aside.now) (map (λ c. c.0) aside.now) }
+    pub fn first_held(&self, machine: &Machine, cells: &[CellId]) -> Option<Refusal>
+        ensures { (aside : List IdOfCell) → IsSurvey machine.now aside self.now → result ≡ first_held (holding_in machine.now aside) (map (λ c. c.0) cells.now) }
     {
-        for cell in aside {
+        for cell in cells {
             match self.refusal(machine, *cell) {
                 Some(refusal) => return Some(refusal),
                 None => {}

@@ -1,6 +1,6 @@
 //! `swap`, where no routine runs.
 
-ghost use Rattle.std.specs.Prelude.{◌≡◌, ◌+◌, ◌<◌, ◌≤◌, ◌++◌, ℕ, [], All, IfOk, false, length, map, vec_capacity, vec_len};
+ghost use Rattle.std.specs.Prelude.{◌≡◌, ◌+◌, ◌<◌, ◌≤◌, ◌++◌, ℕ, [], All, IfOk, IsTrue, None, length, map, vec_capacity, vec_len, if◌then◌else◌};
 ghost use Rattle.cell_machine.specs.Does.{Does};
 ghost use Rattle.cell_machine.specs.Machine.{IsSound, world_of};
 ghost use Rattle.cell_machine.specs.Same.{IsSame};
@@ -8,20 +8,26 @@ ghost use Rattle.cell_world.specs.Answer.{ids};
 ghost use Rattle.cell_world.specs.Gather.{source_of};
 ghost use Rattle.cell_world.specs.Limits.{max_file_bytes};
 ghost use Rattle.cell_world.specs.SwapCommand.{next_swap};
-ghost use Rattle.cell_world.specs.UnloadCommand.{detached_of};
-ghost use Rattle.cell_swap.specs.Swapped.{AreEmpty, CanFinish, Exchanges, HasBegun, HasSwapped, IsReadyFor, unless_attached};
+ghost use Rattle.cell_world.specs.UnloadCommand.{detached_of, first_held as held_among};
+ghost use Rattle.cell_graph.specs.Links.{is_bound};
+ghost use Rattle.cell_graph.specs.Moves.{AreApart};
+ghost use Rattle.cell_swap.specs.Before.{AreAsTheyWere};
+ghost use Rattle.cell_swap.specs.Sweep.{IsSurvey, holding_in};
+ghost use Rattle.cell_swap.specs.Swapped.{AreEmpty, CanFinish, Exchanges, Finishes, HasBegun, IsReadyFor, unless_attached};
 
 use crate::asked::Asked;
+use crate::back::go_back;
 use crate::old_cells::{put_aside, take_back};
 use crate::planning::{Plan, plan_swap};
 use crate::roots::roots;
-use crate::sweep::sweep_all;
+use crate::survey::Survey;
+use crate::sweep::remove_unkept;
 use cell_depot::Depot;
 use cell_hold::Root;
 use cell_load::{Prepared, commit, count, numbers, reserve};
 use cell_machine::Machine;
 use cell_num::{CellId, Listed};
-use cell_world::{Fail, Reply, SwapItem};
+use cell_world::{Fail, LinkRow, Refusal, Reply, SwapItem};
 use std::alloc::{AllocError, Global};
 use std::mem::replace;
 
@@ -57,18 +63,51 @@ struct Ready {
     fresh: Listed<CellId>,
     /// How many fields are patched, those of the new cells and those of others.
     patched: u32,
+    /// The links that are moved, as they lead before.
+    back: Vec<LinkRow>,
+}
+
+/// The links of the users and entries that are moved, as they lead now.
+fn links_before(
+    alloc: Global,
+    machine: &Machine,
+    moves: &[LinkRow],
+) -> Result<Vec<LinkRow>, AllocError>
+    requires bound { All (λ x. IsTrue (is_bound machine.now.graph.rows x.user x.entry)) moves.now }
+    requires apart { AreApart moves.now }
+    ensures { IfOk result (λ back. AreAsTheyWere machine.now.graph.rows moves.now back.items) }
+{
+    let mut back = Vec::new(alloc);
+    for row in moves {
+        back.push(machine.graph.link(row.user, row.entry))?;
+    }
+    Ok(back)
+}
+
+/// The refusal of a strict swap: the first of the old cells that is kept.
+fn first_held(machine: &Machine, survey: &Survey, strict: bool, old: &[CellId]) -> Option<Refusal>
+    ensures { IsSurvey machine.now [] survey.now → result ≡ (if strict then held_among (holding_in machine.now []) (map (λ c. c.0) old.now) else None) }
+{
+    if strict {
+        survey.first_held(machine, old)
+    } else {
+        None
+    }
 }
 
 impl Ready {
     /// Makes room for the plan in the machine, and for the answer.
     fn of(alloc: Global, machine: &mut Machine, mut plan: Plan) -> Result<Ready, AllocError>
-        requires { length plan.staged.names.items ≡ length plan.staged.cells.items }
+        requires names { length plan.staged.names.items ≡ length plan.staged.cells.items }
+        requires bound { All (λ x. IsTrue (is_bound machine.old.graph.rows x.user x.entry)) plan.moves.items }
+        requires apart { AreApart plan.moves.items }
         ensures ready { IfOk result (IsReadyFor machine.old plan machine.new) }
         ensures same { IsSame machine.old machine.new }
     {
         let lists = Lists::with_room(alloc, machine.cells.len() + plan.staged.cells.len())?;
         let patched = count(plan.staged.fields.len() + plan.patches.len())?;
         let fresh = numbers(alloc, &plan.staged.cells)?;
+        let back = links_before(alloc, machine, &plan.moves)?;
         let names = replace(&mut plan.staged.names, Vec::new(alloc));
         let prepared = Prepared::of(alloc, &plan.staged.cells, names)?;
         reserve(machine, &plan.staged, &prepared)?;
@@ -78,13 +117,16 @@ impl Ready {
             lists,
             fresh,
             patched,
+            back,
         })
     }
 
     /// Adds the new cells, has the others lead to them, and removes all cells that nobody keeps then.
-    fn finish(self, machine: &mut Machine) -> Reply
-        requires { CanFinish machine.old self }
-        ensures { (c : CanFinish machine.old self) → HasSwapped c.is.plan machine.old result machine.new }
+    /// Where the swap is strict and one of the old cells is kept, that is the refusal, and the machine
+    /// is as it was before the undo was begun.
+    fn finish(self, machine: &mut Machine, strict: bool, old: &[CellId]) -> Result<Reply, Refusal>
+        requires { CanFinish machine.old old.now self }
+        ensures { (c : CanFinish machine.old old.now self) → Finishes c strict result machine.new }
     {
         let Ready {
             plan,
@@ -92,6 +134,7 @@ impl Ready {
             lists,
             fresh,
             patched,
+            back,
         } = self;
         let Plan {
             staged,
@@ -105,15 +148,25 @@ impl Ready {
             mut detached,
         } = lists;
         commit(machine, staged, prepared, &patches, &moves);
-        sweep_all(machine, outlook, kept, &mut removed);
+        let undo = machine.memory.suspend_undo();
+        let survey = Survey::read(machine, outlook, kept);
+        match first_held(machine, &survey, strict, old) {
+            Some(refusal) => {
+                machine.memory.resume_undo(undo);
+                go_back(machine, &back, fresh.as_slice());
+                return Err(refusal);
+            }
+            None => {}
+        }
+        remove_unkept(machine, &survey, &mut removed);
         list_detached(machine, &mut detached);
-        Reply::Swap {
+        Ok(Reply::Swap {
             number: machine.swaps,
             fresh,
             patched,
             removed: Listed::from_vec(removed),
             kept: Listed::from_vec(detached),
-        }
+        })
     }
 }
 
@@ -153,14 +206,19 @@ fn exchange(
     machine: &mut Machine,
     asked: &Asked,
     reexport: bool,
+    strict: bool,
     roots: Vec<Root>,
 ) -> Result<Reply, Fail>
     requires { HasBegun depot.now asked.now machine.old roots.items }
-    ensures { (h : HasBegun depot.now asked.now machine.old roots.items) → Exchanges depot.now asked.now machine.old h.begun reexport result machine.new }
+    ensures { (h : HasBegun depot.now asked.now machine.old roots.items) → Exchanges depot.now asked.now machine.old h.begun reexport strict result machine.new }
 {
     let plan = plan_swap(alloc, depot, machine, asked, reexport, roots)?;
     let ready = Ready::of(alloc, machine, plan)?;
-    Ok(ready.finish(machine))
+    machine.memory.begin_undo(alloc, ready.patched)?;
+    match ready.finish(machine, strict, &asked.replaced) {
+        Ok(reply) => Ok(reply),
+        Err(refusal) => Err(Fail::Refused(refusal)),
+    }
 }
 
 /// Puts new cells in the place of attached ones, which keep all that tasks and data still need of
@@ -169,24 +227,25 @@ fn exchange(
 ///
 /// Refusals, of which the first that holds is answered: an item whose cell or file is unknown, those
 /// of gathering, a need of another cell that nobody provides any more, a run of pages that is too
-/// long, an entry of a new cell and then one of another cell that doesn't fit, and a task that stands
-/// inside what changes.
+/// long, an entry of a new cell and then one of another cell that doesn't fit, a task that stands
+/// inside what changes, and, of a `strict` swap, an old cell that is still kept.
 pub fn swap(
     alloc: Global,
     depot: &Depot,
     machine: &mut Machine,
     items: &[SwapItem],
     reexport: bool,
+    strict: bool,
 ) -> Result<Reply, Fail>
     requires sound { IsSound machine.old }
     requires small { All (λ f. length f.bytes ≤ max_file_bytes) depot.now }
     requires some { 0 < length items.now }
-    ensures { (budget : ℕ) → Does (next_swap (map source_of depot.now) (world_of machine.old) items.now reexport false [] budget) 0 machine.old result machine.new }
+    ensures { (budget : ℕ) → Does (next_swap (map source_of depot.now) (world_of machine.old) items.now reexport strict [] budget) 0 machine.old result machine.new }
 {
     let asked = Asked::of(alloc, depot, machine, items)?;
     let roots = roots(alloc, machine, &asked.replaced)?;
     put_aside(machine, &asked.replaced);
-    match exchange(alloc, depot, machine, &asked, reexport, roots) {
+    match exchange(alloc, depot, machine, &asked, reexport, strict, roots) {
         Ok(reply) => Ok(reply),
         Err(fail) => {
             take_back(machine, &asked.replaced);

@@ -14,7 +14,7 @@ use std::alloc::Global;
 
 /// Removes all cells that nobody keeps by the survey, and lists them, ascending, in a list that is
 /// empty and has room for all. This takes no memory.
-fn remove_unkept(machine: &mut Machine, survey: &Survey, removed: &mut Vec<CellId>)
+pub fn remove_unkept(machine: &mut Machine, survey: &Survey, removed: &mut Vec<CellId>)
     requires sound { IsSound machine.old }
     requires survey { SomeSurvey machine.old survey.now }
     requires empty { removed.old.items ≡ [] }
@@ -41,24 +41,4 @@ pub fn sweep(alloc: Global, machine: &mut Machine, aside: &[CellId]) -> Result<V
     }
     remove_unkept(machine, &survey, &mut removed);
     Ok(removed)
-}
-
-/// Removes all cells that nobody keeps, and lists them, ascending. The lists are empty and have room
-/// for all cells. This takes no memory.
-pub fn sweep_all(
-    machine: &mut Machine,
-    outlook: Outlook,
-    kept: Vec<CellId>,
-    removed: &mut Vec<CellId>,
-)
-    requires sound { IsSound machine.old }
-    requires outlook { IsOutlook machine.old [] outlook }
-    requires empty { kept.items ≡ [] }
-    requires room { length machine.old.cells.items ≤ vec_capacity kept }
-    requires none { removed.old.items ≡ [] }
-    requires room_for_all { length machine.old.cells.items ≤ vec_capacity removed.old }
-    ensures { IsSwept machine.old [] removed.new.items machine.new }
-{
-    let survey = Survey::read(machine, outlook, kept);
-    remove_unkept(machine, &survey, removed);
 }

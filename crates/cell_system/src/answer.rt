@@ -21,7 +21,7 @@ use cell_view::{deps, dump, find, map, users};
 use cell_world::{Command, Reply};
 use std::alloc::Global;
 
-/// Does a command that a line of a script can say: a swap without `strict` and routines, or any other.
+/// Does a command that a line of a script can say: a swap without routines, or any other.
 pub fn answer(
     alloc: Global,
     depot: &Depot,
@@ -54,7 +54,8 @@ pub fn answer(
         Command::Swap {
             items,
             reexport,
+            strict,
             ..
-        } => swap(alloc, depot, machine, items.as_slice(), *reexport),
+        } => swap(alloc, depot, machine, items.as_slice(), *reexport, *strict),
     }
 }

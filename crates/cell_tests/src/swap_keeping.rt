@@ -39,7 +39,7 @@ static CALL: [SourceFile; 5] = [
     },
 ];
 
-static OF_CALL: [Case; 5] = [
+static OF_CALL: [Case; 7] = [
     // A task in old code calls new code.
     Case {
         script: "load k m\nspawn k m::go 0\nstep 1 1\nswap k/m=n#m-2.o\nswap k/o=n#o-2.o\nstep 1 100\npurge\n",
@@ -47,6 +47,25 @@ static OF_CALL: [Case; 5] = [
         text: "1 ok load #1 #2 patched 1\n2 ok spawn t1 pc 10000000\n3 ok step t1 turns 1 ready\n\
             4 ok swap 1 new #3 patched 0 removed - kept #1\n5 ok swap 2 new #4 patched 1 removed #2 kept #1\n\
             6 ok step t1 turns 7 done 2\n7 ok purge removed #1\n",
+    },
+    // A strict swap is refused while a task holds the old cell.
+    Case {
+        script: "load k m\nspawn k m::go 0\nstep 1 1\nswap k/m=n#m-2.o strict\nswap k/m=n#m-2.o\n",
+        status: Status::SomeRefused,
+        text: "1 ok load #1 #2 patched 1\n2 ok spawn t1 pc 10000000\n3 ok step t1 turns 1 ready\n\
+            4 E15 held #1 t1\n5 ok swap 1 new #3 patched 0 removed - kept #1\n",
+    },
+    // After that refusal the machine goes on as if nothing had been asked, and a strict swap of what
+    // nobody holds is done.
+    Case {
+        script: "load k m\nspawn k m::go 0\nstep 1 1\nswap k/m=n#m-2.o strict\nswap k/o=n#o-2.o reexport strict\n\
+            swap k/m=n#m-2.o\nmap\nkill 1\nswap k/m=k#m.o strict\n",
+        status: Status::SomeRefused,
+        text: "1 ok load #1 #2 patched 1\n2 ok spawn t1 pc 10000000\n3 ok step t1 turns 1 ready\n\
+            4 E15 held #1 t1\n5 ok swap 1 new #3 patched 1 removed #2 kept -\n\
+            6 ok swap 2 new #4 patched 0 removed - kept #1\n7 ok map\n  #1 k/m detached 2 k#m.o\n    \
+            1 rx 10000000 24\n  #3 k/o attached n#o-2.o\n    1 rx 10006000 8\n  #4 k/m attached n#m-2.o\n    \
+            1 rx 10001000 8\n8 ok kill t1\n9 ok swap 3 new #5 patched 1 removed #1 #4 kept -\n",
     },
     // A task ends its call in old code, and one that begins then is in new code.
     Case {

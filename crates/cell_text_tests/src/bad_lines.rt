@@ -40,7 +40,7 @@ const LATER: [Bad; 4] = [
 ];
 
 /// Scripts whose first line has no reading.
-const FIRST: [&[u8]; 97] = [
+const FIRST: [&[u8]; 102] = [
     b"load k",
     b"load k a\r\n",
     b"load k a b",
@@ -107,6 +107,11 @@ const FIRST: [&[u8]; 97] = [
     b"swap K/a=n#a.o",
     b"swap k/a=n#a.o again",
     b"swap k/a=n#a.o reexport reexport",
+    b"swap k/a=n#a.o strict reexport",
+    b"swap k/a=n#a.o strict strict",
+    b"swap k/a=n#a.o reexport strict strict",
+    b"swap k/a=n#a.o strict k/b=n#a.o",
+    b"swap strict",
     b"swap reexport k/a=n#a.o",
     b"swap k/a=n#a.o k/b",
     b"swap k/a=n#a.o reexport k/b=n#a.o",

@@ -61,7 +61,7 @@ fn is_said(alloc: Global, command: &Command, said: &Said) -> Result<bool, AllocE
         Command::Swap {
             items,
             reexport,
-            strict: false,
+            strict,
             routines,
             budget,
         } if routines.as_slice().is_empty() => {
@@ -71,7 +71,7 @@ fn is_said(alloc: Global, command: &Command, said: &Said) -> Result<bool, AllocE
                 names.push(&item.stem)?;
                 names.push(&item.file)?;
             }
-            let numbers = [u64::from(*reexport), u64::from(*budget)];
+            let numbers = [u64::from(*reexport), u64::from(*strict), u64::from(*budget)];
             said.is("swap", names.as_slice(), &numbers)
         }
         Command::Swap { .. } => false,
@@ -124,13 +124,23 @@ const CASES: [Case; 5] = [
             Said(5, "users", &[], &[0]),
         ],
     },
-    // The numbers are 1 where names are taken over, and the turns of routines.
+    // The numbers are 1 where names are taken over, 1 where no old cell may stay, and the turns of
+    // routines.
     Case {
-        text: b"swap k/a=n#a-2.o\nswap  k/a=k/a=b\tn/a=~! reexport \nswap k/reexport=reexport\n",
+        text: b"swap k/a=n#a-2.o\nswap  k/a=k/a=b\tn/a=~! reexport \nswap k/reexport=reexport\n\
+            swap k/a=b strict\nswap k/a=b reexport strict\nswap k/a=strict\n",
         lines: &[
-            Said(1, "swap", &["k", "a", "n#a-2.o"], &[0, 10000]),
-            Said(2, "swap", &["k", "a", "k/a=b", "n", "a", "~!"], &[1, 10000]),
-            Said(3, "swap", &["k", "reexport", "reexport"], &[0, 10000]),
+            Said(1, "swap", &["k", "a", "n#a-2.o"], &[0, 0, 10000]),
+            Said(
+                2,
+                "swap",
+                &["k", "a", "k/a=b", "n", "a", "~!"],
+                &[1, 0, 10000],
+            ),
+            Said(3, "swap", &["k", "reexport", "reexport"], &[0, 0, 10000]),
+            Said(4, "swap", &["k", "a", "b"], &[0, 1, 10000]),
+            Said(5, "swap", &["k", "a", "b"], &[1, 1, 10000]),
+            Said(6, "swap", &["k", "a", "strict"], &[0, 0, 10000]),
         ],
     },
 ];

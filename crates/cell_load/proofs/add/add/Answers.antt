@@ -36,6 +36,6 @@ returns c =
     let are : map arrived c.in_ok-prepared.prepared.newcomers.items ≡ arrivals c.args.staged.cells.items c.args.staged.names.items =
     p ∙ ap₂ (λ (cells : List NewCell) (names : Vec (List Alias) Global). arrivals cells names.items) c.deref.ensures.value c.replace-names.ensures.value in
     record {
-      added = added_same c.args.machine.now c.reserve.new.machine c.commit.new.machine (c.in_ok-reserve.ensures {u = tt}).same c.args.staged c.replace-names.new.dest [] [] _ _ are c.commit.ensures;
+      added = added_same c.args.machine.now c.reserve.new.machine c.commit.new.machine (c.in_ok-reserve.ensures {u = tt}).same c.args.staged c.replace-names.new.dest [] [] _ _ are c.commit.ensures.committed;
       kept = tt;
     }

@@ -36,8 +36,8 @@ bind_rows-requires-clause-present c =
     (subst (λ (ks : List SecKey). All (λ (r : LinkRow). Contains ks r.user × Contains ks r.target) c.args.staged.rows.items)
     (sym (c.move_rows.ensures.sections ∙ sections_are c.args.machine.now.graph.sections c.args.prepared c.args.staged.cells.items _ _ c.requires.sections c.deref-2.ensures.value c.add_sections.ensures.sections)) c.requires.present)
 
-pub returns : goal.returns
-returns c =
+pub returns-clause-committed : goal.returns-clause-committed
+returns-clause-committed c =
     let cells = c.args.staged.cells in
     let long = cells.ok.0 in
     let len = c.len.ensures in

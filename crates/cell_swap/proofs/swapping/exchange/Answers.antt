@@ -1,5 +1,9 @@
+use Rattle.std.proofs.Common.{◌≡◌, ap}
+use Rattle.cell_mem.specs.State.{MemoryState}
+use Rattle.cell_machine.specs.declared.machine.Machine.{Machine}
+use Rattle.cell_swap.specs.Before.{begun_in}
+use Rattle.cell_swap.proofs.SwapExchanged.{apart, bound, can_finish, names_fit, unplanned, was_exchanged, was_held}
 use Rattle.std.proofs.lemmas.Result.{err_from_is_err_and}
-use Rattle.cell_swap.proofs.SwapExchanged.{can_finish, exchanged, names_fit, unplanned}
 use Rattle.cell_swap.proofs.swapping.exchange.Goals as goal
 
 pub plan_swap-requires : goal.plan_swap-requires
@@ -8,15 +12,31 @@ plan_swap-requires c = c.requires.begun
 pub returns-in_err-plan : goal.returns-in_err-plan
 returns-in_err-plan c h =
     let p = err_from_is_err_and c.from_residual.result c.from_residual.ensures.1 in
-    rw (p.1, p.2) (unplanned c.args.depot.now c.args.asked.now c.args.machine.now c.args.reexport c.args.roots.items h c.in_err-plan.field-0.0 (c.in_err-plan.ensures h.begun))
+    rw (p.1, p.2) (unplanned c.args.depot.now c.args.asked.now c.args.machine.now c.args.reexport c.args.strict c.args.roots.items h c.in_err-plan.field-0.0 (c.in_err-plan.ensures h.begun))
 
-pub of-requires : goal.of-requires
-of-requires c = names_fit c.args.depot.now c.args.asked.now c.args.machine.now c.args.reexport c.args.roots.items c.requires c.in_ok-plan.plan (c.in_ok-plan.ensures c.requires.begun)
+pub of-requires-clause-names : goal.of-requires-clause-names
+of-requires-clause-names c = names_fit c.args.depot.now c.args.asked.now c.args.machine.now c.args.reexport c.args.strict c.args.roots.items c.requires c.in_ok-plan.plan (c.in_ok-plan.ensures c.requires.begun)
+
+pub of-requires-clause-bound : goal.of-requires-clause-bound
+of-requires-clause-bound c = bound c.args.depot.now c.args.asked.now c.args.machine.now c.args.reexport c.args.strict c.args.roots.items c.requires c.in_ok-plan.plan (c.in_ok-plan.ensures c.requires.begun)
+
+pub of-requires-clause-apart : goal.of-requires-clause-apart
+of-requires-clause-apart c = apart c.args.depot.now c.args.asked.now c.args.machine.now c.args.reexport c.args.strict c.args.roots.items c.requires c.in_ok-plan.plan (c.in_ok-plan.ensures c.requires.begun)
 
 pub finish-requires : goal.finish-requires
-finish-requires c = can_finish c.args.depot.now c.args.asked.now c.args.machine.now c.args.reexport c.args.roots.items c.requires c.in_ok-plan.plan (c.in_ok-plan.ensures c.requires.begun) c.of.new.machine c.in_ok-ready.ready (c.in_ok-ready.ensures {u = tt}).ready
+finish-requires c =
+    let begun : (record c.of.new.machine { memory = c.begin_undo.new.self }) ≡ begun_in c.of.new.machine c.in_ok-ready.ready.patched =
+    ap (λ (s : MemoryState). let x : Machine = record c.of.new.machine { memory = s } in x) (c.in_ok-begin_undo.ensures {u = tt}).ok in
+    can_finish c.args.depot.now c.args.asked.now c.args.machine.now c.args.reexport c.args.strict c.args.roots.items c.requires c.in_ok-plan.plan (c.in_ok-plan.ensures c.requires.begun) c.of.new.machine c.in_ok-ready.ready (c.in_ok-ready.ensures {u = tt}).ready (record c.of.new.machine { memory = c.begin_undo.new.self }) begun c.deref.result.now c.deref.ensures.value
 
-pub returns : goal.returns
-returns c h =
-    exchanged c.args.depot.now c.args.asked.now c.args.machine.now c.args.reexport c.args.roots.items h c.in_ok-plan.plan (c.in_ok-plan.ensures h.begun) c.of.new.machine c.in_ok-ready.ready (c.in_ok-ready.ensures {u = tt}).ready
-    c.finish.result c.finish.new.machine (c.finish.ensures (can_finish c.args.depot.now c.args.asked.now c.args.machine.now c.args.reexport c.args.roots.items h c.in_ok-plan.plan (c.in_ok-plan.ensures h.begun) c.of.new.machine c.in_ok-ready.ready (c.in_ok-ready.ensures {u = tt}).ready))
+pub returns-in-Ok : goal.returns-in-Ok
+returns-in-Ok c h =
+    let begun : (record c.of.new.machine { memory = c.begin_undo.new.self }) ≡ begun_in c.of.new.machine c.in_ok-ready.ready.patched =
+    ap (λ (s : MemoryState). let x : Machine = record c.of.new.machine { memory = s } in x) (c.in_ok-begin_undo.ensures {u = tt}).ok in
+    was_exchanged c.args.depot.now c.args.asked.now c.args.machine.now c.args.reexport c.args.strict c.args.roots.items h c.in_ok-plan.plan (c.in_ok-plan.ensures h.begun) c.of.new.machine c.in_ok-ready.ready (c.in_ok-ready.ensures {u = tt}).ready (record c.of.new.machine { memory = c.begin_undo.new.self }) begun c.deref.result.now c.deref.ensures.value c.in-Ok.reply c.finish.new.machine (c.in-Ok.ensures {u = tt} (can_finish c.args.depot.now c.args.asked.now c.args.machine.now c.args.reexport c.args.strict c.args.roots.items h c.in_ok-plan.plan (c.in_ok-plan.ensures h.begun) c.of.new.machine c.in_ok-ready.ready (c.in_ok-ready.ensures {u = tt}).ready (record c.of.new.machine { memory = c.begin_undo.new.self }) begun c.deref.result.now c.deref.ensures.value))
+
+pub returns-in-Err : goal.returns-in-Err
+returns-in-Err c h =
+    let begun : (record c.of.new.machine { memory = c.begin_undo.new.self }) ≡ begun_in c.of.new.machine c.in_ok-ready.ready.patched =
+    ap (λ (s : MemoryState). let x : Machine = record c.of.new.machine { memory = s } in x) (c.in_ok-begin_undo.ensures {u = tt}).ok in
+    was_held c.args.depot.now c.args.asked.now c.args.machine.now c.args.reexport c.args.strict c.args.roots.items h c.in_ok-plan.plan (c.in_ok-plan.ensures h.begun) c.of.new.machine c.in_ok-ready.ready (c.in_ok-ready.ensures {u = tt}).ready (record c.of.new.machine { memory = c.begin_undo.new.self }) begun c.deref.result.now c.deref.ensures.value c.in-Err.refusal c.finish.new.machine (c.in-Err.ensures {u = tt} (can_finish c.args.depot.now c.args.asked.now c.args.machine.now c.args.reexport c.args.strict c.args.roots.items h c.in_ok-plan.plan (c.in_ok-plan.ensures h.begun) c.of.new.machine c.in_ok-ready.ready (c.in_ok-ready.ensures {u = tt}).ready (record c.of.new.machine { memory = c.begin_undo.new.self }) begun c.deref.result.now c.deref.ensures.value))

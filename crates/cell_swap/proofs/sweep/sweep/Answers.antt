@@ -1,4 +1,4 @@
-use Rattle.std.proofs.Common.{sym, subst, ◌∙◌, ap}
+use Rattle.std.proofs.Common.{sym}
 use Rattle.std.proofs.lemmas.Result.{err_from_is_err_and}
 use Rattle.cell_machine.proofs.Unchanged.{same_itself}
 use Rattle.cell_swap.proofs.sweep.sweep.Goals as goal
@@ -18,11 +18,8 @@ returns-in_err-removed c =
     let p = err_from_is_err_and c.from_residual-in_err-removed.result c.from_residual-in_err-removed.ensures.1 in
     rw (p.1, p.2) (same_itself c.args.machine.now)
 
-pub first_held-requires : goal.first_held-requires
-first_held-requires c = c.read-survey.ensures c.args.aside.now (c.in_ok-outlook.ensures {u = tt})
-
 pub returns-in-Some : goal.returns-in-Some
-returns-in-Some c = (sym c.in-Some.ensures, same_itself c.args.machine.now)
+returns-in-Some c = (sym (c.in-Some.ensures c.args.aside.now (c.read-survey.ensures c.args.aside.now (c.in_ok-outlook.ensures {u = tt}))), same_itself c.args.machine.now)
 
 pub remove_unkept-requires-clause-survey : goal.remove_unkept-requires-clause-survey
 remove_unkept-requires-clause-survey c = record { aside = c.args.aside.now; is = c.read-survey.ensures c.args.aside.now (c.in_ok-outlook.ensures {u = tt}) }
@@ -30,4 +27,4 @@ remove_unkept-requires-clause-survey c = record { aside = c.args.aside.now; is =
 pub returns : goal.returns
 returns c =
     let removes = c.remove_unkept.ensures c.args.aside.now (c.read-survey.ensures c.args.aside.now (c.in_ok-outlook.ensures {u = tt})) in
-    record { free = sym c.in-None.ensures; are = removes.0; left = removes.1 }
+    record { free = sym (c.in-None.ensures c.args.aside.now (c.read-survey.ensures c.args.aside.now (c.in_ok-outlook.ensures {u = tt}))); are = removes.0; left = removes.1 }

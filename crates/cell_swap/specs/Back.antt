@@ -1,0 +1,33 @@
+-- The way back of a swap whose new cells were added.
+--     CanGoBack n back fresh     the new cells can be taken out of n, and fields and links of others are known as they were
+use Rattle.std.specs.Prelude.{◌≡◌, ◌≤◌, ◌+◌, ℕ, List, length, map}
+use Rattle.cell_num.specs.declared.ids.CellId.{CellId}
+use Rattle.cell_world.specs.Undo.{AreBytes}
+use Rattle.cell_world.specs.declared.state.LinkRow.{LinkRow}
+use Rattle.cell_commit.specs.Cells.{arrived}
+use Rattle.cell_commit.specs.Commit.{IsLaidOut, all_mapped}
+use Rattle.cell_graph.specs.Moves.{moved}
+use Rattle.cell_machine.specs.declared.machine.Machine.{Machine}
+use Rattle.cell_machine.specs.Staged.{IsCommitted}
+use Rattle.cell_load.specs.Adding.{memory_with}
+use Rattle.cell_swap.specs.declared.planning.Plan.{Plan}
+use Rattle.cell_swap.specs.declared.swapping.Ready.{Ready}
+use Rattle.cell_swap.specs.Before.{AreAsTheyWere, begun_in}
+use Rattle.cell_swap.specs.Swapped.{IsPlanned, IsReadyFor}
+
+-- the undo was begun when there was room for all, before the new cells were added
+pub record CanGoBack (n : Machine) (back : List LinkRow) (fresh : List CellId) : Type 0 where
+  pub before : Machine
+  pub plan_before : Plan
+  pub planned : IsPlanned before plan_before
+  pub room : Machine
+  pub ready : Ready
+  pub is : IsReadyFor before plan_before room ready
+  pub count : ℕ
+  pub enough : length ready.plan.patches.items + length ready.plan.staged.fields.items ≤ count
+  pub added : IsCommitted (begun_in room count) (memory_with (begun_in room count).memory ready.plan.staged.regions.items ready.plan.patches.items) (moved room.graph.rows ready.plan.moves.items)
+      (map arrived ready.prepared.newcomers.items) ready.plan.staged n
+  pub laid : IsLaidOut (all_mapped (begun_in room count).memory ready.plan.staged.regions.items)
+  pub bytes : AreBytes (all_mapped (begun_in room count).memory ready.plan.staged.regions.items).regions
+  pub links : AreAsTheyWere room.graph.rows ready.plan.moves.items back
+  pub fresh_are : fresh ≡ ready.fresh
