@@ -25,7 +25,7 @@ use Rattle.cell_transfer_law.proofs.Runs.{seen_with, routines_keep}
 use Rattle.cell_transfer_law.proofs.Under.{Under, under_stored}
 
 -- a region that doesn't pass is left out again
-without_new : (p : Region → Bool) (r : Region) (regions : List Region) → p r ≡ false → filter p (with_region r regions) ≡ filter p regions
+pub without_new : (p : Region → Bool) (r : Region) (regions : List Region) → p r ≡ false → filter p (with_region r regions) ≡ filter p regions
 without_new p r [] e = ap (λ b. cond b (r ∷ []) []) e
 without_new p r (s ∷ regions) e = go (nat_lt r.start s.start) (without_new p r regions e)
   where

@@ -245,7 +245,7 @@ inserted f e n (r ∷ rs) =
     go true rest = refl
     go false rest = ap (λ v. f r ∷ v) rest
 
-In-with_region : (n r : Region) (rs : List Region) → In r rs → In r (with_region n rs)
+pub In-with_region : (n r : Region) (rs : List Region) → In r rs → In r (with_region n rs)
 In-with_region n r [] i = absurd i
 In-with_region n r (y ∷ rs) i = go (nat_lt n.start y.start) i (In-with_region n r rs)
   where
@@ -268,7 +268,7 @@ undo_mapped : (regions : List Region) (records : List Record) (r new : Region) �
 undo_mapped regions records r new i =
     subst (λ rs. In r rs) (sym (undone_mapped new regions records)) (In-with_region (undone_in new records) r (undone regions records) i)
 
-undone_unmapped : (start : ℕ) (regions : List Region) (records : List Record) → undone (without_region start regions) records ≡ without_region start (undone regions records)
+pub undone_unmapped : (start : ℕ) (regions : List Region) (records : List Record) → undone (without_region start regions) records ≡ without_region start (undone regions records)
 undone_unmapped start regions [] = refl
 undone_unmapped start regions (x ∷ records) =
     let other : Region → Bool = λ r. not (r.start == start) in

@@ -1,0 +1,231 @@
+ghost use Rattle.std.specs.Prelude.{◌≡◌, IfOk, is_some, length, true};
+ghost use Rattle.cell_mem.specs.State.{HasWrites};
+
+use crate::*;
+use cell_mem::{Memory, Perm};
+use cell_num::{Cause, Why};
+use cell_world::{Failure, Record, Routine};
+use std::alloc::Global;
+use std::test::*;
+
+const BASE: u64 = 0x1000_0000;
+
+const STACK: u64 = 0x1000_1000;
+
+// Instructions, encoded by the manual's formats.
+const RETURN: u32 = 0x0000_8067; // jalr x0, 0(x1)
+
+const SEVEN: u32 = 0x0070_0513; // addi x10, x0, 7
+
+const BREAK: u32 = 0x0010_0073; // ebreak
+
+const KEEP: u32 = 0x0021_3023; // sd x2, 0(x2)
+
+const STAY: u32 = 0x0000_006f; // jal x0, 0
+
+const CALL: u32 = 0x0000_0073; // ecall
+
+/// So many bytes, which begin with these words.
+fn bytes_of(alloc: Global, words: &[u32], size: usize) -> Result<Vec<u8>, Fail>
+    ensures { IfOk result (λ bytes. length bytes.items ≡ size) }
+{
+    let mut bytes = Vec::new(alloc);
+    for word in words {
+        for byte in word.to_le_bytes() {
+            bytes.push(byte)?;
+        }
+    }
+    bytes.resize(size, 0)?;
+    Ok(bytes)
+}
+
+/// A memory of 16 pages with an undo for so many writes: the first page has the code, the next four
+/// are a stack.
+fn begun(alloc: Global, code: &[u32], writes: u32) -> Result<Memory, Fail>
+    ensures undo { IfOk result (λ m. is_some m.undo ≡ true) }
+    ensures writes { IfOk result (λ m. HasWrites m writes) }
+{
+    let mut memory = Memory::new(alloc, BASE, 16)?;
+    memory.reserve(2)?;
+    let code = bytes_of(alloc, code, 4096)?;
+    let stack = bytes_of(alloc, &[], 16384)?;
+    memory.map(BASE, Perm::READ | Perm::EXEC, code);
+    memory.map(STACK, Perm::READ | Perm::WRITE, stack);
+    memory.begin_undo(alloc, writes)?;
+    Ok(memory)
+}
+
+/// The name `ab`, at two addresses.
+fn two_tables(alloc: Global) -> Result<Addresses, Fail> {
+    let mut old = Firsts::new(alloc);
+    old.add(alloc, b"ab", 0x1111)?;
+    old.add(alloc, b"ab", 0x3333)?;
+    old.add(alloc, &[0, 0], 0x4444)?;
+    let mut new = Firsts::new(alloc);
+    new.add(alloc, b"ab", 0x2222)?;
+    Ok(Addresses { old, new })
+}
+
+/// How the routine ends that begins with the first word.
+fn outcome(alloc: Global, code: &[u32], budget: u32) -> Result<Result<(), Failure>, Fail> {
+    let mut memory = begun(alloc, code, budget)?;
+    let addresses = two_tables(alloc)?;
+    let routine = Routine {
+        name: 0,
+        entry: BASE,
+    };
+    Ok(transfer(&[routine], budget, STACK, &mut memory, &addresses))
+}
+
+fn failure(routine: u32, why: Why) -> Result<(), Failure> {
+    Err(Failure { routine, why })
+}
+
+#[test]
+fn ends(rt: HostRuntime) -> Result<(), Fail> {
+    let alloc = rt.alloc();
+    assert_eq!(rt; outcome(alloc, &[RETURN], 10)?, Ok(()));
+    assert_eq!(rt;
+        outcome(alloc, &[SEVEN, RETURN], 10)?,
+        failure(0, Why::Returned(7))
+    );
+    assert_eq!(rt;
+        outcome(alloc, &[BREAK], 10)?,
+        failure(0, Why::Trap(Cause::Break, BASE))
+    );
+    assert_eq!(rt;
+        outcome(alloc, &[SEVEN, RETURN], 1)?,
+        failure(0, Why::Budget)
+    );
+    Ok(())
+}
+
+/// What was stored stays until it is undone.
+#[test]
+#[tactic(auto, using(crate::proofs::Writing::still_begun))]
+fn stores_stay(rt: HostRuntime) -> Result<(), Fail> {
+    let alloc = rt.alloc();
+    let mut memory = begun(alloc, &[KEEP, STAY], 3)?;
+    let addresses = two_tables(alloc)?;
+    let routine = Routine {
+        name: 0,
+        entry: BASE,
+    };
+    let answer = transfer(&[routine], 3, STACK, &mut memory, &addresses);
+    assert_eq!(rt; answer, failure(0, Why::Budget));
+    let place = STACK + 16368;
+    assert_eq!(rt; memory.load(place, 8), Ok(place));
+    let displaced = Record {
+        addr: place,
+        width: 8,
+        before: 0,
+    };
+    assert_eq!(rt; memory.journal(), &[displaced][..]);
+    memory.undo();
+    assert_eq!(rt; memory.load(place, 8), Ok(0));
+    Ok(())
+}
+
+/// The turns are for all routines together, and the failure has the name of the one that failed.
+#[test]
+fn second_fails(rt: HostRuntime) -> Result<(), Fail> {
+    let alloc = rt.alloc();
+    let addresses = two_tables(alloc)?;
+    let first = Routine {
+        name: 0,
+        entry: BASE,
+    };
+    let second = Routine {
+        name: 1,
+        entry: BASE + 4,
+    };
+    for (budget, why) in [(3, Why::Returned(7)), (2, Why::Budget)] {
+        let mut memory = begun(alloc, &[RETURN, SEVEN, RETURN], budget)?;
+        let answer = transfer(&[first, second], budget, STACK, &mut memory, &addresses);
+        assert_eq!(rt; answer, failure(1, why));
+    }
+    Ok(())
+}
+
+/// A routine that makes a call with a name's page, its place in the page and its length, and returns
+/// what was answered. At byte 64 it has the name `ab`.
+fn asking(number: u32, page: u32, place: u32, len: u32) -> [u32; 17] {
+    let mut code = [0; 17];
+    code[0] = 0x0000_0537 | page; // lui x10, page
+    code[1] = 0x0005_0513 | place << 20; // addi x10, x10, place
+    code[2] = 0x0000_0593 | len << 20; // addi x11, x0, len
+    code[3] = 0x0000_0893 | number << 20; // addi x17, x0, number
+    code[4] = CALL;
+    code[5] = RETURN;
+    code[16] = 0x6261;
+    code
+}
+
+#[test]
+fn names_are_answered(rt: HostRuntime) -> Result<(), Fail> {
+    let alloc = rt.alloc();
+    let page = 0x1000_0000;
+    for (number, page, place, len, want) in [
+        (4, page, 64, 2, failure(0, Why::Returned(0x1111))),
+        (5, page, 64, 2, failure(0, Why::Returned(0x2222))),
+        // from the code into the stack
+        (
+            4,
+            page + 0x1000,
+            0xfff,
+            2,
+            failure(0, Why::Returned(0x4444)),
+        ),
+        // unknown names
+        (5, page + 0x1000, 0xfff, 2, Ok(())),
+        (4, page, 64, 1, Ok(())),
+        (5, page, 64, 0, Ok(())),
+        (4, page, 64, 1024, Ok(())),
+        (
+            4,
+            page,
+            64,
+            1025,
+            failure(0, Why::Trap(Cause::Call, BASE + 16)),
+        ),
+        // not mapped: the second byte, both, the one after the last address
+        (
+            4,
+            page + 0x5000,
+            0xfff,
+            2,
+            failure(0, Why::Trap(Cause::Call, BASE + 16)),
+        ),
+        (
+            5,
+            page + 0xf000,
+            0,
+            2,
+            failure(0, Why::Trap(Cause::Call, BASE + 16)),
+        ),
+        (
+            5,
+            0,
+            0xfff,
+            2,
+            failure(0, Why::Trap(Cause::Call, BASE + 16)),
+        ),
+        // the calls before and after
+        (3, page, 64, 2, failure(0, Why::Returned(0x1000_0040))),
+        (
+            6,
+            page,
+            64,
+            2,
+            failure(0, Why::Trap(Cause::Call, BASE + 16)),
+        ),
+        (0, page, 64, 2, failure(0, Why::Returned(0x1000_0040))),
+    ] {
+        assert_eq!(rt;
+            outcome(alloc, &asking(number, page, place, len), 6)?,
+            want,
+            "call {number}"
+        );
+    }
+    Ok(())
+}
