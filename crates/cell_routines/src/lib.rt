@@ -1,0 +1,15 @@
+//! Where the routines of a swap begin, and the addresses that they may ask for.
+#![tactic(auto)]
+
+mod addresses;
+mod begins;
+mod definitions;
+mod entries;
+mod routines;
+#[cfg(test)]
+mod tests;
+
+pub use addresses::add_addresses;
+pub use begins::begins_of;
+pub use entries::Begin;
+pub use routines::routines_at;

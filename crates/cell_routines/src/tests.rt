@@ -1,0 +1,232 @@
+ghost use Rattle.std.specs.Prelude.{◌≡◌, ◌∷◌, [], if◌then◌else◌, not, All, IfOk, IsTrue, nat_lt};
+ghost use Rattle.cell_num.specs.Lists.{each_pair};
+ghost use Rattle.cell_object.specs.declared.object.Bind.TheVariants.{Global as GlobalBind, Local as LocalBind};
+ghost use Rattle.cell_object.specs.declared.object.Fill.TheVariants.{Zero};
+ghost use Rattle.cell_object.specs.declared.object.Sort.TheVariants.{Func};
+ghost use Rattle.cell_object.specs.declared.object.Home.TheVariants.{Inside};
+ghost use Rattle.cell_placed.specs.Low.{AreLow, IsLow};
+ghost use Rattle.cell_world.specs.Coherent.{IsLoadable};
+
+use crate::*;
+use cell_num::{Bytes, CellId, Listed, Name};
+use cell_object::{Bind, Fill, Home, Object, Section, Sort, Symbol};
+use cell_space::NameRows;
+use cell_world::{Fail as Refused, NewCell, Refusal, SecPlace};
+use cell_xfer::Firsts;
+use std::alloc::{AllocError, Global};
+use std::test::*;
+
+/// A symbol with a name of one byte, in a section that stands behind six bytes of text.
+#[derive(Clone, Copy)]
+struct Sample {
+    name: u8,
+    global: bool,
+    exec: bool,
+    size: u16,
+    value: u16,
+}
+
+/// A routine at 8 in the class of text.
+const ENTRY: Sample = Sample {
+    name: b'a',
+    global: true,
+    exec: true,
+    size: 16,
+    value: 2,
+};
+
+/// A section of zeros.
+fn section(alloc: Global, number: u16, exec: bool, size: u16) -> Section
+    ensures { result ≡ record { number = number; name = []; write = not exec; exec = exec; fill = Zero; align = 2; size = size; bytes = [] } }
+{
+    Section {
+        number,
+        name: Bytes::from_vec(Vec::new(alloc)),
+        write: !exec,
+        exec,
+        fill: Fill::Zero,
+        align: 2,
+        size: u32::from(size),
+        bytes: Bytes::from_vec(Vec::new(alloc)),
+    }
+}
+
+fn bind_of(global: bool) -> Bind
+    ensures { result ≡ (if global then GlobalBind else LocalBind) }
+{
+    if global { Bind::Global } else { Bind::Local }
+}
+
+fn symbol(alloc: Global, sample: Sample) -> Result<Symbol, AllocError>
+    ensures { IfOk result (λ s. s ≡ record { name = sample.name ∷ []; bind = if sample.global then GlobalBind else LocalBind; sort = Func; home = Inside 2; value = sample.value; size = 0 }) }
+{
+    Ok(Symbol {
+        name: Bytes::from_vec(Vec::from_slice(alloc, &[sample.name])?),
+        bind: bind_of(sample.global),
+        sort: Sort::Func,
+        home: Home::Inside(2),
+        value: u64::from(sample.value),
+        size: 0,
+    })
+}
+
+/// An object of six bytes of text, and the sample's section and symbol.
+fn object(alloc: Global, sample: Sample) -> Result<Object, AllocError>
+    ensures loadable { IfOk result (λ o. IsLoadable o) }
+    ensures low { IfOk result (λ o. AreLow o) }
+{
+    if !sample.name.is_ascii_lowercase() || sample.value > sample.size {
+        return Err(AllocError);
+    }
+    let sections = vec![in alloc;
+        section(alloc, 1, true, 6),
+        section(alloc, 2, sample.exec, sample.size),
+    ]?;
+    let symbols = vec![in alloc; symbol(alloc, sample)?]?;
+    Ok(Object {
+        sections: Listed::from_vec(sections),
+        symbols: Listed::from_vec(symbols),
+        entries: Listed::from_vec(Vec::new(alloc)),
+    })
+}
+
+/// The sample's cell, whose second section stands there.
+fn cell(alloc: Global, number: u32, start: u32, sample: Sample) -> Result<NewCell, AllocError>
+    ensures loadable { IfOk result (λ c. IsLoadable c.object) }
+    ensures low { IfOk result (λ c. IsLow c) }
+    ensures number { IfOk result (λ c. c.id.0 ≡ number) }
+{
+    let place = SecPlace {
+        section: 2,
+        start: u64::from(start),
+    };
+    Ok(NewCell {
+        id: CellId(number),
+        ns: 0,
+        stem: Name::of(alloc, b"x")?,
+        file: Name::of(alloc, b"k#x.o")?,
+        object: object(alloc, sample)?,
+        places: Listed::from_vec(vec![in alloc; place]?),
+    })
+}
+
+/// Cell 7 and cell 9.
+fn cells(alloc: Global, first: Sample, second: Sample) -> Result<Vec<NewCell>, AllocError>
+    ensures loadable { IfOk result (λ cells. All (λ c. IsLoadable c.object) cells.items) }
+    ensures low { IfOk result (λ cells. All IsLow cells.items) }
+    ensures order { IfOk result (λ cells. IsTrue (each_pair (λ a b. nat_lt a.id.0 b.id.0) cells.items)) }
+{
+    Ok(vec![in alloc;
+        cell(alloc, 7, 0x1006, first)?,
+        cell(alloc, 9, 0x3006, second)?,
+    ]?)
+}
+
+/// Where the routine `a` begins in the two cells.
+fn begin(alloc: Global, first: Sample, second: Sample) -> Result<Option<Begin>, Fail> {
+    let cells = cells(alloc, first, second)?;
+    let word = Name::of(alloc, b"a")?;
+    match begins_of(alloc, &cells, std::slice::from_ref(&word)) {
+        Ok(begins) => Ok(begins.first().copied()),
+        Err(Refused::Refused(Refusal::NoEntry { .. })) => Ok(None),
+        Err(_) => Err("another refusal".into()),
+    }
+}
+
+/// The place in the second section of a cell.
+fn at(cell: u32, offset: u64) -> Begin
+    ensures { result.offset ≡ offset }
+{
+    Begin {
+        cell: CellId(cell),
+        section: 2,
+        offset,
+    }
+}
+
+/// The first cell that defines the name counts, at a multiple of 4 in its text with four bytes left.
+#[test]
+fn begins(rt: HostRuntime) -> Result<(), Fail> {
+    let alloc = rt.alloc();
+    for (first, want) in [
+        (ENTRY, Some(at(7, 2))),
+        (Sample { value: 4, ..ENTRY }, None),
+        (Sample { size: 6, ..ENTRY }, Some(at(7, 2))),
+        (Sample { size: 5, ..ENTRY }, None),
+        (
+            Sample {
+                exec: false,
+                ..ENTRY
+            },
+            None,
+        ),
+        (
+            Sample {
+                global: false,
+                ..ENTRY
+            },
+            Some(at(9, 2)),
+        ),
+        (
+            Sample {
+                name: b'b',
+                ..ENTRY
+            },
+            Some(at(9, 2)),
+        ),
+    ] {
+        assert_eq!(rt; begin(alloc, first, ENTRY)?, want);
+    }
+    Ok(())
+}
+
+/// The first of two names without an entry is told.
+#[test]
+fn tells_the_first(rt: HostRuntime) -> Result<(), Fail> {
+    let alloc = rt.alloc();
+    let cells = cells(alloc, ENTRY, ENTRY)?;
+    let words = vec![in alloc;
+        Name::of(alloc, b"a")?,
+        Name::of(alloc, b"c")?,
+        Name::of(alloc, b"d")?,
+    ]?;
+    match begins_of(alloc, &cells, &words) {
+        Err(Refused::Refused(Refusal::NoEntry { name })) => {
+            assert_eq!(rt; name.bytes(), b"c".as_slice());
+            Ok(())
+        }
+        _ => Err("another answer".into()),
+    }
+}
+
+/// A routine's number is its place, and it begins where its cell stands.
+#[test]
+fn starts_at_the_places(rt: HostRuntime) -> Result<(), Fail> {
+    let alloc = rt.alloc();
+    let cells = cells(alloc, ENTRY, ENTRY)?;
+    let begins = [at(9, 2), at(7, 6), at(8, 2)];
+    let routines = routines_at(alloc, &cells, &begins)?;
+    let entries: Vec<u64> = routines.iter().map(|routine| routine.entry).collect(alloc)?;
+    assert_eq!(rt; entries.as_slice(), [0x3008, 0x100c, 0].as_slice());
+    let names: Vec<u32> = routines.iter().map(|routine| routine.name).collect(alloc)?;
+    assert_eq!(rt; names.as_slice(), [0, 1, 2].as_slice());
+    Ok(())
+}
+
+/// An alias has the address of its symbol, and a name keeps the address that it had first.
+#[test]
+fn addresses(rt: HostRuntime) -> Result<(), Fail> {
+    let alloc = rt.alloc();
+    let mut names = NameRows::new(alloc);
+    names.add(alloc, b"a", 1)?;
+    names.add(alloc, b"other", 1)?;
+    names.add(alloc, b"none", 2)?;
+    let mut table = Firsts::new(alloc);
+    add_addresses(alloc, &mut table, &cell(alloc, 7, 0x1006, ENTRY)?, &names)?;
+    add_addresses(alloc, &mut table, &cell(alloc, 9, 0x3006, ENTRY)?, &names)?;
+    assert_eq!(rt; table.get(b"a"), Some(0x1008));
+    assert_eq!(rt; table.get(b"other"), Some(0x1008));
+    assert_eq!(rt; table.get(b"none"), Some(0));
+    assert_eq!(rt; table.get(b"x"), None);
+    Ok(())
+}
