@@ -15,11 +15,11 @@ pub skip_more : (file : List ℕ) (at next c d : ℕ) → next ≡ at + 24 → i
 skip_more file at next c d e here behind few zero h = let same : at + 24 * 0 ≡ at = omega arith in rw same here
 skip_more file at next c d e here behind few (suc i) h = let same : at + 24 * suc i ≡ next + 24 * i = omega (arith, e) in rw same (behind i (omega arith))
 
--- one more place that is counted from
-pub set_skip : (file counts : List ℕ) (at next d : ℕ) → at < length counts → ((q : ℕ) → IsSkip file q (get_or counts q 0)) → next ≡ at + 24
-    → is_passed_over (rela_row_at at file).r_type ≡ true → d ≤ get_or counts next 0 + 1 → (q : ℕ) → IsSkip file q (get_or (set counts at d) q 0)
-set_skip file counts at next d there all e here few q = elim (place q) [
-  | inl is ↦ rw (← is, get_or-set_same counts at d 0 there) (skip_more file at next (get_or counts next 0) d e here (all next) few)
+-- one more place that is counted from, in a part of the file
+pub set_skip : (file counts : List ℕ) (from at next d : ℕ) → at < length counts → ((q : ℕ) → IsSkip file (from + q) (get_or counts q 0)) → next ≡ at + 24
+    → is_passed_over (rela_row_at (from + at) file).r_type ≡ true → d ≤ get_or counts next 0 + 1 → (q : ℕ) → IsSkip file (from + q) (get_or (set counts at d) q 0)
+set_skip file counts from at next d there all e here few q = elim (place q) [
+  | inl is ↦ rw (← is, get_or-set_same counts at d 0 there) (skip_more file (from + at) (from + next) (get_or counts next 0) d (omega (arith, e)) here (all next) few)
   | inr other ↦ rw (get_or-set_other counts at q d 0 (λ same. other (sym same))) (all q)
 ]
   where

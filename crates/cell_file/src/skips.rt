@@ -9,6 +9,7 @@ use crate::ReadFail;
 use crate::file::rela_row_at;
 use cell_object::elf::ROW_LEN;
 use std::alloc::{AllocError, Global};
+use std::ops::Range;
 
 const NONE: u32 = 0;
 
@@ -20,13 +21,15 @@ pub fn is_passed_over(kind: u32) -> bool
     kind == NONE || kind == RELAX
 }
 
-/// How many entries are passed over from each place of a file on, one behind the other: tables that
-/// share their bytes pass over them once.
+/// How many entries are passed over from each place of a part of a file on, one behind the other:
+/// tables that share their bytes pass over them once.
 #[derive(Drop)]
 pub struct Skips<'a> {
     pub bytes: &'a [u8],
+    /// Where the part begins.
+    from: usize,
     counts: Vec<u32>,
-    ghost are: { (at : ℕ) → IsSkip bytes.now at (get_or counts.items at 0) },
+    ghost are: { (q : ℕ) → IsSkip bytes.now (from + q) (get_or counts.items q 0) },
 }
 
 fn zeros(alloc: Global, len: usize) -> Result<Vec<u32>, AllocError>
@@ -49,45 +52,56 @@ fn count_of(counts: &[u32], place: usize) -> u32
     }
 }
 
-/// Counts from a place on, after the places behind it.
-fn count_at(bytes: &[u8], counts: &mut [u32], at: usize)
+/// Counts from a place of the part on, after the places behind it.
+fn count_at(bytes: &[u8], from: usize, counts: &mut [u32], at: usize)
     requires there { at < length counts.old }
-    requires row { at + 24 ≤ length bytes.now }
-    requires behind { (q : ℕ) → IsSkip bytes.now q (get_or counts.old q 0) }
-    ensures { (q : ℕ) → IsSkip bytes.now q (get_or counts.new q 0) }
+    requires row { from + at + 24 ≤ length bytes.now }
+    requires behind { (q : ℕ) → IsSkip bytes.now (from + q) (get_or counts.old q 0) }
+    ensures { (q : ℕ) → IsSkip bytes.now (from + q) (get_or counts.new q 0) }
 {
-    if is_passed_over(rela_row_at(bytes, at).r_type) {
+    if is_passed_over(rela_row_at(bytes, from + at).r_type) {
         counts[at] = count_of(counts, at + ROW_LEN as usize).saturating_add(1);
     }
 }
 
-/// Counts from each place on, from the last one back.
-fn count(bytes: &[u8], counts: &mut [u32])
-    requires rows { length counts.old ≤ length bytes.now }
-    requires none { (q : ℕ) → IsSkip bytes.now q (get_or counts.old q 0) }
-    ensures { (q : ℕ) → IsSkip bytes.now q (get_or counts.new q 0) }
+/// Counts from each place of the part on, from the last one back.
+fn count(bytes: &[u8], from: usize, counts: &mut [u32])
+    requires inside { from + length counts.old ≤ length bytes.now }
+    requires none { (q : ℕ) → IsSkip bytes.now (from + q) (get_or counts.old q 0) }
+    ensures { (q : ℕ) → IsSkip bytes.now (from + q) (get_or counts.new q 0) }
 {
     for at in (0..counts.len()).rev() {
-        if bytes.len() - at >= ROW_LEN as usize {
-            count_at(bytes, counts, at);
+        if bytes.len() - (from + at) >= ROW_LEN as usize {
+            count_at(bytes, from, counts, at);
         }
     }
 }
 
 impl<'a> Skips<'a> {
-    pub fn of(alloc: Global, bytes: &'a [u8]) -> Result<Skips<'a>, ReadFail>
+    /// Counts in a part of the file, in which all its tables of relocations are to stand.
+    pub fn of(alloc: Global, bytes: &'a [u8], part: Range<usize>) -> Result<Skips<'a>, ReadFail>
+        requires order { part.start ≤ part.end }
+        requires inside { part.end ≤ length bytes.now }
         ensures memory { Passes result (Ok tt) }
         ensures bytes { IfOk result (λ skips. skips.bytes.now ≡ bytes.now) }
     {
-        let mut counts = zeros(alloc, bytes.len())?;
-        count(bytes, &mut counts);
-        Ok(Skips { bytes, counts })
+        let from = part.start;
+        let mut counts = zeros(alloc, part.end - from)?;
+        count(bytes, from, &mut counts);
+        Ok(Skips {
+            bytes,
+            from,
+            counts,
+        })
     }
 
-    /// How many entries from a place on are passed over, one behind the other.
+    /// How many entries from a place on are passed over, one behind the other; none outside the part.
     pub fn at(&self, place: u64) -> u32
         ensures { IsSkip self.now.bytes.now place result }
     {
-        count_of(&self.counts, place as usize)
+        match place.checked_sub(self.from as u64) {
+            Some(at) => count_of(&self.counts, at as usize),
+            None => 0,
+        }
     }
 }
