@@ -4,7 +4,7 @@ use Rattle.cell_world.specs.Outcome.{Outcome}
 use Rattle.cell_place.specs.Space.{SpaceState}
 use Rattle.cell_layout.specs.declared.cells.TakenRuns.{TakenRuns}
 use Rattle.cell_layout.specs.declared.placements.Placements.{Placements}
-use Rattle.cell_layout.specs.Placing.{Extra, TakesExtra, take_extra}
+use Rattle.cell_layout.specs.Placing.{FindsExtra, extra_start}
 use Rattle.cell_world.specs.declared.layout.Starts.{Starts}
 use Rattle.cell_world.specs.declared.state.NewCell.{NewCell}
 use Rattle.cell_world.specs.declared.state.SecPlace.{SecPlace}
@@ -28,18 +28,14 @@ module _ (old mid : SpaceState) (from : List NewCell) (pages : ℕ) (p : Placeme
   pub enough : length p.places.items ≤ length from
   enough = omega (arith, ap length found.places, places_for found.starts from found.each)
 
-  extra_here : take_extra mid.base mid.taken pages ≡ take_extra old.base mid.taken pages
-  extra_here = ap (λ b. take_extra b mid.taken pages) found.base
-
-  pub placed : (start : Option ℕ) (new : SpaceState) (now : List NewCell) (taken : TakenRuns) → TakesExtra mid pages (Ok start) new → now ≡ with_places p.places.items from
-      → taken.regions.items ≡ p.regions.items → taken.extra ≡ start → ArePlaced old from pages taken new now
-  placed start new now taken extra cells regions is = record {
+  pub placed : (start : Option ℕ) (now : List NewCell) (taken : TakenRuns) → FindsExtra mid pages (Ok start) → now ≡ with_places p.places.items from
+      → taken.regions.items ≡ p.regions.items → taken.extra ≡ start → ArePlaced old from pages taken mid now
+  placed start now taken extra cells regions is = record {
     starts = found.starts;
-    table = mid.taken;
     each = found.each;
     runs = found.runs;
-    extra = sym extra_here ∙ (extra.0 ∙ ap (λ (s : Option ℕ). let x : Extra = record { start = s; table = new.taken } in let o : Outcome Extra = Ok x in o) (sym is));
-    base = extra.1 ∙ found.base;
+    extra = ap (λ b. extra_start b mid.taken pages) (sym found.base) ∙ (extra ∙ ap (λ (s : Option ℕ). let o : Outcome (Option ℕ) = Ok s in o) (sym is));
+    base = found.base;
     few = found.few;
     cells = cells ∙ (ap (λ (ps : List (List SecPlace)). with_places ps from) found.places ∙ settled_as found.starts from found.each);
     regions = regions ∙ found.regions;

@@ -1,9 +1,9 @@
 -- Where the classes and sections of new cells come to stand, the cells one after another, and an extra run behind them.
 --     all_places starts cells           the places of each cell
 --     FindsAll space cells ..           where the cells stand and their regions, and the space with their runs
---     take_with base table objects pages    the extra run once the runs of the objects are taken, or the refusal
+--     take_with base table objects pages    where the extra run starts once the runs of the objects are taken, or the refusal
 --     PlacesAll space cells pages ..    the cells in their places, and what was taken; or the refusal, and the cells as they were
-use Rattle.std.specs.Prelude.{◌≡◌, ◌≤◌, ℕ, Bool, List, [], ◌∷◌, Result, Ok, Err, All, length, map}
+use Rattle.std.specs.Prelude.{◌≡◌, ◌≤◌, ℕ, Bool, List, [], ◌∷◌, Option, Result, Ok, Err, All, length, map}
 use Rattle.cell_object.specs.declared.object.Object.{Object}
 use Rattle.cell_world.specs.declared.refusal.Refusal.TheVariants.{Exhausted}
 use Rattle.cell_world.specs.declared.state.NewCell.{NewCell}
@@ -17,7 +17,7 @@ use Rattle.cell_layout.specs.declared.cells.TakenRuns.{TakenRuns}
 use Rattle.cell_layout.specs.declared.placements.Placements.{Placements}
 use Rattle.cell_layout.specs.declared.placement.PlaceFail.{PlaceFail}
 use Rattle.cell_layout.specs.declared.placement.PlaceFail.TheVariants.{NoRoom, OutOfMemory}
-use Rattle.cell_layout.specs.Placing.{Extra, take_extra}
+use Rattle.cell_layout.specs.Placing.{extra_start}
 
 abbrev pub in_places : Starts → NewCell → NewCell
 in_places starts c = record c { places = places_in starts c.object }
@@ -58,17 +58,16 @@ FindsAll old cells (Ok p) new = AreFound old cells p new
 FindsAll old cells (Err (NoRoom none)) new = take_all old.base old.taken (objects cells) ≡ Err (Exhausted none.wanted none.largest)
 FindsAll old cells (Err OutOfMemory) new = Unit {0}
 
--- the runs of the objects, and the extra run behind them
-abbrev pub take_with : ℕ → List Bool → List Object → ℕ → Outcome Extra
-take_with base table objects pages = take_all base table objects >>= (λ cells. take_extra base cells.table pages)
+-- where the extra run starts behind the runs of the objects
+abbrev pub take_with : ℕ → List Bool → List Object → ℕ → Outcome (Option ℕ)
+take_with base table objects pages = take_all base table objects >>= (λ cells. extra_start base cells.table pages)
 
--- the cells stand where their classes take the lowest free runs, one cell after another, and then the extra run was taken
+-- the cells stand where their classes take the lowest free runs, one cell after another, and the extra run is free behind them
 pub record ArePlaced (old : SpaceState) (from : List NewCell) (pages : ℕ) (taken : TakenRuns) (new : SpaceState) (now : List NewCell) : Type 0 where
   pub starts : List Starts
-  pub table : List Bool
   pub each : length starts ≡ length from
-  pub runs : take_all old.base old.taken (objects from) ≡ Ok (record { starts = starts; table = table })
-  pub extra : take_extra old.base table pages ≡ Ok (record { start = taken.extra; table = new.taken })
+  pub runs : take_all old.base old.taken (objects from) ≡ Ok (record { starts = starts; table = new.taken })
+  pub extra : extra_start old.base new.taken pages ≡ Ok taken.extra
   pub base : new.base ≡ old.base
   pub few : All (λ c. length c.object.sections ≤ 65536) from
   pub cells : now ≡ all_in_places starts from

@@ -1,8 +1,8 @@
 -- Where the classes and sections of a new cell come to stand.
 --     taken_by space end           the run of a class whose sections end there
 --     all_taken_by space ends      the runs of the three classes, one after another
---     take_extra base table pages  where an extra run of so many pages starts, of which there may be none
---     TakesPages, TakesRun, TakesRuns, TakesExtra    a run, the runs are taken in the space, or there is none
+--     extra_start base table pages where an extra run of so many pages starts, of which there may be none
+--     TakesPages, TakesRun, TakesRuns, FindsExtra    a run, the runs are taken in the space, or an extra one is found, or there is none
 --     Places space object ..       a new cell's places and regions, and the space with them
 use Rattle.std.specs.Prelude.{◌≡◌, ℕ, ◌/◌, ◌==◌, if◌then◌else◌, Bool, List, Option, Some, None, Result, Ok, Err, ◌≤◌, length, max}
 use Rattle.cell_num.specs.Pages.{rounded_to_page}
@@ -36,27 +36,18 @@ all_taken_by base table ends = do
   let starts : Starts = record { text = text.start; read_only = read_only.start; writable = writable.start } in
       Ok (record { starts = starts; table = writable.table })
 
--- where an extra run starts, and the page table with it
-pub record Extra : Type 0 where
-  pub start : Option ℕ
-  pub table : List Bool
-
 -- of no pages there is none
-abbrev pub take_extra : ℕ → List Bool → ℕ → Outcome Extra
-take_extra base table pages =
-    if pages == 0
-    then Ok (record { start = None; table = table })
-    else (take_run base table pages >>= (λ run. Ok (record { start = Some run.start; table = run.table })))
+abbrev pub extra_start : ℕ → List Bool → ℕ → Outcome (Option ℕ)
+extra_start base table pages = if pages == 0 then Ok None else (take_run base table pages >>= (λ run. Ok (Some run.start)))
 
 abbrev pub TakesPages : SpaceState → ℕ → Result ℕ NoRun → SpaceState → Type 0
 TakesPages old pages (Ok start) new =
     (take_run old.base old.taken pages ≡ Ok (record { start = start; table = new.taken })) × (new.base ≡ old.base)
 TakesPages old pages (Err none) new = take_run old.base old.taken pages ≡ Err (Exhausted none.wanted none.largest)
 
-abbrev pub TakesExtra : SpaceState → ℕ → Result (Option ℕ) NoRun → SpaceState → Type 0
-TakesExtra old pages (Ok start) new =
-    (take_extra old.base old.taken pages ≡ Ok (record { start = start; table = new.taken })) × (new.base ≡ old.base)
-TakesExtra old pages (Err none) new = take_extra old.base old.taken pages ≡ Err (Exhausted none.wanted none.largest)
+abbrev pub FindsExtra : SpaceState → ℕ → Result (Option ℕ) NoRun → Type 0
+FindsExtra space pages (Ok start) = extra_start space.base space.taken pages ≡ Ok start
+FindsExtra space pages (Err none) = extra_start space.base space.taken pages ≡ Err (Exhausted none.wanted none.largest)
 
 abbrev pub TakesRun : SpaceState → Option ℕ → Result ℕ NoRun → SpaceState → Type 0
 TakesRun old end (Ok start) new =

@@ -6,14 +6,14 @@ ghost use Rattle.cell_layout.specs.Many.{PlacesAll, with_places};
 
 use crate::placement::PlaceFail;
 use crate::placements::{Placements, place_each};
-use crate::starts::take_extra;
+use crate::starts::find_extra;
 use cell_num::Listed;
 use cell_place::Space;
 use cell_world::{NewCell, Region, SecPlace};
 use std::alloc::Global;
 
-/// What was taken: the regions of new cells, whose fields are not written yet, and where the extra
-/// run starts, if there is one.
+/// What was taken: the regions of new cells, whose fields are not written yet. And where an extra run
+/// starts, if there is one.
 #[derive(Drop)]
 pub struct TakenRuns {
     pub regions: Vec<Region>,
@@ -33,9 +33,9 @@ fn settle(cells: &mut [NewCell], places: Vec<Listed<SecPlace>>)
     }
 }
 
-/// Takes the runs of the cells' classes in the space, cell by cell, and then the extra run of so many
-/// pages, if it isn't 0, and puts the cells in their places. After an error the cells are as before,
-/// and the space has some of the runs.
+/// Takes the runs of the cells' classes in the space, cell by cell, and puts the cells in their places.
+/// Behind them it finds an extra run of so many pages, unless these are none. After an error the cells
+/// are as before, and the space has some of the runs.
 pub fn place_cells(
     alloc: Global,
     space: &mut Space,
@@ -46,7 +46,7 @@ pub fn place_cells(
     ensures { PlacesAll space.old cells.old extra result space.new cells.new }
 {
     let Placements { places, regions } = place_each(alloc, space, cells)?;
-    let extra = take_extra(space, extra)?;
+    let extra = find_extra(space, extra)?;
     settle(cells, places);
     Ok(TakenRuns { regions, extra })
 }

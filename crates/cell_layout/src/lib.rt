@@ -11,4 +11,5 @@ mod regions;
 mod starts;
 
 pub use cells::{TakenRuns, place_cells};
+pub use layout::{Layout, lay_out};
 pub use placement::{PlaceFail, Placement, place};

@@ -2,7 +2,7 @@
 
 ghost use Rattle.std.specs.Prelude.{◌≡◌, ◌<◌, ◌≤◌, ◌^◌, ◌+◌, IfOk};
 ghost use Rattle.cell_layout.specs.Layout.{IsSmall, AreSmall};
-ghost use Rattle.cell_layout.specs.Placing.{pages_by, TakesExtra, TakesPages, TakesRun, TakesRuns};
+ghost use Rattle.cell_layout.specs.Placing.{pages_by, FindsExtra, TakesPages, TakesRun, TakesRuns};
 
 use crate::layout::Ends;
 use cell_place::{NoRun, Space};
@@ -58,13 +58,13 @@ pub fn take_runs(space: &mut Space, ends: &Ends) -> Result<Starts, NoRun>
     })
 }
 
-/// Takes the lowest free run of so many pages; of no pages it takes none.
-pub fn take_extra(space: &mut Space, pages: u32) -> Result<Option<u64>, NoRun>
-    ensures { TakesExtra space.old pages result space.new }
+/// Where the lowest free run of so many pages starts, which stays free; of no pages there is none.
+pub fn find_extra(space: &Space, pages: u32) -> Result<Option<u64>, NoRun>
+    ensures { FindsExtra space.now pages result }
 {
     if pages == 0 {
         return Ok(None);
     }
-    let start = take_pages(space, pages)?;
-    Ok(Some(start))
+    let run = space.find(pages)?;
+    Ok(Some(space.address_of(run)))
 }

@@ -69,7 +69,7 @@ module _ (sources : List Source) (w : World) (ns stem : List ℕ) (coherent : Is
           ∙ ap (λ (cs : List Cell). done (LoadDone (ids (numbers_of cs)) (field_count cs)) (record W { regions = map (with_fields W cs) W.regions; links = w.links ++ links_from W cs })) fresh
 
   -- there is no room, or an entry doesn't fit
-  pub refused : (r : Refusal) → placing w new ≡ Err r → next_load sources w ns stem ≡ Err r
+  pub refused : (r : Refusal) → placing w new 0 ≡ Err r → next_load sources w ns stem ≡ Err r
   refused r e = go (take_all w.base (page_table w) (objects_of new)) refl e
     where
       unfit : (t : ManyTaken) → take_all w.base (page_table w) (objects_of new) ≡ Ok t → (o : Option Refusal) → first_misfit (placed_after t.starts w new) (placed_cells t.starts new) ≡ o

@@ -1,5 +1,5 @@
 -- Gathered cells that are placed and linked have landed, and are staged.
-use Rattle.std.proofs.Common.{◌≡◌, refl, sym, ◌∙◌, ap, subst, arith, ℕ, Bool, true, List, [], ◌∷◌, ◌++◌, map, length}
+use Rattle.std.proofs.Common.{◌≡◌, refl, sym, ◌∙◌, ap, subst, arith, ℕ, Bool, true, List, [], ◌∷◌, ◌++◌, map, length, Option}
 use Rattle.std.specs.Prelude.{Ok, Err, All, nat_lt}
 use Rattle.std.proofs.lemmas.List.{length-map}
 use Rattle.cell_num.specs.Lists.{each_pair}
@@ -11,14 +11,13 @@ use Rattle.cell_world.specs.declared.layout.Starts.{Starts}
 use Rattle.cell_world.specs.declared.state.NewCell.{NewCell}
 use Rattle.cell_world.specs.World.{World, Cell, Attached}
 use Rattle.cell_world.specs.Fit.{first_misfit}
-use Rattle.cell_world.specs.Outcome.{Outcome, ◌>>=◌, refused_by}
+use Rattle.cell_world.specs.Outcome.{Outcome, ◌>>=◌, ◌>>◌, refused_by}
 use Rattle.cell_world.specs.Layout.{places_in}
 use Rattle.cell_world.specs.Place.{page_table}
 use Rattle.cell_world.specs.Target.{targets_of}
 use Rattle.cell_coherent.specs.Grown.{In, links_from}
 use Rattle.cell_coherent.proofs.Elements.{All-In, In-All, In-map, In-right}
 use Rattle.cell_load_law.specs.Loading.{ManyTaken, all_regions, objects_of, placed_after, placed_cells, take_all}
-use Rattle.cell_load_law.proofs.Binds.{ok_same}
 use Rattle.cell_place.specs.Space.{SpaceState}
 use Rattle.cell_space.specs.declared.cell.SpaceCell.{SpaceCell}
 use Rattle.cell_space.specs.Ahead.{AheadState}
@@ -26,7 +25,7 @@ use Rattle.cell_space.specs.Machine.{called}
 use Rattle.cell_space.specs.Joined.{AreJoined, cells_of, placed_of}
 use Rattle.cell_space.proofs.Joined.{cells_are as joined_are, cells_both, joined_both, joined_by}
 use Rattle.cell_layout.specs.declared.cells.TakenRuns.{TakenRuns}
-use Rattle.cell_layout.specs.Placing.{Extra}
+use Rattle.cell_layout.specs.Placing.{extra_start}
 use Rattle.cell_layout.specs.Many.{ArePlaced, all_in_places, objects}
 use Rattle.cell_gather.specs.declared.gathering.Gathered.{Gathered}
 use Rattle.cell_machine.specs.declared.machine.Machine.{Machine}
@@ -46,7 +45,7 @@ use Rattle.cell_load.specs.declared.landing.Landed.{Landed}
 use Rattle.cell_load.specs.Stages.{CanStage, IsLanded, Lands, Names, new_cells}
 use Rattle.cell_load.proofs.Linked.{fields_same, misfits_same, rows_are}
 use Rattle.cell_load.proofs.Low.{can_link}
-use Rattle.cell_load.proofs.Places.{none_refused, sound_objects}
+use Rattle.cell_load.proofs.Places.{none_placed, sound_objects}
 use Rattle.cell_load.proofs.Plain.{fields_plain, misfits_plain, rows_plain}
 
 -- cells in places, with what they are called and without
@@ -56,7 +55,7 @@ placed_both [] (c ∷ cells) long = absurd (omega (arith, long))
 placed_both (s ∷ starts) [] long = absurd (omega (arith, long))
 placed_both (s ∷ starts) (c ∷ cells) long = ap (λ (cs : List NewCell). record c.placed { places = places_in s c.object } ∷ cs) (placed_both starts cells (omega (arith, long)))
 
-module _ (m : Machine) (g : Gathered) (can : CanStage m g) where
+module _ (m : Machine) (g : Gathered) (can : CanStage m g) (extra : ℕ) where
   abbrev u : World
   u = world_of m
 
@@ -76,21 +75,22 @@ module _ (m : Machine) (g : Gathered) (can : CanStage m g) where
       ∙ ap (λ (os : List Object). take_all u.base (page_table u) os) objects_are)
 
   -- no run is long enough
-  pub place_failed : (fail : Fail) (now : List NewCell) → Stands m.space g.cells.items 0 (Err fail) now → Lands m g (Err fail)
+  pub place_failed : (fail : Fail) (now : List NewCell) → Stands m.space g.cells.items extra (Err fail) now → Lands m g extra (Err fail)
   place_failed (Refused r) now e =
-      ap (λ (o : Outcome ManyTaken). o >>= (λ t. refused_by (first_misfit (placed_after t.starts u new) (placed_cells t.starts new)))) (sym space_is ∙ none_refused m.space.base m.space.taken (objects g.cells.items) r e.0)
+      none_placed (take_all u.base (page_table u) (objects_of new)) (λ t. extra_start u.base t.table extra) (λ t. refused_by (first_misfit (placed_after t.starts u new) (placed_cells t.starts new))) r
+      (ap (λ (o : Outcome ManyTaken). o >>= (λ t. extra_start u.base t.table extra)) (sym space_is) ∙ (ap (λ b. take_all m.space.base m.space.taken (objects g.cells.items) >>= (λ t. extra_start b t.table extra)) (sym can.parts.base) ∙ e.0))
   place_failed OutOfMemory now e = tt
 
-  module _ (space : SpaceState) (runs : TakenRuns) (cells : List NewCell) (stand : ArePlaced m.space g.cells.items 0 runs space cells) where
+  module _ (space : SpaceState) (runs : TakenRuns) (cells : List NewCell) (stand : ArePlaced m.space g.cells.items extra runs space cells) where
     abbrev taken : ManyTaken
     taken = record { starts = stand.starts; table = space.taken }
 
-    -- there is no extra run
-    table_is : stand.table ≡ space.taken
-    table_is = ap (λ (x : Extra). x.table) (ok_same _ _ stand.extra)
-
     taken_are : take_all u.base (page_table u) (objects_of new) ≡ Ok taken
-    taken_are = sym space_is ∙ (stand.runs ∙ ap (λ (t : List Bool). let x : ManyTaken = record { starts = stand.starts; table = t } in let o : Outcome ManyTaken = Ok x in o) table_is)
+    taken_are = sym space_is ∙ stand.runs
+
+    -- where the extra run starts
+    extra_is : extra_start u.base space.taken extra ≡ Ok runs.extra
+    extra_is = ap (λ b. extra_start b space.taken extra) (sym can.parts.base) ∙ stand.extra
 
     abbrev W : World
     W = placed_after stand.starts u new
@@ -164,38 +164,46 @@ module _ (m : Machine) (g : Gathered) (can : CanStage m g) where
         ∙ (ap (λ (cs : List NewCell). first_misfit W (all_attached cs)) (sym placed_are) ∙ misfits_same v W same cells)
 
     -- an entry doesn't fit
-    pub link_failed : (fail : Fail) → LinksAll v cells (Err fail) → Lands m g (Err fail)
+    pub link_failed : (fail : Fail) → LinksAll v cells (Err fail) → Lands m g extra (Err fail)
     link_failed (Refused r) e =
-        ap (λ (o : Outcome ManyTaken). o >>= (λ t. refused_by (first_misfit (placed_after t.starts u new) (placed_cells t.starts new)))) taken_are
-        ∙ ap (λ o. refused_by o) (misfits_are ∙ e)
+        ap (λ (o : Outcome ManyTaken). o >>= (λ t. extra_start u.base t.table extra >> refused_by (first_misfit (placed_after t.starts u new) (placed_cells t.starts new)))) taken_are
+        ∙ (ap (λ (o : Outcome (Option ℕ)). o >> refused_by (first_misfit W F)) extra_is ∙ ap (λ o. refused_by o) (misfits_are ∙ e))
     link_failed OutOfMemory e = tt
 
     pub landed : (l : Linked) → AreLinked v cells l → (d : Landed) → d.ahead ≡ g.ahead → d.cells.items ≡ cells → d.space ≡ space → d.regions.items ≡ runs.regions.items
-        → d.fields.items ≡ l.fields.items → d.rows.items ≡ l.rows.items → IsLanded m g d
-    landed l linked d ahead these at regions fields rows = record {
-      linked = record {
-        starts = stand.starts;
-        each = long;
-        runs = taken_are ∙ ap (λ (t : List Bool). let x : ManyTaken = record { starts = stand.starts; table = t } in let o : Outcome ManyTaken = Ok x in o) (ap (λ (x : SpaceState). x.taken) (sym at));
-        base = ap (λ (x : SpaceState). x.base) at ∙ (stand.base ∙ can.parts.base);
-        cells = these ∙ placed_are;
-        regions = regions ∙ (stand.regions ∙ ap (λ (os : List Object). all_regions stand.starts os) objects_are);
-        fit = misfits_are ∙ linked.fit;
-        fields =
-            fields
-            ∙ (linked.fields
-            ∙ (sym (fields_same v W same cells)
-            ∙ (ap (λ (cs : List NewCell). all_fields W (all_attached cs)) placed_are ∙ sym (fields_plain W F standing))));
-        rows =
-            rows
-            ∙ (linked.rows
-            ∙ (sym (rows_are v W same cells)
-            ∙ (ap (λ (cs : List NewCell). links_from W (all_attached cs)) placed_are ∙ sym (rows_plain W F standing))));
-      };
-      same = ahead;
-      are = subst (λ (cs : List NewCell). AreCells g.ahead.cells (m.cells.items ++ cs)) (sym these) are_cells;
-      targets = λ (c : Cell). same c ∙ ap (λ (cs : List NewCell). targets_of (seen m.spaces.namespaces (m.cells.items ++ cs) g.ahead.cells) c) (sym these);
-    }
+        → d.fields.items ≡ l.fields.items → d.rows.items ≡ l.rows.items → d.extra ≡ runs.extra → Lands m g extra (Ok d)
+    landed l linked d ahead these at regions fields rows behind = (is_landed, extra_then)
+      where
+        is_landed : IsLanded m g d
+        is_landed = record {
+          linked = record {
+            starts = stand.starts;
+            each = long;
+            runs = taken_are ∙ ap (λ (t : List Bool). let x : ManyTaken = record { starts = stand.starts; table = t } in let o : Outcome ManyTaken = Ok x in o) (ap (λ (x : SpaceState). x.taken) (sym at));
+            base = ap (λ (x : SpaceState). x.base) at ∙ (stand.base ∙ can.parts.base);
+            cells = these ∙ placed_are;
+            regions = regions ∙ (stand.regions ∙ ap (λ (os : List Object). all_regions stand.starts os) objects_are);
+            fit = misfits_are ∙ linked.fit;
+            fields =
+                fields
+                ∙ (linked.fields
+                ∙ (sym (fields_same v W same cells)
+                ∙ (ap (λ (cs : List NewCell). all_fields W (all_attached cs)) placed_are ∙ sym (fields_plain W F standing))));
+            rows =
+                rows
+                ∙ (linked.rows
+                ∙ (sym (rows_are v W same cells)
+                ∙ (ap (λ (cs : List NewCell). links_from W (all_attached cs)) placed_are ∙ sym (rows_plain W F standing))));
+          };
+          same = ahead;
+          are = subst (λ (cs : List NewCell). AreCells g.ahead.cells (m.cells.items ++ cs)) (sym these) are_cells;
+          targets = λ (c : Cell). same c ∙ ap (λ (cs : List NewCell). targets_of (seen m.spaces.namespaces (m.cells.items ++ cs) g.ahead.cells) c) (sym these);
+        }
+
+        extra_then : extra_start m.memory.base d.space.taken extra ≡ Ok d.extra
+        extra_then =
+            ap (λ (s : SpaceState). extra_start u.base s.taken extra) at
+            ∙ (extra_is ∙ ap (λ (start : Option ℕ). let o : Outcome (Option ℕ) = Ok start in o) (sym behind))
 
 -- what has landed is staged once its names are listed
 pub staged : (m : Machine) (g : Gathered) → CanStage m g → (l : Landed) → IsLanded m g l → (s : Staged) → Names l s → IsStaged (world_of m) (new_cells g) s

@@ -2,18 +2,19 @@
 --     new_cells g            the gathered cells, with the names that they are called by
 --     AreGathered spaces g   they stand ahead of the present ones, attached
 --     CanStage m g           wherever there is room for them, they can be linked in the machine
---     placing u new          the new cells get their places in u, and each of their entries fits
+--     placing u new extra    the new cells get their places in u, an extra run of so many pages is free behind them, and each of their entries fits
 --     IsLanded m g l         the gathered cells placed and linked, among which names are looked up still
---     Lands m g result       that, or the refusal
+--     Lands m g extra result that, and where the extra run starts; or the refusal
 --     Names l s              what is staged is what has landed, with the cells' names
 --     Stages u new result    the cells placed, linked and named, or the refusal
-use Rattle.std.specs.Prelude.{◌≡◌, ◌+◌, ◌*◌, ◌<◌, ◌^◌, List, ◌++◌, All, Result, Ok, Err, map}
+use Rattle.std.specs.Prelude.{ℕ, ◌≡◌, ◌+◌, ◌*◌, ◌<◌, ◌^◌, List, ◌++◌, All, Result, Ok, Err, map}
 use Rattle.cell_world.specs.declared.fail.Fail.{Fail}
 use Rattle.cell_world.specs.declared.fail.Fail.TheVariants.{Refused, OutOfMemory}
 use Rattle.cell_world.specs.World.{World, Cell, Attached}
 use Rattle.cell_world.specs.Coherent.{IsLoadable}
 use Rattle.cell_world.specs.Fit.{first_misfit}
-use Rattle.cell_world.specs.Outcome.{Outcome, ◌>>=◌, refused_by}
+use Rattle.cell_world.specs.Outcome.{Outcome, ◌>>=◌, ◌>>◌, refused_by}
+use Rattle.cell_layout.specs.Placing.{extra_start}
 use Rattle.cell_world.specs.Place.{page_table}
 use Rattle.cell_load_law.specs.Loading.{ManyTaken, objects_of, placed_after, placed_cells, take_all}
 use Rattle.cell_space.specs.Joined.{cells_of, placed_of}
@@ -46,10 +47,10 @@ pub record CanStage (m : Machine) (g : Gathered) : Type 0 where
   pub stand : (t : ManyTaken) → take_all m.memory.base (page_table (world_of m)) (objects_of (new_cells g)) ≡ Ok t
       → AreNewIn (world_of m) (placed_after t.starts (world_of m) (new_cells g)) (placed_cells t.starts (new_cells g))
 
-abbrev pub placing : World → List Cell → Outcome (Unit {0})
-placing u new =
+abbrev pub placing : World → List Cell → ℕ → Outcome (Unit {0})
+placing u new extra =
     take_all u.base (page_table u) (objects_of new)
-    >>= (λ t. refused_by (first_misfit (placed_after t.starts u new) (placed_cells t.starts new)))
+    >>= (λ t. extra_start u.base t.table extra >> refused_by (first_misfit (placed_after t.starts u new) (placed_cells t.starts new)))
 
 pub record IsLanded (m : Machine) (g : Gathered) (l : Landed) : Type 0 where
   pub linked : AreLinkedIn (world_of m) (new_cells g) l.cells.items l.space l.regions.items l.fields.items l.rows.items
@@ -59,10 +60,10 @@ pub record IsLanded (m : Machine) (g : Gathered) (l : Landed) : Type 0 where
   -- an entry names the same among them
   pub targets : (c : Cell) → targets_of (placed_after starts (world_of m) (new_cells g)) c ≡ targets_of (seen m.spaces.namespaces (m.cells.items ++ l.cells.items) g.ahead.cells) c
 
-abbrev pub Lands : Machine → Gathered → Result Landed Fail → Type 0
-Lands m g (Ok l) = IsLanded m g l
-Lands m g (Err (Refused refusal)) = placing (world_of m) (new_cells g) ≡ Err refusal
-Lands m g (Err OutOfMemory) = Unit {0}
+abbrev pub Lands : Machine → Gathered → ℕ → Result Landed Fail → Type 0
+Lands m g extra (Ok l) = IsLanded m g l × (extra_start m.memory.base l.space.taken extra ≡ Ok l.extra)
+Lands m g extra (Err (Refused refusal)) = placing (world_of m) (new_cells g) extra ≡ Err refusal
+Lands m g extra (Err OutOfMemory) = Unit {0}
 
 pub record Names (l : Landed) (s : Staged) : Type 0 where
   pub cells : s.cells.items ≡ l.cells.items
@@ -74,5 +75,5 @@ pub record Names (l : Landed) (s : Staged) : Type 0 where
 
 abbrev pub Stages : World → List Cell → Result Staged Fail → Type 0
 Stages u new (Ok s) = IsStaged u new s
-Stages u new (Err (Refused refusal)) = placing u new ≡ Err refusal
+Stages u new (Err (Refused refusal)) = placing u new 0 ≡ Err refusal
 Stages u new (Err OutOfMemory) = Unit {0}

@@ -25,6 +25,8 @@ pub struct Landed<'a> {
     pub space: Space,
     /// Their regions with their own bytes.
     pub regions: Vec<Region>,
+    /// Where the extra run starts behind theirs, if there is one. It is free.
+    pub extra: Option<u64>,
     pub fields: Vec<FieldValue>,
     pub rows: Vec<LinkRow>,
 }
@@ -66,7 +68,8 @@ fn link_among(
     link_new(alloc, &scene)
 }
 
-/// Places the gathered cells and links them. The machine stays as it is.
+/// Places the gathered cells, finds an extra run of so many pages behind them, unless these are none,
+/// and links the cells. The machine stays as it is.
 ///
 /// Refusals, of which the first that holds is answered: too few free pages in a row, and an entry
 /// whose number is outside its kind's range.
@@ -74,18 +77,20 @@ pub fn land<'a>(
     alloc: Global,
     machine: &Machine,
     gathered: Gathered<'a>,
+    extra: u32,
 ) -> Result<Landed<'a>, Fail>
     requires { CanStage machine.now gathered }
-    ensures { Lands machine.now gathered.entry result }
+    ensures { Lands machine.now gathered.entry extra result }
 {
     let Gathered { mut cells, ahead } = gathered;
-    let (space, taken) = place(alloc, &machine.space, &mut cells, 0)?;
+    let (space, taken) = place(alloc, &machine.space, &mut cells, extra)?;
     let linked = link_among(alloc, machine, &ahead, &cells)?;
     Ok(Landed {
         ahead,
         cells,
         space,
         regions: taken.regions,
+        extra: taken.extra,
         fields: linked.fields,
         rows: linked.rows,
     })

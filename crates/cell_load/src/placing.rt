@@ -22,9 +22,9 @@ fn place_failed(fail: PlaceFail) -> Fail
     }
 }
 
-/// Puts the cells in their places, and takes one more run behind theirs, of `extra` pages, unless
-/// these are none. The answer is a copy of the space with all these runs. After an error the cells
-/// are as before.
+/// Puts the cells in their places, and finds one more run behind theirs, of `extra` pages, unless these
+/// are none. The answer is a copy of the space with the runs of the cells. After an error the cells are
+/// as before.
 pub fn place(
     alloc: Global,
     space: &Space,

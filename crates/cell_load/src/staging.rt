@@ -17,6 +17,6 @@ pub fn stage(alloc: Global, machine: &Machine, gathered: Gathered) -> Result<Sta
     requires { CanStage machine.now gathered }
     ensures { Stages (world_of machine.now) (new_cells gathered.entry) result }
 {
-    let landed = land(alloc, machine, gathered)?;
+    let landed = land(alloc, machine, gathered, 0)?;
     Ok(landed.into_staged(alloc)?)
 }

@@ -109,6 +109,13 @@ impl Memory {
         self.maps
     }
 
+    /// The space keeps its limits.
+    pub fn space(&self)
+        ensures { IsSpace self.now.base self.now.pages }
+    {
+        let _ = &self.base;
+    }
+
     /// The regions are whole pages of the space, ascending by their starts and apart.
     pub fn laid_out(&self)
         ensures { IsLaid self.now.base self.now.regions (self.now.base + 4096 * self.now.pages) }

@@ -82,6 +82,14 @@ impl Space {
         self.base + 4096 * u64::from(run.page)
     }
 
+    /// The lowest free run of so many pages, which stays free.
+    pub fn find(&self, count: u32) -> Result<Run, NoRun>
+        requires { 1 ≤ count }
+        ensures { result ≡ run_of self.now.taken count }
+    {
+        search(&self.taken, self.first, count)
+    }
+
     /// Takes the lowest free run of so many pages.
     pub fn take(&mut self, count: u32) -> Result<Run, NoRun>
         requires { 1 ≤ count }

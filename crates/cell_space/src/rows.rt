@@ -1,6 +1,6 @@
 //! Changing the list of cells.
 
-ghost use Rattle.std.specs.Prelude.{◌≡◌, ◌<◌, ◌≤◌, ◌+◌, ℕ, OnErr, OnOk, length, vec_capacity, vec_len};
+ghost use Rattle.std.specs.Prelude.{◌≡◌, ◌<◌, ◌≤◌, ◌+◌, ℕ, OnErr, OnOk, length, nat_lt, vec_capacity, vec_len};
 ghost use Rattle.std.specs.List.{position_or_len};
 ghost use Rattle.cell_space.specs.Named.{LacksName, is_higher, put_into, with_cell, with_name, with_state, without};
 ghost use Rattle.cell_space.specs.Rising.{IsRising};
@@ -9,25 +9,17 @@ use crate::cell::{CellState, SpaceCell};
 use crate::lookup::cells_before;
 use std::alloc::{AllocError, Global};
 
-fn is_higher(cell: &SpaceCell, number: u32) -> bool
-    ensures { result ≡ is_higher number cell.now }
-{
-    number < cell.cell.0
-}
-
 /// Where a cell of a number is to stand: before the first of a higher number.
 fn place_for(cells: &[SpaceCell], number: u32) -> usize
+    requires { IsRising cells.now }
     ensures place { result ≡ position_or_len (is_higher number) cells.now }
     ensures inside { result ≤ length cells.now }
 {
-    let mut place = 0;
-    for cell in cells {
-        if is_higher(cell, number) {
-            return place;
-        }
-        place += 1;
-    }
-    place
+    cells.partition_point(
+        |cell: &SpaceCell| -> bool
+            ensures { result ≡ nat_lt cell.now.cell.0 (number + 1) }
+        { cell.cell.0 <= number },
+    )
 }
 
 /// Puts a cell into a state, where it has the number.
@@ -69,7 +61,8 @@ pub fn add_name(
 
 /// Adds a cell to cells that have room, before those of higher numbers; this takes no memory.
 pub fn insert_cell(cells: &mut Vec<SpaceCell>, cell: SpaceCell)
-    requires { vec_len cells.old < vec_capacity cells.old }
+    requires rising { IsRising cells.old.items }
+    requires room { vec_len cells.old < vec_capacity cells.old }
     ensures items { cells.new.items ≡ with_cell cell cells.old.items }
     ensures len { vec_len cells.new ≡ vec_len cells.old + 1 }
     ensures capacity { vec_capacity cells.old ≤ vec_capacity cells.new }

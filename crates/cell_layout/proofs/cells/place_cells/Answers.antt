@@ -7,5 +7,5 @@ settle-requires c = enough c.args.space.now c.place_each.new.space c.args.cells.
 
 pub returns : goal.returns
 returns c =
-    placed c.args.space.now c.place_each.new.space c.args.cells.now c.args.extra c.in_ok-places.field-0 (c.in_ok-places.ensures {u = tt}) c.in_ok-extra.extra _ _ _ (c.in_ok-extra.ensures {u = tt}) c.settle.ensures
+    placed c.args.space.now c.place_each.new.space c.args.cells.now c.args.extra c.in_ok-places.field-0 (c.in_ok-places.ensures {u = tt}) c.in_ok-extra.extra _ _ (c.in_ok-extra.ensures {u = tt}) c.settle.ensures
     refl refl
