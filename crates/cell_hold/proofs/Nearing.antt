@@ -1,5 +1,5 @@
 -- The sections near a word.
-use Rattle.std.proofs.Common.{◌≡◌, refl, sym, ◌∙◌, ap, subst, arith, ℕ, ◌+◌, ◌-◌, ◌^◌, ◌≤◌, ◌<◌, Bool, true, false, ◌&&◌, List, length, take, drop, get_or}
+use Rattle.std.proofs.Common.{◌≡◌, refl, sym, ◌∙◌, ap, arith, ℕ, ◌+◌, ◌-◌, ◌^◌, ◌≤◌, ◌<◌, Bool, true, false, ◌&&◌, List, length, take, drop, get_or}
 use Rattle.std.specs.Prelude.{◌==◌, nat_le, nat_lt}
 use Rattle.std.specs.List.{list_any, list_all}
 use Rattle.std.specs.List.Sorted.{IsNonDecreasingBy}
@@ -10,8 +10,10 @@ use Rattle.cell_world.specs.declared.state.Placed.{Placed}
 use Rattle.cell_world.specs.Kept.{is_inside}
 use Rattle.cell_hold.specs.declared.spots.Spot.{Spot}
 use Rattle.cell_hold.specs.declared.spots.Span.{Span}
-use Rattle.cell_hold.specs.Adds.{Adds}
+use Rattle.cell_hold.specs.Adds.{Adds, has_or_full}
 use Rattle.cell_hold.specs.Places.{is_at, is_cells_at}
+use Rattle.cell_hold.specs.Reached.{touches}
+use Rattle.cell_coherent.proofs.Elements.{In, all-In, any-Has}
 use Rattle.cell_hold.specs.Spans.{IsSettled, OnlyNear, is_above, is_below, is_within}
 use Rattle.cell_hold.specs.Spots.{AreSpots, places_of}
 use Rattle.cell_hold.proofs.Adding.{added_same, none_added, nothing_added}
@@ -28,6 +30,14 @@ reach_last spots count e rise within some w h k d lt =
     let low : (get_or spots (count - 1) e).reach < w = ltb-true (get_or spots (count - 1) e).reach w h in
     let up : (get_or spots k e).reach ≤ (get_or spots (count - 1) e).reach = rise k (count - 1) e (omega (arith, lt)) (omega (arith, some, within)) in
     let same : (get_or spots k d).reach ≡ (get_or spots k e).reach = ap (λ (r : Spot). r.reach) (get_or_default spots k d e (omega (arith, lt, within))) in
+    omega (arith, low, up, same)
+
+-- up to one that lies below the word, all do
+pub reach_below : (spots : List Spot) (place : ℕ) (e : Spot) → IsNonDecreasingBy (λ r. r.reach) spots → place < length spots
+    → (w : ℕ) → (get_or spots place e).reach < w → (k : ℕ) (d : Spot) → k < place + 1 → (get_or spots k d).reach < w
+reach_below spots place e rise there w low k d lt =
+    let up : (get_or spots k e).reach ≤ (get_or spots place e).reach = rise k place e (omega (arith, lt)) there in
+    let same : (get_or spots k d).reach ≡ (get_or spots k e).reach = ap (λ (r : Spot). r.reach) (get_or_default spots k d e (omega (arith, lt, there))) in
     omega (arith, low, up, same)
 
 -- and one on the next of the starts
@@ -110,12 +120,17 @@ none_settled places span room cells none w lt within c at = absurd (no_bool (sym
     no_bool : ◌≡◌ {A = Bool} true false → ⊥
     no_bool e = cc
 
--- a settled word adds nothing
-pub settled_added : (places : List Placed) (span : Span) (word room : ℕ) (old : List CellId) → word < 2 ^ 64 → is_within span word ≡ true → IsSettled places span room old → Adds (λ c. is_cells_at c word places) room old old
-settled_added places span word room old fits here settled = nothing_added (λ c. is_cells_at c word places) room old (λ c h. settled word fits here c h)
-
-pub settled_in_room : (places : List Placed) (span : Span) (now room : ℕ) (cells : List CellId) → now ≡ room → IsSettled places span now cells → IsSettled places span room cells
-settled_in_room places span now room cells e settled = subst (λ r. IsSettled places span r cells) e settled
+-- words of the span add nothing
+pub settled_added : (places : List Placed) (span : Span) (words : List ℕ) (room : ℕ) (cells : List CellId) → list_all (λ w. nat_lt w (2 ^ 64) && is_within span w) words ≡ true → IsSettled places span room cells
+    → Adds (touches places words) room cells cells
+settled_added places span words room cells within settled = nothing_added (touches places words) room cells there
+  where
+    there : (c : ℕ) → touches places words c ≡ true → has_or_full cells room c ≡ true
+    there c h =
+        let at : (w : ℕ) × In w words × (is_cells_at c w places ≡ true) = any-Has (λ (w : ℕ). is_cells_at c w places) words h in
+        let t : (nat_lt at.0 (2 ^ 64) ≡ true) × (is_within span at.0 ≡ true) =
+        and_parts (nat_lt at.0 (2 ^ 64)) (is_within span at.0) (all-In (λ (w : ℕ). nat_lt w (2 ^ 64) && is_within span w) words within at.0 at.1) in
+        settled at.0 (ltb-true at.0 (2 ^ 64) t.0) t.1 c at.2
 
 -- the section's cell is added, where the word lies in the section
 pub added_at : (place : Placed) (word room : ℕ) (old new : List CellId) → is_at word place ≡ true → Adds (λ c. place.key.cell.0 == c) room old new → Adds (λ c. is_inside c word place) room old new

@@ -1,6 +1,6 @@
 //! Sections in the order of their starts, and the words near them.
 
-ghost use Rattle.std.specs.Prelude.{◌≡◌, ◌≤◌, ℕ, ◌+◌, ◌^◌, ◌<◌, true, false, nat_le, nat_lt, min, length, slice_index_or, IfOk};
+ghost use Rattle.std.specs.Prelude.{◌≡◌, ◌≤◌, ℕ, ◌+◌, ◌^◌, ◌<◌, true, false, nat_le, length, slice_index_or, IfOk};
 ghost use Rattle.std.specs.List.Sorted.{IsNonDecreasingBy, IsPartitionPoint, IsPermutation};
 ghost use Rattle.cell_hold.specs.declared.spots.Spot.{Spot as SpotOf};
 ghost use Rattle.cell_hold.specs.Spans.{is_above, is_below, is_within, OnlyNear};
@@ -124,13 +124,19 @@ fn count_begun(spots: &[Spot], word: u64) -> usize
     spots.partition_point(|spot| spot.place.start <= word)
 }
 
-/// How many of them there are before the first that reaches the word.
-fn count_passed(spots: &[Spot], word: u64) -> usize
-    requires { IsNonDecreasingBy (λ r. r.reach) spots.now }
-    ensures bound { result ≤ length spots.now }
-    ensures passed { IsPartitionPoint (λ r. nat_lt r.reach word ≡ true) (λ r. nat_lt r.reach word ≡ false) spots.now result }
+/// How many of the first so many there are without those at the end that reach the word.
+fn count_passed(spots: &[Spot], begun: usize, word: u64) -> usize
+    requires rise { IsNonDecreasingBy (λ r. r.reach) spots.now }
+    requires within { begun ≤ length spots.now }
+    ensures bound { result ≤ begun }
+    ensures passed { (k : ℕ) (d : SpotOf) → k < result → (slice_index_or spots.now k d).reach < word }
 {
-    spots.partition_point(|spot| spot.reach < word)
+    for place in (0..begun).rev() {
+        if spots[place].reach < word {
+            return place + 1;
+        }
+    }
+    0
 }
 
 /// How far so many reach; none where they are none.
@@ -165,7 +171,7 @@ pub fn near_word(spots: &[Spot], word: u64) -> Near<'_>
     ensures only { OnlyNear result.span result.spots.now (places_of spots.now) }
 {
     let begun = count_begun(spots, word);
-    let passed = count_passed(spots, word).min(begun);
+    let passed = count_passed(spots, begun, word);
     Near {
         spots: &spots[passed..begun],
         span: Span {

@@ -1,13 +1,13 @@
 //! The cells that words lie in.
 
-ghost use Rattle.std.specs.Prelude.{◌≡◌, ◌==◌, true};
+ghost use Rattle.std.specs.Prelude.{◌≡◌, ◌≤◌, ◌==◌, length, true};
 ghost use Rattle.std.specs.List.{list_all, list_any};
 ghost use Rattle.cell_world.specs.Kept.{is_inside};
 ghost use Rattle.cell_world.specs.Words.{words_in};
 ghost use Rattle.cell_hold.specs.Adds.{Adds};
 ghost use Rattle.cell_hold.specs.Places.{is_at, is_cells_at};
 ghost use Rattle.cell_hold.specs.Reached.{touches};
-ghost use Rattle.cell_hold.specs.Spans.{IsSettled};
+ghost use Rattle.cell_hold.specs.Spans.{IsPast, IsSettled};
 
 use crate::bytes::{after, first_word};
 use crate::found::Found;
@@ -78,17 +78,20 @@ pub fn add_word(places: &Sections, word: u64, into: &mut Found)
     let _ = add_found(places, word, into);
 }
 
-/// The same, unless the word is one of those that needn't be looked at.
-fn add_unsettled(places: &Sections, word: u64, settled: Span, into: &mut Found) -> Span
-    requires { IsSettled places.now settled into.old.room into.old.items }
-    ensures added { Adds (λ c. is_cells_at c word places.now) into.old.room into.old.items into.new.items }
-    ensures settled { IsSettled places.now result into.old.room into.new.items }
-    ensures room { into.new.room ≡ into.old.room }
+/// The bytes from the first word on that isn't one of these.
+fn unsettled(bytes: &[u8], settled: Span) -> &[u8]
+    ensures past { IsPast settled bytes.now result.now }
+    ensures shorter { length result.now ≤ length bytes.now }
 {
-    if settled.has(word) {
-        return settled;
+    let mut rest = bytes;
+    while rest.len() >= 8 {
+        let word = first_word(rest);
+        if !settled.has(word) {
+            return rest;
+        }
+        rest = after(rest, 8);
     }
-    add_found(places, word, into)
+    rest
 }
 
 /// Adds the cells that the whole words of these bytes lie in.
@@ -96,12 +99,11 @@ pub fn add_words(places: &Sections, bytes: &[u8], into: &mut Found)
     ensures added { Adds (touches places.now (words_in bytes.now)) into.old.room into.old.items into.new.items }
     ensures room { into.new.room ≡ into.old.room }
 {
-    let mut settled = Span::none();
     let mut rest = bytes;
     while rest.len() >= 8 {
         let word = first_word(rest);
-        settled = add_unsettled(places, word, settled, into);
-        rest = after(rest, 8);
+        let settled = add_found(places, word, into);
+        rest = unsettled(after(rest, 8), settled);
     }
 }
 

@@ -16,7 +16,7 @@ use Rattle.cell_world.specs.Memory.{covers}
 use Rattle.cell_world.specs.Pages.{filled, is_taken_run}
 use Rattle.cell_world.specs.World.{Region, World}
 use Rattle.cell_swap.specs.Unmapped.{IsTabled, table_of}
-use Rattle.cell_swap.proofs.LaidApart.{covers_alone, lies_in}
+use Rattle.cell_xfer.proofs.LaidApart.{covers_alone, lies_in}
 
 not_equal : (a b : ℕ) → not (a == b) ≡ true → a ≡ b → ⊥
 not_equal a b h e = true≢false (sym h ∙ ap not (eq-eqb a b e))

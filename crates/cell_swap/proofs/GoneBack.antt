@@ -35,7 +35,7 @@ use Rattle.cell_graph.specs.Links.{is_bound}
 use Rattle.cell_graph.specs.Removal.{is_used_outside, links_without, sections_without}
 use Rattle.cell_space.specs.Named.{cell_numbered}
 use Rattle.cell_space.specs.declared.cell.SpaceCell.{SpaceCell}
-use Rattle.cell_transfer_law.proofs.Undone.{undo_shapes}
+use Rattle.cell_transfer_law.proofs.Undone.{In-with_region, undo_shapes}
 use Rattle.cell_world.specs.Place.{with_region}
 use Rattle.cell_world.specs.declared.state.SecPlace.{SecPlace}
 use Rattle.cell_swap.specs.declared.planning.Plan.{Plan}
@@ -53,7 +53,8 @@ use Rattle.cell_machine.specs.Same.{IsSame}
 use Rattle.cell_swap.proofs.Suspended.{committable_begun, committed_without, suspended}
 use Rattle.cell_swap.proofs.Journals.{end_base, end_pages, gone_back, mid, still_begun}
 use Rattle.cell_swap.proofs.LinksBack.{bound_still, links_of_cells, rows_back, rows_left, unused}
-use Rattle.cell_swap.proofs.MemoryBack.{laid_apart, memory_back, other}
+use Rattle.cell_swap.proofs.MemoryBack.{memory_back, other}
+use Rattle.cell_xfer.proofs.LaidApart.{laid_apart}
 use Rattle.cell_swap.proofs.TableBack.{leave_by, tabled_by}
 use Rattle.cell_swap.specs.Removed.{CanGo, IsTaken}
 use Rattle.cell_swap.specs.Unmapped.{CanLeave, IsTabled, lost_starts, table_of, without_regions}
@@ -164,18 +165,9 @@ shapes_undone s = go s.undo
     go None = refl
     go (Some u) = undo_shapes s.regions u.journal
 
-In-with : (q r : Region) (rs : List Region) → In r rs → In r (with_region q rs)
-In-with q r [] i = absurd i
-In-with q r (s ∷ rs) i = go (nat_lt q.start s.start) i (In-with q r rs)
-  where
-    go : (b : Bool) → (r ≡ s) ⊎ In r rs → (In r rs → In r (with_region q rs)) → In r (cond b (q ∷ s ∷ rs) (s ∷ with_region q rs))
-    go true j f = inr j
-    go false (inl e) f = inl e
-    go false (inr j) f = inr (f j)
-
 In-mapped : (s : MemoryState) (regions : List Region) (r : Region) → In r s.regions → In r (all_mapped s regions).regions
 In-mapped s [] r i = i
-In-mapped s (q ∷ regions) r i = In-mapped (mapped_one s q) regions r (In-with (record { start = q.start; permission = q.permission; bytes = q.bytes }) r s.regions i)
+In-mapped s (q ∷ regions) r i = In-mapped (mapped_one s q) regions r (In-with_region (record { start = q.start; permission = q.permission; bytes = q.bytes }) r s.regions i)
 
 module _ (n : Machine) (back : List LinkRow) (cells : List CellId) (x : CanGoBack n back cells) where
   abbrev m : Machine

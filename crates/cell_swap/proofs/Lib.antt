@@ -3,7 +3,6 @@ pub mod Ordered
 pub mod LiveTasks
 pub mod Beginnings
 pub mod Leftovers
-pub mod LaidApart
 pub mod GivenBack
 pub mod Unmapping
 pub mod CellStarts
@@ -14,6 +13,7 @@ pub mod AllRemoved
 pub mod Aside
 pub mod Firsts
 pub mod Surveyed
+pub mod Walked
 pub mod Swept
 pub mod ItemLemmas
 pub mod SwapLanded

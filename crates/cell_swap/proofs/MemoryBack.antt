@@ -21,34 +21,11 @@ use Rattle.cell_machine.specs.Machine.{IsSound, field_bytes, world_of}
 use Rattle.cell_machine.specs.Staged.{all_attached}
 use Rattle.cell_swap.specs.Unmapped.{CanLeave, lost_starts, without_regions}
 use Rattle.cell_swap.proofs.AllRemoved.{can_leave, numbers, stay}
-use Rattle.cell_swap.proofs.LaidApart.{laid_some, lies_in}
+use Rattle.cell_xfer.proofs.LaidApart.{laid_apart, laid_some, lies_in, same_sizes}
 use Rattle.cell_swap.proofs.SealsLeft.{seals_after, table_long}
 use Rattle.cell_swap.proofs.Unmapping.{IsWell, regions_left, same_base, same_maps, same_pages, same_patches, same_undo}
 
--- regions that are laid out stand apart
-pub laid_apart : (low : ℕ) (rs : List Region) (high : ℕ) → IsLaid low rs high → each_pair ends_before rs ≡ true
-laid_apart low [] high h = refl
-laid_apart low (r ∷ rs) high h =
-    and_from (list_all (ends_before r) rs) (each_pair ends_before rs)
-    (In-all (ends_before r) rs (λ s i. le-leb (end_of r) s.start ((lies_in (end_of r) rs high h.2 s i).above)))
-    (laid_apart (end_of r) rs high h.2)
-
 -- what hangs on the shapes of regions alone
-pub same_sizes : (start : ℕ) (xs ys : List Region) → map shape_of xs ≡ map shape_of ys → size_of (find (λ r. r.start == start) xs) ≡ size_of (find (λ r. r.start == start) ys)
-same_sizes start [] [] e = refl
-same_sizes start [] (y ∷ ys) e = absurd cc
-same_sizes start (x ∷ xs) [] e = absurd cc
-same_sizes start (x ∷ xs) (y ∷ ys) e =
-    let head : shape_of x ≡ shape_of y = cc e in
-    let tail : map shape_of xs ≡ map shape_of ys = cc e in
-    ap (λ n. size_of (cond (n == start) (Some x) (find (λ r. r.start == start) xs))) (ap (λ (s : Shape). s.start) head)
-    ∙ go (y.start == start) (ap (λ (s : Shape). s.size) head) (same_sizes start xs ys tail)
-  where
-    go : (b : Bool) → length x.bytes ≡ length y.bytes → size_of (find (λ r. r.start == start) xs) ≡ size_of (find (λ r. r.start == start) ys)
-        → size_of (cond b (Some x) (find (λ r. r.start == start) xs)) ≡ size_of (cond b (Some y) (find (λ r. r.start == start) ys))
-    go true size rest = size
-    go false size rest = rest
-
 other_shapes : (start : ℕ) (xs ys : List Region) → map shape_of xs ≡ map shape_of ys
     → map shape_of (filter (λ r. not (r.start == start)) xs) ≡ map shape_of (filter (λ r. not (r.start == start)) ys)
 other_shapes start xs ys e =

@@ -130,10 +130,10 @@ module _ (files : List File) (asked : Asked) (m : Machine) (b : IsBegun files as
       all_covered e = unmapped missing _ (sym lost_so ∙ e)
 
       module _ (covered : first_uncovered before.next_cell (G files asked m b reexport g gathered) ≡ None) where
-        pub landing_failed : (roots : List Root) (fail : Fail) → Lands m g (Err fail) → Plans files asked m b reexport roots (Err fail)
+        pub landing_failed : (roots : List Root) (fail : Fail) → Lands m g 0 (Err fail) → Plans files asked m b reexport roots (Err fail)
         landing_failed roots (Refused r) e =
             unplaced (sources files asked m b) (are files asked m b) before (h files asked m b) b.items b.some reexport (wants files asked m b) b.found.all (new_cells g) gathered.gathered covered r
-            (ap (λ (w : World). placing w (new_cells g)) (sym (aside_is files asked m b)) ∙ e)
+            (ap (λ (w : World). placing w (new_cells g) 0) (sym (aside_is files asked m b)) ∙ e)
         landing_failed roots OutOfMemory e = tt
 
         module _ (l : Landed) (landed : IsLanded m g l) where

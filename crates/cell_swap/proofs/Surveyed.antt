@@ -1,6 +1,6 @@
 -- What a survey of a sound machine may take for granted, and what it comes to.
-use Rattle.std.proofs.Common.{◌≡◌, refl, sym, ◌∙◌, ap, subst, arith, ℕ, suc, ◌≤◌, Bool, true, List, [], ◌∷◌, length, map, take, take_all}
-use Rattle.std.specs.Prelude.{IsTrue, ◌==◌, Option, None, filter, flat_map, nat_lt, not, option_map, if◌then◌else◌}
+use Rattle.std.proofs.Common.{◌≡◌, sym, ◌∙◌, ap, subst, arith, ℕ, suc, ◌≤◌, Bool, true, List, length, map}
+use Rattle.std.specs.Prelude.{IsTrue, ◌==◌, Option, None, flat_map, nat_lt, option_map, if◌then◌else◌}
 use Rattle.std.specs.List.{list_all}
 use Rattle.std.proofs.lemmas.Bool.{and_from}
 use Rattle.std.proofs.lemmas.List.{length-map}
@@ -16,7 +16,7 @@ use Rattle.cell_world.specs.declared.state.Placed.{Placed}
 use Rattle.cell_world.specs.Answer.{numbers_of}
 use Rattle.cell_world.specs.Coherent.{IsCoherent}
 use Rattle.cell_world.specs.Kept.{Claim, Holding, holder_in, kept_in, placed_at, placed_in}
-use Rattle.cell_world.specs.UnloadCommand.{garbage_of, held_refusal}
+use Rattle.cell_world.specs.UnloadCommand.{held_refusal}
 use Rattle.cell_world.specs.World.{World, Cell, attached}
 use Rattle.cell_coherent.specs.Present.{HasSection, JoinsPresent}
 use Rattle.cell_coherent.proofs.Elements.{In, All-In, In-all, any-In, found-In, In-flat_map, flat_map-In, In-map, map-In, pairs-map}
@@ -26,14 +26,12 @@ use Rattle.cell_removal.proofs.Freed.{number_holds}
 use Rattle.cell_hold.specs.declared.roots.Root.{Root}
 use Rattle.cell_hold.specs.Places.{HasTargets, has_section}
 use Rattle.cell_hold.specs.Roots.{AreCells, HasRoom, attached_by, claims_by, holding_by, named_by}
-use Rattle.cell_space.specs.Joined.{AreJoined, placed_of}
+use Rattle.cell_space.specs.Joined.{placed_of}
 use Rattle.cell_machine.specs.declared.machine.Machine.{Machine}
 use Rattle.cell_machine.specs.Machine.{IsSound, world_of}
-use Rattle.cell_machine.specs.Staged.{all_attached}
 use Rattle.cell_swap.specs.declared.survey.Survey.{Survey}
-use Rattle.cell_swap.specs.Sweep.{IsSurvey, aside_in, holding_in, refusal_of}
-use Rattle.cell_swap.proofs.Aside.{garbage_aside, numbers_aside, sections_aside}
-use Rattle.cell_swap.proofs.Firsts.{unkept_of}
+use Rattle.cell_swap.specs.Sweep.{IsSurvey, holding_in, refusal_of}
+use Rattle.cell_swap.proofs.Aside.{numbers_aside, sections_aside}
 
 abbrev pub sections_of : Machine → List Placed
 sections_of m = flat_map placed_in (world_of m).cells
@@ -121,15 +119,3 @@ module _ (m : Machine) (aside : List CellId) (s : Survey) (survey : IsSurvey m a
   refusal_by c o k e =
       ap (option_map {T = Holder} {U = Refusal} (λ holder. Held (record { 0 = c }) holder)) e
       ∙ ap (λ (b : Bool). if b then held_refusal (holding_in m aside) c else None) (k ∙ ap (λ (xs : List ℕ). holds xs c) survey.kept)
-
-same_numbers : (cells : List Cell) → numbers_of (all_attached (map placed_of cells)) ≡ numbers_of cells
-same_numbers [] = refl
-same_numbers (c ∷ cells) = ap (λ (ns : List ℕ). c.id.0 ∷ ns) (same_numbers cells)
-
--- once all cells have been looked at, those that nobody keeps are known
-pub unkept_all : (m : Machine) → AreJoined m.cells.items m.spaces.cells → (aside : List CellId) (s : Survey) → IsSurvey m aside s → (n : ℕ) → length m.cells.items ≤ n → unkept_of (map (λ c. c.0) s.kept.items) (take n m.cells.items) ≡ garbage_of (aside_in m aside)
-unkept_all m joined aside s survey n le =
-    ap (unkept_of (map (λ (c : CellId). c.0) s.kept.items)) (take_all n m.cells.items le ∙ sym joined.placed)
-    ∙ (ap (λ (ns : List ℕ). filter (λ n. not (holds (map (λ c. c.0) s.kept.items) n)) ns) (same_numbers (world_of m).cells)
-    ∙ ap (λ (ks : List ℕ). filter (λ n. not (holds ks n)) (numbers_of (world_of m).cells)) survey.kept
-    ∙ sym (garbage_aside (world_of m) (suc (world_of m).swaps) (map (λ (c : CellId). c.0) aside)))

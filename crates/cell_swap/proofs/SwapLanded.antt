@@ -207,7 +207,7 @@ module _ (sources : List Source) (sound : AreSound sources) (v : World) (h : IsC
           }
 
     -- there is no room, or an entry doesn't fit
-    pub unplaced : (r : Refusal) → placing u new ≡ Err r → plan_swap sources v items reexport [] ≡ Err r
+    pub unplaced : (r : Refusal) → placing u new 0 ≡ Err r → plan_swap sources v items reexport [] ≡ Err r
     unplaced r e = go (take_all u.base (page_table u) (objects_of new)) refl e
       where
         unfit : (t : ManyTaken) → take_all u.base (page_table u) (objects_of new) ≡ Ok t → (o : Option Refusal) → first_misfit (placed_after t.starts u new) (placed_cells t.starts new) ≡ o

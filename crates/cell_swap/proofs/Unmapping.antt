@@ -14,7 +14,7 @@ use Rattle.cell_num.specs.Lists.{each_pair, holds}
 use Rattle.cell_world.specs.Memory.{covers}
 use Rattle.cell_world.specs.World.{Region}
 use Rattle.cell_swap.specs.Unmapped.{CanLeave, differs, without_regions}
-use Rattle.cell_swap.proofs.LaidApart.{covers_alone, laid_some, lies_in}
+use Rattle.cell_xfer.proofs.LaidApart.{covers_alone, laid_some, lies_in}
 use Rattle.cell_swap.proofs.Leftovers.{filter_twice, not_or, turn}
 
 pub differ_not : (a b : ℕ) → differs a b ≡ true → a ≡ b → ⊥

@@ -8,9 +8,10 @@
 --     SomeOutlook, SomeSurvey      the same with some cells put aside
 --     Removes old s removed new    those that nobody keeps by the survey are gone
 --     refusal_of h c               the refusal for the cell, if it is kept
---     unless_kept kept c           the cell, if it isn't among those that are kept
+--     unless_next c kept           the cell, if it isn't the first of the kept ones
+--     after_next c kept            the kept ones without it
 --     Sweeps old cells result new  all cells that nobody keeps are gone; or one of the cells is kept, and nothing is changed
-use Rattle.std.specs.Prelude.{ℕ, suc, ◌≡◌, IsTrue, List, [], ◌∷◌, Option, Some, None, Ok, Err, Result, Vec, map, flat_map, if◌then◌else◌}
+use Rattle.std.specs.Prelude.{ℕ, suc, ◌≡◌, ◌==◌, IsTrue, List, [], ◌∷◌, Option, Some, None, Ok, Err, Result, Vec, map, flat_map, if◌then◌else◌}
 use Rattle.std.specs.List.{list_all}
 use Rattle.cell_num.specs.Lists.{holds}
 use Rattle.cell_num.specs.declared.ids.CellId.{CellId}
@@ -46,8 +47,13 @@ holding_in m cells = holding_of (aside_in m cells)
 abbrev pub refusal_of : Holding → ℕ → Option Refusal
 refusal_of h c = if holds (kept_in h) c then held_refusal h c else None
 
-abbrev pub unless_kept : List ℕ → ℕ → List ℕ
-unless_kept kept c = if holds kept c then [] else c ∷ []
+abbrev pub unless_next : ℕ → List ℕ → List ℕ
+unless_next c [] = c ∷ []
+unless_next c (k ∷ kept) = if k == c then [] else c ∷ []
+
+abbrev pub after_next : ℕ → List ℕ → List ℕ
+after_next c [] = []
+after_next c (k ∷ kept) = if k == c then kept else k ∷ kept
 
 pub record IsOutlook (m : Machine) (cells : List CellId) (o : Outlook) : Type 0 where
   pub sections : o.places ≡ flat_map placed_in (world_of m).cells

@@ -125,7 +125,7 @@ pub fn plan_swap(
 {
     let affected = Affected::of(alloc, machine, asked)?;
     let gathered = find_new(alloc, depot, machine, asked, &affected, reexport)?;
-    let landed = land(alloc, machine, gathered)?;
+    let landed = land(alloc, machine, gathered, 0)?;
     let Changed {
         patches,
         moves,

@@ -3,11 +3,10 @@
 ghost use Rattle.std.specs.Prelude.{◌≡◌, ◌≤◌, ◌<◌, ◌+◌, ◌++◌, [], List, length, map, vec_capacity, vec_len};
 ghost use Rattle.cell_machine.specs.Machine.{IsSound};
 ghost use Rattle.cell_num.specs.Lists.{holds};
-ghost use Rattle.cell_space.specs.Joined.{AreJoined};
 ghost use Rattle.cell_num.specs.declared.ids.CellId.{CellId as IdOfCell};
 ghost use Rattle.cell_world.specs.UnloadCommand.{first_held, garbage_of};
 ghost use Rattle.cell_world.specs.declared.refusal.Refusal.TheVariants.{Held};
-ghost use Rattle.cell_swap.specs.Sweep.{IsOutlook, IsSurvey, SomeOutlook, aside_in, holding_in, refusal_of, unless_kept};
+ghost use Rattle.cell_swap.specs.Sweep.{IsOutlook, IsSurvey, SomeOutlook, SomeSurvey, after_next, aside_in, holding_in, refusal_of, unless_next};
 
 use crate::outlook::Outlook;
 use cell_hold::{holder_of, kept};
@@ -27,6 +26,24 @@ fn held(cell: CellId, holder: Holder) -> Refusal
     ensures { result ≡ Held cell holder }
 {
     Refusal::Held { cell, holder }
+}
+
+/// Adds the cell to a list with room for it, unless it is the next of the kept ones. The answer are the
+/// kept ones that come after it.
+fn add_unless_next<'a>(cell: CellId, kept: &'a [CellId], into: &mut Vec<CellId>) -> &'a [CellId]
+    requires { vec_len into.old < vec_capacity into.old }
+    ensures cells { map (λ c. c.0) into.new.items ≡ map (λ c. c.0) into.old.items ++ unless_next cell.0 (map (λ c. c.0) kept.now) }
+    ensures kept { map (λ c. c.0) result.now ≡ after_next cell.0 (map (λ c. c.0) kept.now) }
+    ensures room { vec_capacity into.old ≤ vec_capacity into.new }
+    ensures more { vec_len into.new ≤ vec_len into.old + 1 }
+{
+    match kept {
+        [next, rest @ ..] if next.0 == cell.0 => rest,
+        _ => {
+            let _ = into.push(cell);
+            kept
+        }
+    }
 }
 
 impl Survey {
@@ -89,29 +106,18 @@ impl Survey {
         None
     }
 
-    /// Adds the cell to a list with room for it, if nobody keeps it.
-    fn add_unkept(&self, cell: CellId, into: &mut Vec<CellId>)
-        requires { vec_len into.old < vec_capacity into.old }
-        ensures cells { map (λ c. c.0) into.new.items ≡ map (λ c. c.0) into.old.items ++ unless_kept (map (λ c. c.0) self.now.kept.items) cell.0 }
-        ensures room { vec_capacity into.old ≤ vec_capacity into.new }
-        ensures more { vec_len into.new ≤ vec_len into.old + 1 }
-    {
-        if self.keeps(cell) {
-            return;
-        }
-        let _ = into.push(cell);
-    }
-
-    /// Lists the cells that nobody keeps, ascending, in a list that is empty and has room for all. This
-    /// takes no memory.
+    /// Lists the cells that nobody keeps, ascending, in a list that is empty and has room for all. Both
+    /// lists ascend, so one walk goes over the two. This takes no memory.
     pub fn list_unkept(&self, machine: &Machine, into: &mut Vec<CellId>)
-        requires joined { AreJoined machine.now.cells.items machine.now.spaces.cells }
+        requires sound { IsSound machine.now }
+        requires survey { SomeSurvey machine.now self.now }
         requires empty { into.old.items ≡ [] }
         requires room { length machine.now.cells.items ≤ vec_capacity into.old }
         ensures { (aside : List IdOfCell) → IsSurvey machine.now aside self.now → map (λ c. c.0) into.new.items ≡ garbage_of (aside_in machine.now aside) }
     {
+        let mut kept = self.kept.as_slice();
         for place in 0..machine.cells.len() {
-            self.add_unkept(machine.cells[place].id, into);
+            kept = add_unless_next(machine.cells[place].id, kept, into);
         }
     }
 }

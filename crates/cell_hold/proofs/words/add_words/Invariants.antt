@@ -1,12 +1,10 @@
 use Rattle.std.proofs.Common.{◌≡◌, length}
-use Rattle.cell_hold.specs.Spans.{IsSettled}
 use Rattle.cell_hold.proofs.Wording.{SoFar}
 use Rattle.cell_hold.proofs.words.add_words.Given as goal
 
 abbrev pub invariant-loop-rest : goal.invariant-loop-rest
 invariant-loop-rest l = record {
   added : SoFar l.places l.fn.into.room l.bytes l.rest l.fn.into.items l.into.items;
-  settled : IsSettled l.places l.settled l.into.room l.into.items;
   room : l.into.room ≡ l.fn.into.room;
 }
 

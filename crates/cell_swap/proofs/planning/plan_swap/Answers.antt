@@ -31,7 +31,7 @@ returns-in_err-landed c =
 pub changed_by-requires-clause-cells : goal.changed_by-requires-clause-cells
 changed_by-requires-clause-cells c =
     let found = c.in_ok-gathered.ensures c.requires in
-    cells_are c.args.depot.now c.args.asked.now c.args.machine.now c.requires c.args.reexport c.in_ok-affected.affected (c.in_ok-affected.ensures {u = tt}) c.in_ok-gathered.gathered found.gathered found.covered c.in_ok-landed.landed (c.in_ok-landed.ensures {u = tt})
+    cells_are c.args.depot.now c.args.asked.now c.args.machine.now c.requires c.args.reexport c.in_ok-affected.affected (c.in_ok-affected.ensures {u = tt}) c.in_ok-gathered.gathered found.gathered found.covered c.in_ok-landed.landed (c.in_ok-landed.ensures {u = tt}).0
 
 pub changed_by-requires-clause-there : goal.changed_by-requires-clause-there
 changed_by-requires-clause-there c = users_there c.args.depot.now c.args.asked.now c.args.machine.now c.requires c.args.reexport c.in_ok-affected.affected (c.in_ok-affected.ensures {u = tt})
@@ -39,7 +39,7 @@ changed_by-requires-clause-there c = users_there c.args.depot.now c.args.asked.n
 pub changed_by-requires-clause-may : goal.changed_by-requires-clause-may
 changed_by-requires-clause-may c =
     let found = c.in_ok-gathered.ensures c.requires in
-    may_change c.args.depot.now c.args.asked.now c.args.machine.now c.requires c.args.reexport c.in_ok-affected.affected (c.in_ok-affected.ensures {u = tt}) c.in_ok-gathered.gathered found.gathered found.covered c.in_ok-landed.landed (c.in_ok-landed.ensures {u = tt})
+    may_change c.args.depot.now c.args.asked.now c.args.machine.now c.requires c.args.reexport c.in_ok-affected.affected (c.in_ok-affected.ensures {u = tt}) c.in_ok-gathered.gathered found.gathered found.covered c.in_ok-landed.landed (c.in_ok-landed.ensures {u = tt}).0
 
 pub returns-in_err-patches : goal.returns-in_err-patches
 returns-in_err-patches c =
@@ -47,7 +47,7 @@ returns-in_err-patches c =
     rw (p.1, p.2)
     (λ b.
     let found = c.in_ok-gathered.ensures b in
-    changing_failed c.args.depot.now c.args.asked.now c.args.machine.now b c.args.reexport c.in_ok-affected.affected (c.in_ok-affected.ensures {u = tt}) c.in_ok-gathered.gathered found.gathered found.covered c.in_ok-landed.landed (c.in_ok-landed.ensures {u = tt})
+    changing_failed c.args.depot.now c.args.asked.now c.args.machine.now b c.args.reexport c.in_ok-affected.affected (c.in_ok-affected.ensures {u = tt}) c.in_ok-gathered.gathered found.gathered found.covered c.in_ok-landed.landed (c.in_ok-landed.ensures {u = tt}).0
     c.args.roots.items c.in_err-patches.field-0.0 c.in_err-patches.ensures)
 
 pub check_torn-requires : goal.check_torn-requires
@@ -59,21 +59,21 @@ returns-in_err-check_torn c =
     rw (p.1, p.2)
     (λ b.
     let found = c.in_ok-gathered.ensures b in
-    standing_failed c.args.depot.now c.args.asked.now c.args.machine.now b c.args.reexport c.in_ok-affected.affected (c.in_ok-affected.ensures {u = tt}) c.in_ok-gathered.gathered found.gathered found.covered c.in_ok-landed.landed (c.in_ok-landed.ensures {u = tt}) c.in_ok-patches.field-0 c.in_ok-patches.ensures
+    standing_failed c.args.depot.now c.args.asked.now c.args.machine.now b c.args.reexport c.in_ok-affected.affected (c.in_ok-affected.ensures {u = tt}) c.in_ok-gathered.gathered found.gathered found.covered c.in_ok-landed.landed (c.in_ok-landed.ensures {u = tt}).0 c.in_ok-patches.field-0 c.in_ok-patches.ensures
     c.args.roots.items c.in_err-check_torn.field-0.0
-    (c.in_err-check_torn.ensures _ (c.deref.ensures.value ∙ spans_so c.args.depot.now c.args.asked.now c.args.machine.now b c.args.reexport c.in_ok-affected.affected (c.in_ok-affected.ensures {u = tt}) c.in_ok-gathered.gathered found.gathered found.covered c.in_ok-landed.landed (c.in_ok-landed.ensures {u = tt}) c.in_ok-patches.field-0 c.in_ok-patches.ensures)))
+    (c.in_err-check_torn.ensures _ (c.deref.ensures.value ∙ spans_so c.args.depot.now c.args.asked.now c.args.machine.now b c.args.reexport c.in_ok-affected.affected (c.in_ok-affected.ensures {u = tt}) c.in_ok-gathered.gathered found.gathered found.covered c.in_ok-landed.landed (c.in_ok-landed.ensures {u = tt}).0 c.in_ok-patches.field-0 c.in_ok-patches.ensures)))
 
 pub with-requires : goal.with-requires
 with-requires c =
     let found = c.in_ok-gathered.ensures c.requires in
-    rw (c.deref-2.ensures.value, c.deref-3.ensures.value) (sections_ordered c.args.depot.now c.args.asked.now c.args.machine.now c.requires c.args.reexport c.in_ok-affected.affected (c.in_ok-affected.ensures {u = tt}) c.in_ok-gathered.gathered found.gathered found.covered c.in_ok-landed.landed (c.in_ok-landed.ensures {u = tt}))
+    rw (c.deref-2.ensures.value, c.deref-3.ensures.value) (sections_ordered c.args.depot.now c.args.asked.now c.args.machine.now c.requires c.args.reexport c.in_ok-affected.affected (c.in_ok-affected.ensures {u = tt}) c.in_ok-gathered.gathered found.gathered found.covered c.in_ok-landed.landed (c.in_ok-landed.ensures {u = tt}).0)
 
 pub returns : goal.returns
 returns c b =
     let found = c.in_ok-gathered.ensures b in
     let look = c.in_ok-outlook.ensures {u = tt} in
-    is_plan c.args.depot.now c.args.asked.now c.args.machine.now b c.args.reexport c.in_ok-affected.affected (c.in_ok-affected.ensures {u = tt}) c.in_ok-gathered.gathered found.gathered found.covered c.in_ok-landed.landed (c.in_ok-landed.ensures {u = tt}) c.in_ok-patches.field-0 c.in_ok-patches.ensures c.args.roots.items
-    (c.in_ok-check_torn.ensures _ (c.deref.ensures.value ∙ spans_so c.args.depot.now c.args.asked.now c.args.machine.now b c.args.reexport c.in_ok-affected.affected (c.in_ok-affected.ensures {u = tt}) c.in_ok-gathered.gathered found.gathered found.covered c.in_ok-landed.landed (c.in_ok-landed.ensures {u = tt}) c.in_ok-patches.field-0 c.in_ok-patches.ensures))
+    is_plan c.args.depot.now c.args.asked.now c.args.machine.now b c.args.reexport c.in_ok-affected.affected (c.in_ok-affected.ensures {u = tt}) c.in_ok-gathered.gathered found.gathered found.covered c.in_ok-landed.landed (c.in_ok-landed.ensures {u = tt}).0 c.in_ok-patches.field-0 c.in_ok-patches.ensures c.args.roots.items
+    (c.in_ok-check_torn.ensures _ (c.deref.ensures.value ∙ spans_so c.args.depot.now c.args.asked.now c.args.machine.now b c.args.reexport c.in_ok-affected.affected (c.in_ok-affected.ensures {u = tt}) c.in_ok-gathered.gathered found.gathered found.covered c.in_ok-landed.landed (c.in_ok-landed.ensures {u = tt}).0 c.in_ok-patches.field-0 c.in_ok-patches.ensures))
     c.in_ok-outlook.outlook
     (look.places ∙ ap₂ (λ (cs ds : List NewCell). flat_map (λ d. placed_in (attached d)) (cs ++ ds)) c.deref-2.ensures.value c.deref-3.ensures.value)
     (look.roots ∙ ap (λ (ds : List NewCell). c.args.roots.items ++ map (λ d. Attached d.id) ds) c.deref-3.ensures.value)
