@@ -144,38 +144,63 @@ fn at(cell: u32, offset: u64) -> Begin
     }
 }
 
+/// What the first of two cells has; the second has `ENTRY`.
+struct Choice {
+    first: Sample,
+    /// The cell whose symbol counts, if that is an entry.
+    cell: Option<u32>,
+}
+
+const CHOICES: [Choice; 7] = [
+    Choice {
+        first: ENTRY,
+        cell: Some(7),
+    },
+    Choice {
+        first: Sample { value: 4, ..ENTRY },
+        cell: None,
+    },
+    Choice {
+        first: Sample { size: 6, ..ENTRY },
+        cell: Some(7),
+    },
+    Choice {
+        first: Sample { size: 5, ..ENTRY },
+        cell: None,
+    },
+    Choice {
+        first: Sample {
+            exec: false,
+            ..ENTRY
+        },
+        cell: None,
+    },
+    Choice {
+        first: Sample {
+            global: false,
+            ..ENTRY
+        },
+        cell: Some(9),
+    },
+    Choice {
+        first: Sample {
+            name: b'b',
+            ..ENTRY
+        },
+        cell: Some(9),
+    },
+];
+
 /// The first cell that defines the name counts, at a multiple of 4 in its text with four bytes left.
 #[test]
 fn begins(rt: HostRuntime) -> Result<(), Fail> {
     let alloc = rt.alloc();
-    for (first, want) in [
-        (ENTRY, Some(at(7, 2))),
-        (Sample { value: 4, ..ENTRY }, None),
-        (Sample { size: 6, ..ENTRY }, Some(at(7, 2))),
-        (Sample { size: 5, ..ENTRY }, None),
-        (
-            Sample {
-                exec: false,
-                ..ENTRY
-            },
-            None,
-        ),
-        (
-            Sample {
-                global: false,
-                ..ENTRY
-            },
-            Some(at(9, 2)),
-        ),
-        (
-            Sample {
-                name: b'b',
-                ..ENTRY
-            },
-            Some(at(9, 2)),
-        ),
-    ] {
-        assert_eq!(rt; begin(alloc, first, ENTRY)?, want);
+    for choice in &CHOICES {
+        let want = match choice.cell {
+            Some(cell) => Some(at(cell, 2)),
+            None => None,
+        };
+        assert_eq!(rt; begin(alloc, choice.first, ENTRY)?, want);
     }
     Ok(())
 }

@@ -4,6 +4,7 @@ ghost use Rattle.std.specs.Prelude.{◌≡◌, ◌+◌, ◌-◌, ◌<◌, ◌≤
 ghost use Rattle.cell_hart.specs.Step.{seen_of};
 ghost use Rattle.cell_mem.specs.State.{HasWrites};
 ghost use Rattle.cell_world.specs.Transfer.{is_success as succeeds, routine_from};
+ghost use Rattle.cell_world.specs.World.{stack_size};
 ghost use Rattle.cell_xfer.specs.Named.{AnswersAs, addresses_as};
 ghost use Rattle.cell_xfer.specs.Ran.{ending_of, hart_as, tables_of, why_of as why_in};
 ghost use Rattle.cell_xfer.specs.Transfers.{Transfers};
@@ -74,7 +75,7 @@ pub fn transfer(
     addresses: &Addresses,
 ) -> Result<(), Failure>
     requires undo { HasWrites memory.old budget }
-    requires stack { stack + 16384 < 2 ^ 64 }
+    requires stack { stack + stack_size < 2 ^ 64 }
     ensures written { HasWritten memory.old memory.new budget }
     ensures answer { (old new : List (List ℕ × ℕ)) → AnswersAs addresses.now.old old → AnswersAs addresses.now.new new → Transfers budget (record { old = addresses_as old; new = addresses_as new }) memory.old stack routines.now result memory.new }
 {

@@ -2,6 +2,7 @@ ghost use Rattle.std.specs.Prelude.{◌≡◌, IfOk, is_some, length, true};
 ghost use Rattle.cell_mem.specs.State.{HasWrites};
 
 use crate::*;
+use cell_hart::STACK_SIZE;
 use cell_mem::{Memory, Perm};
 use cell_num::{Cause, Why};
 use cell_world::{Failure, Record, Routine};
@@ -48,7 +49,7 @@ fn begun(alloc: Global, code: &[u32], writes: u32) -> Result<Memory, Fail>
     let mut memory = Memory::new(alloc, BASE, 16)?;
     memory.reserve(2)?;
     let code = bytes_of(alloc, code, 4096)?;
-    let stack = bytes_of(alloc, &[], 16384)?;
+    let stack = bytes_of(alloc, &[], STACK_SIZE as usize)?;
     memory.map(BASE, Perm::READ | Perm::EXEC, code);
     memory.map(STACK, Perm::READ | Perm::WRITE, stack);
     memory.begin_undo(alloc, writes)?;
@@ -161,71 +162,118 @@ fn asking(number: u32, page: u32, place: u32, len: u32) -> [u32; 17] {
     code
 }
 
+/// A call for an address: the page of the name, its place there and its length.
+struct Ask {
+    number: u32,
+    page: u32,
+    place: u32,
+    len: u32,
+    /// What is answered; nothing, if the call is a trap.
+    answer: Option<u64>,
+}
+
+const PAGE: u32 = 0x1000_0000;
+
+/// By call 4 for the name `ab`, which is known.
+const ASK: Ask = Ask {
+    number: 4,
+    page: PAGE,
+    place: 64,
+    len: 2,
+    answer: Some(0x1111),
+};
+
+/// Call 5 from the last byte of the code and the first of the stack.
+const ACROSS: Ask = Ask {
+    number: 5,
+    page: PAGE + 0x1000,
+    place: 0xfff,
+    len: 2,
+    answer: Some(0),
+};
+
+const ASKS: [Ask; 14] = [
+    ASK,
+    Ask {
+        number: 5,
+        answer: Some(0x2222),
+        ..ASK
+    },
+    Ask {
+        number: 4,
+        answer: Some(0x4444),
+        ..ACROSS
+    },
+    // Unknown names, of which the longest has 1024 bytes.
+    ACROSS,
+    Ask {
+        len: 1,
+        answer: Some(0),
+        ..ASK
+    },
+    Ask {
+        number: 5,
+        len: 0,
+        answer: Some(0),
+        ..ASK
+    },
+    Ask {
+        len: 1024,
+        answer: Some(0),
+        ..ASK
+    },
+    Ask {
+        len: 1025,
+        answer: None,
+        ..ASK
+    },
+    // Not mapped: the second byte, both, and the one after the last address.
+    Ask {
+        number: 4,
+        page: PAGE + 0x5000,
+        answer: None,
+        ..ACROSS
+    },
+    Ask {
+        page: PAGE + 0xf000,
+        place: 0,
+        answer: None,
+        ..ACROSS
+    },
+    Ask {
+        page: 0,
+        answer: None,
+        ..ACROSS
+    },
+    // The calls before and after don't answer, and 6 is none.
+    Ask {
+        number: 3,
+        answer: Some(0x1000_0040),
+        ..ASK
+    },
+    Ask {
+        number: 6,
+        answer: None,
+        ..ASK
+    },
+    Ask {
+        number: 0,
+        answer: Some(0x1000_0040),
+        ..ASK
+    },
+];
+
 #[test]
 fn names_are_answered(rt: HostRuntime) -> Result<(), Fail> {
     let alloc = rt.alloc();
-    let page = 0x1000_0000;
-    for (number, page, place, len, want) in [
-        (4, page, 64, 2, failure(0, Why::Returned(0x1111))),
-        (5, page, 64, 2, failure(0, Why::Returned(0x2222))),
-        // from the code into the stack
-        (
-            4,
-            page + 0x1000,
-            0xfff,
-            2,
-            failure(0, Why::Returned(0x4444)),
-        ),
-        // unknown names
-        (5, page + 0x1000, 0xfff, 2, Ok(())),
-        (4, page, 64, 1, Ok(())),
-        (5, page, 64, 0, Ok(())),
-        (4, page, 64, 1024, Ok(())),
-        (
-            4,
-            page,
-            64,
-            1025,
-            failure(0, Why::Trap(Cause::Call, BASE + 16)),
-        ),
-        // not mapped: the second byte, both, the one after the last address
-        (
-            4,
-            page + 0x5000,
-            0xfff,
-            2,
-            failure(0, Why::Trap(Cause::Call, BASE + 16)),
-        ),
-        (
-            5,
-            page + 0xf000,
-            0,
-            2,
-            failure(0, Why::Trap(Cause::Call, BASE + 16)),
-        ),
-        (
-            5,
-            0,
-            0xfff,
-            2,
-            failure(0, Why::Trap(Cause::Call, BASE + 16)),
-        ),
-        // the calls before and after
-        (3, page, 64, 2, failure(0, Why::Returned(0x1000_0040))),
-        (
-            6,
-            page,
-            64,
-            2,
-            failure(0, Why::Trap(Cause::Call, BASE + 16)),
-        ),
-        (0, page, 64, 2, failure(0, Why::Returned(0x1000_0040))),
-    ] {
-        assert_eq!(rt;
-            outcome(alloc, &asking(number, page, place, len), 6)?,
-            want,
-            "call {number}"
-        );
+    for ask in &ASKS {
+        let want = match ask.answer {
+            Some(0) => Ok(()),
+            Some(answer) => failure(0, Why::Returned(answer)),
+            None => failure(0, Why::Trap(Cause::Call, BASE + 16)),
+        };
+        let code = asking(ask.number, ask.page, ask.place, ask.len);
+        assert_eq!(rt; outcome(alloc, &code, 6)?, want, "call {}", ask.number);
     }
     Ok(())
 }
