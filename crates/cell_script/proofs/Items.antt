@@ -1,14 +1,13 @@
 -- Where the items of a swap end, and what they and the options say.
 use Rattle.std.proofs.Common.{◌≡◌, refl, ap, ap₂, sym, ◌∙◌, ℕ, ◌+◌, ◌-◌, Bool, not, cond, List, [], ◌∷◌, Option, Some, None, Bor, map, length, position, is_none, nat_lt, take, drop}
-use Rattle.std.specs.Prelude.{option_and_then, unwrap_or, codes, ◌==◌}
-use Rattle.cell_num.specs.Lists.{where_true}
+use Rattle.std.specs.Prelude.{option_and_then, option_map, unwrap_or, codes}
 use Rattle.std.specs.List.{position_or_len}
 use Rattle.std.proofs.lemmas.List.{drop-map, length-drop, length-map, take-map}
 use Rattle.std.proofs.Math.Seq.{take-length}
 use Rattle.cell_world.specs.declared.command.Command.{Command}
-use Rattle.cell_world.specs.declared.command.Command.TheVariants.{Swap}
 use Rattle.cell_world.specs.declared.command.SwapItem.{SwapItem}
-use Rattle.cell_script.specs.Grammar.{after_option, first_equals, has_option, item_count, swap_items, swap_of, swap_words, usual_budget}
+use Rattle.cell_script.specs.Grammar.{after_option, first_equals, has_option, item_count, swap_by, swap_items, swap_of, swap_words, transfer_of}
+use Rattle.cell_script.specs.declared.transfer.Transfer.{Transfer}
 
 module _ {A B : Type 0} (p : B → Bool) (f : A → B) where
   place_of_map : (xs : List A) → position_or_len p (map f xs) ≡ position_or_len (λ x. p (f x)) xs
@@ -36,9 +35,9 @@ counted words o e =
 abbrev seen : List (Bor (List ℕ)) → List (List ℕ)
 seen words = map (λ word. word.now) words
 
--- a swap of those items with those options, if no word is left
+-- a swap of those items with those options, if the words that are left name routines
 abbrev swap_with : List SwapItem → Bool → Bool → List (List ℕ) → Option Command
-swap_with items reexport strict left = where_true (length left == 0) (Swap items reexport strict [] usual_budget)
+swap_with items reexport strict left = option_map (swap_by items reexport strict) (transfer_of left)
 
 -- what the two options are, and what is left after each
 pub record AreOptions (options : List (List ℕ)) (one two : List ℕ) (reexport strict : Bool) (after left : List (List ℕ)) : Type 0 where
@@ -80,7 +79,6 @@ module _ (words : List (Bor (List ℕ))) (n : ℕ) (is : n ≡ item_count (seen 
 
   pub swap_is : (items : List SwapItem) → Some items ≡ swap_items (seen (take n words))
       → (one two : List ℕ) (reexport strict : Bool) (after left : List (Bor (List ℕ))) → AreOptions options one two reexport strict (seen after) (seen left)
-      → (ends : Bool) → ends ≡ (length left == 0) → where_true ends (Swap items reexport strict [] usual_budget) ≡ swap_words (seen words)
-  swap_is items first one two reexport strict after left are ends e =
-      ap (λ b. where_true b (Swap items reexport strict [] usual_budget)) (e ∙ ap (λ n. n == 0) (sym (length-map left (λ (word : Bor (List ℕ)). word.now))))
-      ∙ (options_read items options one two reexport strict (seen after) (seen left) are ∙ of_items (Some items) first)
+      → (transfer : Option Transfer) → transfer ≡ transfer_of (seen left) → option_map (swap_by items reexport strict) transfer ≡ swap_words (seen words)
+  swap_is items first one two reexport strict after left are transfer e =
+      ap (option_map (swap_by items reexport strict)) e ∙ (options_read items options one two reexport strict (seen after) (seen left) are ∙ of_items (Some items) first)

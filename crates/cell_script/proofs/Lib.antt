@@ -3,3 +3,4 @@ pub mod Count
 pub mod SeenWords
 pub mod Items
 pub mod Said
+pub mod Routines

@@ -1,15 +1,14 @@
 -- Each command of a script is one that a line can say.
 use Rattle.std.proofs.Common.{◌≡◌, refl, ap, ◌∙◌, arith, ℕ, ◌+◌, Bool, true, false, cond, ◌&&◌, List, [], ◌∷◌}
 use Rattle.std.proofs.lemmas.Bool.{lt-ltb}
-use Rattle.std.specs.Prelude.{Option, Some, None, Result, Ok, Err, bytes_eq, codes, drop, length, map, nat_lt, option_and_then, option_map, take, ◌==◌}
-use Rattle.cell_num.specs.Lists.{where_true}
+use Rattle.std.specs.Prelude.{Option, Some, None, Result, Ok, Err, bytes_eq, codes, drop, length, map, nat_lt, option_and_then, option_map, take}
 use Rattle.cell_world.specs.declared.command.SwapItem.{SwapItem}
 use Rattle.cell_world.specs.declared.command.Command.{Command}
-use Rattle.cell_world.specs.declared.command.Command.TheVariants.{Ns, Load, Spawn, Step, Run, Kill, Swap, Unload, Purge, Find, Map, Tasks, Deps, Users, Dump}
+use Rattle.cell_world.specs.declared.command.Command.TheVariants.{Ns, Load, Spawn, Step, Run, Kill, Unload, Purge, Find, Map, Tasks, Deps, Users, Dump}
 use Rattle.cell_script.specs.declared.command.Reading.{Reading}
 use Rattle.cell_script.specs.declared.command.Reading.TheVariants.{Nothing, Does, Bad}
 use Rattle.cell_script.specs.declared.line.Line.{Line}
-use Rattle.cell_script.specs.Grammar.{Form, after_option, all_three, alone, are_different, argument, both, both_around, cell_names, cell_part, command_in, each_said, forms, has_option, item_count, name, number, several, single, swap_item, swap_items, swap_of, swap_words, symbol, turns_of_run, turns_of_step, usual_budget}
+use Rattle.cell_script.specs.Grammar.{Form, after_option, all_three, alone, are_different, argument, both, both_around, cell_names, cell_part, command_in, each_said, forms, has_option, item_count, name, number, several, single, swap_by, swap_item, swap_items, swap_of, swap_words, symbol, transfer_of, turns_of_one, turns_of_run}
 use Rattle.cell_script.specs.Script.{add_line, are_said, does, is_comment, is_said, reading_in, reading_of, script_from}
 use Rattle.cell_text.specs.Text.{words_of}
 
@@ -94,14 +93,10 @@ items_filled (word ∷ words) = go (are_different (map cell_part (word ∷ words
     go false = tt
 
 items_said : (options : List (List ℕ)) (items : List SwapItem) → nat_lt 0 (length items) ≡ true → IsSaid (swap_of options items)
-items_said options items filled = go (length (after_option (codes "strict") after) == 0)
+items_said options items filled = mapped (swap_by items (has_option (codes "reexport") options) (has_option (codes "strict") after)) (λ transfer. filled) (transfer_of (after_option (codes "strict") after))
   where
     after : List (List ℕ)
     after = after_option (codes "reexport") options
-
-    go : (ends : Bool) → IsSaid (where_true ends (Swap items (has_option (codes "reexport") options) (has_option (codes "strict") after) [] usual_budget))
-    go true = filled
-    go false = tt
 
 swap_said : (words : List (List ℕ)) → IsSaid (swap_words words)
 swap_said words = go (swap_items (take (item_count words) words)) (items_filled (take (item_count words) words))
@@ -130,7 +125,7 @@ all_forms = (
     (
       three_said name symbol argument (λ ns what arg. Spawn ns what arg) (λ a b c. refl),
       (
-        both_said number turns_of_step (λ task turns. Step task turns) (λ a b. refl),
+        both_said number turns_of_one (λ task turns. Step task turns) (λ a b. refl),
         (
           single_said (λ turns. Run turns) (λ a. refl) turns_of_run,
           (

@@ -10,6 +10,7 @@ use Rattle.cell_world.specs.declared.command.CellName.{CellName}
 use Rattle.cell_world.specs.declared.command.SwapItem.{SwapItem}
 use Rattle.cell_world.specs.declared.command.Command.{Command}
 use Rattle.cell_world.specs.declared.command.Command.TheVariants.{Ns, Load, Spawn, Step, Run, Kill, Swap, Unload, Purge, Find, Map, Tasks, Deps, Users, Dump}
+use Rattle.cell_script.specs.declared.transfer.Transfer.{Transfer}
 
 abbrev pub is_name_byte : ℕ → Bool
 is_name_byte b = (nat_le 97 b && nat_le b 122) || (nat_le 48 b && nat_le b 57) || b == 95
@@ -35,10 +36,11 @@ symbol word = where_true (is_symbol word) word
 abbrev pub number : List ℕ → Option ℕ
 number word = number_in 4294967295 word
 
--- how many turns `step` and `run` may give
-abbrev pub turns_of_step : List ℕ → Option ℕ
-turns_of_step word = number_in 100000 word
+-- how many turns `step` may give a task, and a swap each of its routines
+abbrev pub turns_of_one : List ℕ → Option ℕ
+turns_of_one word = number_in 100000 word
 
+-- how many turns `run` may give each task
 abbrev pub turns_of_run : List ℕ → Option ℕ
 turns_of_run word = number_in 10000 word
 
@@ -145,17 +147,46 @@ after_option option words = if has_option option words then drop 1 words else wo
 abbrev pub item_count : List (List ℕ) → ℕ
 item_count words = unwrap_or (position (λ word. is_none (first_equals word)) words) (length words)
 
--- how many steps a routine may take where the line doesn't say it
+-- the words behind each `transfer`, from the front on: the word after it names a routine, whatever it is
+abbrev pub routine_words : List (List ℕ) → List (List ℕ)
+routine_words (word ∷ routine ∷ words) = if bytes_eq word (codes "transfer") then routine ∷ routine_words words else []
+routine_words words = []
+
+-- the words after these
+abbrev pub after_routines : List (List ℕ) → List (List ℕ)
+after_routines (word ∷ routine ∷ words) = if bytes_eq word (codes "transfer") then after_routines words else word ∷ routine ∷ words
+after_routines words = words
+
+-- how many turns a routine may have where the line doesn't say it
 abbrev pub usual_budget : ℕ
 usual_budget = 10000
 
--- the options: `reexport`, then `strict`
+-- how many turns each of that many routines may have: `budget N`, which needs one at least, or nothing
+abbrev pub budget_of : ℕ → List (List ℕ) → Option ℕ
+budget_of routines [] = Some usual_budget
+budget_of routines (word ∷ turns ∷ []) = if nat_lt 0 routines && bytes_eq word (codes "budget") then turns_of_one turns else None
+budget_of routines words = None
+
+abbrev pub transfer_by : List (List ℕ) → ℕ → Transfer
+transfer_by routines budget = record { routines = routines; budget = budget }
+
+-- the routines, and then their budget
+abbrev pub transfer_of : List (List ℕ) → Option Transfer
+transfer_of words =
+    let routines = routine_words words in
+    let budget = budget_of (length routines) (after_routines words) in
+    option_and_then (λ symbols. option_map (transfer_by symbols) budget) (each_said symbol routines)
+
+abbrev pub swap_by : List SwapItem → Bool → Bool → Transfer → Command
+swap_by items reexport strict transfer = Swap items reexport strict transfer.routines transfer.budget
+
+-- the options: `reexport`, then `strict`, then the routines and their budget
 abbrev pub swap_of : List (List ℕ) → List SwapItem → Option Command
 swap_of options items =
     let after_reexport = after_option (codes "reexport") options in
     let after_strict = after_option (codes "strict") after_reexport in
-    let command = Swap items (has_option (codes "reexport") options) (has_option (codes "strict") after_reexport) [] usual_budget in
-    where_true (length after_strict == 0) command
+    let command = swap_by items (has_option (codes "reexport") options) (has_option (codes "strict") after_reexport) in
+    option_map command (transfer_of after_strict)
 
 -- the items, and then the options
 abbrev pub swap_words : List (List ℕ) → Option Command
@@ -171,7 +202,7 @@ forms =
     record { word = codes "ns"; arguments = both_around (codes "under") name name (λ fresh parent. Ns fresh parent) }
     ∷ record { word = codes "load"; arguments = both name name (λ ns stem. Load ns stem) }
     ∷ record { word = codes "spawn"; arguments = all_three name symbol argument (λ ns what arg. Spawn ns what arg) }
-    ∷ record { word = codes "step"; arguments = both number turns_of_step (λ task turns. Step task turns) }
+    ∷ record { word = codes "step"; arguments = both number turns_of_one (λ task turns. Step task turns) }
     ∷ record { word = codes "run"; arguments = single turns_of_run (λ turns. Run turns) }
     ∷ record { word = codes "kill"; arguments = single number (λ task. Kill task) }
     ∷ record { word = codes "swap"; arguments = swap_words }

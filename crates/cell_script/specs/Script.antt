@@ -1,8 +1,8 @@
 -- The reading of a script.
 --     reading_of line      what a line says
 --     script_of text       the commands of a script, or the number of the first line without a reading
---     is_said command      a line of a script can say the command: a swap names a cell at least, and has no routines
-use Rattle.std.specs.Prelude.{◌≡◌, ℕ, ◌+◌, Bool, true, false, ◌&&◌, nat_lt, length, ◌==◌, List, [], ◌∷◌, Option, Some, None, if◌then◌else◌, Ok, Err}
+--     is_said command      a line of a script can say the command: a swap names a cell at least
+use Rattle.std.specs.Prelude.{◌≡◌, ℕ, ◌+◌, Bool, true, false, nat_lt, length, ◌==◌, List, [], ◌∷◌, Option, Some, None, if◌then◌else◌, Ok, Err}
 use Rattle.std.specs.declared.result.Result.{Result}
 use Rattle.std.specs.List.{list_all}
 use Rattle.cell_text.specs.Text.{lines_in, words_of}
@@ -53,7 +53,7 @@ Reads (Err (BadLine n)) script = script ≡ Err n
 Reads (Err OutOfMemory) script = Unit {0}
 
 abbrev pub is_said : Command → Bool
-is_said (Swap items reexport strict routines budget) = length routines == 0 && nat_lt 0 (length items)
+is_said (Swap items reexport strict routines budget) = nat_lt 0 (length items)
 is_said _ = true
 
 abbrev pub are_said : List Line → Bool

@@ -2,13 +2,13 @@
 
 ghost use Rattle.std.specs.Prelude.{◌≡◌, List, [], ◌∷◌, map, codes, IfOk};
 ghost use Rattle.cell_world.specs.declared.command.Command.TheVariants.{Ns, Load, Spawn, Step, Run, Kill, Unload, Purge, Find, Map, Tasks, Deps, Users, Dump};
-ghost use Rattle.cell_script.specs.Grammar.{name, symbol, number, turns_of_step, turns_of_run, argument, alone, single, both, all_three, both_around, several, cell_names, swap_words, forms, command_in};
+ghost use Rattle.cell_script.specs.Grammar.{name, symbol, number, turns_of_one, turns_of_run, argument, alone, single, both, all_three, both_around, several, cell_names, swap_words, forms, command_in};
 ghost use Rattle.cell_script.specs.Script.{is_comment, reading_in};
 
 use crate::cells::read_cells;
 use crate::swap::read_swap;
 use crate::words::{
-    is_name, is_symbol, read_argument, read_number, read_turns_of_run, read_turns_of_step,
+    is_name, is_symbol, read_argument, read_number, read_turns_of_one, read_turns_of_run,
 };
 use cell_num::Name;
 use cell_world::Command;
@@ -137,13 +137,13 @@ fn read_spawn(alloc: Global, arguments: &[&[u8]]) -> Result<Option<Command>, All
 
 /// `step T N`
 fn read_step(arguments: &[&[u8]]) -> Option<Command>
-    ensures { result ≡ both number turns_of_step (λ task turns. Step task turns) (map (λ word. word.now) arguments.now) }
+    ensures { result ≡ both number turns_of_one (λ task turns. Step task turns) (map (λ word. word.now) arguments.now) }
 {
     let [task, turns] = arguments else {
         return None;
     };
     let task = read_number(task)?;
-    let turns = read_turns_of_step(turns)?;
+    let turns = read_turns_of_one(turns)?;
     Some(Command::Step { task, turns })
 }
 

@@ -6,6 +6,7 @@ mod command;
 mod line;
 mod read;
 mod swap;
+mod transfer;
 mod words;
 
 pub use cell_world::Command;

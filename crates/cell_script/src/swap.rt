@@ -4,15 +4,13 @@ ghost use Rattle.std.specs.Prelude.{◌≡◌, ◌<◌, ◌≤◌, IfOk, IfSome,
 ghost use Rattle.cell_script.specs.Grammar.{after_option, are_different, cell_part, each_said, end_of_cell, has_option, is_equals, item_count, swap_item, swap_items, swap_words};
 
 use crate::cells::{are_different, cell_of_word};
+use crate::transfer::read_transfer;
 use crate::words::is_file;
 use cell_num::{Listed, Name};
 use cell_world::{Command, SwapItem};
 use std::alloc::{AllocError, Global};
 
-/// How many steps a routine may take where the line doesn't say it.
-const USUAL_BUDGET: u32 = 10000;
-
-/// `NS/OLD=FILE ... [reexport] [strict]`
+/// `NS/OLD=FILE ... [reexport] [strict] [transfer SYMBOL]... [budget N]`
 pub fn read_swap(alloc: Global, words: &[&[u8]]) -> Result<Option<Command>, AllocError>
     ensures { IfOk result (λ command. command ≡ swap_words (map (λ word. word.now) words.now)) }
 {
@@ -22,15 +20,15 @@ pub fn read_swap(alloc: Global, words: &[&[u8]]) -> Result<Option<Command>, Allo
     };
     let (reexport, options) = take_option(b"reexport".as_slice(), &words[count..]);
     let (strict, options) = take_option(b"strict".as_slice(), options);
-    if !options.is_empty() {
+    let Some(transfer) = read_transfer(alloc, options)? else {
         return Ok(None);
-    }
+    };
     Ok(Some(Command::Swap {
         items,
         reexport,
         strict,
-        routines: Listed::from_vec(Vec::new(alloc)),
-        budget: USUAL_BUDGET,
+        routines: transfer.routines,
+        budget: transfer.budget,
     }))
 }
 

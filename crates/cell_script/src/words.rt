@@ -2,7 +2,7 @@
 
 ghost use Rattle.std.specs.Prelude.{◌≡◌};
 ghost use Rattle.std.specs.List.{list_all};
-ghost use Rattle.cell_script.specs.Grammar.{is_name, is_name_byte, is_symbol, is_symbol_byte, is_file, number, turns_of_step, turns_of_run, argument};
+ghost use Rattle.cell_script.specs.Grammar.{is_name, is_name_byte, is_symbol, is_symbol_byte, is_file, number, turns_of_one, turns_of_run, argument};
 
 use cell_text::{read_dec, read_hex};
 
@@ -16,9 +16,9 @@ pub fn read_number(word: &[u8]) -> Option<u32>
     }
 }
 
-/// How many turns `step` may give: at most 100000.
-pub fn read_turns_of_step(word: &[u8]) -> Option<u32>
-    ensures { result ≡ turns_of_step word.now }
+/// How many turns `step` may give a task, and a swap each of its routines: at most 100000.
+pub fn read_turns_of_one(word: &[u8]) -> Option<u32>
+    ensures { result ≡ turns_of_one word.now }
 {
     match read_dec(word, 100000) {
         Some(turns) => Some(turns as u32),

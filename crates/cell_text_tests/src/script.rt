@@ -64,17 +64,24 @@ fn is_said(alloc: Global, command: &Command, said: &Said) -> Result<bool, AllocE
             strict,
             routines,
             budget,
-        } if routines.as_slice().is_empty() => {
+        } => {
             let mut names = Vec::new(alloc);
             for item in items.as_slice() {
                 names.push(&item.ns)?;
                 names.push(&item.stem)?;
                 names.push(&item.file)?;
             }
-            let numbers = [u64::from(*reexport), u64::from(*strict), u64::from(*budget)];
+            for routine in routines.as_slice() {
+                names.push(routine)?;
+            }
+            let numbers = [
+                u64::from(*reexport),
+                u64::from(*strict),
+                routines.as_slice().len() as u64,
+                u64::from(*budget),
+            ];
             said.is("swap", names.as_slice(), &numbers)
         }
-        Command::Swap { .. } => false,
     })
 }
 
@@ -84,7 +91,7 @@ struct Case {
     lines: &'static [Said],
 }
 
-const CASES: [Case; 5] = [
+const CASES: [Case; 6] = [
     Case {
         text: b"load k a\n\n # load\n#load\n\tdump 4294967295  0",
         lines: &[
@@ -124,23 +131,55 @@ const CASES: [Case; 5] = [
             Said(5, "users", &[], &[0]),
         ],
     },
-    // The numbers are 1 where names are taken over, 1 where no old cell may stay, and the turns of
-    // routines.
+    // The numbers of a swap are 1 where names are taken over, 1 where no old cell may stay, how many
+    // routines it has, and how many turns each of them may have.
     Case {
         text: b"swap k/a=n#a-2.o\nswap  k/a=k/a=b\tn/a=~! reexport \nswap k/reexport=reexport\n\
             swap k/a=b strict\nswap k/a=b reexport strict\nswap k/a=strict\n",
         lines: &[
-            Said(1, "swap", &["k", "a", "n#a-2.o"], &[0, 0, 10000]),
+            Said(1, "swap", &["k", "a", "n#a-2.o"], &[0, 0, 0, 10000]),
             Said(
                 2,
                 "swap",
                 &["k", "a", "k/a=b", "n", "a", "~!"],
-                &[1, 0, 10000],
+                &[1, 0, 0, 10000],
             ),
-            Said(3, "swap", &["k", "reexport", "reexport"], &[0, 0, 10000]),
-            Said(4, "swap", &["k", "a", "b"], &[0, 1, 10000]),
-            Said(5, "swap", &["k", "a", "b"], &[1, 1, 10000]),
-            Said(6, "swap", &["k", "a", "strict"], &[0, 0, 10000]),
+            Said(3, "swap", &["k", "reexport", "reexport"], &[0, 0, 0, 10000]),
+            Said(4, "swap", &["k", "a", "b"], &[0, 1, 0, 10000]),
+            Said(5, "swap", &["k", "a", "b"], &[1, 1, 0, 10000]),
+            Said(6, "swap", &["k", "a", "strict"], &[0, 0, 0, 10000]),
+        ],
+    },
+    Case {
+        text: b"swap k/a=b transfer f\nswap k/a=b transfer f transfer g::h\nswap k/a=b transfer f\ttransfer f\n\
+            swap k/a=b transfer transfer\nswap k/a=b transfer transfer transfer transfer\n\
+            swap k/a=b transfer budget budget 5\nswap k/a=b transfer f budget 100000\n\
+            swap k/a=b n/a=c reexport strict transfer f transfer x=y budget 0\n\
+            swap k/a=b reexport transfer strict\nswap k/a=b strict transfer reexport budget 10000\n\
+            swap k/transfer=budget\nswap k/a=transfer transfer ~! \n",
+        lines: &[
+            Said(1, "swap", &["k", "a", "b", "f"], &[0, 0, 1, 10000]),
+            Said(2, "swap", &["k", "a", "b", "f", "g::h"], &[0, 0, 2, 10000]),
+            Said(3, "swap", &["k", "a", "b", "f", "f"], &[0, 0, 2, 10000]),
+            Said(4, "swap", &["k", "a", "b", "transfer"], &[0, 0, 1, 10000]),
+            Said(
+                5,
+                "swap",
+                &["k", "a", "b", "transfer", "transfer"],
+                &[0, 0, 2, 10000],
+            ),
+            Said(6, "swap", &["k", "a", "b", "budget"], &[0, 0, 1, 5]),
+            Said(7, "swap", &["k", "a", "b", "f"], &[0, 0, 1, 100000]),
+            Said(
+                8,
+                "swap",
+                &["k", "a", "b", "n", "a", "c", "f", "x=y"],
+                &[1, 1, 2, 0],
+            ),
+            Said(9, "swap", &["k", "a", "b", "strict"], &[1, 0, 1, 10000]),
+            Said(10, "swap", &["k", "a", "b", "reexport"], &[0, 1, 1, 10000]),
+            Said(11, "swap", &["k", "transfer", "budget"], &[0, 0, 0, 10000]),
+            Said(12, "swap", &["k", "a", "transfer", "~!"], &[0, 0, 1, 10000]),
         ],
     },
 ];
@@ -205,4 +244,59 @@ fn arguments_of_tasks(rt: HostRuntime) {
     for (number, case) in ARGUMENTS.iter().enumerate() {
         assert_eq!(rt; argument_in(rt.alloc(), case.0), case.1, "case {number}");
     }
+}
+
+/// Lines of swaps that have no reading.
+const NO_SWAPS: [&[u8]; 31] = [
+    b"swap k/a=b budget 5",
+    b"swap k/a=b strict budget 5",
+    b"swap k/a=b budget 5 transfer f",
+    b"swap k/a=b transfer",
+    b"swap k/a=b transfer f transfer",
+    b"swap k/a=b transfer f budget",
+    b"swap k/a=b transfer f budget 100001",
+    b"swap k/a=b transfer f budget 05",
+    b"swap k/a=b transfer f budget 0x5",
+    b"swap k/a=b transfer f budget -5",
+    b"swap k/a=b transfer f budget f",
+    b"swap k/a=b transfer f budget 18446744073709551621",
+    b"swap k/a=b transfer budget 5",
+    b"swap k/a=b transfer transfer f",
+    b"swap k/a=b transfer f g",
+    b"swap k/a=b transfer f strict",
+    b"swap k/a=b transfer f reexport",
+    b"swap k/a=b strict reexport transfer f",
+    b"swap k/a=b transfer f budget 5 budget 5",
+    b"swap k/a=b transfer f budget 5 transfer g",
+    b"swap k/a=b transfer f budget 5 strict",
+    b"swap k/a=b transfer f budget 5 5",
+    b"swap k/a=b transfer f budget 5\r",
+    b"swap k/a=b transfer \x7f",
+    b"swap k/a=b transfer \xc3\xa9",
+    b"swap k/a=b transfer f transfer \x7f",
+    b"swap k/a=b Transfer f",
+    b"swap k/a=b transfer f Budget 5",
+    b"swap k/a=b transfer f k/b=c",
+    b"swap transfer f",
+    b"swap transfer f k/a=b",
+];
+
+/// Whether the first line of the text has no reading.
+fn is_bad(alloc: Global, text: &[u8]) -> bool {
+    matches!(read(alloc, text), Err(ScriptFail::Bad { line: 1 }))
+}
+
+#[test]
+fn swaps_without_a_reading(rt: HostRuntime) {
+    for (number, text) in NO_SWAPS.iter().enumerate() {
+        assert!(rt; is_bad(rt.alloc(), *text), "text {number}");
+    }
+}
+
+#[test]
+fn long_routines(rt: HostRuntime) {
+    let mut text = [b'a'; 1045];
+    text[..20].copy_from_slice(b"swap k/a=b transfer ");
+    assert!(rt; read(rt.alloc(), &text[..1044]).is_ok());
+    assert!(rt; is_bad(rt.alloc(), &text));
 }
