@@ -46,7 +46,7 @@ module _ (files : List File) (asked : Asked) (m : Machine) (b : IsBegun files as
 
   pub gathered_for : (result : Result Gathered Fail) → Gathers files m.spaces m.next asked.wants.items reexport result → GathersFor files asked m b reexport result
   gathered_for (Ok g) is = is_gathered g is
-  gathered_for (Err (Refused r)) e =
-      ungathered (sources files asked m b) (v files asked m b) b.items reexport (wants files asked m b) b.found.all r
+  gathered_for (Err (Refused r)) e = λ words.
+      ungathered (sources files asked m b) (v files asked m b) b.items reexport words (wants files asked m b) b.found.all r
       (sym (gathered_so (sources files asked m b) (v files asked m b) (h files asked m b) (wants files asked m b) asked.wants.items b.found.are reexport) ∙ e (u files asked m b) (is_of files asked m b))
   gathered_for (Err OutOfMemory) e = tt

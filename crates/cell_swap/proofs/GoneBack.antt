@@ -1,5 +1,5 @@
 -- The way back: once fields, links and cells are as they were, so is the machine.
-use Rattle.std.proofs.Common.{◌≡◌, refl, sym, ap, ap₂, subst, ◌∙◌, arith, ℕ, ◌+◌, ◌-◌, ◌*◌, ◌<◌, ◌≤◌, ◌⊎◌, inl, inr, Bool, true, false, cond, not, List, [], ◌∷◌, ◌++◌, Option, Some, None, length, map}
+use Rattle.std.proofs.Common.{◌≡◌, refl, sym, ap, ap₂, subst, ◌∙◌, arith, ℕ, ◌+◌, ◌-◌, ◌*◌, ◌<◌, ◌≤◌, Bool, true, false, not, List, [], ◌∷◌, ◌++◌, Option, Some, None, length, map}
 use Rattle.std.specs.Prelude.{All, Contains, IsSome, IsTrue, filter, flat_map, fold, is_some, nat_lt}
 use Rattle.std.proofs.lemmas.List.{get_or_append_left, length-append, length-map}
 use Rattle.std.proofs.lemmas.List.Elements.{filter-append}
@@ -19,7 +19,7 @@ use Rattle.cell_removal.proofs.ShapesLeft.{shapes_left}
 use Rattle.cell_space.specs.Joined.{placed_of}
 use Rattle.cell_commit.specs.Cells.{arrived}
 use Rattle.cell_graph.specs.Moves.{moved}
-use Rattle.cell_mem.specs.State.{MemoryState, begun_at, undone_at, undone_by}
+use Rattle.cell_mem.specs.State.{HasWrites, MemoryState, begun_at, undone_at, undone_by}
 use Rattle.cell_mem.specs.Undo.{UndoState}
 use Rattle.cell_task.specs.State.{TasksState}
 use Rattle.cell_machine.specs.declared.machine.Machine.{Machine}
@@ -36,13 +36,13 @@ use Rattle.cell_graph.specs.Removal.{is_used_outside, links_without, sections_wi
 use Rattle.cell_space.specs.Named.{cell_numbered}
 use Rattle.cell_space.specs.declared.cell.SpaceCell.{SpaceCell}
 use Rattle.cell_transfer_law.proofs.Undone.{In-with_region, undo_shapes}
-use Rattle.cell_world.specs.Place.{with_region}
 use Rattle.cell_world.specs.declared.state.SecPlace.{SecPlace}
 use Rattle.cell_swap.specs.declared.planning.Plan.{Plan}
 use Rattle.cell_swap.specs.declared.swapping.Ready.{Ready}
 use Rattle.cell_swap.specs.Back.{CanGoBack}
 use Rattle.cell_swap.specs.Before.{begun_in}
 use Rattle.cell_swap.specs.Swapped.{IsPlanned, IsReadyFor}
+use Rattle.cell_swap.specs.declared.swapping.Options.{Options}
 use Rattle.cell_swap.proofs.AllRemoved.{all_named, can_leave, keys_left, known_left, numbers, places_rise, starts_are, stay, tabled}
 use Rattle.cell_swap.proofs.Leftovers.{filter_mapped}
 use Rattle.cell_space.specs.Machine.{called}
@@ -51,7 +51,7 @@ use Rattle.cell_mem.specs.Index.{IsLaid}
 use Rattle.cell_place.specs.Space.{SpaceState}
 use Rattle.cell_machine.specs.Same.{IsSame}
 use Rattle.cell_swap.proofs.Suspended.{committable_begun, committed_without, suspended}
-use Rattle.cell_swap.proofs.Journals.{end_base, end_pages, gone_back, mid, still_begun}
+use Rattle.cell_swap.proofs.Journals.{end_base, end_pages, gone_back, mid, still_begun, writes_left}
 use Rattle.cell_swap.proofs.LinksBack.{bound_still, links_of_cells, rows_back, rows_left, unused}
 use Rattle.cell_swap.proofs.MemoryBack.{memory_back, other}
 use Rattle.cell_xfer.proofs.LaidApart.{laid_apart}
@@ -105,7 +105,7 @@ numbers_again : (ns : List ℕ) → numbers (ids ns) ≡ ns
 numbers_again [] = refl
 numbers_again (n ∷ ns) = ap (λ ms. n ∷ ms) (numbers_again ns)
 
-module _ (m : Machine) (p : Plan) (x : IsPlanned m p) (k : Machine) (r : Ready) (y : IsReadyFor m p k r) (count : ℕ) (n : Machine)
+module _ (m : Machine) {o : Options} (p : Plan) (x : IsPlanned m o p) (k : Machine) {olds : List CellId} (r : Ready) (y : IsReadyFor m olds o p k r) (count : ℕ) (n : Machine)
     (added : IsCommitted (begun_in k count) (memory_with (begun_in k count).memory r.plan.staged.regions.items r.plan.patches.items) (moved k.graph.rows r.plan.moves.items) (map arrived r.prepared.newcomers.items) r.plan.staged n) where
   pub none : k.memory.undo ≡ None
   none = ap (λ (s : MemoryState). s.undo) y.same.memory ∙ x.ready.parts.undo
@@ -210,6 +210,11 @@ module _ (n : Machine) (back : List LinkRow) (cells : List CellId) (x : CanGoBac
   still =
       ap (λ (s : MemoryState). is_some s.undo) x.added.memory
       ∙ still_begun k.memory x.count regions r.plan.patches.items r.plan.staged.fields.items x.laid apart x.bytes can.change.mapped can.mapped
+
+  pub turns_left : (more : ℕ) → length r.plan.patches.items + length r.plan.staged.fields.items + more ≤ x.count → HasWrites n.memory more
+  turns_left more enough =
+      subst (λ (s : MemoryState). HasWrites s more) (sym x.added.memory)
+      (writes_left k.memory x.count regions r.plan.patches.items r.plan.staged.fields.items x.laid apart x.bytes can.change.mapped can.mapped more enough)
 
   gone : undone_at n.memory ≡ (record n.memory { regions = before_fields.regions; undo = None; patches = k.memory.patches; maps = k.memory.maps })
   gone =

@@ -1,6 +1,6 @@
 -- Going back over what fields were written, in one memory after another.
-use Rattle.std.proofs.Common.{◌≡◌, refl, sym, ap, ap₂, subst, ◌∙◌, arith, ℕ, suc, ◌+◌, ◌-◌, ◌*◌, Bool, true, false, List, [], ◌∷◌, ◌++◌, Option, Some, None, map, leb, get_or}
-use Rattle.std.specs.Prelude.{All, fold, is_some, option_and_then, slice_range}
+use Rattle.std.proofs.Common.{◌≡◌, refl, sym, ap, ap₂, subst, ◌∙◌, arith, ℕ, suc, ◌+◌, ◌-◌, ◌*◌, Bool, true, false, List, [], ◌∷◌, ◌++◌, Option, Some, None, length, map, leb, get_or, ◌≤◌}
+use Rattle.std.specs.Prelude.{All, IfSome, fold, is_some, option_and_then, slice_range}
 use Rattle.std.specs.List.{find}
 use Rattle.std.proofs.lemmas.Bool.{leb-true}
 use Rattle.cell_num.specs.Bits.{bytes_of}
@@ -11,13 +11,13 @@ use Rattle.cell_mem.proofs.Writes.{laid_written, length-bytes_of}
 use Rattle.cell_commit.proofs.Mapping.{mapped_base, mapped_pages, mapped_undo}
 use Rattle.cell_commit.proofs.Writing.{patched_base, patched_pages, written_base, written_pages}
 use Rattle.cell_commit.proofs.FieldsLeft.{patched_kept, written_kept}
-use Rattle.std.proofs.lemmas.List.{append_assoc}
+use Rattle.std.proofs.lemmas.List.{append_assoc, length-map}
 use Rattle.cell_num.specs.Lists.{each_pair}
 use Rattle.cell_world.specs.declared.transfer.Record.{Record}
 use Rattle.cell_world.specs.World.{Region}
 use Rattle.cell_world.specs.Coherent.{ends_before}
 use Rattle.cell_world.specs.Undo.{AreBytes, ArePuts, IsPut, Write, journal_of, put_in, puts, record_of, undone}
-use Rattle.cell_mem.specs.State.{MemoryState, begun_at, region_with, undone_at, undone_by, write_at}
+use Rattle.cell_mem.specs.State.{HasWrites, MemoryState, begun_at, region_with, undone_at, undone_by, write_at}
 use Rattle.cell_mem.specs.Undo.{UndoState, begun, noted, noted_in}
 use Rattle.cell_link.specs.declared.value.FieldValue.{FieldValue}
 use Rattle.cell_commit.specs.Commit.{IsLaidOut, all_mapped, IsMapped, field_patched, field_written, fields_patched, fields_written}
@@ -36,6 +36,11 @@ pub record Noted (u : UndoState) (records : List Record) (o : Option UndoState) 
   pub journal : after.journal ≡ u.journal ++ records
   pub patches : after.patches ≡ u.patches
   pub maps : after.maps ≡ u.maps
+  pub left : u.left ≤ after.left + length records
+
+length-journal : (regions : List Region) (xs : List Write) → length (journal_of regions xs) ≡ length xs
+length-journal regions [] = refl
+length-journal regions (x ∷ xs) = let rest = length-journal (put_in regions x) xs in omega (arith, rest)
 
 -- where the bytes are mapped, one region has them
 reach_fits : (m : MemoryState) (addr n : ℕ) → is_some (region_with m addr n) ≡ true → (r : Region) → find (λ s. covers s addr) m.regions ≡ Some r → leb (addr + n) (end_of r) ≡ true
@@ -76,7 +81,7 @@ module _ (step : MemoryState → FieldValue → MemoryState) (is : Writes step) 
   all_puts m (f ∷ fields) = all_puts (step m f) fields ∙ ap (λ rs. puts rs (writes_of fields)) (is.regions m f)
 
   all_noted : (m : MemoryState) (fields : List FieldValue) (u : UndoState) → m.undo ≡ Some u → Noted u (journal_of m.regions (writes_of fields)) (fold step m fields).undo
-  all_noted m [] u e = record { after = u; is = e; journal = sym (append-[] u.journal); patches = refl; maps = refl }
+  all_noted m [] u e = record { after = u; is = e; journal = sym (append-[] u.journal); patches = refl; maps = refl; left = omega arith }
     where
       append-[] : {X : Type 0} (xs : List X) → xs ++ [] ≡ xs
       append-[] [] = refl
@@ -92,6 +97,10 @@ module _ (step : MemoryState → FieldValue → MemoryState) (is : Writes step) 
         journal = rest.journal ∙ ap (λ js. (u.journal ++ x ∷ []) ++ js) later ∙ append_assoc u.journal (x ∷ []) (journal_of (put_in m.regions (write_of f)) (writes_of fields));
         patches = rest.patches;
         maps = rest.maps;
+        left =
+            let fewer = rest.left in
+            let count = ap length later in
+            omega (arith, fewer, count);
       }
 
   laid_then : (m : MemoryState) (f : FieldValue) → IsLaidOut m → IsMapped m f → IsLaidOut (step m f)
@@ -199,6 +208,18 @@ module _ (m : MemoryState) (count : ℕ) (regions : List Region) (patches fields
 
     journal : two.after.journal ≡ journal_of mid.regions (writes_of patches) ++ journal_of (puts mid.regions (writes_of patches)) (writes_of fields)
     journal = two.journal ∙ ap₂ (λ (xs ys : List Record). xs ++ ys) one.journal (ap (λ rs. journal_of rs (writes_of fields)) (patched_puts mid patches))
+
+    -- a write is left for each that isn't a field's
+    pub writes_left : (more : ℕ) → length patches + length fields + more ≤ count → HasWrites end more
+    writes_left more enough =
+        subst (λ (o : Option UndoState). IfSome o (λ u. more ≤ u.left)) (sym two.is)
+        (let a = one.left in
+        let b = two.left in
+        let c = length-journal mid.regions (writes_of patches) in
+        let d = length-journal (fields_patched mid patches).regions (writes_of fields) in
+        let e = length-map patches write_of in
+        let f = length-map fields write_of in
+        omega (arith, a, b, c, d, e, f, enough))
 
     -- the undo is begun still
     pub still_begun : is_some end.undo ≡ true

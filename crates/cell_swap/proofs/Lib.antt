@@ -45,3 +45,8 @@ pub mod GoneBack
 pub mod LinksBack
 pub mod SwapEnded
 pub mod LinksBefore
+mod BeginsPlain
+mod RoutinesRun
+mod AddressesSaid
+mod Rows
+mod ReadyRoom

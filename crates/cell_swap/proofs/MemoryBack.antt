@@ -1,15 +1,12 @@
 -- The memory once the regions of the new cells are gone again.
-use Rattle.std.proofs.Common.{◌≡◌, refl, sym, ap, subst, ◌∙◌, arith, ℕ, ◌+◌, ◌-◌, ◌*◌, ◌<◌, Bool, true, false, not, cond, List, [], ◌∷◌, Option, Some, length, map}
-use Rattle.std.specs.Prelude.{filter, find, ◌==◌}
-use Rattle.std.specs.List.{list_all}
-use Rattle.std.proofs.lemmas.Bool.{and_from, le-leb}
-use Rattle.cell_num.specs.Lists.{each_pair, holds}
+use Rattle.std.proofs.Common.{◌≡◌, refl, sym, ap, subst, ◌∙◌, arith, ℕ, ◌+◌, ◌-◌, ◌*◌, ◌<◌, Bool, true, false, not, List, [], ◌∷◌, Option, length, map}
+use Rattle.std.specs.Prelude.{filter, ◌==◌}
+use Rattle.cell_num.specs.Lists.{holds}
 use Rattle.cell_num.specs.declared.ids.CellId.{CellId}
 use Rattle.cell_world.specs.World.{Region}
-use Rattle.cell_world.specs.Memory.{end_of}
 use Rattle.cell_world.specs.Pages.{filled}
-use Rattle.cell_world.specs.Coherent.{Shape, ends_before, shape_of}
-use Rattle.cell_coherent.proofs.Elements.{In, In-All, In-all, In-map, filter-In, filter-Passes, map-In}
+use Rattle.cell_world.specs.Coherent.{Shape, shape_of}
+use Rattle.cell_coherent.proofs.Elements.{In, In-All, In-map, filter-In, filter-Passes, map-In}
 use Rattle.cell_coherent.proofs.Lists.{map_filter}
 use Rattle.cell_transfer_law.proofs.Undone.{undo_ended}
 use Rattle.cell_commit.specs.Seals.{seal_table}

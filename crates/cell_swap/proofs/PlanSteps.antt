@@ -1,7 +1,8 @@
 -- The steps of a plan, one after another: what each asks, and which refusal of the definition one that fails gives.
-use Rattle.std.proofs.Common.{◌≡◌, refl, sym, ◌∙◌, ap, ap₂, subst, arith, ℕ, ◌+◌, ◌*◌, ◌<◌, ◌^◌, Bool, Bor, List, ◌++◌, map, length}
+use Rattle.std.proofs.Common.{◌≡◌, refl, sym, ◌∙◌, ap, ap₂, subst, arith, ℕ, ◌+◌, ◌*◌, ◌<◌, ◌^◌, Bool, Bor, Global, Vec, List, ◌++◌, ◌≤◌, refl, map, length, Ok}
 use Rattle.std.specs.Prelude.{All, IsTrue, Option, None, Err, filter, flat_map, nat_lt, option_map}
 use Rattle.std.proofs.lemmas.Bool.{ltb-true}
+use Rattle.std.proofs.lemmas.List.{length-map}
 use Rattle.cell_num.specs.Lists.{each_pair}
 use Rattle.cell_world.specs.declared.fail.Fail.{Fail}
 use Rattle.cell_world.specs.declared.fail.Fail.TheVariants.{Refused, OutOfMemory}
@@ -37,7 +38,19 @@ use Rattle.cell_target.specs.Scene.{AreCells}
 use Rattle.cell_gather.specs.declared.gathering.Gathered.{Gathered}
 use Rattle.cell_machine.specs.declared.machine.Machine.{Machine}
 use Rattle.cell_machine.specs.declared.staged.Staged.{Staged}
+use Rattle.cell_machine.specs.Machine.{world_of}
 use Rattle.cell_load.specs.declared.landing.Landed.{Landed}
+use Rattle.cell_world.specs.Following.{FailsAs}
+use Rattle.cell_world.specs.SwapTransfer.{Begin, begins_of}
+use Rattle.cell_routines.specs.declared.entries.Begin.{Begin as Place}
+use Rattle.cell_routines.specs.Begins.{begin_as}
+use Rattle.cell_routines.specs.Placed.{routines_among}
+use Rattle.cell_layout.specs.Placing.{extra_start}
+use Rattle.cell_swap.specs.Transferring.{pages_for}
+use Rattle.cell_world.specs.SwapCommand.{Plan as SwapPlan}
+use Rattle.cell_swap.proofs.BeginsPlain.{aside_older, begins_long, begins_new, begins_plain, placed_of_new, routines_same}
+use Rattle.cell_machine.proofs.StagedWorld.{numbers_new}
+use Rattle.cell_place.specs.Space.{SpaceState}
 use Rattle.cell_load.specs.Stages.{IsLanded, Lands, Names, new_cells, placing}
 use Rattle.cell_plan.specs.Coverage.{Covers, first_lost, others_in}
 use Rattle.cell_plan.specs.declared.changed.Changed.{Changed}
@@ -48,14 +61,21 @@ use Rattle.cell_plan.specs.Staying.{is_user}
 use Rattle.cell_swap.specs.declared.affected.Affected.{Affected}
 use Rattle.cell_swap.specs.declared.asked.Asked.{Asked}
 use Rattle.cell_swap.specs.Planning.{FindsNew, GathersFor, IsAffected, IsBegun, IsGatheredFor, IsPlan, Plans, numbers_in, view_with}
-use Rattle.cell_swap.proofs.Began.{are, aside_is, h, old, sources, v, wants}
+use Rattle.cell_swap.proofs.Began.{are, aside_is, h, old, sources, u, v, wants}
 use Rattle.cell_swap.proofs.Changing.{W, W_is, as_many, fits, patches_from_are, runs, spans_are, taken, unfit_is}
 use Rattle.cell_swap.proofs.Covered.{G, lost_is}
-use Rattle.cell_swap.proofs.Planned.{can_change, ready_to_add, starts_same}
-use Rattle.cell_swap.proofs.SwapLanded.{accepted, changed_refused, fresh_placed, plan as plan_in, torn_refused, uncovered, unplaced}
+use Rattle.cell_swap.proofs.Planned.{can_change, ready_to_add, st, starts_same}
+use Rattle.cell_swap.proofs.SwapLanded.{accepted, changed_refused, fresh_placed, plan as plan_in, torn_refused, unbegun, uncovered, unplaced}
 use Rattle.cell_swap.proofs.Users.{has_cell, same_place, there_aside, users, users_are}
 
-low_before : (files : List File) (asked : Asked) (m : Machine) (b : IsBegun files asked m) → (v files asked m b).base + 4096 * (v files asked m b).pages < 2 ^ 63
+-- where the routines begin, and their stack, as code says it
+pub begun_as : (words : List (List ℕ)) (g : Gathered) (begins : List Place) (cells : List NewCell) → cells ≡ g.cells.items → begins_of (map attached cells) words ≡ Ok (map begin_as begins) → begins_of (map attached g.cells.items) words ≡ Ok (map begin_as begins)
+begun_as words g begins cells same e = subst (λ (cs : List NewCell). begins_of (map attached cs) words ≡ Ok (map begin_as begins)) same e
+
+pub stack_as : (m : Machine) (l : Landed) (words : List (List ℕ)) (pages : ℕ) → pages ≡ pages_for words → extra_start m.memory.base l.space.taken pages ≡ Ok l.extra → extra_start m.memory.base l.space.taken (pages_for words) ≡ Ok l.extra
+stack_as m l words pages same e = subst (λ (n : ℕ). extra_start m.memory.base l.space.taken n ≡ Ok l.extra) same e
+
+pub low_before : (files : List File) (asked : Asked) (m : Machine) (b : IsBegun files asked m) → (v files asked m b).base + 4096 * (v files asked m b).pages < 2 ^ 63
 low_before files asked m b = let space = (h files asked m b).ready.space in omega arith
 
 pub tasks_ordered : (files : List File) (asked : Asked) (m : Machine) (b : IsBegun files asked m) → IsTrue (each_pair (λ a b. nat_lt a.number b.number) m.tasks.tasks)
@@ -69,9 +89,9 @@ module _ (files : List File) (asked : Asked) (m : Machine) (b : IsBegun files as
   gather_failed (Refused r) e = e
   gather_failed OutOfMemory e = tt
 
-  pub not_found : (roots : List Root) (fail : Fail) → FindsNew files asked m b reexport (Err fail) → Plans files asked m b reexport roots (Err fail)
-  not_found roots (Refused r) e = e
-  not_found roots OutOfMemory e = tt
+  pub not_found : (words : List (List ℕ)) (roots : List Root) (fail : Fail) → FindsNew files asked m b reexport (Err fail) → Plans files asked m b reexport words roots (Err fail)
+  not_found words roots (Refused r) e = e words
+  not_found words roots OutOfMemory e = tt
 
   module _ (x : Affected) (is : IsAffected m asked x) where
     abbrev olds : List ℕ
@@ -122,19 +142,33 @@ module _ (files : List File) (asked : Asked) (m : Machine) (b : IsBegun files as
           ∙ lost_is files asked m b reexport g gathered
 
       pub coverage_failed : (fail : Fail) → Covers lost (Err fail) → FindsNew files asked m b reexport (Err fail)
-      coverage_failed (Refused r) e =
-          uncovered (sources files asked m b) (are files asked m b) before (h files asked m b) b.items b.some reexport (wants files asked m b) b.found.all (new_cells g) gathered.gathered r (sym lost_so ∙ e)
+      coverage_failed (Refused r) e = λ words.
+          uncovered (sources files asked m b) (are files asked m b) before (h files asked m b) b.items b.some reexport (wants files asked m b) b.found.all (new_cells g) gathered.gathered words r (sym lost_so ∙ e)
       coverage_failed OutOfMemory e = tt
 
       pub all_covered : lost ≡ None → first_uncovered before.next_cell (G files asked m b reexport g gathered) ≡ None
       all_covered e = unmapped missing _ (sym lost_so ∙ e)
 
       module _ (covered : first_uncovered before.next_cell (G files asked m b reexport g gathered) ≡ None) where
-        pub landing_failed : (roots : List Root) (fail : Fail) → Lands m g 0 (Err fail) → Plans files asked m b reexport roots (Err fail)
-        landing_failed roots (Refused r) e =
-            unplaced (sources files asked m b) (are files asked m b) before (h files asked m b) b.items b.some reexport (wants files asked m b) b.found.all (new_cells g) gathered.gathered covered r
-            (ap (λ (w : World). placing w (new_cells g) 0) (sym (aside_is files asked m b)) ∙ e)
-        landing_failed roots OutOfMemory e = tt
+        -- the places of routines are a matter of the placed cells
+        begins_are : (words : List (List ℕ)) → begins_of (map attached g.cells.items) words ≡ begins_of (new_cells g) words
+        begins_are words = ap (λ (cs : List NewCell). begins_of (map attached cs) words) (sym gathered.are.placed) ∙ begins_plain (new_cells g) words
+
+        pub begins_failed : (words : List (List ℕ)) (roots : List Root) (fail : Fail) → FailsAs fail (begins_of (map attached g.cells.items) words) → Plans files asked m b reexport words roots (Err fail)
+        begins_failed words roots (Refused r) e =
+            unbegun (sources files asked m b) (are files asked m b) before (h files asked m b) b.items b.some reexport (wants files asked m b) b.found.all (new_cells g) gathered.gathered covered words r
+            (sym (begins_are words) ∙ e)
+        begins_failed words roots OutOfMemory e = tt
+
+        module _ (words : List (List ℕ)) (begins : List Begin) (begun : begins_of (map attached g.cells.items) words ≡ Ok begins) where
+          begun_so : begins_of (new_cells g) words ≡ Ok begins
+          begun_so = sym (begins_are words) ∙ begun
+
+          pub landing_failed : (roots : List Root) (fail : Fail) → Lands m g (pages_for words) (Err fail) → Plans files asked m b reexport words roots (Err fail)
+          landing_failed roots (Refused r) e =
+              unplaced (sources files asked m b) (are files asked m b) before (h files asked m b) b.items b.some reexport (wants files asked m b) b.found.all (new_cells g) gathered.gathered covered words begins begun_so r
+              (ap (λ (w : World). placing w (new_cells g) (pages_for words)) (sym (aside_is files asked m b)) ∙ e)
+          landing_failed roots OutOfMemory e = tt
 
         module _ (l : Landed) (landed : IsLanded m g l) where
           pub cells_are : AreCells l.ahead.cells (m.cells.items ++ l.cells.items)
@@ -170,11 +204,19 @@ module _ (files : List File) (asked : Asked) (m : Machine) (b : IsBegun files as
           new_fit : first_misfit (W files asked m b reexport g gathered l landed covered) (placed_cells landed.starts (new_cells g)) ≡ None
           new_fit = ap (λ (w : World). first_misfit w (placed_cells landed.starts (new_cells g))) (sym (W_is files asked m b reexport g gathered l landed covered)) ∙ landed.fit
 
-          pub changing_failed : (roots : List Root) (fail : Fail) → Change (view_with m l olds) (map (λ c. c.now) using) (Err fail) → Plans files asked m b reexport roots (Err fail)
-          changing_failed roots (Refused r) e =
+          -- where the stack starts
+          abbrev HasStack : List (List ℕ) → Type 0
+          HasStack words = extra_start m.memory.base l.space.taken (pages_for words) ≡ Ok l.extra
+
+          stack_so : (words : List (List ℕ)) → HasStack words → extra_start (u files asked m b).base l.space.taken (pages_for words) ≡ Ok l.extra
+          stack_so words e = ap (λ (w : World). extra_start w.base l.space.taken (pages_for words)) (sym (aside_is files asked m b)) ∙ e
+
+          pub changing_failed : (words : List (List ℕ)) (begins : List Begin) → begins_of (map attached g.cells.items) words ≡ Ok begins → HasStack words
+              → (roots : List Root) (fail : Fail) → Change (view_with m l olds) (map (λ c. c.now) using) (Err fail) → Plans files asked m b reexport words roots (Err fail)
+          changing_failed words begins begun at roots (Refused r) e =
               changed_refused (sources files asked m b) (are files asked m b) before (h files asked m b) b.items b.some reexport (wants files asked m b) b.found.all (new_cells g) gathered.gathered covered
-              (taken files asked m b reexport g gathered l landed covered) (runs files asked m b reexport g gathered l landed covered) new_fit r (sym unfit_so ∙ e)
-          changing_failed roots OutOfMemory e = tt
+              words begins (begun_so words begins begun) (taken files asked m b reexport g gathered l landed covered) (runs files asked m b reexport g gathered l landed covered) l.extra (stack_so words at) new_fit r (sym unfit_so ∙ e)
+          changing_failed words begins begun at roots OutOfMemory e = tt
 
           pub sections_ordered : (c : NewCell) → In c (m.cells.items ++ l.cells.items) → IsTrue (each_pair (λ a b. nat_lt a.section b.section) c.places)
           sections_ordered c i = (landed.are.low c i).ordered
@@ -192,23 +234,60 @@ module _ (files : List File) (asked : Asked) (m : Machine) (b : IsBegun files as
             torn_so : torn ≡ first_torn (changed_fields before (W files asked m b reexport g gathered l landed covered)) (filter is_ready before.tasks)
             torn_so = ap (λ (ts : TasksState). first_torn (changed_fields before (W files asked m b reexport g gathered l landed covered)) (filter is_ready ts.tasks)) b.aside.tasks
 
-            pub standing_failed : (roots : List Root) (fail : Fail) → Covers torn (Err fail) → Plans files asked m b reexport roots (Err fail)
-            standing_failed roots (Refused r) e =
+            pub standing_failed : (words : List (List ℕ)) (begins : List Begin) → begins_of (map attached g.cells.items) words ≡ Ok begins → HasStack words
+                → (roots : List Root) (fail : Fail) → Covers torn (Err fail) → Plans files asked m b reexport words roots (Err fail)
+            standing_failed words begins begun at roots (Refused r) e =
                 torn_refused (sources files asked m b) (are files asked m b) before (h files asked m b) b.items b.some reexport (wants files asked m b) b.found.all (new_cells g) gathered.gathered covered
-                (taken files asked m b reexport g gathered l landed covered) (runs files asked m b reexport g gathered l landed covered) new_fit
+                words begins (begun_so words begins begun) (taken files asked m b reexport g gathered l landed covered) (runs files asked m b reexport g gathered l landed covered) l.extra (stack_so words at) new_fit
                 (fits files asked m b reexport g gathered l landed covered changed changes) r (sym torn_so ∙ e)
-            standing_failed roots OutOfMemory e = tt
+            standing_failed words begins begun at roots OutOfMemory e = tt
 
-            module _ (roots : List Root) (untorn : torn ≡ None) (outlook : Outlook) (places : outlook.places ≡ flat_map (λ c. placed_in (attached c)) (m.cells.items ++ l.cells.items)) (rooted : outlook.roots.items ≡ roots ++ map (λ c. Attached c.id) l.cells.items)
+            module _ (words : List (List ℕ)) (begins : Vec Place Global) (begun : begins_of (map attached g.cells.items) words ≡ Ok (map begin_as begins.items)) (at : HasStack words) (low : All (λ x. x.offset < 2 ^ 32) begins.items)
+                (roots : List Root) (untorn : torn ≡ None) (outlook : Outlook) (places : outlook.places ≡ flat_map (λ c. placed_in (attached c)) (m.cells.items ++ l.cells.items)) (rooted : outlook.roots.items ≡ roots ++ map (λ c. Attached c.id) l.cells.items)
                 (s : Staged) (named : Names l s) where
-              pub is_plan : IsPlan files asked m b reexport roots (record { staged = s; patches = changed.patches; moves = changed.moves; outlook = outlook })
+              abbrev later : World
+              later = W files asked m b reexport g gathered l landed covered
+
+              abbrev new : List Cell
+              new = placed_cells landed.starts (new_cells g)
+
+              -- the plan of the definition
+              abbrev said : SwapPlan
+              said =
+                  plan_in (sources files asked m b) (are files asked m b) before (h files asked m b) b.items b.some reexport (wants files asked m b) b.found.all (new_cells g) gathered.gathered covered
+                  words (map begin_as begins.items) (begun_so words (map begin_as begins.items) begun) (taken files asked m b reexport g gathered l landed covered) (runs files asked m b reexport g gathered l landed covered) l.extra (stack_so words at)
+
+              -- the new cells have the highest numbers
+              is_older : (c : Cell) → In c (u files asked m b).cells → c.id.0 < before.next_cell
+              is_older c i = aside_older files asked m b c i
+
+              is_newer : (c : Cell) → In c new → before.next_cell ≤ c.id.0
+              is_newer c i =
+                  subst (λ (n : ℕ). n ≤ c.id.0) b.aside.next
+                  (numbers_new (world_of m) (new_cells g) s (st files asked m b reexport g gathered covered l landed changed changes s named)
+                  (ready_to_add files asked m b reexport g gathered covered l landed changed changes s named).there c
+                  (subst (λ (xs : List Starts). In c (placed_cells xs (new_cells g))) (sym (starts_same files asked m b reexport g gathered covered l landed changed changes s named)) i))
+
+              entries_are : said.routines ≡ routines_among s.cells.items (map begin_as begins.items)
+              entries_are =
+                  routines_same later (u files asked m b).cells new refl before.next_cell is_older is_newer (map begin_as begins.items)
+                  (placed_of_new landed.starts (new_cells g) (map begin_as begins.items) landed.each (begins_new (new_cells g) words (map begin_as begins.items) (begun_so words (map begin_as begins.items) begun)))
+                  ∙ ap (λ (cs : List NewCell). routines_among cs (map begin_as begins.items)) (sym (named.cells ∙ landed.cells))
+
+              begins_count : length begins.items ≡ length words
+              begins_count =
+                  let long = begins_long (new_cells g) words (map begin_as begins.items) (begun_so words (map begin_as begins.items) begun) in
+                  let mapped = length-map begins.items begin_as in
+                  omega (arith, long, mapped)
+
+              pub is_plan : IsPlan files asked m b reexport words roots (record { staged = s; patches = changed.patches; moves = changed.moves; outlook = outlook; begins = begins; stack = l.extra })
               is_plan = record {
-                plan = plan_in (sources files asked m b) (are files asked m b) before (h files asked m b) b.items b.some reexport (wants files asked m b) b.found.all (new_cells g) gathered.gathered covered
-                    (taken files asked m b reexport g gathered l landed covered) (runs files asked m b reexport g gathered l landed covered);
+                plan = said;
                 is = accepted (sources files asked m b) (are files asked m b) before (h files asked m b) b.items b.some reexport (wants files asked m b) b.found.all (new_cells g) gathered.gathered covered
-                    (taken files asked m b reexport g gathered l landed covered) (runs files asked m b reexport g gathered l landed covered) new_fit
+                    words (map begin_as begins.items) (begun_so words (map begin_as begins.items) begun)
+                    (taken files asked m b reexport g gathered l landed covered) (runs files asked m b reexport g gathered l landed covered) l.extra (stack_so words at) new_fit
                     (fits files asked m b reexport g gathered l landed covered changed changes) (sym torn_so ∙ untorn);
-                changed = map (patch_at (W files asked m b reexport g gathered l landed covered)) (changed_fields before (W files asked m b reexport g gathered l landed covered));
+                changed = map (patch_at later) (changed_fields before later);
                 ready = ready_to_add files asked m b reexport g gathered covered l landed changed changes s named;
                 linked = refl;
                 fresh = fresh_placed (sources files asked m b) (are files asked m b) before (h files asked m b) b.items b.some reexport (wants files asked m b) b.found.all (new_cells g) gathered.gathered covered
@@ -219,4 +298,10 @@ module _ (files : List File) (asked : Asked) (m : Machine) (b : IsBegun files as
                 change = can_change files asked m b reexport g gathered covered l landed changed changes s named;
                 places = places ∙ ap (λ (cs : List NewCell). flat_map (λ c. placed_in (attached c)) (m.cells.items ++ cs)) (sym named.cells);
                 rooted = rooted ∙ ap (λ (cs : List NewCell). roots ++ map (λ c. Attached c.id) cs) (sym named.cells);
+                wanted = refl;
+                named = begins_count;
+                stack = ap (λ (x : SpaceState). extra_start m.memory.base x.taken (pages_for words)) named.space ∙ at;
+                stack_is = refl;
+                begins = low;
+                routines = entries_are;
               }

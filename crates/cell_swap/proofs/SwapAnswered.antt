@@ -1,5 +1,5 @@
 -- A swap by what its steps come to.
-use Rattle.std.proofs.Common.{◌≡◌, refl, sym, ◌∙◌, ap, ap₂, subst, arith, ℕ, ◌+◌, ◌<◌, ◌≤◌, Bool, true, List, [], length, map}
+use Rattle.std.proofs.Common.{◌≡◌, refl, sym, ◌∙◌, ap, ap₂, subst, ℕ, ◌+◌, ◌<◌, ◌≤◌, true, List, length, map}
 use Rattle.std.specs.Prelude.{All, Option, Some, None, Ok, Err, option_map}
 use Rattle.cell_num.specs.declared.ids.CellId.{CellId}
 use Rattle.cell_world.specs.declared.command.SwapItem.{SwapItem}
@@ -29,13 +29,14 @@ use Rattle.cell_machine.specs.Machine.{IsSound, world_of}
 use Rattle.cell_machine.specs.Same.{IsSame, raised}
 use Rattle.cell_machine.proofs.States.{known_at}
 use Rattle.cell_machine.proofs.Unchanged.{same_itself}
-use Rattle.cell_swaps_law.proofs.Second.{no_routines}
 use Rattle.cell_swaps_law.proofs.SwapGathered.{IsWanted, wanted_all}
 use Rattle.cell_swap.specs.declared.asked.Asked.{Asked}
 use Rattle.cell_swap.specs.Asking.{AreAsked}
 use Rattle.cell_swap.specs.OldCells.{AreThere, CanReturn, IsAside}
 use Rattle.cell_swap.specs.Planning.{IsBegun}
-use Rattle.cell_swap.specs.Swapped.{Exchanges, HasExchanged, unless_held}
+use Rattle.cell_swap.specs.Swapped.{Exchanges, HasExchanged, ended}
+use Rattle.cell_swap.specs.Transferring.{stacks_for}
+use Rattle.cell_swap.specs.declared.swapping.Options.{Options}
 use Rattle.cell_swap.proofs.SwapLanded.{unasked}
 
 attached_state : (standing : Standing) → is_attached standing ≡ true → state_of standing ≡ Attached
@@ -80,48 +81,59 @@ module _ (files : List File) (before : Machine) (sound : IsSound before) (items 
           ∙ (ap (option_map (λ (x : SpaceCell). x.state)) (known_at before sound want.0.old is.present)
           ∙ ap (λ (state : CellState). let o : Option CellState = Some state in o) (attached_state want.0.old.standing is.attached))
 
-  module _ (reexport strict : Bool) (budget : ℕ) where
+  module _ (o : Options) where
+    abbrev words : List (List ℕ)
+    words = o.routines.now
+
     abbrev said : Outcome Done
-    said = next_swap sources w items reexport strict [] budget
+    said = next_swap sources w items o.reexport o.strict words o.budget
 
     abbrev after_transfer : SwapPlan → World → Outcome Done
-    after_transfer plan second = refused_by (first_held_old strict second plan) >> done (swap_reply plan second) (purged second)
+    after_transfer plan second = refused_by (first_held_old o.strict second plan) >> done (swap_reply plan second) (purged second)
 
     abbrev after_plan : SwapPlan → Outcome Done
-    after_plan plan = with_transfer plan [] budget >>= after_transfer plan
+    after_plan plan = with_transfer plan words o.budget >>= after_transfer plan
 
-    by_plan : said ≡ (plan_swap sources w items reexport [] >>= after_plan)
+    by_plan : said ≡ (plan_swap sources w items o.reexport words >>= after_plan)
     by_plan = refl
 
-    refused : (r : Refusal) → plan_swap sources w items reexport [] ≡ Err r → said ≡ Err r
-    refused r e = by_plan ∙ ap (λ (o : Outcome SwapPlan). o >>= after_plan) e
+    refused : (r : Refusal) → plan_swap sources w items o.reexport words ≡ Err r → said ≡ Err r
+    refused r e = by_plan ∙ ap (λ (x : Outcome SwapPlan). x >>= after_plan) e
 
-    -- the machine without routines is the one that is linked
-    planned : (plan : SwapPlan) → plan_swap sources w items reexport [] ≡ Ok plan → said ≡ after_transfer plan plan.linked
-    planned plan e = by_plan ∙ (ap (λ (o : Outcome SwapPlan). o >>= after_plan) e ∙ ap (λ (o : Outcome World). o >>= after_transfer plan) (no_routines sources w items reexport plan budget e))
+    -- the plan and the machine after its routines
+    abbrev both_then : SwapPlan → Outcome (SwapPlan × World)
+    both_then plan = ended plan o o.strict >>= (λ second. Ok (plan, second))
 
-    -- by the plan that isn't refused
-    by_exchange : said ≡ ((plan_swap sources w items reexport [] >>= unless_held strict) >>= (λ plan. done (swap_reply plan plan.linked) (purged plan.linked)))
-    by_exchange = go (plan_swap sources w items reexport []) refl
+    abbrev answer : SwapPlan × World → Outcome Done
+    answer both = done (swap_reply both.0 both.1) (purged both.1)
+
+    by_exchange : said ≡ ((plan_swap sources w items o.reexport words >>= both_then) >>= answer)
+    by_exchange = go (plan_swap sources w items o.reexport words) refl
       where
-        held : (plan : SwapPlan) (o : Option Refusal) → (refused_by o >> done (swap_reply plan plan.linked) (purged plan.linked)) ≡ ((refused_by o >> Ok plan) >>= (λ (x : SwapPlan). done (swap_reply x x.linked) (purged x.linked)))
-        held plan None = refl
-        held plan (Some r) = refl
+        held : (plan : SwapPlan) (second : World) (x : Option Refusal)
+            → (refused_by x >> answer (plan, second)) ≡ (((refused_by x >> (let y : Outcome World = Ok second in y)) >>= (λ z. let y : Outcome (SwapPlan × World) = Ok (plan, z) in y)) >>= answer)
+        held plan second None = refl
+        held plan second (Some r) = refl
 
-        go : (o : Outcome SwapPlan) → plan_swap sources w items reexport [] ≡ o → said ≡ ((o >>= unless_held strict) >>= (λ (x : SwapPlan). done (swap_reply x x.linked) (purged x.linked)))
-        go (Ok plan) e = planned plan e ∙ held plan (first_held_old strict plan.linked plan)
+        moved : (plan : SwapPlan) (x : Outcome World)
+            → (x >>= after_transfer plan) ≡ (((x >>= (λ z. refused_by (first_held_old o.strict z plan) >> (let y : Outcome World = Ok z in y))) >>= (λ z. let y : Outcome (SwapPlan × World) = Ok (plan, z) in y)) >>= answer)
+        moved plan (Ok second) = held plan second (first_held_old o.strict second plan)
+        moved plan (Err r) = refl
+
+        go : (x : Outcome SwapPlan) → plan_swap sources w items o.reexport words ≡ x → said ≡ ((x >>= both_then) >>= answer)
+        go (Ok plan) e = by_plan ∙ (ap (λ (x : Outcome SwapPlan). x >>= after_plan) e ∙ moved plan (with_transfer plan words o.budget))
         go (Err r) e = refused r e
 
     -- an item names nothing
-    pub not_asked : (fail : Fail) → FailsAs fail (all_wanted sources w items) → Does said 0 before (Err fail) before
-    not_asked (Refused r) e = (refused r (unasked sources w items reexport r e), same_itself before)
+    pub not_asked : (fail : Fail) → FailsAs fail (all_wanted sources w items) → Does said (stacks_for words) before (Err fail) before
+    not_asked (Refused r) e = (refused r (unasked sources w items o.reexport words r e), same_itself before)
     not_asked OutOfMemory e = same_itself before
 
     module _ (asked : Asked) (found : AreAsked sources w items asked) (small : All (λ f. length f.bytes ≤ max_file_bytes) files) (some : 0 < length items) (m : Machine) (aside : IsAside before asked.replaced.items m) where
       abbrev pub begun : IsBegun files asked m
       begun = record { before = before; sound = sound; small = small; items = items; some = some; found = found; aside = aside }
 
-      pub same_then : (fail : Fail) (n : Machine) → Exchanges files asked m begun reexport strict (Err fail) n → IsSame m n
+      pub same_then : (fail : Fail) (n : Machine) → Exchanges files asked m begun o (Err fail) n → IsSame m n
       same_then (Refused r) n e = e.1
       same_then OutOfMemory n e = e
 
@@ -130,18 +142,16 @@ module _ (files : List File) (before : Machine) (sound : IsSound before) (items 
       can_return n same = record { before = before; sound = sound; there = old_there asked found; aside = aside_same before asked.replaced.items m n aside same }
 
       -- they were
-      pub taken_back : (fail : Fail) (n last : Machine) → Exchanges files asked m begun reexport strict (Err fail) n → IsSame before last → Does said 0 before (Err fail) last
-      taken_back (Refused r) n last e same = (by_exchange ∙ ap (λ (o : Outcome SwapPlan). o >>= (λ (x : SwapPlan). done (swap_reply x x.linked) (purged x.linked))) e.0, same)
+      pub taken_back : (fail : Fail) (n last : Machine) → Exchanges files asked m begun o (Err fail) n → IsSame before last → Does said (stacks_for words) before (Err fail) last
+      taken_back (Refused r) n last e same = (by_exchange ∙ ap (λ (x : Outcome (SwapPlan × World)). x >>= answer) e.0, same)
       taken_back OutOfMemory n last e same = same
 
-      pub swap_done : (reply : Reply) (n : Machine) → HasExchanged files asked m begun reexport strict reply n → Does said 0 before (Ok reply) n
+      pub swap_done : (reply : Reply) (n : Machine) → HasExchanged files asked m begun o reply n → Does said (stacks_for words) before (Ok reply) n
       swap_done reply n x = record {
         sound = x.swapped.sound;
         is = record {
-          step = by_exchange ∙ ap (λ (o : Outcome SwapPlan). o >>= (λ (y : SwapPlan). done (swap_reply y y.linked) (purged y.linked))) x.is ∙ ap₂ done (sym x.swapped.said) (sym x.swapped.world);
+          step = by_exchange ∙ ap (λ (y : Outcome (SwapPlan × World)). y >>= answer) x.is ∙ ap₂ done (sym x.swapped.said) (sym x.swapped.world);
           patches = x.swapped.patches ∙ ap (λ (s : MemoryState). raised s.patches (patched_by reply)) aside.memory;
-          maps = x.swapped.maps
-              ∙ (ap (λ (s : MemoryState). raised s.maps (new_runs reply (world_of n))) aside.memory
-              ∙ ap (raised before.memory.maps) (let e : new_runs reply (world_of n) ≡ new_runs reply (world_of n) + 0 = omega arith in e));
+          maps = x.swapped.maps ∙ ap (λ (s : MemoryState). raised s.maps (new_runs reply (world_of n) + stacks_for words)) aside.memory;
         };
       }

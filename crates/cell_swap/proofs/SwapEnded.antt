@@ -1,31 +1,114 @@
 -- The last steps of a swap, from its commit on.
-use Rattle.std.proofs.Common.{◌≡◌, refl, sym, ap, ap₂, subst, ◌∙◌, arith, ℕ, ◌+◌, ◌≤◌, Bool, List, [], None, length, map}
+use Rattle.std.proofs.Common.{◌≡◌, refl, sym, ap, ap₂, subst, ◌∙◌, arith, ℕ, suc, ◌+◌, ◌-◌, ◌*◌, ◌^◌, ◌≤◌, ◌<◌, Bool, inl, inr, List, [], ◌∷◌, Option, Some, None, length, map}
+use Rattle.std.specs.Prelude.{All, Result, Ok, Err, if◌then◌else◌, is_some, true}
+use Rattle.std.proofs.lemmas.List.{length-map}
+use Rattle.cell_num.specs.Lists.{numbered_from}
 use Rattle.cell_num.specs.declared.ids.CellId.{CellId}
 use Rattle.cell_world.specs.Kept.{Holding, holding_of}
-use Rattle.cell_world.specs.SwapCommand.{first_held_old}
+use Rattle.cell_world.specs.Outcome.{Outcome, ◌>>=◌, ◌>>◌, refused_by}
+use Rattle.cell_world.specs.Pages.{longest_run, lowest_run}
+use Rattle.cell_world.specs.Place.{page_table, start_of_run}
+use Rattle.cell_world.specs.SwapCommand.{Wanted, addresses_of, first_held_old, with_transfer}
+use Rattle.cell_world.specs.SwapTransfer.{Begin, addresses_in, transferred_by}
+use Rattle.cell_world.specs.Transfer.{Addresses, transfer}
 use Rattle.cell_world.specs.Undo.{AreBytes}
-use Rattle.cell_world.specs.UnloadCommand.{first_held}
-use Rattle.cell_world.specs.World.{World, Cell}
+use Rattle.cell_world.specs.UnloadCommand.{first_held, put_aside}
+use Rattle.cell_world.specs.World.{Cell, World}
+use Rattle.cell_world.specs.Names.{names_of}
+use Rattle.cell_world.specs.declared.refusal.Refusal.{Refusal}
+use Rattle.cell_world.specs.declared.refusal.Refusal.TheVariants.{Exhausted}
 use Rattle.cell_world.specs.declared.state.LinkRow.{LinkRow}
+use Rattle.cell_world.specs.declared.state.NewCell.{NewCell}
+use Rattle.cell_world.specs.declared.transfer.NameAddr.{NameAddr}
+use Rattle.cell_world.specs.declared.transfer.Routine.{Routine}
+use Rattle.cell_world.specs.World.{Alias}
+use Rattle.cell_coherent.specs.Grown.{In}
+use Rattle.cell_coherent.proofs.Appended.{ok_same}
+use Rattle.cell_coherent.proofs.Elements.{In-All}
+use Rattle.cell_load_law.specs.Loading.{Taken, placed_cells}
+use Rattle.cell_world.specs.Pages.{filled}
 use Rattle.cell_coherent.proofs.Lists.{In-fixed}
-use Rattle.cell_commit.specs.Commit.{IsLaidOut, all_mapped}
+use Rattle.cell_commit.specs.Commit.{IsLaidOut, all_mapped, field_patched, fields_patched}
+use Rattle.cell_commit.proofs.Mapping.{mapped_spare}
+use Rattle.cell_commit.proofs.Writing.{written_spare}
+use Rattle.cell_layout.specs.Placing.{extra_start}
 use Rattle.cell_link.specs.declared.value.FieldValue.{FieldValue}
 use Rattle.cell_load.specs.Adding.{IsCommittable}
-use Rattle.cell_mem.specs.State.{MemoryState}
+use Rattle.cell_machine.proofs.StagedWorld.{kept_placed}
+use Rattle.cell_machine.specs.Same.{raised}
 use Rattle.cell_machine.specs.declared.machine.Machine.{Machine}
 use Rattle.cell_machine.specs.Machine.{IsSound, world_of}
-use Rattle.cell_world.specs.UnloadCommand.{put_aside}
-use Rattle.std.specs.Prelude.{suc, if◌then◌else◌}
+use Rattle.cell_mem.specs.Index.{IsLaid}
+use Rattle.cell_mem.specs.State.{HasWrites, MemoryState, begun_at, undone_at}
+use Rattle.cell_place.specs.Space.{SpaceState}
+use Rattle.cell_routines.specs.Begins.{begin_as}
+use Rattle.cell_routines.specs.Placed.{entry_among, routines_among}
+use Rattle.cell_swaps_law.proofs.SwapGathered.{wanted_all}
+use Rattle.cell_xfer.specs.Carried.{CanCarry, IsCarried}
+use Rattle.cell_xfer.specs.Named.{addresses_as}
+use Rattle.cell_xfer.specs.declared.carrying.Transfer.{Transfer}
 use Rattle.cell_swap.specs.declared.planning.Plan.{Plan}
 use Rattle.cell_swap.specs.declared.swapping.Ready.{Ready}
 use Rattle.cell_swap.specs.declared.survey.Survey.{Survey}
-use Rattle.cell_swap.specs.Back.{CanGoBack}
+use Rattle.cell_swap.specs.Back.{CanGoBack, CanUndo}
 use Rattle.cell_swap.specs.Before.{AreAsTheyWere, begun_in}
-use Rattle.cell_swap.specs.Swapped.{CanFinish}
-use Rattle.cell_swap.specs.Sweep.{IsOutlook, IsSurvey, IsSwept, Removes, aside_in, holding_in}
-use Rattle.cell_swap.proofs.GoneBack.{sound, whole}
+use Rattle.cell_swap.specs.Swapped.{CanFinish, ended}
+use Rattle.cell_swap.specs.Sweep.{IsSurvey, IsSwept, Removes, aside_in, holding_in}
+use Rattle.cell_swap.specs.Transferring.{CanRun, Gives, HasRun, IsGiven, new_rows, old_rows, pages_for, stacks_for, turns_in}
+use Rattle.cell_swap.proofs.AddressesSaid.{new_said, old_said}
+use Rattle.cell_swap.proofs.Began.{sources, v, wants}
+use Rattle.cell_swap.proofs.GoneBack.{sound, still, turns_left, whole}
+use Rattle.cell_swap.proofs.RoutinesRun.{room, sound_after, transfer_done, transfer_failed, unsealed_stack}
 use Rattle.cell_swap.proofs.Suspended.{committable_begun, suspended}
-use Rattle.cell_swap.proofs.SwapFinished.{HasAdded, committable, linked, looked}
+use Rattle.cell_swap.proofs.SwapFinished.{HasAdded, committable, linked}
+
+-- a stack in the lowest free run
+some_is : {X : Type 0} (a b : X) → Some a ≡ Some b → a ≡ b
+some_is a b e = cc
+
+start_from : (w : World) (words : List (List ℕ)) (o : Option ℕ) (stack : ℕ) → extra_start w.base (page_table w) (pages_for words) ≡ Ok o → o ≡ Some stack → start_of_run w 4 ≡ Ok stack
+start_from w [] o stack e s = absurd (none_some (ok_same None o e ∙ s))
+  where
+    none_some : None ≡ Some stack → ⊥
+    none_some k = cc
+start_from w (word ∷ words) o stack e s = go (lowest_run (page_table w) 4) e
+  where
+    go : (l : Option ℕ)
+        → ((elim l as (λ _. Outcome Taken) [ None ↦ Err (Exhausted 4 (longest_run (page_table w))) | Some page ↦ Ok (record { start = w.base + 4096 * page; table = filled (page_table w) page 4 true }) ]) >>= (λ run. let x : Outcome (Option ℕ) = Ok (Some run.start) in x)) ≡ Ok o
+        → (elim l as (λ _. Outcome ℕ) [ None ↦ Err (Exhausted 4 (longest_run (page_table w))) | Some page ↦ Ok (w.base + 4096 * page) ]) ≡ Ok stack
+    go None k = absurd (cc k)
+    go (Some page) k = ap (λ (a : ℕ). let x : Outcome ℕ = Ok a in x) (some_is (w.base + 4096 * page) stack (ok_same (Some (w.base + 4096 * page)) o k ∙ s))
+
+-- there is one where a routine is named
+stacks_none : (base : ℕ) (table : List Bool) (words : List (List ℕ)) (o : Option ℕ) → extra_start base table (pages_for words) ≡ Ok o → o ≡ None → stacks_for words ≡ 0
+stacks_none base table [] o e s = refl
+stacks_none base table (word ∷ words) o e s = go (lowest_run table 4) e
+  where
+    some_none : (a : ℕ) → Some a ≡ None → ⊥
+    some_none a k = cc
+
+    go : (l : Option ℕ)
+        → ((elim l as (λ _. Outcome Taken) [ None ↦ Err (Exhausted 4 (longest_run table)) | Some page ↦ Ok (record { start = base + 4096 * page; table = filled table page 4 true }) ]) >>= (λ run. let x : Outcome (Option ℕ) = Ok (Some run.start) in x)) ≡ Ok o
+        → stacks_for (word ∷ words) ≡ 0
+    go None k = absurd (cc k)
+    go (Some page) k = absurd (some_none (base + 4096 * page) (ok_same (Some (base + 4096 * page)) o k ∙ s))
+
+stacks_some : (base : ℕ) (table : List Bool) (words : List (List ℕ)) (o : Option ℕ) (stack : ℕ) → extra_start base table (pages_for words) ≡ Ok o → o ≡ Some stack → stacks_for words ≡ 1
+stacks_some base table [] o stack e s = absurd (none_some (ok_same None o e ∙ s))
+  where
+    none_some : None ≡ Some stack → ⊥
+    none_some k = cc
+stacks_some base table (word ∷ words) o stack e s = refl
+
+patched_spare : (m : MemoryState) (fields : List FieldValue) → (fields_patched m fields).spare ≡ m.spare
+patched_spare m [] = refl
+patched_spare m (f ∷ fields) = patched_spare (field_patched m f) fields
+
+-- the routines are numbered from 0
+names_below : (cells : List NewCell) (n : ℕ) (bs : List Begin) (r : Routine) → In r (map (λ (p : ℕ × Begin). let x : Routine = record { name = p.0; entry = entry_among cells p.1 } in x) (numbered_from n bs)) → r.name < n + length bs
+names_below cells n [] r i = absurd i
+names_below cells n (b ∷ bs) r (inl e) = omega (arith, ap (λ (x : Routine). x.name) e)
+names_below cells n (b ∷ bs) r (inr i) = let rest = names_below cells (suc n) bs r i in omega (arith, rest)
 
 module _ (first : Machine) (old : List CellId) (r : Ready) (q : CanFinish first old r) where
   abbrev pub m : Machine
@@ -37,13 +120,23 @@ module _ (first : Machine) (old : List CellId) (r : Ready) (q : CanFinish first 
   abbrev pub k : Machine
   k = q.room
 
+  abbrev words : List (List ℕ)
+  words = q.options.routines.now
+
+  abbrev budget : ℕ
+  budget = q.options.budget
+
   -- for each field there is a write left
-  pub enough : length r.plan.patches.items + length r.plan.staged.fields.items ≤ r.patched
+  pub enough : length r.plan.patches.items + length r.plan.staged.fields.items + turns_in r.transfer ≤ r.writes
   enough =
       let count = q.ready.patched in
+      let writes = q.ready.writes in
       let patches = ap (λ (o : Plan). length o.patches.items) q.ready.plan in
       let fields = ap (λ (o : Plan). length o.staged.fields.items) q.ready.plan in
-      omega (arith, count, patches, fields)
+      omega (arith, count, writes, patches, fields)
+
+  pub fields_fit : length r.plan.patches.items + length r.plan.staged.fields.items ≤ r.writes
+  fields_fit = omega (arith, enough)
 
   none_before : k.memory.undo ≡ None
   none_before = ap (λ (s : MemoryState). s.undo) q.ready.same.memory ∙ q.is.ready.parts.undo
@@ -51,56 +144,220 @@ module _ (first : Machine) (old : List CellId) (r : Ready) (q : CanFinish first 
   pub can_commit : (patches : List FieldValue) (moves : List LinkRow) → patches ≡ r.plan.patches.items → moves ≡ r.plan.moves.items → IsCommittable first r.plan.staged r.prepared patches moves
   can_commit patches moves a b =
       subst (λ (x : Machine). IsCommittable x r.plan.staged r.prepared patches moves) (sym q.begun)
-      (subst (λ (xs : List FieldValue). IsCommittable (begun_in k r.patched) r.plan.staged r.prepared xs moves) (sym a)
-      (subst (λ (xs : List LinkRow). IsCommittable (begun_in k r.patched) r.plan.staged r.prepared r.plan.patches.items xs) (sym b)
-      (committable_begun k none_before r.patched r.plan.staged r.prepared r.plan.patches.items r.plan.moves.items enough (committable m p q.is k r q.ready))))
+      (subst (λ (xs : List FieldValue). IsCommittable (begun_in k r.writes) r.plan.staged r.prepared xs moves) (sym a)
+      (subst (λ (xs : List LinkRow). IsCommittable (begun_in k r.writes) r.plan.staged r.prepared r.plan.patches.items xs) (sym b)
+      (committable_begun k none_before r.writes r.plan.staged r.prepared r.plan.patches.items r.plan.moves.items fields_fit (committable m p q.is k r q.ready))))
+
+  -- what the swap comes to, where a routine fails
+  pub failed_so : (e : Refusal) (strict : Bool) → with_transfer q.is.plan words budget ≡ Err e → ended q.is.plan q.options strict ≡ Err e
+  failed_so e strict is = ap (λ (x : Outcome World). x >>= (λ w. refused_by (first_held_old strict w q.is.plan) >> Ok w)) is
 
   module _ (n : Machine) (committed : HasAdded first r n) where
-    pub added : HasAdded (begun_in k r.patched) r n
+    pub added : HasAdded (begun_in k r.writes) r n
     added = subst (λ (x : Machine). HasAdded x r n) q.begun committed
 
     pub all_added : HasAdded k r (suspended n)
-    all_added = whole m p q.is k r q.ready r.patched n added
+    all_added = whole m p q.is k r q.ready r.writes n added
 
     pub sound_then : IsSound (suspended n)
-    sound_then = sound m p q.is k r q.ready r.patched n added
+    sound_then = sound m p q.is k r q.ready r.writes n added
 
-    pub looked_then : IsOutlook (suspended n) [] r.plan.outlook
-    looked_then = looked m p q.is k r q.ready (suspended n) all_added
+    pub linked_is : world_of (suspended n) ≡ q.is.plan.linked
+    linked_is = linked m p q.is k r q.ready (suspended n) all_added
 
-    pub links_then : (back : List LinkRow) → back ≡ r.back.items → AreAsTheyWere k.graph.rows r.plan.moves.items back
-    links_then back e =
-        subst (λ (ls : List LinkRow). AreAsTheyWere k.graph.rows r.plan.moves.items ls) (sym e)
-        (subst (λ (ls : List LinkRow). AreAsTheyWere ls r.plan.moves.items r.back.items) (sym q.ready.same.rows)
-        (subst (λ (ls : List LinkRow). AreAsTheyWere m.graph.rows ls r.back.items) (sym (ap (λ (o : Plan). o.moves.items) q.ready.plan)) q.ready.back))
+    pub links_then : AreAsTheyWere k.graph.rows r.plan.moves.items r.back.items
+    links_then =
+        subst (λ (ls : List LinkRow). AreAsTheyWere ls r.plan.moves.items r.back.items) (sym q.ready.same.rows)
+        (subst (λ (ls : List LinkRow). AreAsTheyWere m.graph.rows ls r.back.items) (sym (ap (λ (o : Plan). o.moves.items) q.ready.plan)) q.ready.back)
 
-    -- the machine in which the undo goes on
-    abbrev pub can_return_to : (x : Machine) → x ≡ n → (back : List LinkRow) → back ≡ r.back.items → (fresh : List CellId) → fresh ≡ r.fresh
-        → IsLaidOut (all_mapped first.memory r.plan.staged.regions.items) → AreBytes (all_mapped first.memory r.plan.staged.regions.items).regions → CanGoBack x back fresh
-    can_return_to x e back b fresh f laid bytes = record {
-      before = m;
-      plan_before = p;
-      planned = q.is;
-      room = k;
-      ready = r;
-      is = q.ready;
-      count = r.patched;
-      enough = enough;
-      added = subst (λ (y : Machine). HasAdded (begun_in k r.patched) r y) (sym e) added;
-      laid = subst (λ (y : Machine). IsLaidOut (all_mapped y.memory r.plan.staged.regions.items)) q.begun laid;
-      bytes = subst (λ (y : Machine). AreBytes (all_mapped y.memory r.plan.staged.regions.items).regions) q.begun bytes;
-      links = links_then back b;
-      fresh_are = f;
-    }
+    -- the stack of the routines
+    stack_there : extra_start (world_of (suspended n)).base (page_table (world_of (suspended n))) (pages_for words) ≡ Ok p.stack
+    stack_there =
+        ap₂ (λ (b : ℕ) (table : List Bool). extra_start b table (pages_for words)) base_is
+        (sym sound_then.table ∙ (ap (λ (x : SpaceState). x.taken) added.space ∙ ap (λ (x : Plan). x.staged.space.taken) q.ready.plan))
+        ∙ q.is.stack
+      where
+        base_is : n.memory.base ≡ m.memory.base
+        base_is = sym sound_then.base ∙ (ap (λ (x : SpaceState). x.base) added.space ∙ (ap (λ (x : Plan). x.staged.space.base) q.ready.plan ∙ q.is.ready.staged.base))
 
-    -- what a strict swap is refused for
-    nothing_aside : aside_in (suspended n) [] ≡ q.is.plan.linked
-    nothing_aside =
-        ap (λ (cells : List Cell). let w : World = record (world_of (suspended n)) { cells = cells } in w) (In-fixed (put_aside (suc (world_of (suspended n)).swaps) []) (world_of (suspended n)).cells (λ c i. refl))
-        ∙ linked m p q.is k r q.ready (suspended n) all_added
+    spare_left : 1 ≤ n.memory.spare
+    spare_left =
+        let all = ap (λ (s : MemoryState). s.spare) added.memory in
+        let fields = written_spare (fields_patched (all_mapped (begun_at k.memory r.writes) r.plan.staged.regions.items) r.plan.patches.items) r.plan.staged.fields.items in
+        let patches = patched_spare (all_mapped (begun_at k.memory r.writes) r.plan.staged.regions.items) r.plan.patches.items in
+        let regions = mapped_spare (begun_at k.memory r.writes) r.plan.staged.regions.items in
+        let fits = q.ready.stack_room in
+        let same = ap (λ (x : Plan). length x.staged.regions.items) q.ready.plan in
+        omega (arith, all, fields, patches, regions, fits, same)
 
-    pub held_is : (strict : Bool) → (if strict then first_held (holding_in (suspended n) []) (map (λ c. c.0) old) else None) ≡ first_held_old strict q.is.plan.linked q.is.plan
-    held_is strict = ap₂ (λ (h : Holding) (ns : List ℕ). if strict then first_held h ns else None) (ap holding_of nothing_aside) q.olds
+    module _ (laid : IsLaidOut (all_mapped first.memory r.plan.staged.regions.items)) (bytes : AreBytes (all_mapped first.memory r.plan.staged.regions.items).regions)
+        (now_laid : IsLaid n.memory.base n.memory.regions (n.memory.base + 4096 * n.memory.pages)) where
+      abbrev can_go_back : (back : List LinkRow) → back ≡ r.back.items → (fresh : List CellId) → fresh ≡ r.fresh → CanGoBack n back fresh
+      can_go_back back b fresh f = record {
+        before = m;
+        old = old;
+        options = q.options;
+        plan_before = p;
+        planned = q.is;
+        room = k;
+        ready = r;
+        is = q.ready;
+        count = r.writes;
+        enough = fields_fit;
+        added = added;
+        laid = subst (λ (y : Machine). IsLaidOut (all_mapped y.memory r.plan.staged.regions.items)) q.begun laid;
+        bytes = subst (λ (y : Machine). AreBytes (all_mapped y.memory r.plan.staged.regions.items).regions) q.begun bytes;
+        links = subst (λ (ls : List LinkRow). AreAsTheyWere k.graph.rows r.plan.moves.items ls) (sym b) links_then;
+        fresh_are = f;
+      }
 
-    pub swept_is : (removed : List CellId) (l : Machine) (s : Survey) → Removes (suspended n) s removed l → IsSurvey (suspended n) [] s → IsSwept (suspended n) [] removed l
-    swept_is removed l s removes survey = let both = removes [] survey in record { free = refl; are = both.0; left = both.1 }
+      pub begun_then : is_some n.memory.undo ≡ true
+      begun_then = still n r.back.items r.fresh (can_go_back r.back.items refl r.fresh refl)
+
+      writes_for : HasWrites n.memory (turns_in r.transfer)
+      writes_for = turns_left n r.back.items r.fresh (can_go_back r.back.items refl r.fresh refl) (turns_in r.transfer) enough
+
+      -- the way back from a machine that differs by what an undo takes back
+      abbrev pub can_undo : (x : Machine) → x ≡ record n { memory = x.memory } → undone_at x.memory ≡ undone_at n.memory → is_some x.memory.undo ≡ true
+          → (back : List LinkRow) → back ≡ r.back.items → (fresh : List CellId) → fresh ≡ r.fresh → CanUndo x back fresh
+      can_undo x like undone begun back b fresh f = record { added = n; can = can_go_back back b fresh f; laid = now_laid; like = like; undone = undone; begun = begun }
+
+      -- a transfer of the plan
+      module _ (t : Transfer) (given : IsGiven m old p words budget t) where
+        run : start_of_run (world_of (suspended n)) 4 ≡ Ok t.stack
+        run = start_from (world_of (suspended n)) words p.stack t.stack stack_there given.stack
+
+        abbrev old_names : List (List ℕ × ℕ)
+        old_names = old_rows m old
+
+        abbrev new_names : List (List ℕ × ℕ)
+        new_names = new_rows p.staged.cells.items p.staged.names.items
+
+        abbrev tables : Addresses
+        tables = record { old = addresses_as old_names; new = addresses_as new_names }
+
+        old_are : addresses_as old_names ≡ addresses_in (map (λ want. want.old) q.is.plan.wants)
+        old_are =
+            ap (λ (ids : List CellId). addresses_as (old_rows m ids)) q.olds_are
+            ∙ (old_said q.is.files q.is.asked m q.is.begun present ∙ ap (λ (ws : List Wanted). addresses_in (map (λ want. want.old) ws)) (sym q.is.wanted))
+          where
+            present : (want : Wanted) → In want (wants q.is.files q.is.asked m q.is.begun) → In want.old (v q.is.files q.is.asked m q.is.begun).cells
+            present want i = ((wanted_all (sources q.is.files q.is.asked m q.is.begun) (v q.is.files q.is.asked m q.is.begun) q.is.begun.items q.is.begun.found.wants q.is.begun.found.all).0 want i).present
+
+        new_are : addresses_as new_names ≡ addresses_in q.is.plan.fresh
+        new_are =
+            ap₂ (λ (cs : List NewCell) (names : List (List Alias)). addresses_as (new_rows cs names)) q.is.ready.staged.cells
+            (q.is.ready.staged.names ∙ sym (kept_placed names_of (λ s c. refl) q.is.ready.staged.starts q.is.ready.new))
+            ∙ (new_said (placed_cells q.is.ready.staged.starts q.is.ready.new) ∙ ap addresses_in (sym q.is.fresh))
+
+        tables_are : tables ≡ addresses_of q.is.plan
+        tables_are = ap₂ (λ (xs ys : List NameAddr). let x : Addresses = record { old = xs; new = ys } in x) old_are new_are
+
+        with_is : with_transfer q.is.plan words budget ≡ transferred_by t.names.items (transfer (world_of (suspended n)) t.stack tables t.routines.items t.budget)
+        with_is =
+            ap (λ (o : Option ℕ). elim o as (λ _. Outcome World) [ None ↦ Ok q.is.plan.linked | Some stack ↦ transferred_by words (transfer q.is.plan.linked stack (addresses_of q.is.plan) q.is.plan.routines budget) ]) (q.is.stack_is ∙ given.stack)
+            ∙ (ap (λ (w : World). transferred_by words (transfer w t.stack (addresses_of q.is.plan) q.is.plan.routines budget)) (sym linked_is)
+            ∙ (ap (λ (a : Addresses). transferred_by words (transfer (world_of (suspended n)) t.stack a q.is.plan.routines budget)) (sym tables_are)
+            ∙ (ap (λ (rs : List Routine). transferred_by words (transfer (world_of (suspended n)) t.stack tables rs budget)) (q.is.routines ∙ sym given.routines)
+            ∙ (ap (λ (b : ℕ). transferred_by words (transfer (world_of (suspended n)) t.stack tables t.routines.items b)) (sym given.budget_is)
+            ∙ ap (λ (ns : List (List ℕ)). transferred_by ns (transfer (world_of (suspended n)) t.stack tables t.routines.items t.budget)) (sym given.names)))))
+
+        can_carry : HasWrites n.memory t.budget → CanCarry n.memory t
+        can_carry writes = record {
+          begun = begun_then;
+          writes = writes;
+          room = room n sound_then t.stack run spare_left;
+          zeros = given.zeros;
+          unsealed = unsealed_stack n sound_then t.stack run;
+          names = subst (λ (rs : List Routine). All (λ r. r.name < length t.names.items) rs) (sym given.routines)
+              (In-All (λ (r : Routine). r.name < length t.names.items) (routines_among p.staged.cells.items (map begin_as p.begins.items)) (λ r i.
+              let low = names_below p.staged.cells.items 0 (map begin_as p.begins.items) r i in
+              let mapped = length-map p.begins.items begin_as in
+              let named = q.is.named in
+              let same = ap length given.names in
+              omega (arith, low, mapped, named, same)));
+        }
+
+      pub can_run : CanRun n.memory r.transfer
+      can_run = go r.transfer q.ready.given writes_for
+        where
+          go : (o : Option Transfer) → Gives m old p words budget o → HasWrites n.memory (turns_in o) → CanRun n.memory o
+          go None given writes = tt
+          go (Some t) given writes = can_carry t given writes
+
+      -- the machine after the routines
+      pub record IsSecond (s : MemoryState) : Type 0 where
+        pub sound : IsSound (suspended (record n { memory = s }))
+        pub patches : s.patches ≡ n.memory.patches
+        pub maps : s.maps ≡ raised n.memory.maps (stacks_for words)
+        pub is : with_transfer q.is.plan words budget ≡ Ok (world_of (suspended (record n { memory = s })))
+
+      pub record Ran (result : Result (Unit {0}) Refusal) (s : MemoryState) : Type 0 where
+        pub back : undone_at s ≡ undone_at n.memory
+        pub begun : is_some s.undo ≡ true
+        pub done : result ≡ Ok tt → IsSecond s
+        pub failed : (e : Refusal) → result ≡ Err e → with_transfer q.is.plan words budget ≡ Err e
+
+      no_failure : (e : Refusal) (result : Result (Unit {0}) Refusal) → result ≡ Ok tt → result ≡ Err e → ⊥
+      no_failure e result a b = cc (sym a ∙ b)
+
+      pub ran : (result : Result (Unit {0}) Refusal) (s : MemoryState) → HasRun n.memory r.transfer result s → Ran result s
+      ran result s has = go r.transfer q.ready.given has
+        where
+          none_ran : p.stack ≡ None → s ≡ n.memory → result ≡ Ok tt → Ran result s
+          none_ran stack same ok = record {
+            back = ap undone_at same;
+            begun = ap (λ (x : MemoryState). is_some x.undo) same ∙ begun_then;
+            done = λ e. record {
+              sound = subst (λ (x : MemoryState). IsSound (suspended (record n { memory = x }))) (sym same) sound_then;
+              patches = ap (λ (x : MemoryState). x.patches) same;
+              maps = ap (λ (x : MemoryState). x.maps) same
+                  ∙ (sym (unraised n.memory.maps sound_then.maps) ∙ ap (raised n.memory.maps) (sym (stacks_none m.memory.base p.staged.space.taken words p.stack q.is.stack stack)));
+              is = ap (λ (o : Option ℕ). elim o as (λ _. Outcome World) [ None ↦ Ok q.is.plan.linked | Some stack ↦ transferred_by words (transfer q.is.plan.linked stack (addresses_of q.is.plan) q.is.plan.routines budget) ]) (q.is.stack_is ∙ stack)
+                  ∙ (ap (λ (w : World). let x : Outcome World = Ok w in x) (sym linked_is)
+                  ∙ ap (λ (x : MemoryState). let y : Outcome World = Ok (world_of (suspended (record n { memory = x }))) in y) (sym same));
+            };
+            failed = λ e f. absurd (no_failure e result ok f);
+          }
+            where
+              unraised : (count : ℕ) → count ≤ 2 ^ 64 - 1 → raised count 0 ≡ count
+              unraised count le = omega (arith, le)
+
+          some_ran : (t : Transfer) → IsGiven m old p words budget t → IsCarried n.memory t result s → Ran result s
+          some_ran t given c =
+              let x = c.done (old_names t given) (new_names t given) given.before given.after in
+              record {
+                back = c.back;
+                begun = c.begun;
+                done = λ e. record {
+                  sound = sound_after n sound_then t.stack (run t given) (tables t given) t.budget t.routines.items s c.rest x.0;
+                  patches = ap (λ (y : MemoryState). y.patches) c.rest;
+                  maps = ap (λ (y : MemoryState). y.maps) c.rest ∙ ap (raised n.memory.maps) (sym (stacks_some m.memory.base p.staged.space.taken words p.stack t.stack q.is.stack given.stack));
+                  is = with_is t given ∙ transfer_done n sound_then t.stack (run t given) (tables t given) t.budget t.routines.items s c.rest x.0 t.names.items result x.1 e;
+                };
+                failed = λ f e. with_is t given ∙ transfer_failed n sound_then t.stack (run t given) (tables t given) t.budget t.routines.items s c.rest x.0 t.names.items result x.1 f e;
+              }
+
+          go : (o : Option Transfer) → Gives m old p words budget o → HasRun n.memory o result s → Ran result s
+          go None given has = none_ran given has.0 has.1
+          go (Some t) given has = some_ran t given has
+
+      -- what the swap comes to, by what a strict one is refused for
+      module _ (s : MemoryState) (second : IsSecond s) where
+        abbrev after : Machine
+        after = record n { memory = s }
+
+        nothing_aside : aside_in (suspended after) [] ≡ world_of (suspended after)
+        nothing_aside = ap (λ (cells : List Cell). let w : World = record (world_of (suspended after)) { cells = cells } in w) (In-fixed (put_aside (suc (world_of (suspended after)).swaps) []) (world_of (suspended after)).cells (λ c i. refl))
+
+        held_is : (strict : Bool) → (if strict then first_held (holding_in (suspended after) []) (map (λ c. c.0) old) else None) ≡ first_held_old strict (world_of (suspended after)) q.is.plan
+        held_is strict = ap₂ (λ (h : Holding) (ns : List ℕ). if strict then first_held h ns else None) (ap holding_of nothing_aside) q.olds
+
+        pub ended_so : (strict : Bool) (o : Option Refusal) → o ≡ (if strict then first_held (holding_in (suspended after) []) (map (λ c. c.0) old) else None)
+            → ended q.is.plan q.options strict ≡ (refused_by o >> Ok (world_of (suspended after)))
+        ended_so strict o e =
+            ap (λ (x : Outcome World). x >>= (λ w. refused_by (first_held_old strict w q.is.plan) >> Ok w)) second.is
+            ∙ ap (λ (x : Option Refusal). refused_by x >> (let y : Outcome World = Ok (world_of (suspended after)) in y)) (sym (e ∙ held_is strict))
+
+        pub swept_is : (removed : List CellId) (l : Machine) (x : Survey) → Removes (suspended after) x removed l → IsSurvey (suspended after) [] x → IsSwept (suspended after) [] removed l
+        swept_is removed l x removes survey = let both = removes [] survey in record { free = refl; are = both.0; left = both.1 }

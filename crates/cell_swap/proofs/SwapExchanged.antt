@@ -1,6 +1,6 @@
 -- The exchange by its plan, and by the last steps.
-use Rattle.std.proofs.Common.{◌≡◌, sym, ◌∙◌, ap, subst, ℕ, Bool, List, [], length}
-use Rattle.std.specs.Prelude.{All, Err, IsTrue, Ok, Option, map}
+use Rattle.std.proofs.Common.{◌≡◌, sym, ◌∙◌, ap, subst, arith, ℕ, ◌+◌, ◌*◌, ◌<◌, ◌^◌, List, length}
+use Rattle.std.specs.Prelude.{All, Err, IsTrue, Ok, map, nat_lt}
 use Rattle.cell_world.specs.declared.fail.Fail.{Fail}
 use Rattle.cell_world.specs.declared.fail.Fail.TheVariants.{Refused, OutOfMemory}
 use Rattle.cell_world.specs.declared.file.File.{File}
@@ -19,19 +19,29 @@ use Rattle.cell_swap.specs.declared.planning.Plan.{Plan}
 use Rattle.cell_swap.specs.declared.swapping.Ready.{Ready}
 use Rattle.cell_swap.specs.Planning.{IsPlan, Plans}
 use Rattle.cell_num.specs.declared.ids.CellId.{CellId}
-use Rattle.cell_world.specs.Gather.{source_of}
-use Rattle.cell_world.specs.Outcome.{Outcome, ◌>>=◌, ◌>>◌, refused_by}
+use Rattle.cell_world.specs.Outcome.{Outcome, ◌>>=◌}
 use Rattle.cell_world.specs.SwapCommand.{Plan as SwapPlan, old_numbers}
 use Rattle.cell_world.specs.declared.refusal.Refusal.{Refusal}
 use Rattle.cell_world.specs.declared.state.LinkRow.{LinkRow}
-use Rattle.cell_coherent.proofs.Appended.{ok_same}
 use Rattle.cell_graph.specs.Links.{is_bound}
 use Rattle.cell_graph.specs.Moves.{AreApart}
-use Rattle.cell_swaps_law.proofs.SwapSteps.{planned as inverted}
 use Rattle.cell_machine.specs.Same.{IsSame}
 use Rattle.cell_mem.specs.State.{MemoryState}
 use Rattle.cell_swap.specs.Before.{begun_in}
-use Rattle.cell_swap.specs.Swapped.{CanFinish, Exchanges, Finishes, HasBegun, HasExchanged, IsPlanned, IsReadyFor, exchanged, unless_held}
+use Rattle.cell_swap.specs.Swapped.{CanFinish, Exchanges, Finishes, HasBegun, HasExchanged, IsPlanned, IsReadyFor, ended, exchanged}
+use Rattle.cell_swap.specs.declared.swapping.Options.{Options}
+use Rattle.cell_swap.specs.Transferring.{stacks_for}
+use Rattle.cell_routines.specs.declared.entries.Begin.{Begin}
+use Rattle.cell_num.specs.Lists.{each_pair}
+use Rattle.cell_coherent.specs.Grown.{In}
+use Rattle.cell_coherent.proofs.Elements.{In-All, In-map, In-right, pairs-map}
+use Rattle.cell_load_law.specs.Loading.{placed_after, placed_cells}
+use Rattle.cell_machine.proofs.Low.{is_low}
+use Rattle.cell_machine.proofs.StagedWorld.{numbers_rise}
+use Rattle.cell_placed.specs.Low.{IsLow}
+use Rattle.cell_space.specs.Joined.{placed_of}
+use Rattle.cell_world.specs.World.{Cell, World}
+use Rattle.cell_world.specs.declared.state.NewCell.{NewCell}
 
 -- the same as what is the same
 pub then_same : (m k l : Machine) → IsSame m k → IsSame k l → IsSame m l
@@ -49,23 +59,25 @@ then_same m k l a b = record {
   tasks = b.tasks ∙ a.tasks;
 }
 
-module _ (files : List File) (asked : Asked) (m : Machine) (reexport strict : Bool) (roots : List Root) (h : HasBegun files asked m roots) where
+module _ (files : List File) (asked : Asked) (m : Machine) (o : Options) (roots : List Root) (h : HasBegun files asked m roots) where
+  abbrev after_plan : SwapPlan → Outcome (SwapPlan × World)
+  after_plan plan = ended plan o o.strict >>= (λ second. Ok (plan, second))
+
   -- nothing is done
-  pub unplanned : (fail : Fail) → Plans files asked m h.begun reexport roots (Err fail) → Exchanges files asked m h.begun reexport strict (Err fail) m
-  unplanned (Refused r) e = (ap (λ (o : Outcome SwapPlan). o >>= unless_held strict) e, same_itself m)
+  pub unplanned : (fail : Fail) → Plans files asked m h.begun o.reexport o.routines.now roots (Err fail) → Exchanges files asked m h.begun o (Err fail) m
+  unplanned (Refused r) e = (ap (λ (x : Outcome SwapPlan). x >>= after_plan) e, same_itself m)
   unplanned OutOfMemory e = same_itself m
 
-  module _ (p : Plan) (is : IsPlan files asked m h.begun reexport roots p) where
+  module _ (p : Plan) (is : IsPlan files asked m h.begun o.reexport o.routines.now roots p) where
     pub names_fit : length p.staged.names.items ≡ length p.staged.cells.items
     names_fit = as_many m is.changed (moved m.graph.rows p.moves.items) p.staged is.ready
 
-    abbrev pub plan_is : IsPlanned m p
+    abbrev pub plan_is : IsPlanned m o p
     plan_is = record {
       files = files;
       asked = asked;
-      reexport = reexport;
       begun = h.begun;
-      made = subst (λ (rs : List Root). IsPlan files asked m h.begun reexport rs p) h.rooted is;
+      made = subst (λ (rs : List Root). IsPlan files asked m h.begun o.reexport o.routines.now rs p) h.rooted is;
     }
 
     pub bound : All (λ (x : LinkRow). IsTrue (is_bound m.graph.rows x.user x.entry)) p.moves.items
@@ -74,32 +86,59 @@ module _ (files : List File) (asked : Asked) (m : Machine) (reexport strict : Bo
     pub apart : AreApart p.moves.items
     apart = is.change.apart
 
+    -- the new cells in their places
+    abbrev new : List Cell
+    new = placed_cells is.ready.staged.starts is.ready.new
+
+    abbrev later : World
+    later = placed_after is.ready.staged.starts (world_of m) is.ready.new
+
+    low : (world_of m).base + 4096 * (world_of m).pages < 2 ^ 63
+    low =
+        let space = is.ready.coherent.ready.space in
+        let base = is.ready.like.base in
+        let pages = is.ready.like.pages in
+        omega (arith, base, pages)
+
+    -- the new cells are low, and in the order of their numbers
+    pub staged_low : All IsLow p.staged.cells.items
+    staged_low = In-All IsLow p.staged.cells.items (λ c i.
+        let d = In-map placed_of new c (subst (λ (cs : List NewCell). In c cs) is.ready.staged.cells i) in
+        subst IsLow (sym d.2) (is_low later is.ready.there.linkable low d.0 (In-right (world_of m).cells new d.0 d.1)))
+
+    pub staged_rise : IsTrue (each_pair (λ (a b : NewCell). nat_lt a.id.0 b.id.0) p.staged.cells.items)
+    staged_rise =
+        ap (each_pair (λ (a b : NewCell). nat_lt a.id.0 b.id.0)) is.ready.staged.cells
+        ∙ (pairs-map (λ (a b : NewCell). nat_lt a.id.0 b.id.0) placed_of (placed_cells is.ready.staged.starts is.ready.new)
+        ∙ numbers_rise (world_of m) is.ready.new p.staged is.ready.staged is.ready.there)
+
+    pub begins_low : All (λ (b : Begin). b.offset < 2 ^ 32) p.begins.items
+    begins_low = is.begins
+
     -- the old cells are those of the plan
     pub olds : map (λ (c : CellId). c.0) asked.replaced.items ≡ old_numbers plan_is.plan.wants
-    olds =
-        let d = inverted (map source_of files) (world_of h.begun.before) h.begun.items reexport [] plan_is.plan plan_is.is in
-        let same : h.begun.found.wants ≡ d.placed.wants = ok_same h.begun.found.wants d.placed.wants (sym h.begun.found.all ∙ d.placed.want_all) in
-        h.begun.found.old ∙ (ap old_numbers same ∙ ap (λ (o : SwapPlan). old_numbers o.wants) d.is)
+    olds = h.begun.found.old ∙ ap old_numbers (sym plan_is.wanted)
 
-    module _ (k : Machine) (r : Ready) (ready : IsReadyFor m p k r) (n : Machine) (begun : n ≡ begun_in k r.patched) (old : List CellId) (are : old ≡ asked.replaced.items) where
+    module _ (k : Machine) (old : List CellId) (same : old ≡ asked.replaced.items) (r : Ready) (ready : IsReadyFor m old o p k r) (n : Machine) (begun : n ≡ begun_in k r.writes) where
       abbrev pub can_finish : CanFinish n old r
-      can_finish = record { before = m; plan_before = p; is = plan_is; room = k; ready = ready; begun = begun; olds = ap (map (λ (c : CellId). c.0)) are ∙ olds }
+      can_finish = record { before = m; options = o; plan_before = p; is = plan_is; olds_are = same; room = k; ready = ready; begun = begun; olds = ap (map (λ (c : CellId). c.0)) same ∙ olds }
 
-      by_plan : exchanged files asked m h.begun reexport strict ≡ unless_held strict plan_is.plan
-      by_plan = ap (λ (o : Outcome SwapPlan). o >>= unless_held strict) plan_is.is
+      by_plan : exchanged files asked m h.begun o ≡ after_plan plan_is.plan
+      by_plan = ap (λ (x : Outcome SwapPlan). x >>= after_plan) plan_is.is
 
-      pub was_exchanged : (reply : Reply) (l : Machine) → Finishes can_finish strict (Ok reply) l → HasExchanged files asked m h.begun reexport strict reply l
+      pub was_exchanged : (reply : Reply) (l : Machine) → Finishes can_finish o.strict (Ok reply) l → HasExchanged files asked m h.begun o reply l
       was_exchanged reply l s = record {
         plan = plan_is.plan;
-        is = by_plan ∙ ap (λ (o : Option Refusal). refused_by o >> Ok plan_is.plan) s.0;
+        second = s.second;
+        is = by_plan ∙ ap (λ (x : Outcome World). x >>= (λ second. let y : Outcome (SwapPlan × World) = Ok (plan_is.plan, second) in y)) s.is;
         swapped = record {
-          sound = s.1.sound;
-          said = s.1.said;
-          world = s.1.world;
-          patches = s.1.patches ∙ ap (λ (count : ℕ). raised count (patched_by reply)) (patches_same m k ready.same);
-          maps = s.1.maps ∙ ap (λ (count : ℕ). raised count (new_runs reply (world_of l))) (maps_same m k ready.same);
+          sound = s.swapped.sound;
+          said = s.swapped.said;
+          world = s.swapped.world;
+          patches = s.swapped.patches ∙ ap (λ (count : ℕ). raised count (patched_by reply)) (patches_same m k ready.same);
+          maps = s.swapped.maps ∙ ap (λ (count : ℕ). raised count (new_runs reply (world_of l) + stacks_for o.routines.now)) (maps_same m k ready.same);
         };
       }
 
-      pub was_held : (refusal : Refusal) (l : Machine) → Finishes can_finish strict (Err refusal) l → Exchanges files asked m h.begun reexport strict (Err (Refused refusal)) l
-      was_held refusal l s = (by_plan ∙ ap (λ (o : Option Refusal). refused_by o >> Ok plan_is.plan) s.0, then_same m k l ready.same s.1)
+      pub was_refused : (refusal : Refusal) (l : Machine) → Finishes can_finish o.strict (Err refusal) l → Exchanges files asked m h.begun o (Err (Refused refusal)) l
+      was_refused refusal l s = (by_plan ∙ ap (λ (x : Outcome World). x >>= (λ second. let y : Outcome (SwapPlan × World) = Ok (plan_is.plan, second) in y)) s.0, then_same m k l ready.same s.1)

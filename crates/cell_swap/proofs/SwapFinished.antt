@@ -25,7 +25,7 @@ use Rattle.cell_mem.specs.State.{MemoryState}
 use Rattle.cell_space.specs.Joined.{placed_of}
 use Rattle.cell_task.specs.State.{TasksState}
 use Rattle.cell_machine.specs.declared.machine.Machine.{Machine}
-use Rattle.cell_machine.specs.Does.{HasDone, answer_in, cell_shapes, new_cells}
+use Rattle.cell_machine.specs.Does.{HasDone, answer_in, cell_shapes, new_cells, new_runs}
 use Rattle.cell_machine.specs.Machine.{IsSound, world_of}
 use Rattle.cell_machine.specs.Same.{raised}
 use Rattle.cell_machine.specs.Staged.{IsCommitted, arrivals}
@@ -39,6 +39,7 @@ use Rattle.cell_load.proofs.Ready.{added_same}
 use Rattle.cell_swap.specs.declared.planning.Plan.{Plan}
 use Rattle.cell_swap.specs.declared.swapping.Ready.{Ready}
 use Rattle.cell_swap.specs.Swapped.{HasSwapped, IsPlanned, IsReadyFor}
+use Rattle.cell_swap.specs.declared.swapping.Options.{Options}
 use Rattle.cell_swap.specs.Sweep.{IsOutlook, IsSwept}
 use Rattle.cell_swap.proofs.SwapOutlook.{outlook_after}
 use Rattle.cell_swap.proofs.SwapRuns.{came, stay_all}
@@ -55,6 +56,9 @@ ids_numbers : (cells : List Cell) → map (λ (id : CellId). id.0) (ids (numbers
 ids_numbers [] = refl
 ids_numbers (c ∷ cells) = ap (λ (ns : List ℕ). c.id.0 ∷ ns) (ids_numbers cells)
 
+raised_more : (count a b : ℕ) → raised (raised count a) b ≡ raised count (a + b)
+raised_more count a b = omega arith
+
 -- the staged cells are in the machine, and the others lead to them
 abbrev pub HasAdded : Machine → Ready → Machine → Type 0
 HasAdded k r n = IsCommitted k (memory_with k.memory r.plan.staged.regions.items r.plan.patches.items) (moved k.graph.rows r.plan.moves.items) (map arrived r.prepared.newcomers.items) r.plan.staged n
@@ -65,7 +69,7 @@ has_added k r n patches moves a b c =
     subst (λ (xs : List FieldValue). IsCommitted k (memory_with k.memory r.plan.staged.regions.items xs) (moved k.graph.rows r.plan.moves.items) (map arrived r.prepared.newcomers.items) r.plan.staged n) a
     (subst (λ (xs : List LinkRow). IsCommitted k (memory_with k.memory r.plan.staged.regions.items patches) (moved k.graph.rows xs) (map arrived r.prepared.newcomers.items) r.plan.staged n) b c)
 
-module _ (m : Machine) (p : Plan) (x : IsPlanned m p) (k : Machine) (r : Ready) (y : IsReadyFor m p k r) where
+module _ (m : Machine) {o : Options} (p : Plan) (x : IsPlanned m o p) (k : Machine) {olds : List CellId} (r : Ready) (y : IsReadyFor m olds o p k r) where
   pub committable : IsCommittable k r.plan.staged r.prepared r.plan.patches.items r.plan.moves.items
   committable =
       subst (λ (q : Plan). IsCommittable k q.staged r.prepared q.patches.items q.moves.items) (sym y.plan)
@@ -97,11 +101,6 @@ module _ (m : Machine) (p : Plan) (x : IsPlanned m p) (k : Machine) (r : Ready) 
     pub cells_are : (world_of n).cells ≡ (world_of m).cells ++ new
     cells_are = ap (λ (w : World). w.cells) (comes ∙ x.ready.comes.is)
 
-    pub looked : IsOutlook n [] r.plan.outlook
-    looked =
-        outlook_after x.begun.before x.asked.replaced.items m n x.begun.sound x.begun.aside after new cells_are stand added.is.tasks p.staged.cells.items x.ready.staged.cells added.is.cells r.plan.outlook
-        (ap (λ (q : Plan). q.outlook.places) y.plan ∙ x.places) (ap (λ (q : Plan). q.outlook.roots.items) y.plan ∙ x.rooted)
-
     pub fits : length n.cells.items ≡ length m.cells.items + length p.staged.cells.items
     fits = ap length added.is.cells ∙ length-append m.cells.items p.staged.cells.items
 
@@ -131,61 +130,77 @@ module _ (m : Machine) (p : Plan) (x : IsPlanned m p) (k : Machine) (r : Ready) 
     pub fresh_are : r.fresh ≡ ids (numbers_of new)
     fresh_are = y.fresh ∙ (ap (map (λ (c : NewCell). c.id)) x.ready.staged.cells ∙ ids_placed new)
 
-    module _ (removed : List CellId) (l : Machine) (swept : IsSwept n [] removed l) where
-      gone : HasDone (next_purge (world_of n)) 0 n (PurgeDone removed) l
-      gone = purge_done n after removed l swept
+    -- the memory may be another by then, after routines
+    module _ (memory : MemoryState) (stacks : ℕ) (sound : IsSound (record n { memory = memory })) (same_patches : memory.patches ≡ n.memory.patches) (more_maps : memory.maps ≡ raised n.memory.maps stacks) where
+      abbrev second : Machine
+      second = record n { memory = memory }
 
-      purge_is : answer_in (purged (world_of n)) (PurgeDone (ids (garbage_of (world_of n)))) ≡ answer_in (world_of l) (PurgeDone removed)
-      purge_is = ok_same (answer_in (purged (world_of n)) (PurgeDone (ids (garbage_of (world_of n))))) (answer_in (world_of l) (PurgeDone removed)) gone.is.step
+      pub looked : IsOutlook second [] r.plan.outlook
+      looked =
+          outlook_after x.begun.before x.asked.replaced.items m second x.begun.sound x.begun.aside sound new cells_are stand added.is.tasks p.staged.cells.items x.ready.staged.cells added.is.cells r.plan.outlook
+          (ap (λ (q : Plan). q.outlook.places) y.plan ∙ x.places) (ap (λ (q : Plan). q.outlook.roots.items) y.plan ∙ x.rooted)
 
-      left : world_of l ≡ purged (world_of n)
-      left = sym (ap (λ (d : Done). d.world) purge_is)
+      module _ (removed : List CellId) (l : Machine) (swept : IsSwept second [] removed l) where
+        gone : HasDone (next_purge (world_of second)) 0 second (PurgeDone removed) l
+        gone = purge_done second sound removed l swept
 
-      removed_are : removed ≡ ids (garbage_of (world_of n))
-      removed_are = sym (ap (λ (d : Done). removed_by d.reply) purge_is)
+        purge_is : answer_in (purged (world_of second)) (PurgeDone (ids (garbage_of (world_of second)))) ≡ answer_in (world_of l) (PurgeDone removed)
+        purge_is = ok_same (answer_in (purged (world_of second)) (PurgeDone (ids (garbage_of (world_of second))))) (answer_in (world_of l) (PurgeDone removed)) gone.is.step
 
-      pub sound_left : IsSound l
-      sound_left = gone.sound
+        left : world_of l ≡ purged (world_of second)
+        left = sym (ap (λ (d : Done). d.world) purge_is)
 
-      pub left_few : length l.cells.items ≤ length n.cells.items
-      left_few =
-          let here = ap length sound_left.joined.placed in
-          let there = ap length after.joined.placed in
-          let mapped = length-map (world_of l).cells placed_of in
-          let mapped_there = length-map (world_of n).cells placed_of in
-          let fewer = length-filter_le (λ (c : Cell). not (holds (garbage_of (world_of n)) c.id.0)) (world_of n).cells in
-          let same = ap (λ (w : World). length w.cells) left in
-          omega (arith, here, there, mapped, mapped_there, fewer, same)
+        removed_are : removed ≡ ids (garbage_of (world_of second))
+        removed_are = sym (ap (λ (d : Done). removed_by d.reply) purge_is)
 
-      module _ (detached : List CellId) (out : detached ≡ ids (detached_of (world_of l))) where
-        abbrev reply : Reply
-        reply = SwapDone l.swaps r.fresh r.patched removed detached
+        pub sound_left : IsSound l
+        sound_left = gone.sound
 
-        said : reply ≡ swap_reply x.plan x.plan.linked
-        said =
-            ap (λ (w : World). SwapDone w.swaps r.fresh r.patched removed detached) left
-            ∙ (ap (λ (fresh : List CellId). SwapDone (world_of n).swaps fresh r.patched removed detached) (fresh_are ∙ ap (λ (cs : List Cell). ids (numbers_of cs)) (sym x.fresh))
-            ∙ (ap (λ (patched : ℕ). SwapDone (world_of n).swaps (ids (numbers_of x.plan.fresh)) patched removed detached) (y.patched ∙ ap₂ (λ (a b : ℕ). a + b) (sym fields_are) x.count)
-            ∙ (ap (λ (gone : List CellId). SwapDone (world_of n).swaps (ids (numbers_of x.plan.fresh)) (field_count x.plan.fresh + length x.plan.changed) gone detached) removed_are
-            ∙ (ap (λ (kept : List CellId). SwapDone (world_of n).swaps (ids (numbers_of x.plan.fresh)) (field_count x.plan.fresh + length x.plan.changed) (ids (garbage_of (world_of n))) kept)
-            (out ∙ ap (λ (w : World). ids (detached_of w)) left)
-            ∙ ap (swap_reply x.plan) linked))))
+        pub left_few : length l.cells.items ≤ length n.cells.items
+        left_few =
+            let here = ap length sound_left.joined.placed in
+            let there = ap length sound.joined.placed in
+            let mapped = length-map (world_of l).cells placed_of in
+            let mapped_there = length-map (world_of second).cells placed_of in
+            let fewer = length-filter_le (λ (c : Cell). not (holds (garbage_of (world_of second)) c.id.0)) (world_of second).cells in
+            let same = ap (λ (w : World). length w.cells) left in
+            omega (arith, here, there, mapped, mapped_there, fewer, same)
 
-        stay : new_cells reply (world_of l) ≡ new
-        stay =
-            ap (λ (w : World). filter (λ (c : Cell). holds (map (λ (id : CellId). id.0) r.fresh) c.id.0) w.cells) left
-            ∙ (ap (λ (ns : List ℕ). filter (λ (c : Cell). holds ns c.id.0) (purged (world_of n)).cells) (ap (map (λ (id : CellId). id.0)) fresh_are ∙ ids_numbers new)
-            ∙ stay_all (world_of n) (world_of m).cells new cells_are m.next below (numbers_new (world_of m) x.ready.new p.staged x.ready.staged x.ready.there) stand)
+        module _ (detached : List CellId) (out : detached ≡ ids (detached_of (world_of l))) where
+          abbrev reply : Reply
+          reply = SwapDone l.swaps r.fresh r.patched removed detached
 
-        pub swapped : HasSwapped x.plan k reply l
-        swapped = record {
-          sound = gone.sound;
-          said = said;
-          world = left ∙ ap purged linked;
-          patches = swept.left.patches
-              ∙ (patches_now m n p.staged p.patches.items p.moves.items (moved m.graph.rows p.moves.items) refl x.changed x.patches x.ready added
-              ∙ ap₂ raised (sym (patches_same m k y.same)) (let e = y.patched in let sum : length p.patches.items + length p.staged.fields.items ≡ r.patched = omega (arith, e) in sum));
-          maps = swept.left.maps
-              ∙ (maps_now m n p.staged p.patches.items p.moves.items (moved m.graph.rows p.moves.items) refl x.changed x.patches x.ready added
-              ∙ ap₂ raised (sym (maps_same m k y.same)) (brought ∙ ap (λ (cs : List Cell). length (flat_map cell_shapes cs)) (sym stay)));
-        }
+          said : reply ≡ swap_reply x.plan (world_of second)
+          said =
+              ap (λ (w : World). SwapDone w.swaps r.fresh r.patched removed detached) left
+              ∙ (ap (λ (fresh : List CellId). SwapDone (world_of second).swaps fresh r.patched removed detached) (fresh_are ∙ ap (λ (cs : List Cell). ids (numbers_of cs)) (sym x.fresh))
+              ∙ (ap (λ (patched : ℕ). SwapDone (world_of second).swaps (ids (numbers_of x.plan.fresh)) patched removed detached) (y.patched ∙ ap₂ (λ (a b : ℕ). a + b) (sym fields_are) x.count)
+              ∙ (ap (λ (gone : List CellId). SwapDone (world_of second).swaps (ids (numbers_of x.plan.fresh)) (field_count x.plan.fresh + length x.plan.changed) gone detached) removed_are
+              ∙ ap (λ (kept : List CellId). SwapDone (world_of second).swaps (ids (numbers_of x.plan.fresh)) (field_count x.plan.fresh + length x.plan.changed) (ids (garbage_of (world_of second))) kept)
+              (out ∙ ap (λ (w : World). ids (detached_of w)) left))))
+
+          stay : new_cells reply (world_of l) ≡ new
+          stay =
+              ap (λ (w : World). filter (λ (c : Cell). holds (map (λ (id : CellId). id.0) r.fresh) c.id.0) w.cells) left
+              ∙ (ap (λ (ns : List ℕ). filter (λ (c : Cell). holds ns c.id.0) (purged (world_of second)).cells) (ap (map (λ (id : CellId). id.0)) fresh_are ∙ ids_numbers new)
+              ∙ stay_all (world_of second) (world_of m).cells new cells_are m.next below (numbers_new (world_of m) x.ready.new p.staged x.ready.staged x.ready.there) stand)
+
+          runs_are : length p.staged.regions.items ≡ new_runs reply (world_of l)
+          runs_are = brought ∙ ap (λ (cs : List Cell). length (flat_map cell_shapes cs)) (sym stay)
+
+          pub swapped : HasSwapped x.plan (world_of second) stacks k reply l
+          swapped = record {
+            sound = gone.sound;
+            said = said;
+            world = left;
+            patches = swept.left.patches
+                ∙ (same_patches
+                ∙ (patches_now m n p.staged p.patches.items p.moves.items (moved m.graph.rows p.moves.items) refl x.changed x.patches x.ready added
+                ∙ ap₂ raised (sym (patches_same m k y.same)) (let e = y.patched in let sum : length p.patches.items + length p.staged.fields.items ≡ r.patched = omega (arith, e) in sum)));
+            maps = swept.left.maps
+                ∙ (more_maps
+                ∙ (ap (λ (count : ℕ). raised count stacks)
+                (maps_now m n p.staged p.patches.items p.moves.items (moved m.graph.rows p.moves.items) refl x.changed x.patches x.ready added
+                ∙ ap₂ raised (sym (maps_same m k y.same)) runs_are)
+                ∙ raised_more k.memory.maps (new_runs reply (world_of l)) stacks));
+          }

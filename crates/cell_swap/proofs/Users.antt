@@ -91,7 +91,7 @@ module _ (files : List File) (asked : Asked) (m : Machine) (b : IsBegun files as
   pub there_aside : (c : Cell) → In c before.cells → In (aside c) (u files asked m b).cells
   there_aside c i = map-In aside before.cells c i
 
-  known_at : (d : Cell) → In d (u files asked m b).cells → cell_numbered m.spaces.cells d.id.0 ≡ Some (called d)
+  pub known_at : (d : Cell) → In d (u files asked m b).cells → cell_numbered m.spaces.cells d.id.0 ≡ Some (called d)
   known_at d i =
       ap (λ (cs : List SpaceCell). cell_numbered cs d.id.0) (sym (called_are files asked m b))
       ∙ (numbered_called d.id.0 (u files asked m b).cells

@@ -1,6 +1,10 @@
 -- The way back of a swap whose new cells were added.
---     CanGoBack n back fresh     the new cells can be taken out of n, and fields and links of others are known as they were
-use Rattle.std.specs.Prelude.{◌≡◌, ◌≤◌, ◌+◌, ℕ, List, length, map}
+--     CanGoBack n back fresh     the new cells can be taken out of n, to which they were added, and fields and links of others are known as they were
+--     CanUndo n back fresh       the same once routines have run
+use Rattle.std.specs.Prelude.{◌≡◌, ◌≤◌, ◌+◌, ◌*◌, ℕ, List, is_some, length, map, true}
+use Rattle.cell_mem.specs.Index.{IsLaid}
+use Rattle.cell_mem.specs.State.{undone_at}
+use Rattle.cell_swap.specs.declared.swapping.Options.{Options}
 use Rattle.cell_num.specs.declared.ids.CellId.{CellId}
 use Rattle.cell_world.specs.Undo.{AreBytes}
 use Rattle.cell_world.specs.declared.state.LinkRow.{LinkRow}
@@ -18,11 +22,13 @@ use Rattle.cell_swap.specs.Swapped.{IsPlanned, IsReadyFor}
 -- the undo was begun when there was room for all, before the new cells were added
 pub record CanGoBack (n : Machine) (back : List LinkRow) (fresh : List CellId) : Type 0 where
   pub before : Machine
+  pub old : List CellId
+  pub options : Options
   pub plan_before : Plan
-  pub planned : IsPlanned before plan_before
+  pub planned : IsPlanned before options plan_before
   pub room : Machine
   pub ready : Ready
-  pub is : IsReadyFor before plan_before room ready
+  pub is : IsReadyFor before old options plan_before room ready
   pub count : ℕ
   pub enough : length ready.plan.patches.items + length ready.plan.staged.fields.items ≤ count
   pub added : IsCommitted (begun_in room count) (memory_with (begun_in room count).memory ready.plan.staged.regions.items ready.plan.patches.items) (moved room.graph.rows ready.plan.moves.items)
@@ -31,3 +37,12 @@ pub record CanGoBack (n : Machine) (back : List LinkRow) (fresh : List CellId) :
   pub bytes : AreBytes (all_mapped (begun_in room count).memory ready.plan.staged.regions.items).regions
   pub links : AreAsTheyWere room.graph.rows ready.plan.moves.items back
   pub fresh_are : fresh ≡ ready.fresh
+
+-- but for what routines wrote since, which an undo takes back
+pub record CanUndo (n : Machine) (back : List LinkRow) (fresh : List CellId) : Type 0 where
+  pub added : Machine
+  pub can : CanGoBack added back fresh
+  pub laid : IsLaid added.memory.base added.memory.regions (added.memory.base + 4096 * added.memory.pages)
+  pub like : n ≡ record added { memory = n.memory }
+  pub undone : undone_at n.memory ≡ undone_at added.memory
+  pub begun : is_some n.memory.undo ≡ true

@@ -4,6 +4,7 @@ pub mod Begun
 pub mod Unmapped
 pub mod Asking
 pub mod OldCells
+pub mod Transferring
 pub mod Planning
 pub mod Swapped
 pub mod Back

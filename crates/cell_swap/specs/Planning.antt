@@ -1,6 +1,6 @@
 -- A swap that has begun, and the plan of it.
 --     IsBegun files asked m             the old cells are put aside in m
---     planned files asked m b reexport  what the definition of a swap plans
+--     planned files asked m b reexport words  what the definition of a swap plans
 --     IsGatheredFor .. g, GathersFor .. result   the new cells, or the refusal
 --     numbers_in x                      the numbers of the old cells
 --     IsAffected m asked x              x has the old cells, and those with a link into one of them
@@ -8,7 +8,7 @@
 --     view_with m landed old            what changes is read from there
 --     place_if_ready t                  where the task stands, unless it has faulted
 --     IsPlan .. roots p, Plans .. roots result   the plan by what is added, moved and patched, or the refusal
-use Rattle.std.specs.Prelude.{◌≡◌, ◌≤◌, ◌<◌, ℕ, Bool, List, [], ◌∷◌, ◌++◌, All, None, Result, Ok, Err, filter, flat_map, length, map, if◌then◌else◌}
+use Rattle.std.specs.Prelude.{◌≡◌, ◌≤◌, ◌<◌, ◌^◌, ℕ, Bool, List, [], ◌∷◌, ◌++◌, All, None, Result, Ok, Err, filter, flat_map, length, map, if◌then◌else◌}
 use Rattle.cell_world.specs.declared.command.SwapItem.{SwapItem}
 use Rattle.cell_world.specs.declared.fail.Fail.{Fail}
 use Rattle.cell_world.specs.declared.fail.Fail.TheVariants.{Refused, OutOfMemory}
@@ -40,7 +40,11 @@ use Rattle.cell_swap.specs.declared.affected.Affected.{Affected}
 use Rattle.cell_swap.specs.declared.asked.Asked.{Asked}
 use Rattle.cell_swap.specs.declared.planning.Plan.{Plan}
 use Rattle.cell_swap.specs.Asking.{AreAsked}
+use Rattle.cell_layout.specs.Placing.{extra_start}
+use Rattle.cell_routines.specs.Begins.{begin_as}
+use Rattle.cell_routines.specs.Placed.{routines_among}
 use Rattle.cell_swap.specs.OldCells.{IsAside}
+use Rattle.cell_swap.specs.Transferring.{pages_for}
 
 pub record IsBegun (files : List File) (asked : Asked) (m : Machine) : Type 0 where
   pub before : Machine
@@ -51,8 +55,8 @@ pub record IsBegun (files : List File) (asked : Asked) (m : Machine) : Type 0 wh
   pub found : AreAsked (map source_of files) (world_of before) items asked
   pub aside : IsAside before asked.replaced.items m
 
-abbrev pub planned : (files : List File) (asked : Asked) (m : Machine) → IsBegun files asked m → Bool → Outcome SwapPlan
-planned files asked m b reexport = plan_swap (map source_of files) (world_of b.before) b.items reexport []
+abbrev pub planned : (files : List File) (asked : Asked) (m : Machine) → IsBegun files asked m → Bool → List (List ℕ) → Outcome SwapPlan
+planned files asked m b reexport words = plan_swap (map source_of files) (world_of b.before) b.items reexport words
 
 pub record IsGatheredFor (files : List File) (asked : Asked) (m : Machine) (b : IsBegun files asked m) (reexport : Bool) (g : Gathered) : Type 0 where
   pub gathered : gather_swap (map source_of files) (world_of b.before) b.found.wants reexport ≡ Ok (grown (set_aside (world_of b.before) b.found.wants) (new_cells g))
@@ -60,7 +64,7 @@ pub record IsGatheredFor (files : List File) (asked : Asked) (m : Machine) (b : 
 
 abbrev pub GathersFor : (files : List File) (asked : Asked) (m : Machine) → IsBegun files asked m → Bool → Result Gathered Fail → Type 0
 GathersFor files asked m b reexport (Ok g) = IsGatheredFor files asked m b reexport g
-GathersFor files asked m b reexport (Err (Refused refusal)) = planned files asked m b reexport ≡ Err refusal
+GathersFor files asked m b reexport (Err (Refused refusal)) = (words : List (List ℕ)) → planned files asked m b reexport words ≡ Err refusal
 GathersFor files asked m b reexport (Err OutOfMemory) = Unit {0}
 
 abbrev pub numbers_in : Affected → List ℕ
@@ -76,7 +80,7 @@ pub record IsFound (files : List File) (asked : Asked) (m : Machine) (b : IsBegu
 
 abbrev pub FindsNew : (files : List File) (asked : Asked) (m : Machine) → IsBegun files asked m → Bool → Result Gathered Fail → Type 0
 FindsNew files asked m b reexport (Ok g) = IsFound files asked m b reexport g
-FindsNew files asked m b reexport (Err (Refused refusal)) = planned files asked m b reexport ≡ Err refusal
+FindsNew files asked m b reexport (Err (Refused refusal)) = (words : List (List ℕ)) → planned files asked m b reexport words ≡ Err refusal
 FindsNew files asked m b reexport (Err OutOfMemory) = Unit {0}
 
 abbrev pub view_with : Machine → Landed → List ℕ → View
@@ -91,9 +95,9 @@ view_with m landed old =
 abbrev pub place_if_ready : Task → List TaskPc
 place_if_ready t = if is_ready t then pc_of t ∷ [] else []
 
-pub record IsPlan (files : List File) (asked : Asked) (m : Machine) (b : IsBegun files asked m) (reexport : Bool) (roots : List Root) (p : Plan) : Type 0 where
+pub record IsPlan (files : List File) (asked : Asked) (m : Machine) (b : IsBegun files asked m) (reexport : Bool) (words : List (List ℕ)) (roots : List Root) (p : Plan) : Type 0 where
   pub plan : SwapPlan
-  pub is : planned files asked m b reexport ≡ Ok plan
+  pub is : planned files asked m b reexport words ≡ Ok plan
   pub changed : List Patch
   pub ready : IsReadyToAdd m changed (moved m.graph.rows p.moves.items) p.staged
   pub linked : ready.after ≡ plan.linked
@@ -103,8 +107,14 @@ pub record IsPlan (files : List File) (asked : Asked) (m : Machine) (b : IsBegun
   pub change : CanChange m p.staged p.patches.items p.moves.items
   pub places : p.outlook.places ≡ flat_map (λ c. placed_in (attached c)) (m.cells.items ++ p.staged.cells.items)
   pub rooted : p.outlook.roots.items ≡ roots ++ map (λ c. Attached c.id) p.staged.cells.items
+  pub wanted : plan.wants ≡ b.found.wants
+  pub named : length p.begins.items ≡ length words
+  pub stack : extra_start m.memory.base p.staged.space.taken (pages_for words) ≡ Ok p.stack
+  pub stack_is : plan.stack ≡ p.stack
+  pub begins : All (λ x. x.offset < 2 ^ 32) p.begins.items
+  pub routines : plan.routines ≡ routines_among p.staged.cells.items (map begin_as p.begins.items)
 
-abbrev pub Plans : (files : List File) (asked : Asked) (m : Machine) → IsBegun files asked m → Bool → List Root → Result Plan Fail → Type 0
-Plans files asked m b reexport roots (Ok p) = IsPlan files asked m b reexport roots p
-Plans files asked m b reexport roots (Err (Refused refusal)) = planned files asked m b reexport ≡ Err refusal
-Plans files asked m b reexport roots (Err OutOfMemory) = Unit {0}
+abbrev pub Plans : (files : List File) (asked : Asked) (m : Machine) → IsBegun files asked m → Bool → List (List ℕ) → List Root → Result Plan Fail → Type 0
+Plans files asked m b reexport words roots (Ok p) = IsPlan files asked m b reexport words roots p
+Plans files asked m b reexport words roots (Err (Refused refusal)) = planned files asked m b reexport words ≡ Err refusal
+Plans files asked m b reexport words roots (Err OutOfMemory) = Unit {0}

@@ -1,7 +1,7 @@
 //! The way back of a swap that is refused once its new cells are there. It takes no memory.
 
 ghost use Rattle.cell_machine.specs.Same.{IsSame};
-ghost use Rattle.cell_swap.specs.Back.{CanGoBack};
+ghost use Rattle.cell_swap.specs.Back.{CanUndo};
 
 use crate::removal::take_away;
 use cell_commit::move_rows;
@@ -9,13 +9,12 @@ use cell_machine::Machine;
 use cell_num::CellId;
 use cell_world::LinkRow;
 
-/// Gives the fields and the links of other cells back, and takes the new cells away. `back` are the
-/// links as they were.
+/// Gives the fields and the links of other cells and all that routines wrote back, and takes the new
+/// cells away. `back` are the links as they were.
 pub fn go_back(machine: &mut Machine, back: &[LinkRow], fresh: &[CellId])
-    requires { CanGoBack machine.old back.now fresh.now }
-    ensures { (c : CanGoBack machine.old back.now fresh.now) → IsSame c.room machine.new }
+    requires { CanUndo machine.old back.now fresh.now }
+    ensures { (c : CanUndo machine.old back.now fresh.now) → IsSame c.can.room machine.new }
 {
-    machine.memory.laid_out();
     machine.memory.undo();
     machine.memory.laid_out();
     move_rows(&mut machine.graph, back);

@@ -1,4 +1,4 @@
-//! Taking cells away: first the whole decision, then the removal, which can't fail.
+//! Taking cells away, and new cells in the place of old ones: first the whole decision, then steps that can't fail or go back.
 #![tactic(auto)]
 
 mod affected;
@@ -16,7 +16,8 @@ mod standing;
 mod survey;
 mod swapping;
 mod sweep;
+mod transferring;
 mod unloading;
 
-pub use swapping::swap;
+pub use swapping::{Options, swap};
 pub use unloading::{purge, unload};

@@ -10,13 +10,16 @@ use crate::affected::Affected;
 use crate::asked::Asked;
 use crate::outlook::Outlook;
 use crate::standing::check_torn;
+use crate::transferring::stack_pages;
 use cell_depot::Depot;
 use cell_gather::{Gathered, gather};
 use cell_hold::Root;
 use cell_link::FieldValue;
 use cell_load::{Landed, land};
 use cell_machine::{Machine, Staged};
+use cell_num::Name;
 use cell_plan::{Changed, Exchange, check_coverage};
+use cell_routines::{Begin, begins_of};
 use cell_target::Scene;
 use cell_world::{Fail, LinkRow};
 use std::alloc::Global;
@@ -31,6 +34,10 @@ pub struct Plan {
     pub moves: Vec<LinkRow>,
     /// Where holding is read from then.
     pub outlook: Outlook,
+    /// Where the routines begin.
+    pub begins: Vec<Begin>,
+    /// Where their stack starts, which is free still, if there are any.
+    pub stack: Option<u64>,
 }
 
 /// The new cells, which have no places yet.
@@ -110,22 +117,25 @@ fn changed_by(
 /// but for the new cells.
 ///
 /// Refusals, of which the first that holds is answered: those of gathering, a need of another cell that
-/// nobody provides any more, those of staging, an entry of another cell whose number is outside its
-/// kind's range by then, and a task that stands inside what changes.
+/// nobody provides any more, a routine that no new cell has, or that is no entry, those of staging, of
+/// which the stack of the routines comes last among the pages, an entry of another cell whose number is
+/// outside its kind's range by then, and a task that stands inside what changes.
 pub fn plan_swap(
     alloc: Global,
     depot: &Depot,
     machine: &Machine,
     asked: &Asked,
     reexport: bool,
+    routines: &[Name],
     roots: Vec<Root>,
 ) -> Result<Plan, Fail>
     requires { IsBegun depot.now asked.now machine.now }
-    ensures { (b : IsBegun depot.now asked.now machine.now) → Plans depot.now asked.now machine.now b reexport roots.items result }
+    ensures { (b : IsBegun depot.now asked.now machine.now) → Plans depot.now asked.now machine.now b reexport routines.now roots.items result }
 {
     let affected = Affected::of(alloc, machine, asked)?;
     let gathered = find_new(alloc, depot, machine, asked, &affected, reexport)?;
-    let landed = land(alloc, machine, gathered, 0)?;
+    let begins = begins_of(alloc, &gathered.cells, routines)?;
+    let landed = land(alloc, machine, gathered, stack_pages(routines))?;
     let Changed {
         patches,
         moves,
@@ -133,11 +143,14 @@ pub fn plan_swap(
     } = changed_by(alloc, machine, &landed, &affected)?;
     check_torn(alloc, &machine.tasks, &spans)?;
     let outlook = Outlook::with(alloc, &machine.cells, &landed.cells, roots)?;
+    let stack = landed.extra;
     let staged = landed.into_staged(alloc)?;
     Ok(Plan {
         staged,
         patches,
         moves,
         outlook,
+        begins,
+        stack,
     })
 }

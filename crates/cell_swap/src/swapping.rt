@@ -1,6 +1,6 @@
-//! `swap`, where no routine runs.
+//! `swap`
 
-ghost use Rattle.std.specs.Prelude.{◌≡◌, ◌+◌, ◌<◌, ◌≤◌, ◌++◌, ℕ, [], All, IfOk, IsTrue, None, length, map, vec_capacity, vec_len, if◌then◌else◌};
+ghost use Rattle.std.specs.Prelude.{◌≡◌, ◌+◌, ◌<◌, ◌≤◌, ◌++◌, ◌^◌, ℕ, [], All, IfOk, IsTrue, nat_lt, None, length, map, vec_capacity, vec_len, if◌then◌else◌};
 ghost use Rattle.cell_machine.specs.Does.{Does};
 ghost use Rattle.cell_machine.specs.Machine.{IsSound, world_of};
 ghost use Rattle.cell_machine.specs.Same.{IsSame};
@@ -13,6 +13,9 @@ ghost use Rattle.cell_graph.specs.Links.{is_bound};
 ghost use Rattle.cell_graph.specs.Moves.{AreApart};
 ghost use Rattle.cell_swap.specs.Before.{AreAsTheyWere};
 ghost use Rattle.cell_swap.specs.Sweep.{IsSurvey, holding_in};
+ghost use Rattle.cell_swap.specs.Transferring.{AreOld, stacks_for, turns_in};
+ghost use Rattle.cell_num.specs.Lists.{each_pair};
+ghost use Rattle.cell_placed.specs.Low.{IsLow};
 ghost use Rattle.cell_swap.specs.Swapped.{AreEmpty, CanFinish, Exchanges, Finishes, HasBegun, IsReadyFor, unless_attached};
 
 use crate::asked::Asked;
@@ -22,14 +25,39 @@ use crate::planning::{Plan, plan_swap};
 use crate::roots::roots;
 use crate::survey::Survey;
 use crate::sweep::remove_unkept;
+use crate::transferring::{run_routines, transfer_for};
 use cell_depot::Depot;
 use cell_hold::Root;
 use cell_load::{Prepared, commit, count, numbers, reserve};
 use cell_machine::Machine;
-use cell_num::{CellId, Listed};
+use cell_num::{CellId, Listed, Name};
 use cell_world::{Fail, LinkRow, Refusal, Reply, SwapItem};
+use cell_xfer::Transfer;
 use std::alloc::{AllocError, Global};
 use std::mem::replace;
+
+/// What a swap does beside exchanging cells.
+#[derive(Clone, Copy)]
+pub struct Options<'a> {
+    /// The new cells take on the names of the old ones that they don't define.
+    pub reexport: bool,
+    /// The swap is refused where an old cell is still kept.
+    pub strict: bool,
+    /// The names of the routines that run once the new cells are there.
+    pub routines: &'a [Name],
+    /// How many turns all routines have together.
+    pub budget: u32,
+}
+
+/// How many turns the routines have, if there are any.
+fn turns_of(transfer: &Option<Transfer>) -> u32
+    ensures { result ≡ turns_in transfer.now }
+{
+    match transfer {
+        Some(transfer) => transfer.budget,
+        None => 0,
+    }
+}
 
 /// Empty lists that the last steps fill, each with room for all cells.
 #[derive(Drop)]
@@ -63,6 +91,10 @@ struct Ready {
     fresh: Listed<CellId>,
     /// How many fields are patched, those of the new cells and those of others.
     patched: u32,
+    /// How many writes there may be: those of the fields, and one for each turn of a routine.
+    writes: u32,
+    /// What the routines take, if there are any.
+    transfer: Option<Transfer>,
     /// The links that are moved, as they lead before.
     back: Vec<LinkRow>,
 }
@@ -97,33 +129,49 @@ fn first_held(machine: &Machine, survey: &Survey, strict: bool, old: &[CellId]) 
 
 impl Ready {
     /// Makes room for the plan in the machine, and for the answer.
-    fn of(alloc: Global, machine: &mut Machine, mut plan: Plan) -> Result<Ready, AllocError>
+    fn of(
+        alloc: Global,
+        machine: &mut Machine,
+        mut plan: Plan,
+        old: &[CellId],
+        options: &Options,
+    ) -> Result<Ready, AllocError>
+        requires old { AreOld machine.old old.now }
+        requires low { All IsLow plan.staged.cells.items }
+        requires order { IsTrue (each_pair (λ a b. nat_lt a.id.0 b.id.0) plan.staged.cells.items) }
+        requires begins { All (λ b. b.offset < 2 ^ 32) plan.begins.items }
         requires names { length plan.staged.names.items ≡ length plan.staged.cells.items }
         requires bound { All (λ x. IsTrue (is_bound machine.old.graph.rows x.user x.entry)) plan.moves.items }
         requires apart { AreApart plan.moves.items }
-        ensures ready { IfOk result (IsReadyFor machine.old plan machine.new) }
+        ensures ready { IfOk result (IsReadyFor machine.old old.now options.now plan machine.new) }
         ensures same { IsSame machine.old machine.new }
     {
         let lists = Lists::with_room(alloc, machine.cells.len() + plan.staged.cells.len())?;
         let patched = count(plan.staged.fields.len() + plan.patches.len())?;
         let fresh = numbers(alloc, &plan.staged.cells)?;
+        let transfer = transfer_for(alloc, machine, old, &plan, options.routines, options.budget)?;
+        let writes = count(patched as usize + turns_of(&transfer) as usize)?;
         let back = links_before(alloc, machine, &plan.moves)?;
         let names = replace(&mut plan.staged.names, Vec::new(alloc));
         let prepared = Prepared::of(alloc, &plan.staged.cells, names)?;
         reserve(machine, &plan.staged, &prepared)?;
+        let regions = count(plan.staged.regions.len() + 1)?;
+        machine.memory.reserve(regions)?;
         Ok(Ready {
             plan,
             prepared,
             lists,
             fresh,
             patched,
+            writes,
+            transfer,
             back,
         })
     }
 
-    /// Adds the new cells, has the others lead to them, and removes all cells that nobody keeps then.
-    /// Where the swap is strict and one of the old cells is kept, that is the refusal, and the machine
-    /// is as it was before the undo was begun.
+    /// Adds the new cells, has the others lead to them, runs the routines, and removes all cells that
+    /// nobody keeps then. Where a routine fails, or the swap is strict and one of the old cells is kept,
+    /// that is the refusal, and the machine is as it was before the undo was begun.
     fn finish(self, machine: &mut Machine, strict: bool, old: &[CellId]) -> Result<Reply, Refusal>
         requires { CanFinish machine.old old.now self }
         ensures { (c : CanFinish machine.old old.now self) → Finishes c strict result machine.new }
@@ -134,6 +182,8 @@ impl Ready {
             lists,
             fresh,
             patched,
+            writes: _,
+            transfer,
             back,
         } = self;
         let Plan {
@@ -141,6 +191,8 @@ impl Ready {
             patches,
             moves,
             outlook,
+            begins: _,
+            stack: _,
         } = plan;
         let Lists {
             kept,
@@ -148,15 +200,17 @@ impl Ready {
             mut detached,
         } = lists;
         commit(machine, staged, prepared, &patches, &moves);
+        machine.memory.laid_out();
+        if let Err(refusal) = run_routines(&mut machine.memory, transfer) {
+            go_back(machine, &back, fresh.as_slice());
+            return Err(refusal);
+        }
         let undo = machine.memory.suspend_undo();
         let survey = Survey::read(machine, outlook, kept);
-        match first_held(machine, &survey, strict, old) {
-            Some(refusal) => {
-                machine.memory.resume_undo(undo);
-                go_back(machine, &back, fresh.as_slice());
-                return Err(refusal);
-            }
-            None => {}
+        if let Some(refusal) = first_held(machine, &survey, strict, old) {
+            machine.memory.resume_undo(undo);
+            go_back(machine, &back, fresh.as_slice());
+            return Err(refusal);
         }
         remove_unkept(machine, &survey, &mut removed);
         list_detached(machine, &mut detached);
@@ -205,47 +259,53 @@ fn exchange(
     depot: &Depot,
     machine: &mut Machine,
     asked: &Asked,
-    reexport: bool,
-    strict: bool,
+    options: &Options,
     roots: Vec<Root>,
 ) -> Result<Reply, Fail>
     requires { HasBegun depot.now asked.now machine.old roots.items }
-    ensures { (h : HasBegun depot.now asked.now machine.old roots.items) → Exchanges depot.now asked.now machine.old h.begun reexport strict result machine.new }
+    ensures { (h : HasBegun depot.now asked.now machine.old roots.items) → Exchanges depot.now asked.now machine.old h.begun options.now result machine.new }
 {
-    let plan = plan_swap(alloc, depot, machine, asked, reexport, roots)?;
-    let ready = Ready::of(alloc, machine, plan)?;
-    machine.memory.begin_undo(alloc, ready.patched)?;
-    match ready.finish(machine, strict, &asked.replaced) {
+    let plan = plan_swap(
+        alloc,
+        depot,
+        machine,
+        asked,
+        options.reexport,
+        options.routines,
+        roots,
+    )?;
+    let ready = Ready::of(alloc, machine, plan, &asked.replaced, options)?;
+    machine.memory.begin_undo(alloc, ready.writes)?;
+    match ready.finish(machine, options.strict, &asked.replaced) {
         Ok(reply) => Ok(reply),
         Err(refusal) => Err(Fail::Refused(refusal)),
     }
 }
 
 /// Puts new cells in the place of attached ones, which keep all that tasks and data still need of
-/// them, and removes every cell that nobody keeps then. The new cells of a `reexport` take on the names
-/// of the old ones that they don't define.
+/// them, runs the routines, and removes every cell that nobody keeps then.
 ///
 /// Refusals, of which the first that holds is answered: an item whose cell or file is unknown, those
-/// of gathering, a need of another cell that nobody provides any more, a run of pages that is too
-/// long, an entry of a new cell and then one of another cell that doesn't fit, a task that stands
-/// inside what changes, and, of a `strict` swap, an old cell that is still kept.
+/// of gathering, a need of another cell that nobody provides any more, a routine that no new cell has,
+/// a run of pages that is too long, an entry of a new cell and then one of another cell that doesn't
+/// fit, a task that stands inside what changes, a routine that doesn't end with 0, and, of a `strict`
+/// swap, an old cell that is still kept.
 pub fn swap(
     alloc: Global,
     depot: &Depot,
     machine: &mut Machine,
     items: &[SwapItem],
-    reexport: bool,
-    strict: bool,
+    options: &Options,
 ) -> Result<Reply, Fail>
     requires sound { IsSound machine.old }
     requires small { All (λ f. length f.bytes ≤ max_file_bytes) depot.now }
     requires some { 0 < length items.now }
-    ensures { (budget : ℕ) → Does (next_swap (map source_of depot.now) (world_of machine.old) items.now reexport strict [] budget) 0 machine.old result machine.new }
+    ensures { Does (next_swap (map source_of depot.now) (world_of machine.old) items.now options.now.reexport options.now.strict options.now.routines.now options.now.budget) (stacks_for options.now.routines.now) machine.old result machine.new }
 {
     let asked = Asked::of(alloc, depot, machine, items)?;
     let roots = roots(alloc, machine, &asked.replaced)?;
     put_aside(machine, &asked.replaced);
-    match exchange(alloc, depot, machine, &asked, reexport, strict, roots) {
+    match exchange(alloc, depot, machine, &asked, options, roots) {
         Ok(reply) => Ok(reply),
         Err(fail) => {
             take_back(machine, &asked.replaced);

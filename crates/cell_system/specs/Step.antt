@@ -4,7 +4,7 @@
 --     IsStep old command result new   the files stay; the machine does what is said
 use Rattle.std.specs.Prelude.{◌≡◌, ℕ, List, Result, map}
 use Rattle.cell_world.specs.declared.command.Command.{Command}
-use Rattle.cell_world.specs.declared.command.Command.TheVariants.{Spawn}
+use Rattle.cell_world.specs.declared.command.Command.TheVariants.{Spawn, Swap}
 use Rattle.cell_world.specs.declared.fail.Fail.{Fail}
 use Rattle.cell_world.specs.declared.file.File.{File}
 use Rattle.cell_world.specs.declared.reply.Reply.{Reply}
@@ -14,6 +14,7 @@ use Rattle.cell_world.specs.Next.{outcome_of}
 use Rattle.cell_world.specs.Outcome.{Outcome}
 use Rattle.cell_machine.specs.declared.machine.Machine.{Machine}
 use Rattle.cell_machine.specs.Does.{Answers, state_of as machine_state}
+use Rattle.cell_swap.specs.Transferring.{stacks_for}
 use Rattle.cell_system.specs.State.{State}
 
 abbrev pub state_of : List File → Machine → State
@@ -24,6 +25,7 @@ said_to s command = outcome_of (map source_of s.files) s.machine.world command
 
 abbrev pub stacks_of : Command → ℕ
 stacks_of (Spawn ns symbol arg) = 1
+stacks_of (Swap items reexport strict routines budget) = stacks_for routines
 stacks_of _ = 0
 
 pub record IsStep (old : State) (command : Command) (result : Result Reply Fail) (new : State) : Type 0 where

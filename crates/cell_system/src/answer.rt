@@ -16,12 +16,12 @@ use cell_depot::Depot;
 use cell_load::load;
 use cell_machine::Machine;
 use cell_schedule::{kill, run, spawn, step, tasks};
-use cell_swap::{purge, swap, unload};
+use cell_swap::{Options, purge, swap, unload};
 use cell_view::{deps, dump, find, map, users};
 use cell_world::{Command, Reply};
 use std::alloc::Global;
 
-/// Does a command that a line of a script can say: a swap without routines, or any other.
+/// Does a command that a line of a script can say: a swap of at least one cell, or any other.
 pub fn answer(
     alloc: Global,
     depot: &Depot,
@@ -55,7 +55,16 @@ pub fn answer(
             items,
             reexport,
             strict,
-            ..
-        } => swap(alloc, depot, machine, items.as_slice(), *reexport, *strict),
+            routines,
+            budget,
+        } => {
+            let options = Options {
+                reexport: *reexport,
+                strict: *strict,
+                routines: routines.as_slice(),
+                budget: *budget,
+            };
+            swap(alloc, depot, machine, items.as_slice(), &options)
+        }
     }
 }

@@ -48,6 +48,8 @@ mod swap_names;
 #[cfg(test)]
 mod swap_refusals;
 #[cfg(test)]
+mod swap_transfer;
+#[cfg(test)]
 mod swaps;
 #[cfg(test)]
 mod tasks;

@@ -1,19 +1,37 @@
-use Rattle.std.proofs.Common.{refl}
-use Rattle.cell_swap.proofs.GoneBack.{bound_back, can_go_back, present_back, still, went_back}
+use Rattle.std.proofs.Common.{◌∙◌, ap, sym, subst, List}
+use Rattle.std.specs.Prelude.{All, Contains, IsTrue}
+use Rattle.cell_graph.specs.Links.{is_bound}
+use Rattle.cell_graph.specs.Moves.{moved}
+use Rattle.cell_num.specs.declared.ids.SecKey.{SecKey}
+use Rattle.cell_world.specs.declared.state.LinkRow.{LinkRow}
+use Rattle.cell_machine.specs.declared.machine.Machine.{Machine}
+use Rattle.cell_swap.proofs.GoneBack.{bound_back, can_go_back, present_back, went_back}
 use Rattle.cell_swap.proofs.back.go_back.Goals as goal
 
 pub undo-requires : goal.undo-requires
-undo-requires c = still c.args.machine.now c.args.back.now c.args.fresh.now c.requires
+undo-requires c = c.requires.begun
 
 pub move_rows-requires-clause-bound : goal.move_rows-requires-clause-bound
-move_rows-requires-clause-bound c = bound_back c.args.machine.now c.args.back.now c.args.fresh.now c.requires
+move_rows-requires-clause-bound c =
+    let x = c.requires in
+    subst (λ (ls : List LinkRow). All (λ (b : LinkRow). IsTrue (is_bound ls b.user b.entry)) c.args.back.now) (sym (ap (λ (n : Machine). n.graph.rows) x.like)) (bound_back x.added c.args.back.now c.args.fresh.now x.can)
 
 pub move_rows-requires-clause-present : goal.move_rows-requires-clause-present
-move_rows-requires-clause-present c = present_back c.args.machine.now c.args.back.now c.args.fresh.now c.requires
+move_rows-requires-clause-present c =
+    let x = c.requires in
+    subst (λ (keys : List SecKey). All (λ (b : LinkRow). Contains keys b.target) c.args.back.now) (sym (ap (λ (n : Machine). n.graph.sections) x.like)) (present_back x.added c.args.back.now c.args.fresh.now x.can)
 
 pub take_away-requires : goal.take_away-requires
-take_away-requires c = can_go_back c.args.machine.now c.args.back.now c.args.fresh.now c.requires _ c.undo.ensures c.move_rows.ensures.rows c.move_rows.ensures.sections refl refl refl
+take_away-requires c =
+    let x = c.requires in
+    can_go_back x.added c.args.back.now c.args.fresh.now x.can _ (c.undo.ensures ∙ x.undone)
+    (c.move_rows.ensures.rows ∙ ap (λ (n : Machine). moved n.graph.rows c.args.back.now) x.like) (c.move_rows.ensures.sections ∙ ap (λ (n : Machine). n.graph.sections) x.like)
+    (ap (λ (n : Machine). n.cells.items) x.like) (ap (λ (n : Machine). n.spaces.cells) x.like) (ap (λ (n : Machine). n.space) x.like)
 
 pub returns : goal.returns
 returns c x =
-    went_back c.args.machine.now c.args.back.now c.args.fresh.now x _ c.undo.ensures c.move_rows.ensures.rows c.move_rows.ensures.sections refl refl refl c.take_away.new.machine c.take_away.ensures c.laid_out.ensures c.laid_out-2.ensures refl refl refl refl
+    went_back x.added c.args.back.now c.args.fresh.now x.can _ (c.undo.ensures ∙ x.undone)
+    (c.move_rows.ensures.rows ∙ ap (λ (n : Machine). moved n.graph.rows c.args.back.now) x.like) (c.move_rows.ensures.sections ∙ ap (λ (n : Machine). n.graph.sections) x.like)
+    (ap (λ (n : Machine). n.cells.items) x.like) (ap (λ (n : Machine). n.spaces.cells) x.like) (ap (λ (n : Machine). n.space) x.like)
+    c.take_away.new.machine c.take_away.ensures x.laid c.laid_out.ensures
+    (ap (λ (n : Machine). n.next) x.like) (ap (λ (n : Machine). n.swaps) x.like) (ap (λ (n : Machine). n.spaces.namespaces) x.like) (ap (λ (n : Machine). n.tasks) x.like)

@@ -1,4 +1,4 @@
-use Rattle.std.proofs.Common.{◌≡◌, sym, ◌∙◌, ap, ap₂, subst, ℕ, ◌<◌, true, List, [], length, map}
+use Rattle.std.proofs.Common.{◌≡◌, sym, ◌∙◌, ap₂, subst, ℕ, ◌<◌, true, List, length, map}
 use Rattle.cell_world.specs.declared.command.Command.{Command}
 use Rattle.cell_world.specs.declared.command.SwapItem.{SwapItem}
 use Rattle.cell_world.specs.declared.command.Command.TheVariants.{Find, Load, Ns, Spawn, Swap}
@@ -60,13 +60,11 @@ returns-in-Dump c =
 
 pub swap-requires-clause-some : goal.swap-requires-clause-some
 swap-requires-clause-some c =
-    subst (λ (items : List SwapItem). 0 < length items) (sym c.as_slice-in-Swap.ensures)
-    (said_swap c.in-Swap.items c.in-Swap.reexport c.in-Swap.strict c.in-Swap.routines c.in-Swap.budget (subst (λ (k : Command). is_said k ≡ true) c.in-Swap.is c.requires.said)).some
+    subst (λ (items : List SwapItem). 0 < length items) (sym c.as_slice-in-Swap-2.ensures)
+    (said_swap c.in-Swap.items c.in-Swap.reexport c.in-Swap.strict c.in-Swap.routines c.in-Swap.budget (subst (λ (k : Command). is_said k ≡ true) c.in-Swap.is c.requires.said))
 
 pub returns-in-Swap : goal.returns-in-Swap
 returns-in-Swap c =
-    let said = said_swap c.in-Swap.items c.in-Swap.reexport c.in-Swap.strict c.in-Swap.routines c.in-Swap.budget (subst (λ (k : Command). is_said k ≡ true) c.in-Swap.is c.requires.said) in
     subst (λ (k : Command). Does (outcome_of (map source_of c.args.depot.now) (world_of c.args.machine.now) k) (stacks_of k) c.args.machine.now c.swap.result c.swap.new.machine)
-    (ap (λ (items : List SwapItem). let k : Command = Swap items c.in-Swap.reexport c.in-Swap.strict [] c.in-Swap.budget in k) c.as_slice-in-Swap.ensures
-    ∙ (ap (λ (routines : List (List ℕ)). let k : Command = Swap c.in-Swap.items c.in-Swap.reexport c.in-Swap.strict routines c.in-Swap.budget in k) (sym said.alone) ∙ sym c.in-Swap.is))
-    (c.swap.ensures c.in-Swap.budget)
+    (ap₂ (λ (items : List SwapItem) (routines : List (List ℕ)). let k : Command = Swap items c.in-Swap.reexport c.in-Swap.strict routines c.in-Swap.budget in k) c.as_slice-in-Swap-2.ensures c.as_slice-in-Swap.ensures ∙ sym c.in-Swap.is)
+    c.swap.ensures

@@ -15,3 +15,9 @@ returns-in_err-prepared-clause-same c = same_itself c.args.machine.now
 
 pub returns-in_err-back-clause-same : goal.returns-in_err-back-clause-same
 returns-in_err-back-clause-same c = same_itself c.args.machine.now
+
+pub returns-in_err-transfer-clause-same : goal.returns-in_err-transfer-clause-same
+returns-in_err-transfer-clause-same c = same_itself c.args.machine.now
+
+pub returns-in_err-writes-clause-same : goal.returns-in_err-writes-clause-same
+returns-in_err-writes-clause-same c = same_itself c.args.machine.now
