@@ -1,26 +1,52 @@
--- What a source is assembled to can be written: it keeps the rules, so that it is read again, and what is
--- read is sound.
-use Rattle.std.proofs.Common.{◌≡◌, ℕ, ◌≤◌, ◌<◌, ◌^◌, List, [], length, Ok, None, sym, subst, arith}
-use Rattle.std.specs.Prelude.{find}
-use Rattle.cell_object.specs.declared.object.Object.{Object}
-use Rattle.cell_object.specs.declared.object.Fill.{Fill}
-use Rattle.cell_object.specs.declared.object.Fill.TheVariants.{Prog, Note, Zero}
+-- The lines of a source that is assembled.
+--     read_lines source o      the object is that of its lines, of which none refers to a label that is none
+use Rattle.std.proofs.Common.{◌≡◌, ℕ, List, Result, Ok, Err, Some, None, refl, ◌≤◌, ◌<◌, ◌^◌, [], length, sym, subst, arith, ◌+◌, zero, suc, true, false, ◌∷◌, inl, inr}
+use Rattle.std.proofs.lemmas.Bool.{and_parts}
+use Rattle.std.specs.Prelude.{Option, find, IfOk, All, is_none}
+use Rattle.std.specs.declared.result.Result.{}
+use Rattle.cell_elf.proofs.LoadableCounts.{reads_passed}
+use Rattle.cell_elf.proofs.Soundness.{object_sound}
+use Rattle.cell_image.proofs.RoundTrip.{read_again}
+use Rattle.cell_image.proofs.Ruled.{IsWhole, IsRuled}
+use Rattle.cell_num.specs.Kinds.{width_of}
 use Rattle.cell_object.specs.Image.{image}
 use Rattle.cell_object.specs.Sound.{IsSoundObject}
 use Rattle.cell_object.specs.Writable.{IsWritable}
-use Rattle.cell_elf.proofs.LoadableCounts.{reads_passed}
-use Rattle.cell_elf.proofs.Soundness.{object_sound}
-use Rattle.cell_image.proofs.Ruled.{IsWhole, IsRuled}
-use Rattle.cell_image.proofs.RoundTrip.{read_again}
-use Rattle.cell_asm.specs.declared.laid.Laid.{Laid}
-use Rattle.cell_asm.specs.Objects.{symbols, object_of}
-use Rattle.cell_asm.specs.Assembled.{has_lost, placed_lines, assembled}
-use Rattle.cell_asm.proofs.Read.{IsRead, read_lines}
+use Rattle.cell_asm.specs.Assembled.{has_lost, object_unless, object_from, placed_lines, assembled, Assembles}
+use Rattle.cell_asm.specs.Making.{HasRoom}
+use Rattle.cell_asm.specs.Objects.{object_of, symbols, marks_in}
+use Rattle.cell_asm.specs.Places.{taken, is_long, may_stand, lays_nothing}
+use Rattle.cell_asm.specs.Types.{Object, AsmKind, Laid, Fill, Prog, Note, Zero, Part, Bss, Line, AsmFail}
+use Rattle.cell_asm.proofs.EntriesFit.{not_past, IsStanding, all_stand}
+use Rattle.cell_asm.proofs.GoodBlocks.{IsGoodStatement, statement_marks, none_laid}
+use Rattle.cell_asm.proofs.ListLemmas.{In}
 use Rattle.cell_asm.proofs.SectionsFit.{sections_fit}
-use Rattle.cell_asm.proofs.SymbolsFit.{symbols_fit}
 use Rattle.cell_asm.proofs.SizesFit.{few_symbols, headers_fit, locals_fit, texts_fit, names_fit, size_fits}
-use Rattle.cell_asm.proofs.Grouped.{entries_grouped}
-use Rattle.cell_asm.proofs.WritableEntries.{entry_storable, entry_writable}
+use Rattle.cell_asm.proofs.SymbolsFit.{symbols_fit}
+use Rattle.cell_asm.proofs.WritableEntries.{entries_grouped, entry_storable, entry_writable}
+
+pub record IsRead (source : List ℕ) (o : Object) : Type 0 where
+  pub lines : List Laid
+  pub read : placed_lines source ≡ Ok lines
+  pub kept : find (has_lost lines) lines ≡ None
+  pub made : o ≡ object_of lines
+
+same_object : (a b : Object) (r : Result Object (ℕ × AsmKind)) → r ≡ Ok a → r ≡ Ok b → b ≡ a
+same_object a b r e f = cc
+
+by_lost : (source : List ℕ) (o : Object) (lines : List Laid) (lost : Option Laid) → placed_lines source ≡ Ok lines → find (has_lost lines) lines ≡ lost → object_unless lines lost ≡ Ok o → IsRead source o
+by_lost source o lines None read kept e = record { lines = lines; read = read; kept = kept; made = same_object (object_of lines) o (Ok (object_of lines)) refl e }
+by_lost source o lines (Some l) read kept e = absurd cc
+
+by_lines : (source : List ℕ) (o : Object) (r : Result (List Laid) (ℕ × AsmKind)) → placed_lines source ≡ r → object_from r ≡ Ok o → IsRead source o
+by_lines source o (Ok lines) read e = by_lost source o lines (find (has_lost lines) lines) read refl e
+by_lines source o (Err fault) read e = absurd cc
+
+pub read_lines : (source : List ℕ) (o : Object) → assembled source ≡ Ok o → IsRead source o
+read_lines source o e = by_lines source o (placed_lines source) refl e
+
+-- What a source is assembled to can be written: it keeps the rules, so that it is read again, and what is
+-- read is sound.
 
 below_32 : (n : ℕ) → n ≤ 2290089984 → n < 2 ^ 32
 below_32 n h = omega (arith, h)
@@ -62,3 +88,33 @@ pub assembled_fits : (source : List ℕ) (o : Object) → assembled source ≡ O
 assembled_fits source o e h =
     let r : IsRead source o = read_lines source o e in
     subst IsWritable (sym r.made) (writable (object_of r.lines) (lines_ruled source r.lines r.read r.kept h))
+
+-- The offsets of the entries to come are numbers of 32 bits.
+--     rooms source lines
+
+all_of : {X : Type 0} (P : X → Type 0) (xs : List X) → ((x : X) → In x xs → P x) → All P xs
+all_of P [] h k d lt = absurd (omega (arith, lt))
+all_of P (x ∷ xs) h zero d lt = h x (inl refl)
+all_of P (x ∷ xs) h (suc k) d lt = all_of P xs (λ y i. h y (inr i)) k d (omega (arith, lt))
+
+not_long : (part : Part) (n : ℕ) → is_long (Some part) n ≡ false → n ≤ 16777216
+not_long Bss n e = not_past 16777216 n e
+not_long _ n e = let h : n ≤ 1048576 = not_past 1048576 n e in omega (arith, h)
+
+near : (o a w t : ℕ) → a + w ≤ t → o + t ≤ 16777216 → o + a < 2 ^ 32
+near o a w t h k = omega (arith, h, k)
+
+room_by : (part : Option Part) (offset : ℕ) (line : Line) → may_stand part line ≡ true → is_long part (offset + taken line.statement offset) ≡ false → IsGoodStatement line.statement
+    → All (λ m. offset + m.at < 2 ^ 32) (marks_in line.statement)
+room_by None offset line s l g = all_of (λ m. offset + m.at < 2 ^ 32) (marks_in line.statement) (λ m k. absurd (none_laid line.statement m (and_parts (is_none line.label) (lays_nothing line.statement) s).1 k))
+room_by (Some part) offset line s l g =
+    all_of (λ m. offset + m.at < 2 ^ 32) (marks_in line.statement)
+    (λ m k. near offset m.at (width_of m.fix.kind) (taken line.statement offset) ((statement_marks line.statement offset g).inside m k) (not_long part (offset + taken line.statement offset) l))
+
+pub rooms : (source : List ℕ) (lines : List Laid) → placed_lines source ≡ Ok lines → All HasRoom lines
+rooms source lines e = all_of HasRoom lines (λ l k. let s : IsStanding l = all_stand source lines e l k in room_by l.part l.offset l.line s.stands s.room s.good)
+
+-- the object of a source can be written
+pub writable_all : (r : Result Object AsmFail) (source : List ℕ) → Assembles r (assembled source) → length source < 2 ^ 31 → IfOk r IsWritable
+writable_all (Ok o) source e h = assembled_fits source o e h
+writable_all (Err f) source e h = tt

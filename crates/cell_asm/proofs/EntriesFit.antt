@@ -1,23 +1,213 @@
+-- What holds of each line in its place.
+--     all_stand source lines        each line of a source has a good statement, which may stand there and has room
+use Rattle.std.proofs.Common.{◌≡◌, ℕ, ◌+◌, Bool, true, false, not, List, Ok, None, refl, zero, suc, ◌-◌, ◌*◌, ◌/◌, ◌%◌, ◌^◌, ◌≤◌, ◌==◌, cond, [], ◌∷◌, ◌++◌, Some, sym, ap, ◌∙◌, zero-add, div-add-mod', pow-suc, arith, subst, add_assoc, append-nil, ◌||◌, ◌⊎◌, inl, inr, take, slice_get, true≢false, length, length-append, mul-suc}
+use Rattle.std.proofs.Math.Nat.{mul_left_comm}
+use Rattle.std.proofs.lemmas.Bool.Decides.{nat_tests}
+use Rattle.std.proofs.lemmas.List.Elements.{filter-append}
+use Rattle.std.proofs.lemmas.List.Sums.{sum_by-append, sum_by-cons}
+use Rattle.std.specs.List.{list_any}
+use Rattle.std.specs.Prelude.{Option, if◌then◌else◌, nat_le, filter, sum_by, flat_map, nat_lt}
+use Rattle.cell_num.specs.Kinds.{width_of}
+use Rattle.cell_num.specs.Lists.{last, or_else, where_true}
+use Rattle.cell_object.specs.Relocations.{is_clash}
+use Rattle.cell_text.specs.Text.{lines_in}
+use Rattle.cell_asm.specs.Assembled.{placed_lines}
+use Rattle.cell_asm.specs.Lines.{line_of}
+use Rattle.cell_asm.specs.Objects.{entries_of, entries_in, parts_of, entry_of, entries, marks_in}
+use Rattle.cell_asm.specs.Places.{choices, size_at, taken, is_long, is_twice, may_stand, placed, fault_at, fault_by, is_at, is_in, gap, takes, size_in, largest}
+use Rattle.cell_asm.specs.Types.{AsmKindSection as Section, Twice, Long, Part, Line, Laid, Text, Code, Narrow, Wide, Statement, StatementZeros as Zeros, StatementAlign as Align, Bytes, Entry, Bss}
+use Rattle.cell_asm.proofs.GoodBlocks.{IsGoodStatement, IsFrom, line_origin, Apart, behind, line_apart, statement_marks}
+use Rattle.cell_asm.proofs.ListLemmas.{In, In-append, In-flat, In-filtered, filter_passes, get-In, mapped_length}
+use Rattle.cell_asm.proofs.ObjectLemmas.{same_part, few}
+use Rattle.cell_asm.proofs.PlacingLemmas.{each_line, Goes, grows, pushed}
+use Rattle.cell_asm.proofs.ReadLines.{read_line}
+
+-- a line that has no fault
+pub record IsAllowed (part : Option Part) (offset : ℕ) (twice : Bool) (line : Line) : Type 0 where
+  pub stands : may_stand part line ≡ true
+  pub new : twice ≡ false
+  pub room : is_long part (offset + taken line.statement offset) ≡ false
+
+by_tests : (a b c : Bool) → or_else (where_true (not a) Section) (or_else (where_true b Twice) (where_true c Long)) ≡ None → (a ≡ true) × ((b ≡ false) × (c ≡ false))
+by_tests true true c e = absurd cc
+by_tests true false true e = absurd cc
+by_tests true false false e = (refl, (refl, refl))
+by_tests false b c e = absurd cc
+
+pub no_fault : (part : Option Part) (offset : ℕ) (twice : Bool) (line : Line) → fault_by part offset twice line ≡ None → IsAllowed part offset twice line
+no_fault part offset twice line e =
+    let r : (may_stand part line ≡ true) × ((twice ≡ false) × (is_long part (offset + taken line.statement offset) ≡ false)) =
+    by_tests (may_stand part line) twice (is_long part (offset + taken line.statement offset)) e in
+    record { stands = r.0; new = r.1.0; room = r.1.1 }
+
+-- the line has no fault behind those before it
+pub allowed : (before : List Laid) (line : Line) → fault_at before line ≡ None → IsAllowed (last (choices before)) (size_at (last (choices before)) before) (is_twice before line.label) line
+allowed before line e = no_fault (last (choices before)) (size_at (last (choices before)) before) (is_twice before line.label) line e
+
+pub record IsStanding (l : Laid) : Type 0 where
+  pub good : IsGoodStatement l.line.statement
+  pub stands : may_stand l.part l.line ≡ true
+  pub room : is_long l.part (l.offset + taken l.line.statement l.offset) ≡ false
+
+one_stands : (before : List Laid) (n : ℕ) (text : List ℕ) (line : Line) → line_of text ≡ Ok line → fault_at before line ≡ None → IsStanding (placed before n line)
+one_stands before n text line e f =
+    let a = allowed before line f in
+    record { good = (read_line text line e).good; stands = a.stands; room = a.room }
+
+pub all_stand : (source : List ℕ) (lines : List Laid) → placed_lines source ≡ Ok lines → (l : Laid) → In l lines → IsStanding l
+all_stand = each_line IsStanding one_stands
+
+-- In .text each line stands at a multiple of four.
+--     in_fours source lines         so does each line of a source
+--     size_in_fours source lines    and so many bytes .text has
+
+-- WHAT A STATEMENT TAKES
+
+sum_more : (w n : ℕ) → w % 4 ≡ 0 → n % 4 ≡ 0 → (w + n) % 4 ≡ 0
+sum_more w n h k = omega arith
+
+quarter : (j : ℕ) → 2 ^ suc (suc j) ≡ 4 * 2 ^ j
+quarter j =
+    let a : 2 ^ suc (suc j) ≡ 2 ^ suc j * 2 = pow-suc 2 (suc j) in
+    let b : 2 ^ suc j ≡ 2 ^ j * 2 = pow-suc 2 j in
+    omega arith
+
+four_of : (unit k : ℕ) → 4 ≤ unit → unit ≡ 2 ^ k → (m : ℕ) × (unit ≡ 4 * m)
+four_of unit zero h e = absurd (omega arith)
+four_of unit (suc zero) h e = absurd (omega arith)
+four_of unit (suc (suc j)) h e = (2 ^ j, e ∙ quarter j)
+
+-- what is left over is a multiple of four, where the offset and the unit are
+left_over : (offset unit m r q : ℕ) → offset % 4 ≡ 0 → offset ≡ 4 * q + r → r % 4 ≡ 0
+left_over offset unit m r q h e = omega arith
+
+remainder_fours : (offset unit m : ℕ) → offset % 4 ≡ 0 → unit ≡ 4 * m → (offset % unit) % 4 ≡ 0
+remainder_fours offset unit m h e =
+    left_over offset unit m (offset % unit) ((offset / unit) * m) h
+    (sym (div-add-mod' offset unit) ∙ ap (λ n. n + offset % unit) (ap (λ u. (offset / unit) * u) e ∙ mul_left_comm (offset / unit) 4 m))
+
+gap_by : (b : Bool) (unit r m : ℕ) → unit ≡ 4 * m → r % 4 ≡ 0 → (if b then 0 else unit - r) % 4 ≡ 0
+gap_by true unit r m e h = refl
+gap_by false unit r m e h = omega arith
+
+gap_fours : (unit offset m : ℕ) → offset % 4 ≡ 0 → unit ≡ 4 * m → gap unit offset % 4 ≡ 0
+gap_fours unit offset m h e = gap_by (offset % unit == 0) unit (offset % unit) m e (remainder_fours offset unit m h e)
+
+four_zeros : (n : ℕ) → (n % 4 == 0) ≡ true → n % 4 ≡ 0
+four_zeros n e = grind (arith, nat_tests)
+
+le_of : (m n : ℕ) → nat_le m n ≡ true → m ≤ n
+le_of m n e = grind (arith, nat_tests)
+
+pub taken_fours : (s : Statement) (offset : ℕ) → takes Text s ≡ true → IsGoodStatement s → offset % 4 ≡ 0 → taken s offset % 4 ≡ 0
+taken_fours (Zeros n) offset t g h = four_zeros n t
+taken_fours (Align unit) offset t g h =
+    let r : (m : ℕ) × (unit ≡ 4 * m) = four_of unit g.0 (le_of 4 unit t) g.2 in
+    gap_fours unit offset r.0 h r.1
+taken_fours (Bytes Code b) offset t g h = g.sound.whole (λ e. absurd cc)
+taken_fours (Bytes Narrow b) offset t g h = absurd cc
+taken_fours (Bytes Wide b) offset t g h = g.sound.whole (λ e. absurd cc)
+taken_fours _ offset t g h = refl
+
+-- LINE BY LINE
+
+size_of_one : (b : Bool) (l : Laid) → sum_by (λ m. taken m.line.statement m.offset) (cond b (l ∷ []) []) ≡ cond b (taken l.line.statement l.offset) 0
+size_of_one true l = zero-add (taken l.line.statement l.offset)
+size_of_one false l = refl
+
+-- one line more, and the size of a section
+pub size_push : (part : Part) (lines : List Laid) (l : Laid) → size_in part (lines ++ l ∷ []) ≡ size_in part lines + cond (is_in part l) (taken l.line.statement l.offset) 0
+size_push part lines l =
+    ap (sum_by (λ m. taken m.line.statement m.offset)) (filter-append (is_in part) lines (l ∷ []))
+    ∙ sum_by-append (λ m. taken m.line.statement m.offset) (filter (is_in part) lines) (cond (is_in part l) (l ∷ []) [])
+    ∙ ap (λ n. size_in part lines + n) (size_of_one (is_in part l) l)
+
+record AreFours (lines : List Laid) : Type 0 where
+  size : size_in Text lines % 4 ≡ 0
+  offsets : (l : Laid) → In l lines → is_in Text l ≡ true → l.offset % 4 ≡ 0
+
+no_more : (n : ℕ) → n % 4 ≡ 0 → (n + 0) % 4 ≡ 0
+no_more n h = omega arith
+
+size_by : (o : Option Part) (before : List Laid) (line : Line) → may_stand o line ≡ true → IsGoodStatement line.statement → size_in Text before % 4 ≡ 0
+    → (size_in Text before + cond (is_at Text o) (taken line.statement (size_at o before)) 0) % 4 ≡ 0
+size_by None before line m g h = no_more (size_in Text before) h
+size_by (Some Text) before line m g h = sum_more (size_in Text before) (taken line.statement (size_in Text before)) h (taken_fours line.statement (size_in Text before) m g h)
+size_by (Some part) before line m g h = no_more (size_in Text before) h
+
+offset_by : (o : Option Part) (before : List Laid) → size_in Text before % 4 ≡ 0 → is_at Text o ≡ true → size_at o before % 4 ≡ 0
+offset_by (Some Text) before h e = h
+offset_by _ before h e = absurd cc
+
+goes : Goes AreFours
+goes before n text line h e f = record {
+  size = ap (λ k. k % 4) (size_push Text before (placed before n line)) ∙ size_by (last (choices before)) before line (allowed before line f).stands (read_line text line e).good h.size;
+  offsets = pushed (λ l. is_in Text l ≡ true → l.offset % 4 ≡ 0) before (placed before n line) h.offsets (offset_by (last (choices before)) before h.size);
+}
+
+fours : (source : List ℕ) (lines : List Laid) → placed_lines source ≡ Ok lines → AreFours lines
+fours source lines e = grows AreFours goes (lines_in source) lines (record { size = refl; offsets = λ l k. absurd k }) e
+
+pub in_fours : (source : List ℕ) (lines : List Laid) → placed_lines source ≡ Ok lines → (l : Laid) → In l lines → is_in Text l ≡ true → l.offset % 4 ≡ 0
+in_fours source lines e = (fours source lines e).offsets
+
+pub size_in_fours : (source : List ℕ) (lines : List Laid) → placed_lines source ≡ Ok lines → size_in Text lines % 4 ≡ 0
+size_in_fours source lines e = (fours source lines e).size
+
+-- The lines of a section stand one behind the other.
+--     stacked source lines part
+
+pub at_part : (part : Part) (o : Option Part) → is_at part o ≡ true → o ≡ Some part
+at_part part None e = absurd cc
+at_part part (Some other) e = ap Some (sym (same_part part other e))
+
+-- LINES ONE BEHIND THE OTHER
+
+abbrev pub Stacked : ℕ → List Laid → Type 0
+Stacked o [] = Unit {0}
+Stacked o (l ∷ ls) = (l.offset ≡ o) × Stacked (o + taken l.line.statement l.offset) ls
+
+abbrev pub all_taken : List Laid → ℕ
+all_taken ls = sum_by (λ l. taken l.line.statement l.offset) ls
+
+pub taken_cons : (o : ℕ) (l : Laid) (ls : List Laid) → o + all_taken (l ∷ ls) ≡ (o + taken l.line.statement l.offset) + all_taken ls
+taken_cons o l ls =
+    ap (λ n. o + n) (sum_by-cons (λ m. taken m.line.statement m.offset) l ls) ∙ sym (add_assoc o (taken l.line.statement l.offset) (all_taken ls))
+
+at_end : (n o : ℕ) → n ≡ o + 0 → n ≡ o
+at_end n o e = omega arith
+
+stacked_push : (o : ℕ) (ls : List Laid) (l : Laid) → Stacked o ls → l.offset ≡ o + all_taken ls → Stacked o (ls ++ l ∷ [])
+stacked_push o [] l h e = (at_end l.offset o e, tt)
+stacked_push o (m ∷ ls) l h e = (h.0, stacked_push (o + taken m.line.statement m.offset) ls l h.1 (e ∙ taken_cons o m ls))
+
+from_none : (n m : ℕ) → n ≡ m → n ≡ 0 + m
+from_none n m e = omega arith
+
+at_size : (part : Part) (o : Option Part) (before : List Laid) → is_at part o ≡ true → size_at o before ≡ 0 + size_in part before
+at_size part o before e = from_none (size_at o before) (size_in part before) (ap (λ p. size_at p before) (at_part part o e))
+
+pushed_by : (part : Part) (b : Bool) (before : List Laid) (l : Laid) → Stacked 0 (filter (is_in part) before) → (b ≡ true → l.offset ≡ 0 + size_in part before)
+    → Stacked 0 (filter (is_in part) before ++ cond b (l ∷ []) [])
+pushed_by part true before l h e = stacked_push 0 (filter (is_in part) before) l h (e refl)
+pushed_by part false before l h e = subst (Stacked 0) (sym (append-nil (filter (is_in part) before))) h
+
+abbrev StacksIn : Part → List Laid → Type 0
+StacksIn part lines = Stacked 0 (filter (is_in part) lines)
+
+taken_goes : (part : Part) → Goes (StacksIn part)
+taken_goes part before n text line h e f =
+    let l = placed before n line in
+    subst (Stacked 0) (sym (filter-append (is_in part) before (l ∷ [])))
+    (pushed_by part (is_in part l) before l h (at_size part (last (choices before)) before))
+
+pub stacked : (source : List ℕ) (lines : List Laid) (part : Part) → placed_lines source ≡ Ok lines → Stacked 0 (filter (is_in part) lines)
+stacked source lines part e = grows (StacksIn part) (taken_goes part) (lines_in source) lines tt e
+
 -- The entries of a section: where they come from, that they stand apart, and that they are inside.
 --     entry_origin       each entry of a section is one of a piece of a line there
 --     entries_apart      no two of them share a byte, unless they add to one field
 --     entry_high         each is within the section
-use Rattle.std.proofs.Common.{◌≡◌, ℕ, zero, suc, ◌+◌, ◌≤◌, Bool, true, false, ◌||◌, List, [], ◌∷◌, ◌++◌, ◌⊎◌, inl, inr, take, slice_get, Ok, Some, refl, sym, subst, true≢false, arith}
-use Rattle.std.specs.Prelude.{filter, flat_map}
-use Rattle.std.specs.List.{list_any}
-use Rattle.cell_num.specs.Kinds.{width_of}
-use Rattle.cell_object.specs.declared.object.Entry.{Entry}
-use Rattle.cell_object.specs.Relocations.{is_clash}
-use Rattle.cell_asm.specs.declared.statement.Part.{Part}
-use Rattle.cell_asm.specs.declared.laid.Laid.{Laid}
-use Rattle.cell_asm.specs.Places.{is_in, taken, size_in}
-use Rattle.cell_asm.specs.Objects.{entries_of, entries_in}
-use Rattle.cell_asm.specs.Assembled.{placed_lines}
-use Rattle.cell_asm.proofs.Members.{In, In-append, In-flat, In-filtered, filter_passes, get-In}
-use Rattle.cell_asm.proofs.GoodBlocks.{IsGoodStatement}
-use Rattle.cell_asm.proofs.Standing.{all_stand}
-use Rattle.cell_asm.proofs.StackedLines.{Stacked, all_taken, taken_cons, stacked}
-use Rattle.cell_asm.proofs.LineEntries.{IsFrom, line_origin, Apart, behind, line_apart}
 
 -- APART
 
@@ -110,3 +300,83 @@ apart_take (x ∷ es) (suc k) e h g = both (is_clash e x) (list_any (is_clash e)
     both : (a b : Bool) → a ≡ false → b ≡ false → (a || b) ≡ false
     both true b p q = absurd (true≢false p)
     both false b p q = q
+
+-- How many entries there are.
+--     section_small       a section has at most 16777216 bytes
+--     few_entries         there are at most 134217728 entries
+
+-- THE SIZE OF A SECTION
+
+pub not_past : (m n : ℕ) → nat_lt m n ≡ false → n ≤ m
+not_past m n e = grind (arith, nat_tests)
+
+none_added : (n m : ℕ) → n ≤ m → n + 0 ≤ m
+none_added n m h = omega arith
+
+abbrev Fits : Part → List Laid → Type 0
+Fits part lines = size_in part lines ≤ largest part
+
+fits_by : (part : Part) (o : Option Part) (before : List Laid) (n : ℕ) (b : Bool) → is_at part o ≡ b → size_in part before ≤ largest part → is_long o (size_at o before + n) ≡ false → size_in part before + cond b n 0 ≤ largest part
+fits_by part o before n true e h room = not_past (largest part) (size_in part before + n) (subst (λ p. is_long p (size_at p before + n) ≡ false) (at_part part o e) room)
+fits_by part o before n false e h room = none_added (size_in part before) (largest part) h
+
+fits_goes : (part : Part) → Goes (Fits part)
+fits_goes part before n text line h e f =
+    let o = last (choices before) in
+    let l = placed before n line in
+    subst (λ k. k ≤ largest part) (sym (size_push part before l))
+    (fits_by part o before (taken line.statement (size_at o before)) (is_in part l) refl h (allowed before line f).room)
+
+least : (n : ℕ) → 0 ≤ n
+least n = omega arith
+
+pub section_fits : (source : List ℕ) (lines : List Laid) (part : Part) → placed_lines source ≡ Ok lines → size_in part lines ≤ largest part
+section_fits source lines part e = grows (Fits part) (fits_goes part) (lines_in source) lines (least (largest part)) e
+
+pub largest_most : (part : Part) → largest part ≤ 16777216
+largest_most Bss = omega arith
+largest_most _ = omega arith
+
+through : (a b c : ℕ) → a ≤ b → b ≤ c → a ≤ c
+through a b c h k = omega arith
+
+pub section_small : (source : List ℕ) (lines : List Laid) (part : Part) → placed_lines source ≡ Ok lines → size_in part lines ≤ 16777216
+section_small source lines part e = through _ _ _ (section_fits source lines part e) (largest_most part)
+
+-- THE ENTRIES OF A SECTION
+
+line_more : (a c b t n : ℕ) → a ≡ c → c ≤ 2 * t → b ≤ 2 * n → a + b ≤ 2 * (t + n)
+line_more a c b t n h k l = omega arith
+
+lines_count : (lines : List Laid) (part : Part) (ls : List Laid) → ((l : Laid) → In l ls → IsGoodStatement l.line.statement) → length (flat_map (entries_of lines part) ls) ≤ 2 * all_taken ls
+lines_count lines part [] g = least 0
+lines_count lines part (l ∷ ls) g =
+    subst (λ n. length (flat_map (entries_of lines part) (l ∷ ls)) ≤ 2 * n) (sym (sum_by-cons (λ m. taken m.line.statement m.offset) l ls))
+    (subst (λ n. n ≤ 2 * (taken l.line.statement l.offset + all_taken ls)) (sym (length-append (entries_of lines part l) (flat_map (entries_of lines part) ls)))
+    (line_more (length (entries_of lines part l)) (length (marks_in l.line.statement)) (length (flat_map (entries_of lines part) ls)) (taken l.line.statement l.offset) (all_taken ls)
+    (mapped_length (entry_of lines part l) (marks_in l.line.statement)) (statement_marks l.line.statement l.offset (g l (inl refl))).few (lines_count lines part ls (λ m i. g m (inr i)))))
+
+pub part_count : (source : List ℕ) (lines : List Laid) (part : Part) → placed_lines source ≡ Ok lines → length (entries_in lines part) ≤ 2 * size_in part lines
+part_count source lines part e = lines_count lines part (filter (is_in part) lines) (λ l k. (all_stand source lines e l (In-filtered (is_in part) lines l k)).good)
+
+-- ALL ENTRIES
+
+each_count : {A : Type 0} (g : A → List Entry) (m : ℕ) (xs : List A) → ((x : A) → length (g x) ≤ m) → length (flat_map g xs) ≤ m * length xs
+each_count g m [] h = least (m * 0)
+each_count g m (x ∷ xs) h =
+    subst (λ n. n ≤ m * suc (length xs)) (sym (length-append (g x) (flat_map g xs))) (go (length (g x)) (length (flat_map g xs)) (m * length xs) (m * suc (length xs)) (h x) (each_count g m xs h) (mul-suc m (length xs)))
+  where
+    go : (a b c d : ℕ) → a ≤ m → b ≤ c → d ≡ c + m → a + b ≤ d
+    go a b c d p q r = omega arith
+
+double : (n m : ℕ) → n ≤ 2 * m → m ≤ 16777216 → n ≤ 33554432
+double n m h k = omega arith
+
+four_times : (n k : ℕ) → n ≤ 33554432 * k → k ≤ 4 → n ≤ 134217728
+four_times n k h l = omega arith
+
+pub few_entries : (source : List ℕ) (lines : List Laid) → placed_lines source ≡ Ok lines → length (entries lines) ≤ 134217728
+few_entries source lines e =
+    four_times (length (entries lines)) (length (parts_of lines))
+    (each_count (entries_in lines) 33554432 (parts_of lines) (λ part. double _ _ (part_count source lines part e) (section_small source lines part e)))
+    (few lines (parts_of lines) refl)

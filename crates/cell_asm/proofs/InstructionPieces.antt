@@ -6,39 +6,16 @@ use Rattle.std.specs.List.{list_any}
 use Rattle.std.specs.Int.{w64}
 use Rattle.std.proofs.lemmas.Bool.{and_parts}
 use Rattle.std.proofs.lemmas.Bool.Decides.{nat_tests}
-use Rattle.cell_num.specs.declared.kinds.RelKind.{RelKind}
+use Rattle.cell_asm.specs.Types.{RelKind, Op, AsmKind, Shape, Mnemonic, Expression, Modifier, Hi, Lo, PcrelHi, PcrelLo, Immediate, Number, Modified, Operand, Form, Low, LowStore, FormUpper as Upper, FormUpperPcrel as UpperPcrel, Slot, Rd, Rs1, Rs2, SlotValue as Value, SlotMemory as Memory, SlotName as Name, Address, Fields, Content, Code, Mark, Block, Fix, Target, Reference, Field}
 use Rattle.cell_num.specs.declared.kinds.RelKind.TheVariants as kinds
 use Rattle.cell_num.specs.Kinds.{width_of, is_instruction, is_pcrel_lo12, is_pcrel_hi20}
 use Rattle.cell_object.specs.Sound.{is_known_kind}
-use Rattle.cell_isa.specs.declared.insn.Op.{Op}
 use Rattle.cell_isa.specs.declared.insn.Op.TheVariants as ops
-use Rattle.cell_asm.specs.declared.kind.AsmKind.{AsmKind}
 use Rattle.cell_asm.specs.declared.kind.AsmKind.TheVariants as faults
-use Rattle.cell_asm.specs.declared.mnemonic.Shape.{Shape}
 use Rattle.cell_asm.specs.declared.mnemonic.Shape.TheVariants as shapes
-use Rattle.cell_asm.specs.declared.mnemonic.Mnemonic.{Mnemonic}
-use Rattle.cell_asm.specs.declared.operand.Expression.{Expression}
 use Rattle.cell_asm.specs.declared.operand.Expression.TheVariants as expressions
-use Rattle.cell_asm.specs.declared.operand.Modifier.{Modifier}
-use Rattle.cell_asm.specs.declared.operand.Modifier.TheVariants.{Hi, Lo, PcrelHi, PcrelLo}
-use Rattle.cell_asm.specs.declared.operand.Immediate.{Immediate}
-use Rattle.cell_asm.specs.declared.operand.Immediate.TheVariants.{Number, Modified}
-use Rattle.cell_asm.specs.declared.operand.Operand.{Operand}
 use Rattle.cell_asm.specs.declared.operand.Operand.TheVariants as operands
-use Rattle.cell_asm.specs.declared.slot.Form.{Form}
-use Rattle.cell_asm.specs.declared.slot.Form.TheVariants.{Low, LowStore, Upper, UpperPcrel}
-use Rattle.cell_asm.specs.declared.slot.Slot.{Slot}
-use Rattle.cell_asm.specs.declared.slot.Slot.TheVariants.{Rd, Rs1, Rs2, Value, Memory, Name, Address}
-use Rattle.cell_asm.specs.declared.instruction.Fields.{Fields}
-use Rattle.cell_asm.specs.declared.statement.Content.{Content}
-use Rattle.cell_asm.specs.declared.statement.Content.TheVariants.{Code}
-use Rattle.cell_asm.specs.declared.block.Mark.{Mark}
-use Rattle.cell_asm.specs.declared.block.Block.{Block}
-use Rattle.cell_asm.specs.declared.statement.Fix.{Fix}
-use Rattle.cell_asm.specs.declared.statement.Target.{Target}
 use Rattle.cell_asm.specs.declared.statement.Target.TheVariants as targets
-use Rattle.cell_asm.specs.declared.statement.Reference.{Reference}
-use Rattle.cell_asm.specs.declared.statement.Field.{Field}
 use Rattle.cell_asm.specs.Faults.{both, with_value}
 use Rattle.cell_asm.specs.Names.{is_name}
 use Rattle.cell_asm.specs.Blocks.{marks_at, block}
@@ -46,9 +23,8 @@ use Rattle.cell_asm.specs.Places.{is_made}
 use Rattle.cell_asm.specs.Objects.{target_names}
 use Rattle.cell_asm.specs.Wanted.{register, name, refers, reference, address, plain, under, fitting, part_kind, labelled, part, immediate, value, memory}
 use Rattle.cell_asm.specs.Instructions.{slots, fixed, put, filled, piece, call, low_part, pieces, instruction}
-use Rattle.cell_asm.proofs.Members.{In, In-left, In-right}
-use Rattle.cell_asm.proofs.Yields.{Any, Yields, yields_value, yields_both, yields_any}
-use Rattle.cell_asm.proofs.NamedOperands.{AreNames, IsNamed, cost, cost-append, no_names, more_names, expression_names, immediate_names, operand_names, all_names}
+use Rattle.cell_asm.proofs.ListLemmas.{In, In-left, In-right}
+use Rattle.cell_asm.proofs.NamesFit.{Any, Yields, yields_value, yields_both, yields_any, AreNames, IsNamed, cost, cost-append, no_names, more_names, expression_names, immediate_names, operand_names, all_names}
 use Rattle.cell_asm.proofs.GoodBlocks.{any_upper, IsGoodFix, IsGoodBlock, Fits, ArePaired, IsGoodPiece, block_sound}
 
 -- REFERENCES

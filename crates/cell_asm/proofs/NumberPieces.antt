@@ -2,36 +2,20 @@
 --     numbers_good w operands      they are good, and take no more names than the operands
 use Rattle.std.proofs.Common.{◌≡◌, ◌≤◌, ◌+◌, ◌%◌, ℕ, suc, true, false, List, [], ◌∷◌, ◌++◌, length, map, pos, Some, None, inl, inr, refl, sym, subst, ap, ◌∙◌, true≢false, append-nil, Bool, arith}
 use Rattle.std.proofs.lemmas.List.Concat.{flat_map-append}
-use Rattle.cell_asm.proofs.Tallies.{total}
+use Rattle.cell_asm.proofs.ListLemmas.{total, In, In-left, In-right, any-In}
 use Rattle.std.specs.Prelude.{Option, flat_map, fold}
 use Rattle.std.specs.List.{list_any}
-use Rattle.cell_num.specs.declared.kinds.RelKind.{RelKind}
+use Rattle.cell_asm.specs.Types.{RelKind, Width, Byte, Half, WidthWord as Word, Quad, Expression, ExpressionName as Name, Sum, Difference, Number, Modified, Operand, OperandValue as Value, Plain, OperandMemory as Memory, Mark, Block, Content, Narrow, Fix, Piece, Reference}
 use Rattle.cell_num.specs.declared.kinds.RelKind.TheVariants as kinds
 use Rattle.cell_num.specs.Kinds.{width_of, is_instruction, is_stacking, is_pcrel_lo12, is_pcrel_hi20}
 use Rattle.cell_object.specs.Sound.{is_known_kind}
-use Rattle.cell_asm.specs.declared.mnemonic.Width.{Width}
-use Rattle.cell_asm.specs.declared.mnemonic.Width.TheVariants.{Byte, Half, Word, Quad}
-use Rattle.cell_asm.specs.declared.operand.Expression.{Expression}
-use Rattle.cell_asm.specs.declared.operand.Expression.TheVariants.{Name, Sum, Difference}
-use Rattle.cell_asm.specs.declared.operand.Immediate.TheVariants.{Number, Modified}
-use Rattle.cell_asm.specs.declared.operand.Operand.{Operand}
-use Rattle.cell_asm.specs.declared.operand.Operand.TheVariants.{Value, Plain, Memory}
-use Rattle.cell_asm.specs.declared.block.Mark.{Mark}
-use Rattle.cell_asm.specs.declared.block.Block.{Block}
-use Rattle.cell_asm.specs.declared.statement.Content.{Content}
-use Rattle.cell_asm.specs.declared.statement.Content.TheVariants.{Narrow}
-use Rattle.cell_asm.specs.declared.statement.Fix.{Fix}
-use Rattle.cell_asm.specs.declared.statement.Piece.{Piece}
-use Rattle.cell_asm.specs.declared.statement.Reference.{Reference}
 use Rattle.cell_asm.specs.Faults.{both, each}
 use Rattle.cell_asm.specs.Blocks.{marks_at, appended, empty, block}
 use Rattle.cell_asm.specs.Places.{is_made}
 use Rattle.cell_asm.specs.Objects.{target_names}
 use Rattle.cell_asm.specs.Wanted.{refers, reference, fix}
 use Rattle.cell_asm.specs.Statements.{layout_of, stored, filled, addressed, datum, numbers}
-use Rattle.cell_asm.proofs.Members.{In, In-left, In-right, any-In}
-use Rattle.cell_asm.proofs.Yields.{Yields, yields_value, yields_both, Any, yields_any}
-use Rattle.cell_asm.proofs.NamedOperands.{AreNames, IsNamed, cost, cost-append, no_names, more_names, expression_names, operand_names, all_names}
+use Rattle.cell_asm.proofs.NamesFit.{Yields, yields_value, yields_both, Any, yields_any, AreNames, IsNamed, cost, cost-append, no_names, more_names, expression_names, operand_names, all_names}
 use Rattle.cell_asm.proofs.GoodBlocks.{is_code, IsGoodFix, IsSound, Fits, ArePaired, IsGoodPiece, block_sound}
 use Rattle.cell_asm.proofs.InstructionPieces.{zero_fits, IsGoodReference, refers_good, reference_good, not_low, fix_names, IsFewBlock}
 

@@ -6,21 +6,11 @@ use Rattle.std.specs.List.{position_or_len, prefix_len, before_first}
 use Rattle.std.proofs.lemmas.Bool.Decides.{nat_tests}
 use Rattle.std.proofs.lemmas.List.{length-take}
 use Rattle.cell_num.specs.Lists.{where_true}
-use Rattle.cell_asm.specs.declared.kind.AsmKind.{AsmKind}
+use Rattle.cell_asm.specs.Types.{AsmKind, Mnemonic, Directive, Operand, Content, Code, Mark, Block, Statement, StatementChoose as Choose, StatementGlobal as Global, StatementZeros as Zeros, StatementAlign as Align, Bytes, Line}
 use Rattle.cell_asm.specs.declared.kind.AsmKind.TheVariants as faults
-use Rattle.cell_asm.specs.declared.mnemonic.Mnemonic.{Mnemonic}
-use Rattle.cell_asm.specs.declared.mnemonic.Directive.{Directive}
 use Rattle.cell_asm.specs.declared.mnemonic.Directive.TheVariants as directives
 use Rattle.cell_asm.specs.declared.operand.Expression.TheVariants as expressions
-use Rattle.cell_asm.specs.declared.operand.Operand.{Operand}
 use Rattle.cell_asm.specs.declared.operand.Operand.TheVariants as operands
-use Rattle.cell_asm.specs.declared.statement.Content.{Content}
-use Rattle.cell_asm.specs.declared.statement.Content.TheVariants.{Code}
-use Rattle.cell_asm.specs.declared.block.Mark.{Mark}
-use Rattle.cell_asm.specs.declared.block.Block.{Block}
-use Rattle.cell_asm.specs.declared.statement.Statement.{Statement}
-use Rattle.cell_asm.specs.declared.statement.Statement.TheVariants.{Choose, Global, Zeros, Align, Bytes}
-use Rattle.cell_asm.specs.declared.statement.Line.{Line}
 use Rattle.cell_asm.specs.Faults.{both, with_value, each}
 use Rattle.cell_asm.specs.Names.{is_name}
 use Rattle.cell_asm.specs.Objects.{target_names, label_names, statement_names}
@@ -29,11 +19,8 @@ use Rattle.cell_asm.specs.Instructions.{instruction}
 use Rattle.cell_asm.specs.Mnemonics.{directive, mnemonic}
 use Rattle.cell_asm.specs.Statements.{layout_of, numbers, count, unit_of, unit, none, one, directed, instructed, worded, statement}
 use Rattle.cell_asm.specs.Lines.{is_inked, read_with, statement_in, spelled, operand_texts, first_word, after_word, has_label, labelled, label_in, line_of, code_of}
-use Rattle.cell_asm.proofs.Members.{In}
-use Rattle.cell_asm.proofs.Tallies.{take_le, drop_le}
-use Rattle.cell_asm.proofs.Yields.{Any, Yields, yields_value, yields_both, yields_any, yields_ok}
-use Rattle.cell_asm.proofs.NamedOperands.{AreNames, IsNamed, cost, no_names, more_names, join_names, none_named, one_named, join_named, more_named, le_trans, split_length, trimmed_le, all_names, NamesAll, operands_named}
-use Rattle.cell_asm.proofs.NamesFit.{name_fits}
+use Rattle.cell_asm.proofs.ListLemmas.{In, take_le, drop_le}
+use Rattle.cell_asm.proofs.NamesFit.{Any, Yields, yields_value, yields_both, yields_any, yields_ok, AreNames, IsNamed, cost, no_names, more_names, join_names, none_named, one_named, join_named, more_named, le_trans, split_length, trimmed_le, all_names, NamesAll, operands_named, name_fits}
 use Rattle.cell_asm.proofs.GoodBlocks.{IsUnit, IsGoodStatement}
 use Rattle.cell_asm.proofs.InstructionPieces.{IsFewBlock, instruction_good}
 use Rattle.cell_asm.proofs.NumberPieces.{numbers_good}

@@ -2,17 +2,7 @@
 use Rattle.std.proofs.Common.{◌≡◌, refl, ℕ, ℤ, pos, List, [], ◌∷◌, true, false, length, Result, Ok, Err}
 use Rattle.std.specs.Prelude.{codes}
 use Rattle.std.specs.List.{join_with_byte}
-use Rattle.cell_num.specs.declared.kinds.RelKind.{RelKind}
-use Rattle.cell_num.specs.declared.kinds.RelKind.TheVariants.{Abs64, CallPlt, PcrelHi20, PcrelLo12I, Hi20, Add32, Sub32}
-use Rattle.cell_object.specs.declared.object.Object.{Object}
-use Rattle.cell_object.specs.declared.object.Section.{Section}
-use Rattle.cell_object.specs.declared.object.Symbol.{Symbol}
-use Rattle.cell_object.specs.declared.object.Entry.{Entry}
-use Rattle.cell_object.specs.declared.object.Bind.TheVariants.{Local, Global}
-use Rattle.cell_object.specs.declared.object.Sort.TheVariants.{NoType}
-use Rattle.cell_object.specs.declared.object.Home.TheVariants.{Undef, Inside}
-use Rattle.cell_object.specs.declared.object.Fill.TheVariants.{Prog, Zero}
-use Rattle.cell_asm.specs.declared.kind.AsmKind.{AsmKind}
+use Rattle.cell_asm.specs.Types.{RelKind, Abs64, CallPlt, PcrelHi20, PcrelLo12I, Hi20, Add32, Sub32, Object, Section, Symbol, Entry, Local, BindGlobal as Global, NoType, Undef, Inside, Prog, Zero, AsmKind}
 use Rattle.cell_asm.specs.declared.kind.AsmKind.TheVariants as faults
 use Rattle.cell_asm.specs.Assembled.{assembled}
 

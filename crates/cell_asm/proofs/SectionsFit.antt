@@ -6,25 +6,16 @@ use Rattle.std.proofs.lemmas.Bool.{cases_lt}
 use Rattle.std.proofs.lemmas.List.{length-replicate}
 use Rattle.cell_num.specs.Bits.{bytes_of}
 use Rattle.cell_object.specs.Sections.{is_alignment}
-use Rattle.cell_object.specs.declared.object.Section.{Section}
+use Rattle.cell_asm.specs.Types.{Section, Part, Text, Bss, Statement, StatementZeros as Zeros, StatementAlign as Align, Line, Laid}
 use Rattle.cell_object.specs.Writable.{IsPlain}
 use Rattle.cell_image.proofs.Ruled.{IsWhole, IsWritableSection}
-use Rattle.cell_asm.specs.declared.statement.Part.{Part}
-use Rattle.cell_asm.specs.declared.statement.Part.TheVariants.{Text, Bss}
-use Rattle.cell_asm.specs.declared.statement.Statement.{Statement}
-use Rattle.cell_asm.specs.declared.statement.Statement.TheVariants.{Zeros, Align}
-use Rattle.cell_asm.specs.declared.statement.Line.{Line}
-use Rattle.cell_asm.specs.declared.laid.Laid.{Laid}
 use Rattle.cell_asm.specs.Places.{is_at, is_in, gap, taken, takes, may_stand, size_in}
 use Rattle.cell_asm.specs.Objects.{parts_of, part_name, is_text, first_alignment, alignment_asked, alignment, padding, bytes_at, contents, fill_of, may_write, section_of, sections}
 use Rattle.cell_asm.specs.Assembled.{placed_lines}
-use Rattle.cell_asm.proofs.Members.{In, In-filtered, filter_passes, In-map}
+use Rattle.cell_asm.proofs.ListLemmas.{In, In-filtered, filter_passes, In-map, get_map, flat_length, total_same, sum_is_total}
 use Rattle.cell_asm.proofs.GoodBlocks.{IsUnit, IsGoodStatement}
-use Rattle.cell_asm.proofs.Standing.{IsStanding, all_stand}
-use Rattle.cell_asm.proofs.InFours.{taken_fours, in_fours}
-use Rattle.cell_asm.proofs.Grouped.{part_numbered}
-use Rattle.cell_asm.proofs.Counts.{section_small}
-use Rattle.cell_asm.proofs.Tallies.{get_map, flat_length, total_same, sum_is_total}
+use Rattle.cell_asm.proofs.EntriesFit.{IsStanding, all_stand, taken_fours, in_fours, section_small}
+use Rattle.cell_asm.proofs.WritableEntries.{part_numbered}
 
 -- THE BYTES OF A STATEMENT
 

@@ -1,40 +1,172 @@
+-- Each line stands in a section that is chosen, and its bytes are within it.
+--     all_held source lines        so it is of each line of a source
+use Rattle.std.proofs.Common.{◌≡◌, ℕ, ◌+◌, ◌≤◌, cond, List, [], ◌∷◌, ◌++◌, inl, inr, Ok, Some, None, refl, sym, subst, ◌∙◌, arith, true, Bool, false, ◌⊎◌, ap, zero, suc, ◌-◌, ◌^◌, ◌<◌, not, ◌&&◌, ◌||◌, map, length, take, slice_get, append-nil, true≢false}
+use Rattle.std.proofs.lemmas.Bool.{or_from}
+use Rattle.std.proofs.lemmas.List.Elements.{filter_map-append, filter-append}
+use Rattle.std.proofs.lemmas.List.Folds.{list_any-append}
+use Rattle.std.proofs.lemmas.Option.{slice_get_within}
+use Rattle.std.specs.List.{list_any}
+use Rattle.std.specs.Option.{option_map_or}
+use Rattle.std.specs.Prelude.{Option, if◌then◌else◌, filter}
+use Rattle.std.specs.Str.{bytes_eq}
+use Rattle.cell_image.proofs.Ruled.{IsWithin, IsWritableHome, IsWritableSymbol}
+use Rattle.cell_num.specs.Lists.{last, equals}
+use Rattle.cell_object.specs.Image.{local_count}
+use Rattle.cell_object.specs.Parts.{is_global, is_local}
+use Rattle.cell_object.specs.Symbols.{is_global_name, defines}
+use Rattle.cell_object.specs.Writable.{IsPlain}
+use Rattle.cell_object.specs.declared.object.Bind.TheVariants as binds
+use Rattle.cell_text.specs.Text.{lines_in}
+use Rattle.cell_asm.specs.Assembled.{placed_lines}
+use Rattle.cell_asm.specs.Names.{is_name}
+use Rattle.cell_asm.specs.Objects.{parts_of, key_name, label_names, mentions, statement_names, part_number, number_in, section_of, sections, globals, local_labels, other_names, label_named, home_at, local_symbol, global_symbol, symbols, object_of}
+use Rattle.cell_asm.specs.Objects as objects
+use Rattle.cell_asm.specs.Objects.{parts_of, key_name, label_names, mentions, statement_names, part_number, number_in, section_of, sections, globals, local_labels, other_names, label_named, home_at, local_symbol, global_symbol, symbols, object_of}
+use Rattle.cell_asm.specs.Objects as objects
+use Rattle.cell_asm.specs.Places.{is_same_part, is_at, is_in, choice, choices, taken, size_in, size_at, placed, makes_label, own_key, made_key, keys_of, label, labels_at, labels, holds_key, is_key}
+use Rattle.cell_asm.specs.Types.{Part, Statement, Laid, Key, KeyNamed as Named, KeyMade as Made, Label, Symbol}
+use Rattle.cell_asm.proofs.EntriesFit.{size_push, section_small}
+use Rattle.cell_asm.proofs.ListLemmas.{In, In-left, fold_there, In-append, In-flat, In-map, In-filtered, found-In, get-In, get_split, get_map, take_behind, mapped_length, AreApart, fold_apart, fold_In, before_fails}
+use Rattle.cell_asm.proofs.NamesFit.{key_fits, AreNames, IsGoodName, name_fits}
+use Rattle.cell_asm.proofs.ObjectLemmas.{part_itself, same_part}
+use Rattle.cell_asm.proofs.PlacingLemmas.{Goes, grows, pushed, each_line}
+use Rattle.cell_asm.proofs.ReadLines.{line_names, read_line}
+use Rattle.cell_asm.proofs.SymbolPlaces.{names_apart}
+use Rattle.cell_asm.proofs.WritableEntries.{part_numbered}
+
+pub record IsHeld (lines : List Laid) (part : Part) (l : Laid) : Type 0 where
+  pub chosen : In part (choices lines)
+  pub inside : l.offset + taken l.line.statement l.offset ≤ size_in part lines
+
+abbrev AllHeld : List Laid → Type 0
+AllHeld lines = (l : Laid) → In l lines → (part : Part) → l.part ≡ Some part → IsHeld lines part l
+
+last_In : (parts : List Part) (part : Part) → last parts ≡ Some part → In part parts
+last_In [] part e = absurd cc
+last_In (x ∷ []) part e = let is : part ≡ x = cc in inl is
+last_In (x ∷ y ∷ xs) part e = inr (last_In (y ∷ xs) part e)
+
+-- the choices before are choices still
+still_chosen : (before : List Laid) (l : Laid) (part : Part) → In part (choices before) → In part (choices (before ++ l ∷ []))
+still_chosen before l part k =
+    subst (In part) (sym (filter_map-append (λ m. choice m.line.statement) before (l ∷ []))) (In-left (choices before) (choices (l ∷ [])) part k)
+
+still_inside : (a n m : ℕ) → a ≤ n → a ≤ n + m
+still_inside a n m h = omega (arith, h)
+
+one_more : (n t : ℕ) → n + t ≤ n + t
+one_more n t = omega arith
+
+at_itself : (part : Part) (before : List Laid) (s : Statement)
+    → size_in part before + taken s (size_in part before) ≤ size_in part before + cond (is_same_part part part) (taken s (size_in part before)) 0
+at_itself part before s =
+    subst (λ b. size_in part before + taken s (size_in part before) ≤ size_in part before + cond b (taken s (size_in part before)) 0) (sym (part_itself part)) (one_more (size_in part before) (taken s (size_in part before)))
+
+new_inside : (part : Part) (o : Option Part) (before : List Laid) (s : Statement) → o ≡ Some part
+    → size_at o before + taken s (size_at o before) ≤ size_in part before + cond (is_at part o) (taken s (size_at o before)) 0
+new_inside part None before s e = absurd cc
+new_inside part (Some other) before s e =
+    let same : part ≡ other = cc in
+    subst (λ q. size_in q before + taken s (size_in q before) ≤ size_in part before + cond (is_same_part part q) (taken s (size_in q before)) 0) same (at_itself part before s)
+
+old_held : (before : List Laid) (new : Laid) (l : Laid) (part : Part) → IsHeld before part l → IsHeld (before ++ new ∷ []) part l
+old_held before new l part h = record {
+  chosen = still_chosen before new part h.chosen;
+  inside = subst (λ n. l.offset + taken l.line.statement l.offset ≤ n) (sym (size_push part before new))
+      (still_inside (l.offset + taken l.line.statement l.offset) (size_in part before) (cond (is_in part new) (taken new.line.statement new.offset) 0) h.inside);
+}
+
+-- the new line, which stands behind the others
+abbrev IsNext : List Laid → Laid → Type 0
+IsNext before new = (new.part ≡ last (choices before)) × (new.offset ≡ size_at new.part before)
+
+new_held : (before : List Laid) (new : Laid) (part : Part) → IsNext before new → new.part ≡ Some part → IsHeld (before ++ new ∷ []) part new
+new_held before new part h e = record {
+  chosen = still_chosen before new part (last_In (choices before) part (sym h.0 ∙ e));
+  inside = subst (λ n. new.offset + taken new.line.statement new.offset ≤ n) (sym (size_push part before new))
+      (subst (λ o. o + taken new.line.statement o ≤ size_in part before + cond (is_in part new) (taken new.line.statement o) 0) (sym h.1) (new_inside part new.part before new.line.statement e));
+}
+
+goes : Goes AllHeld
+goes before n text line h e f =
+    let new : Laid = placed before n line in
+    pushed (λ l. (part : Part) → l.part ≡ Some part → IsHeld (before ++ new ∷ []) part l) before new (λ l i part at. old_held before new l part (h l i part at)) (λ part at. new_held before new part (refl, refl) at)
+
+pub all_held : (source : List ℕ) (lines : List Laid) → placed_lines source ≡ Ok lines → (l : Laid) → In l lines → (part : Part) → l.part ≡ Some part → IsHeld lines part l
+all_held source lines e = grows AllHeld goes (lines_in source) lines (λ l k. absurd k) e
+
+-- The sections that a source chooses.
+--     part_there lines part    a section that a line chooses stands among them
+
+pub part_there : (lines : List Laid) (part : Part) → In part (choices lines) → list_any (is_same_part part) (parts_of lines) ≡ true
+part_there lines part k = fold_there is_same_part part_itself [] (choices lines) part k
+
+-- The names that lines mention, and the labels that they define.
+--     all_named source lines        each mentioned name is a name
+--     labels_fit source lines       each label stands in a section that is chosen, within it, and has a fit name
+
+-- MENTIONS
+
+lines_named : (source : List ℕ) (lines : List Laid) → placed_lines source ≡ Ok lines → (l : Laid) → In l lines → AreNames (line_names l.line)
+lines_named = each_line (λ l. AreNames (line_names l.line)) (λ before n text line e f. (read_line text line e).names.named)
+
+pub all_named : (source : List ℕ) (lines : List Laid) → placed_lines source ≡ Ok lines → AreNames (mentions lines)
+all_named source lines e n k =
+    let r : (l : Laid) × In l lines × In n (line_names l.line) = In-flat (λ l. line_names l.line) lines n k in
+    lines_named source lines e r.0 r.1 n r.2
+
+-- LABELS
+
+pub record IsFitLabel (lines : List Laid) (l : Label) : Type 0 where
+  pub chosen : list_any (is_same_part l.part) (parts_of lines) ≡ true
+  pub inside : l.offset ≤ size_in l.part lines
+  pub name : IsPlain (key_name l.key)
+
+-- the name of a key is the label of its line
+own_named : (o : Option (List ℕ)) (key : Key) (name : List ℕ) → In key (own_key o) → key ≡ Named name → In name (label_names o)
+own_named None key name k e = absurd k
+own_named (Some own) key name (inl f) e = let is : name ≡ own = cc in inl is
+own_named (Some own) key name (inr k) e = absurd k
+
+made_not_named : (b : Bool) (n : ℕ) (key : Key) (name : List ℕ) → In key (if b then Made n ∷ [] else []) → key ≡ Named name → ⊥
+made_not_named true n key name (inl f) e = cc
+made_not_named true n key name (inr k) e = k
+made_not_named false n key name k e = k
+
+key_named : (l : Laid) (key : Key) (name : List ℕ) → In key (keys_of l) → key ≡ Named name → In name (line_names l.line)
+key_named l key name k e = go (In-append (own_key l.line.label) (made_key l.line.statement l.made) key k)
+  where
+    go : In key (own_key l.line.label) ⊎ In key (made_key l.line.statement l.made) → In name (line_names l.line)
+    go (inl i) = In-left (label_names l.line.label) (statement_names l.line.statement) name (own_named l.line.label key name i e)
+    go (inr i) = absurd (made_not_named (makes_label l.line.statement) l.made key name i e)
+
+within : (a t n : ℕ) → a + t ≤ n → a ≤ n
+within a t n h = omega (arith, h)
+
+label_by : (o : Option Part) (offset : ℕ) (keys : List Key) (m : Label) → In m (labels_at o offset keys) → (o ≡ Some m.part) × (m.offset ≡ offset) × In m.key keys
+label_by None offset keys m k = absurd k
+label_by (Some part) offset keys m k =
+    let r : (key : Key) × In key keys × (m ≡ label part offset key) = In-map (label part offset) keys m k in
+    (ap (λ x. Some x.part) (sym r.2), ap (λ x. x.offset) r.2, subst (λ x. In x.key keys) (sym r.2) r.1)
+
+label_fits : (source : List ℕ) (lines : List Laid) (l : Laid) (m : Label) → placed_lines source ≡ Ok lines → In l lines → l.part ≡ Some m.part → m.offset ≡ l.offset → In m.key (keys_of l) → IsFitLabel lines m
+label_fits source lines l m e k part offset key =
+    let h : IsHeld lines m.part l = all_held source lines e l k m.part part in
+    record {
+      chosen = part_there lines m.part h.chosen;
+      inside = subst (λ n. n ≤ size_in m.part lines) (sym offset) (within l.offset (taken l.line.statement l.offset) (size_in m.part lines) h.inside);
+      name = key_fits m.key (λ name is. lines_named source lines e l k name (key_named l m.key name key is));
+    }
+
+pub labels_fit : (source : List ℕ) (lines : List Laid) → placed_lines source ≡ Ok lines → (m : Label) → In m (labels lines) → IsFitLabel lines m
+labels_fit source lines e m k =
+    let r : (l : Laid) × In l lines × In m (labels_at l.part l.offset (keys_of l)) = In-flat (λ l. labels_at l.part l.offset (keys_of l)) lines m k in
+    let s : (r.0.part ≡ Some m.part) × (m.offset ≡ r.0.offset) × In m.key (keys_of r.0) = label_by r.0.part r.0.offset (keys_of r.0) m r.2 in
+    label_fits source lines r.0 m e r.1 s.0 s.1 s.2
+
 -- The symbols of an assembled source can be written.
 --     locals_count lines          the LOCAL symbols are the local labels
 --     symbols_fit source lines    each symbol is as it must be
-use Rattle.std.proofs.Common.{◌≡◌, ℕ, zero, suc, ◌+◌, ◌-◌, ◌^◌, ◌<◌, ◌≤◌, Bool, true, false, not, ◌&&◌, ◌||◌, List, [], ◌∷◌, ◌++◌, map, length, take, slice_get, Some, None, Ok, refl, sym, ap, subst, ◌∙◌, ◌⊎◌, inl, inr, append-nil, true≢false, arith}
-use Rattle.std.specs.Prelude.{Option, filter}
-use Rattle.std.specs.Option.{option_map_or}
-use Rattle.std.specs.List.{list_any}
-use Rattle.std.specs.Str.{bytes_eq}
-use Rattle.std.proofs.lemmas.Bool.{or_from}
-use Rattle.std.proofs.lemmas.List.Elements.{filter-append}
-use Rattle.std.proofs.lemmas.List.Folds.{list_any-append}
-use Rattle.cell_num.specs.Lists.{equals}
-use Rattle.cell_object.specs.Parts.{is_global, is_local}
-use Rattle.cell_object.specs.Symbols.{is_global_name, defines}
-use Rattle.cell_object.specs.declared.object.Symbol.{Symbol}
-use Rattle.cell_object.specs.declared.object.Bind.TheVariants as binds
-use Rattle.cell_object.specs.Image.{local_count}
-use Rattle.cell_image.proofs.Ruled.{IsWithin, IsWritableHome, IsWritableSymbol}
-use Rattle.cell_asm.specs.declared.statement.Part.{Part}
-use Rattle.cell_asm.specs.declared.laid.Laid.{Laid}
-use Rattle.cell_asm.specs.declared.laid.Key.TheVariants.{Named}
-use Rattle.cell_asm.specs.declared.laid.Label.{Label}
-use Rattle.cell_asm.specs.Names.{is_name}
-use Rattle.cell_asm.specs.Places.{is_same_part, size_in, labels, holds_key, is_key}
-use Rattle.cell_asm.specs.Objects as objects
-use Rattle.cell_asm.specs.Objects.{parts_of, part_number, number_in, section_of, sections, globals, local_labels, mentions, other_names, key_name, label_named, home_at, local_symbol, global_symbol, symbols, object_of}
-use Rattle.cell_asm.specs.Assembled.{placed_lines}
-use Rattle.cell_asm.proofs.Members.{In, In-filtered, found-In, get-In}
-use Rattle.std.proofs.lemmas.Option.{slice_get_within}
-use Rattle.cell_asm.proofs.Tallies.{get_split, get_map, take_behind, mapped_length, AreApart, fold_apart, fold_In, before_fails}
-use Rattle.cell_asm.proofs.Unique.{names_apart}
-use Rattle.cell_asm.proofs.Parts.{same_part}
-use Rattle.cell_asm.proofs.Grouped.{part_numbered}
-use Rattle.cell_asm.proofs.Counts.{section_small}
-use Rattle.cell_asm.proofs.NamesFit.{IsGoodName, name_fits}
-use Rattle.cell_asm.proofs.NamedOperands.{AreNames}
-use Rattle.cell_asm.proofs.NamedLabels.{IsFitLabel, labels_fit, all_named}
 
 -- HOW MANY ARE LOCAL
 

@@ -1,34 +1,405 @@
+-- The entries stand by sections, in the order of the sections.
+--     part_numbered        the n-th section that is chosen has the number n + 1
+--     entries_of_part      its entries are those with its number
+--     entries_grouped      all entries are those of the first section, of the second, and so on
+use Rattle.std.proofs.Common.{◌≡◌, ℕ, zero, suc, ◌+◌, ◌<◌, ◌==◌, Bool, true, false, ◌||◌, not, cond, List, [], ◌∷◌, ◌++◌, inl, inr, map, length, slice_get, Ok, Some, None, refl, sym, ap, ◌∙◌, append-nil, one-add, true≢false, arith, ◌-◌, pos, ◌&&◌, subst, int_eq, ◌%◌, ◌^◌, ◌≤◌, take}
+use Rattle.std.proofs.lemmas.Bool.{and_parts, and_from}
+use Rattle.std.proofs.lemmas.Bool.Decides.{nat_tests}
+use Rattle.std.proofs.lemmas.List.Elements.{filter-append}
+use Rattle.std.proofs.lemmas.Map.Keys.{IsDistinct-head, IsDistinct-tail}
+use Rattle.std.proofs.lemmas.Option.{slice_get_within}
+use Rattle.std.specs.Int.{w64}
+use Rattle.std.specs.List.{IsDistinct, AllByRecursion, list_any, position_or_len}
+use Rattle.std.specs.Option.{option_map_or}
+use Rattle.std.specs.Prelude.{nat_lt, filter, flat_map, Option, if◌then◌else◌, find, FitsSigned}
+use Rattle.cell_image.proofs.Ruled.{IsStorable, IsWritableEntry}
+use Rattle.cell_num.specs.Kinds.{is_instruction, is_pcrel_lo12, is_pcrel_hi20, width_of}
+use Rattle.cell_num.specs.Lists.{numbered_from}
+use Rattle.cell_object.specs.ImageParts.{entries_for}
+use Rattle.cell_object.specs.Relocations.{is_label, is_label_symbol, has_label, is_unpaired, is_unusable}
+use Rattle.cell_object.specs.Sound.{is_known_kind}
+use Rattle.cell_asm.specs.Assembled.{placed_lines, has_upper, is_upper_label, is_lost, is_lost_mark, has_lost}
+use Rattle.cell_asm.specs.Objects.{parts_of, part_number, section_of, sections, entries_in, entries, marks_in, label_named, entries_of, target_names, statement_names, label_names, mentions, symbols, symbol_number, target_key, entry_of, fill_of, is_text, object_of}
+use Rattle.cell_asm.specs.Places.{is_same_part, is_in, may_stand, is_made, makes_label, own_key, made_key, keys_of, label, labels_at, labels, is_key, is_long, largest, taken}
+use Rattle.cell_asm.specs.Types.{Entry, Part, Laid, RelKind, PcrelHi20, PcrelLo12I, PcrelLo12S, Inside, Text, Target, Mark, Statement, Bytes, Label, Key, KeyNamed as Named, KeyMade as Made, Section, Zero, Bss}
+use Rattle.cell_asm.specs.declared.statement.Target.TheVariants as targets
+use Rattle.cell_asm.proofs.EntriesFit.{entry_origin, IsStanding, all_stand, at_part, Origin, in_fours, not_past, largest_most, entry_high, entries_apart, apart_take}
+use Rattle.cell_asm.proofs.GoodBlocks.{is_code, any_upper, IsGoodStatement, content_of, statement_taken, IsTaken}
+use Rattle.cell_asm.proofs.ListLemmas.{In, map-In, In-right, filter-In, flat-In, find_none, found-In, any-In, In-any, In-none, In-flat, get-In}
+use Rattle.cell_asm.proofs.ObjectLemmas.{same_part, part_itself, parts_distinct}
+use Rattle.cell_asm.proofs.SymbolPlaces.{same_key, labels_once, has_symbol, mentioned_there, made_there, one_less, label_symbol, number_small, number_usable}
+
+-- THE SECTIONS ARE APART
+
+none_same : (p : Part) (parts : List Part) → AllByRecursion (λ q. is_same_part p q ≡ false) parts → list_any (is_same_part p) parts ≡ false
+none_same p [] h = refl
+none_same p (q ∷ parts) h = ap (λ b. b || list_any (is_same_part p) parts) h.0 ∙ none_same p parts h.1
+
+-- the n-th of the list is the first of its kind there
+place_by : (p q : Part) (parts : List Part) (n : ℕ) (b : Bool) → is_same_part q p ≡ b → b ≡ false → position_or_len (is_same_part q) parts ≡ n
+    → cond (not b) (1 + position_or_len (is_same_part q) parts) 0 ≡ suc n
+place_by p q parts n true e f h = absurd (true≢false f)
+place_by p q parts n false e f h = one-add (position_or_len (is_same_part q) parts) ∙ ap suc h
+
+get_any : (parts : List Part) (n : ℕ) (q : Part) → slice_get parts n ≡ Some q → list_any (is_same_part q) parts ≡ true
+get_any [] n q e = absurd cc
+get_any (p ∷ parts) zero q e = go (is_same_part q p) (ap (is_same_part q) (same_some p q e) ∙ part_itself q)
+  where
+    same_some : (x y : Part) → Some x ≡ Some y → x ≡ y
+    same_some x y h = cc
+
+    go : (b : Bool) → b ≡ true → (b || list_any (is_same_part q) parts) ≡ true
+    go true h = refl
+    go false h = absurd (true≢false (sym h))
+get_any (p ∷ parts) (suc n) q e = go (is_same_part q p) (get_any parts n q e)
+  where
+    go : (b : Bool) → list_any (is_same_part q) parts ≡ true → (b || list_any (is_same_part q) parts) ≡ true
+    go true h = refl
+    go false h = h
+
+not_first : (p q : Part) (parts : List Part) → list_any (is_same_part p) parts ≡ false → list_any (is_same_part q) parts ≡ true → is_same_part q p ≡ false
+not_first p q parts e t = go (is_same_part q p) refl
+  where
+    go : (b : Bool) → is_same_part q p ≡ b → is_same_part q p ≡ false
+    go true h = absurd (true≢false (sym t ∙ ap (λ x. list_any (is_same_part x) parts) (same_part q p h) ∙ e))
+    go false h = h
+
+place_is : (parts : List Part) (n : ℕ) (q : Part) → IsDistinct is_same_part parts → slice_get parts n ≡ Some q → position_or_len (is_same_part q) parts ≡ n
+place_is [] n q d e = absurd cc
+place_is (p ∷ parts) zero q d e = ap (λ b. cond (not b) (1 + position_or_len (is_same_part q) parts) 0) (ap (is_same_part q) (same_some p q e) ∙ part_itself q)
+  where
+    same_some : (x y : Part) → Some x ≡ Some y → x ≡ y
+    same_some x y h = cc
+place_is (p ∷ parts) (suc n) q d e =
+    place_by p q parts n (is_same_part q p) refl (not_first p q parts (none_same p parts (IsDistinct-head is_same_part p parts d)) (get_any parts n q e)) (place_is parts n q (IsDistinct-tail is_same_part p parts d) e)
+
+below_test : (m n : ℕ) → m < n → nat_lt m n ≡ true
+below_test m n h = grind (arith, nat_tests)
+
+number_by : (parts : List Part) (n m : ℕ) (q : Part) → m ≡ n → n < length parts → option_map_or (λ i. i + 1) (cond (nat_lt m (length parts)) (Some m) None) 0 ≡ n + 1
+number_by parts n m q e h =
+    ap (λ k. option_map_or (λ i. i + 1) (cond (nat_lt k (length parts)) (Some k) None) 0) e
+    ∙ ap (λ b. option_map_or (λ i. i + 1) (cond b (Some n) None) 0) (below_test n (length parts) h)
+
+pub part_numbered : (lines : List Laid) (n : ℕ) (part : Part) → slice_get (parts_of lines) n ≡ Some part → part_number lines part ≡ n + 1
+part_numbered lines n part e =
+    let parts = parts_of lines in
+    number_by parts n (position_or_len (is_same_part part) parts) part (place_is parts n part (parts_distinct lines) e) (slice_get_within parts n part e)
+
+-- THE ENTRIES WITH A NUMBER
+
+all_pass : (test : Entry → Bool) (es : List Entry) → ((e : Entry) → In e es → test e ≡ true) → filter test es ≡ es
+all_pass test [] h = refl
+all_pass test (e ∷ es) h = ap (λ b. cond b (e ∷ filter test es) (filter test es)) (h e (inl refl)) ∙ ap (λ xs. e ∷ xs) (all_pass test es (λ f k. h f (inr k)))
+
+none_pass : (test : Entry → Bool) (es : List Entry) → ((e : Entry) → In e es → test e ≡ false) → filter test es ≡ []
+none_pass test [] h = refl
+none_pass test (e ∷ es) h = ap (λ b. cond b (e ∷ filter test es) (filter test es)) (h e (inl refl)) ∙ none_pass test es (λ f k. h f (inr k))
+
+same_number : (m n : ℕ) → m ≡ n → (m == n) ≡ true
+same_number m n h = grind (arith, nat_tests)
+
+other_number : (m n k : ℕ) → m ≡ k → n < k → (m == n) ≡ false
+other_number m n k h l = grind (arith, nat_tests)
+
+smaller_number : (m n k : ℕ) → m ≡ k → k < n → (m == n) ≡ false
+smaller_number m n k h l = grind (arith, nat_tests)
+
+after_none : (test : Entry → Bool) (es fs gs : List Entry) → filter test es ≡ [] → filter test fs ≡ gs → filter test (es ++ fs) ≡ gs
+after_none test es fs gs e f = filter-append test es fs ∙ ap (λ xs. xs ++ filter test fs) e ∙ f
+
+all_first : (test : Entry → Bool) (es fs : List Entry) → filter test es ≡ es → filter test fs ≡ [] → filter test (es ++ fs) ≡ es
+all_first test es fs e f = filter-append test es fs ∙ ap (λ xs. xs ++ filter test fs) e ∙ ap (λ xs. es ++ xs) f ∙ append-nil es
+
+same_plus : (k : ℕ) → k ≡ k + 0
+same_plus k = omega arith
+
+below_next : (k : ℕ) → k + 0 < suc k
+below_next k = omega arith
+
+past : (k n : ℕ) → k < k + suc n
+past k n = omega arith
+
+moved : (k n : ℕ) → k + suc n ≡ suc k + n
+moved k n = omega arith
+
+from_one : (n m : ℕ) → m ≡ n + 1 → m ≡ 1 + n
+from_one n m e = omega arith
+
+one_more : (n : ℕ) → n + 1 ≡ 1 + n
+one_more n = omega arith
+
+module _ {A : Type 0} (g : A → List Entry) (number : A → ℕ) (own : (a : A) (e : Entry) → In e (g a) → e.section ≡ number a) where
+  -- the numbers of the list are k, k + 1 and so on
+  abbrev Rises : ℕ → List A → Type 0
+  Rises k [] = Unit {0}
+  Rises k (a ∷ xs) = (number a ≡ k) × Rises (suc k) xs
+
+  -- none of the list has a number below the first
+  none_below : (xs : List A) (k m : ℕ) → Rises k xs → m < k → filter (λ e. e.section == m) (flat_map g xs) ≡ []
+  none_below [] k m r l = refl
+  none_below (a ∷ xs) k m r l =
+      filter-append (λ e. e.section == m) (g a) (flat_map g xs)
+      ∙ ap (λ es. es ++ filter (λ e. e.section == m) (flat_map g xs)) (none_pass (λ e. e.section == m) (g a) (λ e i. other_number e.section m k (own a e i ∙ r.0) l))
+      ∙ none_below xs (suc k) m r.1 (go m k l)
+    where
+      go : (x y : ℕ) → x < y → x < suc y
+      go x y h = omega arith
+
+  same_some : (a b : A) → Some a ≡ Some b → a ≡ b
+  same_some a b e = cc
+
+  -- the entries with the n-th number are those of the n-th
+  with_number : (xs : List A) (k n : ℕ) (a : A) → Rises k xs → slice_get xs n ≡ Some a → filter (λ e. e.section == k + n) (flat_map g xs) ≡ g a
+  with_number [] k n a r h = absurd cc
+  with_number (b ∷ xs) k zero a r h =
+      all_first (λ e. e.section == k + 0) (g b) (flat_map g xs)
+      (all_pass (λ e. e.section == k + 0) (g b) (λ e i. same_number e.section (k + 0) (own b e i ∙ r.0 ∙ same_plus k)))
+      (none_below xs (suc k) (k + 0) r.1 (below_next k))
+      ∙ ap g (same_some b a h)
+  with_number (b ∷ xs) k (suc n) a r h =
+      after_none (λ e. e.section == k + suc n) (g b) (flat_map g xs) (g a)
+      (none_pass (λ e. e.section == k + suc n) (g b) (λ e i. smaller_number e.section (k + suc n) k (own b e i ∙ r.0) (past k n)))
+      (ap (λ m. filter (λ e. e.section == m) (flat_map g xs)) (moved k n) ∙ with_number xs (suc k) n a r.1 h)
+
+  rises : (xs : List A) (k : ℕ) → ((n : ℕ) (a : A) → slice_get xs n ≡ Some a → number a ≡ k + n) → Rises k xs
+  rises [] k h = tt
+  rises (a ∷ xs) k h = (h 0 a refl ∙ sym (same_plus k), rises xs (suc k) (λ n b e. h (suc n) b e ∙ moved k n))
+
+  in_order : {S : Type 0} (s : A → S) (f : ℕ → List Entry) (xs : List A) (k : ℕ) → ((n : ℕ) (a : A) → slice_get xs n ≡ Some a → f (k + n) ≡ g a)
+      → flat_map (λ row. f row.0) (numbered_from k (map s xs)) ≡ flat_map g xs
+  in_order s f [] k h = refl
+  in_order s f (a ∷ xs) k h =
+      ap (λ es. es ++ flat_map (λ row. f row.0) (numbered_from (suc k) (map s xs))) (ap f (same_plus k) ∙ h 0 a refl)
+      ∙ ap (λ es. g a ++ es) (in_order s f xs (suc k) (λ n b e. ap f (sym (moved k n)) ∙ h (suc n) b e))
+
+module _ (source : List ℕ) (lines : List Laid) (read : placed_lines source ≡ Ok lines) where
+  own_section : (part : Part) (e : Entry) → In e (entries_in lines part) → e.section ≡ part_number lines part
+  own_section part e k = (entry_origin source lines read part e k).comes.section_is
+
+  parts_rise : Rises (entries_in lines) (part_number lines) own_section 1 (parts_of lines)
+  parts_rise = rises (entries_in lines) (part_number lines) own_section (parts_of lines) 1 (λ n part e. from_one n (part_number lines part) (part_numbered lines n part e))
+
+  pub entries_of_part : (n : ℕ) (part : Part) → slice_get (parts_of lines) n ≡ Some part → entries_for (entries lines) (n + 1) ≡ entries_in lines part
+  unfolding entries_for
+  entries_of_part n part e =
+      ap (λ m. filter (λ x. x.section == m) (entries lines)) (one_more n)
+      ∙ with_number (entries_in lines) (part_number lines) own_section (parts_of lines) 1 n part parts_rise e
+
+  pub entries_grouped : entries lines ≡ flat_map (λ row. entries_for (entries lines) row.0) (numbered_from 1 (sections lines))
+  entries_grouped =
+      sym (in_order (entries_in lines) (part_number lines) own_section (section_of lines) (entries_for (entries lines)) (parts_of lines) 1
+      (λ n part e. ap (entries_for (entries lines)) (sym (one_more n)) ∙ entries_of_part n part e))
+
+-- Each entry of the kinds PCREL_LO12 names the label of one of the kind PCREL_HI20 in its section.
+--     entry_paired      is_unpaired is false
+
+-- the kinds that name the label of another entry, and that entry's, are of instructions
+label_code : (kind : RelKind) → (is_pcrel_lo12 kind || is_pcrel_hi20 kind) ≡ true → is_instruction kind ≡ true
+label_code PcrelHi20 e = refl
+label_code PcrelLo12I e = refl
+label_code PcrelLo12S e = refl
+label_code _ e = absurd cc
+
+lo12_code : (kind : RelKind) → is_pcrel_lo12 kind ≡ true → is_instruction kind ≡ true
+lo12_code kind e = label_code kind (ap (λ b. b || is_pcrel_hi20 kind) e)
+
+pub hi20_code : (kind : RelKind) → is_pcrel_hi20 kind ≡ true → is_instruction kind ≡ true
+hi20_code kind e = label_code kind (either (is_pcrel_lo12 kind) (is_pcrel_hi20 kind) e)
+  where
+    either : (a b : Bool) → b ≡ true → (a || b) ≡ true
+    either true b h = refl
+    either false b h = h
+
+-- THE ENTRY OF THE UPPER PART
+
+-- an entry of the upper part stands at an offset
+pub record HasUpper (es : List Entry) (at : ℕ) : Type 0 where
+  pub e : Entry
+  pub there : In e es
+  pub upper : is_pcrel_hi20 e.kind ≡ true
+  pub stands : e.offset ≡ at
+
+-- a line with an upper part has the entry at its offset
+line_upper : (lines : List Laid) (part : Part) (l : Laid) → In l lines → is_in part l ≡ true → IsStanding l → has_upper l ≡ true → HasUpper (entries_in lines part) l.offset
+line_upper lines part l i p s h =
+    let r = head_of l.line.statement s.good h in
+    record {
+      e = entry_of lines part l r.0;
+      there = flat-In (entries_of lines part) (filter (is_in part) lines) l (entry_of lines part l r.0) (filter-In (is_in part) lines l i p) (map-In (entry_of lines part l) (marks_in l.line.statement) r.0 r.1);
+      upper = r.3;
+      stands = ap (λ n. l.offset + n) r.2 ∙ no_more l.offset;
+    }
+  where
+    no_more : (n : ℕ) → n + 0 ≡ n
+    no_more n = omega arith
+
+    head_of : (s : Statement) → IsGoodStatement s → any_upper (marks_in s) ≡ true → (m : Mark) × In m (marks_in s) × (m.at ≡ 0) × (is_pcrel_hi20 m.fix.kind ≡ true)
+    head_of (Bytes content b) g t = g.headed t
+    head_of _ g t = absurd (true≢false (sym t))
+
+same_test : (m n : ℕ) → m ≡ n → (m == n) ≡ true
+same_test m n e = grind (arith, nat_tests)
+
+same_of : (m n : ℕ) → (m == n) ≡ true → m ≡ n
+same_of m n e = grind (arith, nat_tests)
+
+-- THE LABEL
+
+-- a label with that key, at the upper part of an instruction
+record IsUpperAt (lines : List Laid) (key : Key) : Type 0 where
+  l : Label
+  there : In l (labels lines)
+  key_is : l.key ≡ key
+  in_text : l.part ≡ Text
+  upper : HasUpper (entries_in lines Text) l.offset
+
+not_zero : (i : ℕ) → not (i + 1 == 0) ≡ true
+not_zero i = grind (arith, nat_tests)
+
+not_false : (b : Bool) → not b ≡ false → b ≡ true
+not_false true e = refl
+not_false false e = absurd (true≢false e)
+
+second_false : (a b : Bool) → (a && b) ≡ false → a ≡ true → b ≡ false
+second_false true b e t = e
+second_false false b e t = absurd (true≢false (sym t))
+
+passing : (p : Label → Bool) (o : Option Label) → option_map_or p o false ≡ true → (l : Label) × (o ≡ Some l) × (p l ≡ true)
+passing p None e = absurd (true≢false (sym e))
+passing p (Some l) e = (l, refl, e)
+
+-- the keys of lines are those of labels
+pub in_labels : (lines : List Laid) (l : Laid) (part : Part) (k : Key) → In l lines → l.part ≡ Some part → In k (keys_of l) → In (label part l.offset k) (labels lines)
+in_labels lines l part k i p h = flat-In (λ m. labels_at m.part m.offset (keys_of m)) lines l (label part l.offset k) i (subst (λ o. In (label part l.offset k) (labels_at o l.offset (keys_of l))) (sym p) (mapped (keys_of l) h))
+  where
+    mapped : (ks : List Key) → In k ks → In (label part l.offset k) (map (label part l.offset) ks)
+    mapped [] j = absurd j
+    mapped (q ∷ ks) (inl e) = inl (ap (label part l.offset) e)
+    mapped (q ∷ ks) (inr j) = inr (mapped ks j)
+
+made_in_keys : (b : Bool) (n : ℕ) → b ≡ true → In (Made n) (if b then Made n ∷ [] else [])
+made_in_keys true n e = inl refl
+made_in_keys false n e = absurd (true≢false (sym e))
+
+-- the name of an entry is mentioned
+mentions_target : (lines : List Laid) (l : Laid) (m : Mark) (name : List ℕ) → In l lines → In m (marks_in l.line.statement) → m.fix.target ≡ targets.Named name → In name (mentions lines)
+mentions_target lines l m name i j t =
+    flat-In (λ k. label_names k.line.label ++ statement_names k.line.statement) lines l name i
+    (In-right (label_names l.line.label) (statement_names l.line.statement) name (of_statement l.line.statement j))
+  where
+    of_statement : (s : Statement) → In m (marks_in s) → In name (statement_names s)
+    of_statement (Bytes content b) k = flat-In (λ x. target_names x.fix.target) b.marks m name k (subst (λ u. In name (target_names u)) (sym t) (inl refl))
+    of_statement _ k = absurd k
+
+makes_by : (s : Statement) (m : Mark) → In m (marks_in s) → is_made m.fix.target ≡ true → makes_label s ≡ true
+makes_by (Bytes content b) m k e = In-any (λ x. is_made x.fix.target) b.marks m k e
+makes_by _ m k e = absurd k
+
+pub made_head : (s : Statement) (m : Mark) → IsGoodStatement s → In m (marks_in s) → is_made m.fix.target ≡ true → any_upper (marks_in s) ≡ true
+made_head (Bytes content b) m g k e = g.made (In-any (λ x. is_made x.fix.target) b.marks m k e)
+made_head _ m g k e = absurd k
+
+-- what a section takes where a line of it has an entry
+pub line_taken : (part : Part) (l : Laid) (m : Mark) → IsStanding l → is_in part l ≡ true → In m (marks_in l.line.statement) → IsTaken part (content_of l.line.statement)
+line_taken part l m s e k = statement_taken part l.line.statement m (subst (λ o. may_stand o l.line ≡ true) (at_part part l.part e) s.stands) k
+
+neither : (a b : Bool) → a ≡ true → b ≡ true → (true && (not a || not b)) ≡ false
+neither true true e f = refl
+neither true false e f = absurd (true≢false (sym f))
+neither false b e f = absurd (true≢false (sym e))
+
+module _ (source : List ℕ) (lines : List Laid) (read : placed_lines source ≡ Ok lines) (kept : find (has_lost lines) lines ≡ None) where
+  -- the label that is made at the line itself
+  made_upper : (l : Laid) (m : Mark) → In l lines → is_in Text l ≡ true → In m (marks_in l.line.statement) → is_made m.fix.target ≡ true → IsUpperAt lines (Made l.made)
+  made_upper l m i t j e =
+      let s = all_stand source lines read l i in
+      record {
+        l = label Text l.offset (Made l.made);
+        there = in_labels lines l Text (Made l.made) i (at_part Text l.part t)
+            (In-right (own_key l.line.label) (made_key l.line.statement l.made) (Made l.made) (made_in_keys (makes_label l.line.statement) l.made (makes_by l.line.statement m j e)));
+        key_is = refl;
+        in_text = refl;
+        upper = line_upper lines Text l i t s (made_head l.line.statement m s.good j e);
+      }
+
+  -- the label with a name that isn't lost
+  named_upper : (name : List ℕ) → is_lost lines (targets.Named name) ≡ false → IsUpperAt lines (Named name)
+  named_upper name e =
+      let r : (l : Label) × (label_named lines name ≡ Some l) × (is_upper_label lines l ≡ true) = passing (is_upper_label lines) (label_named lines name) (not_false _ e) in
+      let is : In r.0 (labels lines) × (is_key r.0.key (Named name) ≡ true) = found-In (λ l. is_key l.key (Named name)) (labels lines) r.0 r.1 in
+      let text : (is_same_part Text r.0.part ≡ true) × (list_any (λ l. is_in Text l && l.offset == r.0.offset && has_upper l) lines ≡ true) =
+      and_parts (is_same_part Text r.0.part) (list_any (λ l. is_in Text l && l.offset == r.0.offset && has_upper l) lines) r.2 in
+      let at : (l : Laid) × In l lines × ((is_in Text l && l.offset == r.0.offset && has_upper l) ≡ true) = any-In (λ l. is_in Text l && l.offset == r.0.offset && has_upper l) lines text.1 in
+      let tests : ((is_in Text at.0 && at.0.offset == r.0.offset) ≡ true) × (has_upper at.0 ≡ true) = and_parts (is_in Text at.0 && at.0.offset == r.0.offset) (has_upper at.0) at.2 in
+      let places : (is_in Text at.0 ≡ true) × ((at.0.offset == r.0.offset) ≡ true) = and_parts (is_in Text at.0) (at.0.offset == r.0.offset) tests.0 in
+      record {
+        l = r.0;
+        there = is.0;
+        key_is = same_key r.0.key (Named name) is.1;
+        in_text = sym (same_part Text r.0.part text.0);
+        upper = subst (λ n. HasUpper (entries_in lines Text) n) (same_of at.0.offset r.0.offset places.1) (line_upper lines Text at.0 at.1 places.0 (all_stand source lines read at.0 at.1) tests.1);
+      }
+
+  -- the entry of the kind PCREL_LO12 isn't lost
+  not_lost : (l : Laid) (m : Mark) → In l lines → In m (marks_in l.line.statement) → is_pcrel_lo12 m.fix.kind ≡ true → is_lost lines m.fix.target ≡ false
+  not_lost l m i j low =
+      second_false (is_pcrel_lo12 m.fix.kind) (is_lost lines m.fix.target)
+      (In-none (is_lost_mark lines) (marks_in l.line.statement) m (find_none (has_lost lines) lines l kept i) j) low
+
+  -- what the entry names has its label, and its symbol
+  record IsNamed (key : Key) : Type 0 where
+    label_is : IsUpperAt lines key
+    symbol_there : has_symbol lines key ≡ true
+
+  target_named : (l : Laid) (m : Mark) (t : Target) → In l lines → is_in Text l ≡ true → In m (marks_in l.line.statement) → m.fix.target ≡ t → is_lost lines t ≡ false → IsNamed (target_key l t)
+  target_named l m (targets.Named name) i text j t lost = record { label_is = named_upper name lost; symbol_there = mentioned_there lines name (mentions_target lines l m name i j t) }
+  target_named l m targets.Made i text j t lost =
+      let u = made_upper l m i text j (ap is_made t) in
+      record { label_is = u; symbol_there = made_there lines u.l l.made u.there u.key_is }
+
+  -- the label's symbol is in .text at the upper part
+  symbol_upper : (key : Key) (section : ℕ) → section ≡ part_number lines Text → IsNamed key → has_label section (entries_in lines Text) (symbols lines) (symbol_number lines key) ≡ true
+  symbol_upper key section at n =
+      let u = n.label_is in
+      let s = label_symbol lines u.l key (labels_once source lines read) u.there u.key_is n.symbol_there in
+      let home : s.s.home ≡ Inside (part_number lines Text) = s.home_is ∙ ap (λ q. Inside (part_number lines q)) u.in_text in
+      ap (has_label section (entries_in lines Text) (symbols lines)) s.numbered
+      ∙ and_from (not (s.i + 1 == 0)) (is_label_symbol section (entries_in lines Text) (slice_get (symbols lines) ((s.i + 1) - 1))) (not_zero s.i)
+      (ap (λ j. is_label_symbol section (entries_in lines Text) (slice_get (symbols lines) j)) (one_less s.i)
+      ∙ ap (is_label_symbol section (entries_in lines Text)) s.symbol_is
+      ∙ ap (λ h. is_label section (entries_in lines Text) h s.s.value) home
+      ∙ and_from (part_number lines Text == section) (list_any (λ e. is_pcrel_hi20 e.kind && e.offset == s.s.value) (entries_in lines Text)) (same_test (part_number lines Text) section (sym at))
+      (In-any (λ e. is_pcrel_hi20 e.kind && e.offset == s.s.value) (entries_in lines Text) u.upper.e u.upper.there
+      (and_from (is_pcrel_hi20 u.upper.e.kind) (u.upper.e.offset == s.s.value) u.upper.upper (same_test u.upper.e.offset s.s.value (u.upper.stands ∙ sym s.value_is)))))
+
+  text_label : (part : Part) (e : Entry) (o : Origin source lines read part e) → is_pcrel_lo12 o.comes.m.fix.kind ≡ true → has_label e.section (entries_in lines part) (symbols lines) e.symbol ≡ true
+  text_label part e o low =
+      let c = o.comes in
+      let s = all_stand source lines read o.l o.in_lines in
+      let code : is_code (content_of o.l.line.statement) ≡ true = sym c.good.code ∙ lo12_code c.m.fix.kind low in
+      let text : part ≡ Text = (line_taken part o.l c.m s o.in_part c.there).coded code in
+      let in_text : is_in Text o.l ≡ true = subst (λ q. is_in q o.l ≡ true) text o.in_part in
+      let named : IsNamed (target_key o.l c.m.fix.target) = target_named o.l c.m c.m.fix.target o.in_lines in_text c.there refl (not_lost o.l c.m o.in_lines c.there low) in
+      subst (λ q. has_label e.section (entries_in lines q) (symbols lines) e.symbol ≡ true) (sym text)
+      (ap (has_label e.section (entries_in lines Text) (symbols lines)) c.symbol_is
+      ∙ symbol_upper (target_key o.l c.m.fix.target) e.section (c.section_is ∙ ap (part_number lines) text) named)
+
+  by_kind : (part : Part) (e : Entry) (b : Bool) → is_pcrel_lo12 e.kind ≡ b → In e (entries_in lines part) → is_unpaired (symbols lines) (entries_in lines part) e.section e.kind e.addend e.symbol ≡ false
+  by_kind part e false h k = ap (λ b. b && (not (int_eq e.addend (pos 0)) || not (has_label e.section (entries_in lines part) (symbols lines) e.symbol))) h
+  by_kind part e true h k =
+      let o : Origin source lines read part e = entry_origin source lines read part e k in
+      let low : is_pcrel_lo12 o.comes.m.fix.kind ≡ true = ap is_pcrel_lo12 (sym o.comes.kind_is) ∙ h in
+      ap (λ b. b && (not (int_eq e.addend (pos 0)) || not (has_label e.section (entries_in lines part) (symbols lines) e.symbol))) h
+      ∙ neither (int_eq e.addend (pos 0)) (has_label e.section (entries_in lines part) (symbols lines) e.symbol)
+      (ap (λ z. int_eq z (pos 0)) (o.comes.addend_is ∙ o.comes.good.plain low)) (text_label part e o low)
+
+  pub entry_paired : (part : Part) (e : Entry) → In e (entries_in lines part) → is_unpaired (symbols lines) (entries_in lines part) e.section e.kind e.addend e.symbol ≡ false
+  entry_paired part e k = by_kind part e (is_pcrel_lo12 e.kind) refl k
+
 -- The entries of the object that lines make can be written.
 --     entry_storable       IsStorable of each
 --     entry_writable       IsWritableEntry of each entry of a section
-use Rattle.std.proofs.Common.{◌≡◌, ℕ, zero, suc, ◌+◌, ◌%◌, ◌^◌, ◌<◌, ◌≤◌, ◌==◌, Bool, true, false, ◌&&◌, ◌||◌, not, List, [], ◌∷◌, map, length, take, slice_get, Ok, Some, None, refl, sym, ap, subst, ◌∙◌, true≢false, arith}
-use Rattle.std.specs.Prelude.{find, FitsSigned}
-use Rattle.std.specs.Int.{w64}
-use Rattle.std.proofs.lemmas.Bool.Decides.{nat_tests}
-use Rattle.cell_num.specs.Kinds.{width_of, is_instruction}
-use Rattle.cell_object.specs.declared.object.Section.{Section}
-use Rattle.cell_object.specs.declared.object.Entry.{Entry}
-use Rattle.cell_object.specs.declared.object.Fill.TheVariants.{Zero}
-use Rattle.cell_object.specs.Relocations.{is_unusable}
-use Rattle.cell_object.specs.Sound.{is_known_kind}
-use Rattle.cell_object.specs.ImageParts.{entries_for}
-use Rattle.cell_image.proofs.Ruled.{IsStorable, IsWritableEntry}
-use Rattle.cell_asm.specs.declared.statement.Part.{Part}
-use Rattle.cell_asm.specs.declared.statement.Part.TheVariants.{Text, Bss}
-use Rattle.cell_asm.specs.declared.laid.Laid.{Laid}
-use Rattle.cell_asm.specs.Places.{is_in, is_long, largest, taken}
-use Rattle.cell_asm.specs.Objects.{parts_of, fill_of, is_text, section_of, sections, symbols, target_key, entries_in, entries, object_of}
-use Rattle.cell_asm.specs.Assembled.{has_lost, placed_lines}
-use Rattle.cell_asm.proofs.Members.{In, In-flat, get-In}
-use Rattle.cell_asm.proofs.Standing.{IsStanding, all_stand}
-use Rattle.cell_asm.proofs.InFours.{in_fours}
-use Rattle.cell_asm.proofs.Counts.{not_past, largest_most}
-use Rattle.cell_asm.proofs.StackedLines.{at_part}
-use Rattle.cell_asm.proofs.LineEntries.{content_of, IsTaken}
-use Rattle.cell_asm.proofs.EntriesFit.{Origin, entry_origin, entry_high, entries_apart, apart_take}
-use Rattle.cell_asm.proofs.SymbolPlaces.{number_small, number_usable}
-use Rattle.cell_asm.proofs.Paired.{line_taken, entry_paired}
-use Rattle.cell_asm.proofs.Grouped.{entries_of_part}
 
 below_end : (at w o t most : ℕ) → at + w ≤ o + t → o + t ≤ most → most ≤ 16777216 → at < 2 ^ 32
 below_end at w o t most a b c = omega arith
@@ -60,12 +431,12 @@ record IsMapped {A B : Type 0} (f : A → B) (xs : List A) (n : ℕ) (y : B) : T
   at : slice_get xs n ≡ Some x
   is : y ≡ f x
 
-same_some : {A : Type 0} (a b : A) → Some a ≡ Some b → b ≡ a
-same_some a b e = cc
+some_same : {A : Type 0} (a b : A) → Some a ≡ Some b → b ≡ a
+some_same a b e = cc
 
 map_get : {A B : Type 0} (f : A → B) (xs : List A) (n : ℕ) (y : B) → slice_get (map f xs) n ≡ Some y → IsMapped f xs n y
 map_get f [] n y e = absurd cc
-map_get f (x ∷ xs) zero y e = record { x = x; at = refl; is = same_some (f x) y e }
+map_get f (x ∷ xs) zero y e = record { x = x; at = refl; is = some_same (f x) y e }
 map_get f (x ∷ xs) (suc n) y e = let r = map_get f xs n y e in record { x = r.x; at = r.at; is = r.is }
 
 module _ (source : List ℕ) (lines : List Laid) (read : placed_lines source ≡ Ok lines) where

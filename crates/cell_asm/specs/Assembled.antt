@@ -6,18 +6,8 @@ use Rattle.std.specs.Option.{option_map_or}
 use Rattle.cell_num.specs.Lists.{numbered_from}
 use Rattle.cell_num.specs.Kinds.{is_pcrel_lo12, is_pcrel_hi20}
 use Rattle.cell_text.specs.Text.{lines_in}
-use Rattle.cell_object.specs.declared.object.Object.{Object}
-use Rattle.cell_asm.specs.declared.kind.AsmKind.{AsmKind}
+use Rattle.cell_asm.specs.Types.{Object, AsmKind, AsmFail, AsmFailFault as Fault, AsmFailOutOfMemory as OutOfMemory, Text, Target, TargetNamed as Named, TargetMade as Made, Mark, Line, Laid, Label}
 use Rattle.cell_asm.specs.declared.kind.AsmKind.TheVariants as kinds
-use Rattle.cell_asm.specs.declared.kind.AsmFail.{AsmFail}
-use Rattle.cell_asm.specs.declared.kind.AsmFail.TheVariants.{Fault, OutOfMemory}
-use Rattle.cell_asm.specs.declared.statement.Part.TheVariants.{Text}
-use Rattle.cell_asm.specs.declared.statement.Target.{Target}
-use Rattle.cell_asm.specs.declared.statement.Target.TheVariants.{Named, Made}
-use Rattle.cell_asm.specs.declared.block.Mark.{Mark}
-use Rattle.cell_asm.specs.declared.statement.Line.{Line}
-use Rattle.cell_asm.specs.declared.laid.Laid.{Laid}
-use Rattle.cell_asm.specs.declared.laid.Label.{Label}
 use Rattle.cell_asm.specs.Lines.{line_of}
 use Rattle.cell_asm.specs.Places.{is_in, is_same_part, placed, fault_at}
 use Rattle.cell_asm.specs.Objects.{marks_in, label_named, object_of}

@@ -2,10 +2,7 @@
 --     block pieces
 use Rattle.std.specs.Prelude.{ℕ, List, [], ◌∷◌, ◌++◌, length, fold, Option, Some, None}
 use Rattle.cell_num.specs.Bits.{bytes_of}
-use Rattle.cell_asm.specs.declared.statement.Fix.{Fix}
-use Rattle.cell_asm.specs.declared.statement.Piece.{Piece}
-use Rattle.cell_asm.specs.declared.block.Mark.{Mark}
-use Rattle.cell_asm.specs.declared.block.Block.{Block}
+use Rattle.cell_asm.specs.Types.{Fix, Piece, Mark, Block}
 
 abbrev pub marks_at : ℕ → Option Fix → List Mark
 marks_at at None = []

@@ -3,8 +3,7 @@
 --     both a b              the two values, or the earlier fault
 --     each xs               all values, or the earliest fault
 use Rattle.std.specs.Prelude.{ℕ, nat_le, List, [], ◌∷◌, if◌then◌else◌, Result, Ok, Err}
-use Rattle.cell_asm.specs.declared.kind.AsmKind.{AsmKind}
-use Rattle.cell_asm.specs.declared.kind.AsmKind.TheVariants.{Word, Operand, Range, Section, Twice, Label, Long}
+use Rattle.cell_asm.specs.Types.{AsmKind, AsmKindWord as Word, AsmKindOperand as Operand, Range, AsmKindSection as Section, Twice, AsmKindLabel as Label, Long}
 
 -- the place in that order; Label, which no line is tested for before all lines are read, stands last
 abbrev pub rank : AsmKind → ℕ

@@ -1,10 +1,6 @@
 -- Numbers that are read one after the other, as what has been read so far.
 use Rattle.std.specs.Prelude.{Option, Some, None, Result, Ok, Err}
-use Rattle.cell_asm.specs.declared.kind.AsmKind.{AsmKind}
-use Rattle.cell_asm.specs.declared.statement.Piece.{Piece}
-use Rattle.cell_asm.specs.declared.block.Draft.{Draft}
-use Rattle.cell_asm.specs.declared.block.Block.{Block}
-use Rattle.cell_asm.specs.declared.directive.Gathered.{Gathered}
+use Rattle.cell_asm.specs.Types.{AsmKind, Piece, Draft, Block, Gathered}
 use Rattle.cell_asm.specs.Blocks.{appended}
 use Rattle.cell_asm.specs.Faults.{both, with_value}
 

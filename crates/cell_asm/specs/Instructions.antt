@@ -3,22 +3,11 @@
 -- An operand that lacks, or one too many, is a fault of the kind Operand; each operand that has a slot is read.
 use Rattle.std.specs.Prelude.{ℕ, ◌+◌, ◌*◌, ◌^◌, List, [], ◌∷◌, Some, None, unwrap_or, ℤ, pos, Result, Ok, Err}
 use Rattle.cell_num.specs.declared.kinds.RelKind.TheVariants as kinds
-use Rattle.cell_isa.specs.declared.insn.Op.{Op}
+use Rattle.cell_asm.specs.Types.{Op, AsmKind, Shape, Mnemonic, Operand, Low, LowStore, FormUpper as Upper, FormUpperPcrel as UpperPcrel, FormShift as Shift, FormShiftWord as ShiftWord, Small, Slot, Rd, Rs1, Rs2, SlotValue as Value, SlotMemory as Memory, SlotName as Name, Address, Fields, TargetMade as Made, Block, Piece}
 use Rattle.cell_isa.specs.declared.insn.Op.TheVariants as ops
 use Rattle.cell_isa.specs.Instruction.{encode}
-use Rattle.cell_asm.specs.declared.kind.AsmKind.{AsmKind}
 use Rattle.cell_asm.specs.declared.kind.AsmKind.TheVariants as faults
-use Rattle.cell_asm.specs.declared.mnemonic.Shape.{Shape}
 use Rattle.cell_asm.specs.declared.mnemonic.Shape.TheVariants as shapes
-use Rattle.cell_asm.specs.declared.mnemonic.Mnemonic.{Mnemonic}
-use Rattle.cell_asm.specs.declared.operand.Operand.{Operand}
-use Rattle.cell_asm.specs.declared.slot.Form.TheVariants.{Low, LowStore, Upper, UpperPcrel, Shift, ShiftWord, Small}
-use Rattle.cell_asm.specs.declared.slot.Slot.{Slot}
-use Rattle.cell_asm.specs.declared.slot.Slot.TheVariants.{Rd, Rs1, Rs2, Value, Memory, Name, Address}
-use Rattle.cell_asm.specs.declared.instruction.Fields.{Fields}
-use Rattle.cell_asm.specs.declared.statement.Target.TheVariants.{Made}
-use Rattle.cell_asm.specs.declared.block.Block.{Block}
-use Rattle.cell_asm.specs.declared.statement.Piece.{Piece}
 use Rattle.cell_asm.specs.Blocks.{block}
 use Rattle.cell_asm.specs.Faults.{both, with_value}
 use Rattle.cell_asm.specs.Wanted.{register, name, address, value, memory, refers, plain, under}

@@ -7,15 +7,7 @@ use Rattle.std.specs.Ordering.{nat_cmp}
 use Rattle.std.specs.Cmp.Lexicographic.{slice_cmp}
 use Rattle.std.specs.BTreeMap.{get_by}
 use Rattle.cell_num.specs.Lists.{equals, where_true, holds_name}
-use Rattle.cell_asm.specs.declared.statement.Part.{Part}
-use Rattle.cell_asm.specs.declared.statement.Statement.{Statement}
-use Rattle.cell_asm.specs.declared.statement.Statement.TheVariants.{Global}
-use Rattle.cell_asm.specs.declared.laid.Laid.{Laid}
-use Rattle.cell_asm.specs.declared.laid.Label.{Label}
-use Rattle.cell_asm.specs.declared.laid.Key.TheVariants.{Named}
-use Rattle.cell_asm.specs.declared.known.Spot.{Spot}
-use Rattle.cell_asm.specs.declared.known.About.{About}
-use Rattle.cell_asm.specs.declared.known.Known.{Known}
+use Rattle.cell_asm.specs.Types.{Part, Statement, StatementGlobal as Global, Laid, Label, KeyNamed as Named, Spot, About, Known}
 use Rattle.cell_asm.specs.Places.{is_key, labels}
 use Rattle.cell_asm.specs.Objects.{globals}
 

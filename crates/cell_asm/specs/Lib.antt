@@ -1,3 +1,4 @@
+pub mod Types
 pub mod Faults
 pub mod Outcome
 pub mod Numbers

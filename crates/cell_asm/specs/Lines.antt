@@ -3,12 +3,7 @@
 use Rattle.std.specs.Prelude.{ℕ, ◌==◌, ◌-◌, Bool, ◌||◌, not, List, [], ◌∷◌, map, take, drop, length, codes, Option, Some, None, ok_or, if◌then◌else◌, Result, Ok, Err}
 use Rattle.std.specs.List.{before_first, prefix_len, suffix_len, take_while, slice_split}
 use Rattle.cell_num.specs.Lists.{where_true}
-use Rattle.cell_asm.specs.declared.kind.AsmKind.{AsmKind}
-use Rattle.cell_asm.specs.declared.kind.AsmKind.TheVariants.{Word}
-use Rattle.cell_asm.specs.declared.operand.Operand.{Operand}
-use Rattle.cell_asm.specs.declared.statement.Statement.{Statement}
-use Rattle.cell_asm.specs.declared.statement.Statement.TheVariants.{Nothing}
-use Rattle.cell_asm.specs.declared.statement.Line.{Line}
+use Rattle.cell_asm.specs.Types.{AsmKind, AsmKindWord as Word, Operand, Statement, Nothing, Line}
 use Rattle.cell_asm.specs.Faults.{both, with_value, each}
 use Rattle.cell_asm.specs.Names.{is_name, ends}
 use Rattle.cell_asm.specs.Operands.{operand}

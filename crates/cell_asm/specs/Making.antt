@@ -2,15 +2,7 @@
 --     Numbered symbols lines      the symbols have the numbers that the definition gives them
 use Rattle.std.specs.Prelude.{◌≡◌, ℕ, ◌+◌, ◌<◌, ◌^◌, All, Bool, false, not, List, map, filter, flat_map}
 use Rattle.std.specs.Option.{unwrap_or}
-use Rattle.cell_object.specs.declared.object.Entry.{Entry}
-use Rattle.cell_asm.specs.declared.statement.Part.{Part}
-use Rattle.cell_asm.specs.declared.block.Mark.{Mark}
-use Rattle.cell_asm.specs.declared.laid.Laid.{Laid}
-use Rattle.cell_asm.specs.declared.laid.Label.{Label}
-use Rattle.cell_asm.specs.declared.laid.Key.{Key}
-use Rattle.cell_asm.specs.declared.laid.Key.TheVariants.{Named, Made}
-use Rattle.cell_asm.specs.declared.known.Known.{Known}
-use Rattle.cell_asm.specs.declared.symbol.Symbols.{Symbols}
+use Rattle.cell_asm.specs.Types.{Entry, Part, Mark, Laid, Label, Key, KeyNamed as Named, KeyMade as Made, Known, Symbols}
 use Rattle.cell_asm.specs.Known.{about}
 use Rattle.cell_asm.specs.Places.{is_in}
 use Rattle.cell_asm.specs.Objects.{symbol_number, target_key, marks_in, number_in}

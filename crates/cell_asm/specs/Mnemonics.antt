@@ -2,15 +2,8 @@
 --     directive text        the directive of that word
 --     mnemonic text         the instruction of that word, or what is short for instructions
 use Rattle.std.specs.Prelude.{ℕ, List, [], ◌∷◌, ◌++◌, codes, Option, option_map, find, bytes_eq, pos}
-use Rattle.cell_isa.specs.declared.insn.Op.{Op}
+use Rattle.cell_asm.specs.Types.{Op, Text, Rodata, Data, Bss, Shape, Registers, ShapeImmediate as Immediate, ShapeShift as Shift, ShapeShiftWord as ShiftWord, Load, Store, Branch, Jump, ShapeUpper as Upper, ShapeUpperPcrel as UpperPcrel, Alone, Move, LoadNumber, Return, JumpTo, Call, LoadAddress, Byte, Half, WidthWord as Word, Quad, Mnemonic, Directive, DirectiveChoose as Choose, DirectiveGlobal as Global, Numbers, DirectiveZeros as Zeros, DirectiveAlign as Align}
 use Rattle.cell_isa.specs.declared.insn.Op.TheVariants.{Lui, Auipc, Jal, Jalr, Beq, Bne, Blt, Bge, Bltu, Bgeu, Lb, Lh, Lw, Ld, Lbu, Lhu, Lwu, Sb, Sh, Sw, Sd, Addi, Slti, Sltiu, Xori, Ori, Andi, Slli, Srli, Srai, Add, Sub, Sll, Slt, Sltu, Xor, Srl, Sra, Or, And, Addiw, Slliw, Srliw, Sraiw, Addw, Subw, Sllw, Srlw, Sraw, Mul, Mulh, Mulhsu, Mulhu, Div, Divu, Rem, Remu, Mulw, Divw, Divuw, Remw, Remuw, Fence, Ecall, Ebreak}
-use Rattle.cell_asm.specs.declared.statement.Part.TheVariants.{Text, Rodata, Data, Bss}
-use Rattle.cell_asm.specs.declared.mnemonic.Shape.{Shape}
-use Rattle.cell_asm.specs.declared.mnemonic.Shape.TheVariants.{Registers, Immediate, Shift, ShiftWord, Load, Store, Branch, Jump, Upper, UpperPcrel, Alone, Move, LoadNumber, Return, JumpTo, Call, LoadAddress}
-use Rattle.cell_asm.specs.declared.mnemonic.Width.TheVariants.{Byte, Half, Word, Quad}
-use Rattle.cell_asm.specs.declared.mnemonic.Mnemonic.{Mnemonic}
-use Rattle.cell_asm.specs.declared.mnemonic.Directive.{Directive}
-use Rattle.cell_asm.specs.declared.mnemonic.Directive.TheVariants.{Choose, Global, Numbers, Zeros, Align}
 
 -- the row of a table with that word
 abbrev pub row_of : {A : Type 0} → List (List ℕ × A) → List ℕ → Option A

@@ -7,18 +7,7 @@ use Rattle.std.specs.List.{list_any}
 use Rattle.std.specs.Ordering.{nat_cmp}
 use Rattle.std.specs.Cmp.Lexicographic.{slice_cmp}
 use Rattle.std.specs.BTreeMap.{get, get_by}
-use Rattle.cell_object.specs.declared.object.Symbol.{Symbol}
-use Rattle.cell_object.specs.declared.object.Bind.TheVariants.{Local, Global}
-use Rattle.cell_object.specs.declared.object.Home.{Home}
-use Rattle.cell_object.specs.declared.object.Home.TheVariants.{Undef, Inside}
-use Rattle.cell_asm.specs.declared.statement.Part.{Part}
-use Rattle.cell_asm.specs.declared.laid.Key.{Key}
-use Rattle.cell_asm.specs.declared.laid.Key.TheVariants.{Named, Made}
-use Rattle.cell_asm.specs.declared.laid.Label.{Label}
-use Rattle.cell_asm.specs.declared.numbering.Numbering.{Numbering}
-use Rattle.cell_asm.specs.declared.known.Spot.{Spot}
-use Rattle.cell_asm.specs.declared.known.Known.{Known}
-use Rattle.cell_asm.specs.declared.symbol.Symbols.{Symbols}
+use Rattle.cell_asm.specs.Types.{Symbol, Local, BindGlobal as Global, Home, Undef, Inside, Part, Key, KeyNamed as Named, KeyMade as Made, Label, Numbering, Spot, Known, Symbols}
 use Rattle.cell_asm.specs.Known.{about}
 use Rattle.cell_asm.specs.Places.{is_key}
 use Rattle.cell_asm.specs.Objects.{number_in, number_from, symbol}

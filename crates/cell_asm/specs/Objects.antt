@@ -4,29 +4,9 @@ use Rattle.std.specs.List.{list_any, cons_option}
 use Rattle.std.specs.Option.{option_map_or, unwrap_or}
 use Rattle.cell_num.specs.Lists.{holds_name}
 use Rattle.cell_num.specs.Bits.{bytes_of}
-use Rattle.cell_object.specs.declared.object.Object.{Object}
-use Rattle.cell_object.specs.declared.object.Section.{Section}
-use Rattle.cell_object.specs.declared.object.Symbol.{Symbol}
-use Rattle.cell_object.specs.declared.object.Entry.{Entry}
-use Rattle.cell_object.specs.declared.object.Fill.{Fill}
-use Rattle.cell_object.specs.declared.object.Fill.TheVariants.{Prog, Zero}
-use Rattle.cell_object.specs.declared.object.Bind.{Bind}
+use Rattle.cell_asm.specs.Types.{Object, Section, Symbol, Entry, Fill, Prog, Zero, Bind, Local, NoType, Home, Undef, Inside, Part, Text, Rodata, Data, Bss, Target, Mark, Statement, StatementGlobal as Global, StatementZeros as Zeros, StatementAlign as Align, Bytes, Laid, Key, KeyNamed as Named, KeyMade as Made, Label}
 use Rattle.cell_object.specs.declared.object.Bind.TheVariants as binds
-use Rattle.cell_object.specs.declared.object.Bind.TheVariants.{Local}
-use Rattle.cell_object.specs.declared.object.Sort.TheVariants.{NoType}
-use Rattle.cell_object.specs.declared.object.Home.{Home}
-use Rattle.cell_object.specs.declared.object.Home.TheVariants.{Undef, Inside}
-use Rattle.cell_asm.specs.declared.statement.Part.{Part}
-use Rattle.cell_asm.specs.declared.statement.Part.TheVariants.{Text, Rodata, Data, Bss}
-use Rattle.cell_asm.specs.declared.statement.Target.{Target}
 use Rattle.cell_asm.specs.declared.statement.Target.TheVariants as targets
-use Rattle.cell_asm.specs.declared.block.Mark.{Mark}
-use Rattle.cell_asm.specs.declared.statement.Statement.{Statement}
-use Rattle.cell_asm.specs.declared.statement.Statement.TheVariants.{Global, Zeros, Align, Bytes}
-use Rattle.cell_asm.specs.declared.laid.Laid.{Laid}
-use Rattle.cell_asm.specs.declared.laid.Key.{Key}
-use Rattle.cell_asm.specs.declared.laid.Key.TheVariants.{Named, Made}
-use Rattle.cell_asm.specs.declared.laid.Label.{Label}
 use Rattle.cell_asm.specs.Places.{is_same_part, is_in, is_key, holds_key, choice, choices, gap, size_in, labels}
 
 -- SECTIONS, by first use

@@ -5,14 +5,7 @@
 use Rattle.std.specs.Prelude.{ℕ, Bool, ◌||◌, ◌==◌, ◌-◌, List, [], ◌∷◌, take, drop, length, codes, Option, Some, None, option_map, option_and_then, if◌then◌else◌, neg_ℤ}
 use Rattle.std.specs.List.{position_or_len, before_last, after_last}
 use Rattle.cell_num.specs.Lists.{where_true, or_else}
-use Rattle.cell_asm.specs.declared.operand.Expression.{Expression}
-use Rattle.cell_asm.specs.declared.operand.Expression.TheVariants.{Name, Sum, Difference}
-use Rattle.cell_asm.specs.declared.operand.Modifier.{Modifier}
-use Rattle.cell_asm.specs.declared.operand.Modifier.TheVariants.{Hi, Lo, PcrelHi, PcrelLo}
-use Rattle.cell_asm.specs.declared.operand.Immediate.{Immediate}
-use Rattle.cell_asm.specs.declared.operand.Immediate.TheVariants.{Number, Modified}
-use Rattle.cell_asm.specs.declared.operand.Operand.{Operand}
-use Rattle.cell_asm.specs.declared.operand.Operand.TheVariants.{Value, Plain, Memory}
+use Rattle.cell_asm.specs.Types.{Expression, ExpressionName as Name, Sum, Difference, Modifier, Hi, Lo, PcrelHi, PcrelLo, Immediate, Number, Modified, Operand, OperandValue as Value, Plain, OperandMemory as Memory}
 use Rattle.cell_asm.specs.Mnemonics.{row_of}
 use Rattle.cell_asm.specs.Numbers.{number}
 use Rattle.cell_asm.specs.Names.{is_name, register, ends}

@@ -4,20 +4,7 @@
 use Rattle.std.specs.Prelude.{ℕ, ◌+◌, ◌-◌, ◌%◌, nat_lt, nat_le, ◌==◌, Bool, true, false, not, ◌&&◌, List, [], ◌∷◌, ◌++◌, map, Option, Some, None, is_none, if◌then◌else◌, filter, filter_map, flat_map, sum_by, count_by, length}
 use Rattle.std.specs.List.{list_any}
 use Rattle.cell_num.specs.Lists.{equals, last, where_true, or_else}
-use Rattle.cell_asm.specs.declared.kind.AsmKind.{AsmKind}
-use Rattle.cell_asm.specs.declared.kind.AsmKind.TheVariants.{Section, Twice, Long}
-use Rattle.cell_asm.specs.declared.statement.Part.{Part}
-use Rattle.cell_asm.specs.declared.statement.Part.TheVariants.{Text, Rodata, Data, Bss}
-use Rattle.cell_asm.specs.declared.statement.Content.TheVariants.{Code, Narrow}
-use Rattle.cell_asm.specs.declared.statement.Target.{Target}
-use Rattle.cell_asm.specs.declared.statement.Target.TheVariants.{Named as Name, Made}
-use Rattle.cell_asm.specs.declared.statement.Statement.{Statement}
-use Rattle.cell_asm.specs.declared.statement.Statement.TheVariants.{Nothing, Choose, Global, Zeros, Align, Bytes}
-use Rattle.cell_asm.specs.declared.statement.Line.{Line}
-use Rattle.cell_asm.specs.declared.laid.Laid.{Laid}
-use Rattle.cell_asm.specs.declared.laid.Key.{Key}
-use Rattle.cell_asm.specs.declared.laid.Key.TheVariants.{Named, Made as KeyMade}
-use Rattle.cell_asm.specs.declared.laid.Label.{Label}
+use Rattle.cell_asm.specs.Types.{AsmKind, AsmKindSection as Section, Twice, Long, Part, Text, Rodata, Data, Bss, Code, Narrow, Target, TargetNamed as Name, TargetMade as Made, Statement, Nothing, StatementChoose as Choose, StatementGlobal as Global, StatementZeros as Zeros, StatementAlign as Align, Bytes, Line, Laid, Key, KeyNamed as Named, KeyMade, Label}
 
 abbrev pub is_same_part : Part → Part → Bool
 is_same_part Text Text = true

@@ -1,12 +1,6 @@
 -- The lines in their places as a function returns them.
 use Rattle.std.specs.Prelude.{◌≡◌, ℕ, List, Result, Ok, Err}
-use Rattle.cell_asm.specs.declared.kind.AsmKind.{AsmKind}
-use Rattle.cell_asm.specs.declared.kind.AsmFail.{AsmFail}
-use Rattle.cell_asm.specs.declared.kind.AsmFail.TheVariants.{Fault, OutOfMemory}
-use Rattle.cell_asm.specs.declared.fault.Stop.{Stop}
-use Rattle.cell_asm.specs.declared.fault.Stop.TheVariants.{Fault as Stopped, OutOfMemory as NoMemory}
-use Rattle.cell_asm.specs.declared.laid.Laid.{Laid}
-use Rattle.cell_asm.specs.declared.source.Placed.{Placed}
+use Rattle.cell_asm.specs.Types.{AsmKind, AsmFail, AsmFailFault as Fault, AsmFailOutOfMemory as OutOfMemory, Stop, StopFault as Stopped, StopOutOfMemory as NoMemory, Laid, Placed}
 use Rattle.cell_asm.specs.Progress.{Follows}
 
 -- the lines, with what they come to; or the first line with a fault; or memory was wanting

@@ -1,13 +1,7 @@
 -- What is kept while lines are put in their places, as what the lines so far come to.
 use Rattle.std.specs.Prelude.{◌≡◌, ℕ, ◌+◌, Bool, false, is_some, if◌then◌else◌, List, Option, Some, None}
 use Rattle.cell_num.specs.Lists.{last, or_else}
-use Rattle.cell_asm.specs.declared.kind.AsmKind.{AsmKind}
-use Rattle.cell_asm.specs.declared.statement.Line.{Line}
-use Rattle.cell_asm.specs.declared.statement.Part.{Part}
-use Rattle.cell_asm.specs.declared.statement.Part.TheVariants.{Text, Rodata, Data, Bss}
-use Rattle.cell_asm.specs.declared.place.Sizes.{Sizes}
-use Rattle.cell_asm.specs.declared.place.Progress.{Progress}
-use Rattle.cell_asm.specs.declared.laid.Laid.{Laid}
+use Rattle.cell_asm.specs.Types.{AsmKind, Line, Part, Text, Rodata, Data, Bss, Sizes, Progress, Laid}
 use Rattle.cell_asm.specs.Known.{about, about_with, about_in}
 use Rattle.cell_asm.specs.Places.{choices, choice, size_in, made_in, is_in, taken, makes_label, fault_by}
 

@@ -2,31 +2,13 @@
 --     statement word operands      the statement, or the earliest fault
 use Rattle.std.specs.Prelude.{ℕ, ◌^◌, ◌*◌, ◌-◌, nat_le, List, [], ◌∷◌, map, Option, Some, None, if◌then◌else◌, ℤ, pos, negsuc, Result, Ok, Err}
 use Rattle.cell_num.specs.Bits.{modulo_2}
-use Rattle.cell_num.specs.declared.kinds.RelKind.{RelKind}
+use Rattle.cell_asm.specs.Types.{RelKind, AsmKind, Width, Byte, Half, WidthWord as Word, Quad, Mnemonic, Directive, Expression, Difference, Number, Operand, OperandValue as Value, Plain, Content, Code, Narrow, Wide, Block, Piece, Fix, Statement, StatementChoose as Choose, StatementGlobal as Global, StatementZeros as Zeros, StatementAlign as Align, Bytes, Layout}
 use Rattle.cell_num.specs.declared.kinds.RelKind.TheVariants as kinds
-use Rattle.cell_asm.specs.declared.kind.AsmKind.{AsmKind}
 use Rattle.cell_asm.specs.declared.kind.AsmKind.TheVariants as faults
-use Rattle.cell_asm.specs.declared.mnemonic.Width.{Width}
-use Rattle.cell_asm.specs.declared.mnemonic.Width.TheVariants.{Byte, Half, Word, Quad}
-use Rattle.cell_asm.specs.declared.mnemonic.Mnemonic.{Mnemonic}
-use Rattle.cell_asm.specs.declared.mnemonic.Directive.{Directive}
 use Rattle.cell_asm.specs.declared.mnemonic.Directive.TheVariants as directives
-use Rattle.cell_asm.specs.declared.operand.Expression.{Expression}
-use Rattle.cell_asm.specs.declared.operand.Expression.TheVariants.{Difference}
-use Rattle.cell_asm.specs.declared.operand.Immediate.TheVariants.{Number}
-use Rattle.cell_asm.specs.declared.operand.Operand.{Operand}
-use Rattle.cell_asm.specs.declared.operand.Operand.TheVariants.{Value, Plain}
-use Rattle.cell_asm.specs.declared.statement.Content.{Content}
-use Rattle.cell_asm.specs.declared.statement.Content.TheVariants.{Code, Narrow, Wide}
-use Rattle.cell_asm.specs.declared.block.Block.{Block}
-use Rattle.cell_asm.specs.declared.statement.Piece.{Piece}
-use Rattle.cell_asm.specs.declared.statement.Fix.{Fix}
-use Rattle.cell_asm.specs.declared.statement.Statement.{Statement}
-use Rattle.cell_asm.specs.declared.statement.Statement.TheVariants.{Choose, Global, Zeros, Align, Bytes}
 use Rattle.cell_asm.specs.Blocks.{block}
 use Rattle.cell_asm.specs.Faults.{with_value, each}
 use Rattle.cell_asm.specs.Mnemonics.{directive, mnemonic}
-use Rattle.cell_asm.specs.declared.directive.Layout.{Layout}
 use Rattle.cell_asm.specs.Wanted.{name, within, reference, refers, fix}
 use Rattle.cell_asm.specs.Instructions.{instruction}
 

@@ -4,13 +4,7 @@ use Rattle.std.specs.Ordering.{nat_cmp}
 use Rattle.std.specs.BTreeSet.{BTreeSet, contains}
 use Rattle.std.specs.List.{list_any}
 use Rattle.cell_num.specs.Kinds.{is_pcrel_lo12}
-use Rattle.cell_asm.specs.declared.statement.Part.TheVariants.{Text}
-use Rattle.cell_asm.specs.declared.statement.Target.{Target}
-use Rattle.cell_asm.specs.declared.statement.Target.TheVariants.{Named, Made}
-use Rattle.cell_asm.specs.declared.block.Mark.{Mark}
-use Rattle.cell_asm.specs.declared.laid.Laid.{Laid}
-use Rattle.cell_asm.specs.declared.known.Spot.{Spot}
-use Rattle.cell_asm.specs.declared.known.Known.{Known}
+use Rattle.cell_asm.specs.Types.{Text, Target, TargetNamed as Named, TargetMade as Made, Mark, Laid, Spot, Known}
 use Rattle.cell_asm.specs.Known.{about}
 use Rattle.cell_asm.specs.Places.{is_same_part}
 use Rattle.cell_asm.specs.Objects.{marks_in}

@@ -2,24 +2,8 @@
 --     register, name, address, value form, memory form
 use Rattle.std.specs.Prelude.{ℕ, ◌&&◌, List, Option, Some, None, ok_or, if◌then◌else◌, ℤ, pos, negsuc, int_le, Result, Ok, Err}
 use Rattle.cell_num.specs.Kinds.{is_pcrel_lo12}
-use Rattle.cell_num.specs.declared.kinds.RelKind.{RelKind}
-use Rattle.cell_num.specs.declared.kinds.RelKind.TheVariants.{Hi20, Lo12I, Lo12S, PcrelHi20, PcrelLo12I, PcrelLo12S}
-use Rattle.cell_asm.specs.declared.kind.AsmKind.{AsmKind}
+use Rattle.cell_asm.specs.Types.{RelKind, Hi20, Lo12I, Lo12S, PcrelHi20, PcrelLo12I, PcrelLo12S, AsmKind, Expression, ExpressionName as Name, Sum, Difference, Modifier, Hi, Lo, PcrelHi, PcrelLo, Immediate, Number, Modified, Operand, OperandValue as Value, Plain, OperandMemory as Memory, Form, Low, LowStore, FormUpper as Upper, FormUpperPcrel as UpperPcrel, FormShift as Shift, FormShiftWord as ShiftWord, TargetNamed as Named, Fix, Reference, Field}
 use Rattle.cell_asm.specs.declared.kind.AsmKind.TheVariants as faults
-use Rattle.cell_asm.specs.declared.operand.Expression.{Expression}
-use Rattle.cell_asm.specs.declared.operand.Expression.TheVariants.{Name, Sum, Difference}
-use Rattle.cell_asm.specs.declared.operand.Modifier.{Modifier}
-use Rattle.cell_asm.specs.declared.operand.Modifier.TheVariants.{Hi, Lo, PcrelHi, PcrelLo}
-use Rattle.cell_asm.specs.declared.operand.Immediate.{Immediate}
-use Rattle.cell_asm.specs.declared.operand.Immediate.TheVariants.{Number, Modified}
-use Rattle.cell_asm.specs.declared.operand.Operand.{Operand}
-use Rattle.cell_asm.specs.declared.operand.Operand.TheVariants.{Value, Plain, Memory}
-use Rattle.cell_asm.specs.declared.slot.Form.{Form}
-use Rattle.cell_asm.specs.declared.slot.Form.TheVariants.{Low, LowStore, Upper, UpperPcrel, Shift, ShiftWord}
-use Rattle.cell_asm.specs.declared.statement.Target.TheVariants.{Named}
-use Rattle.cell_asm.specs.declared.statement.Fix.{Fix}
-use Rattle.cell_asm.specs.declared.statement.Reference.{Reference}
-use Rattle.cell_asm.specs.declared.statement.Field.{Field}
 use Rattle.cell_asm.specs.Faults.{with_value}
 use Rattle.cell_asm.specs.Names as names
 

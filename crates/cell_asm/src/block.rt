@@ -77,7 +77,7 @@ impl<'a> Draft<'a> {
 }
 
 /// Appends so many bytes of a number, the lowest first.
-#[tactic(auto, using(crate::proofs::SectionLemmas::numbers))]
+#[tactic(auto, using(crate::proofs::ObjectLemmas::numbers))]
 pub fn put_number(bytes: &mut Vec<u8>, width: u8, value: u64) -> Result<(), AllocError>
     ensures { OnOk result (bytes.new.items ≡ bytes.old.items ++ bytes_of width value) }
 {

@@ -119,7 +119,7 @@ fn first_with_lost<'a>(
     None
 }
 
-#[tactic(auto, using(crate::proofs::LabelLemmas::any_left))]
+#[tactic(auto, using(crate::proofs::ObjectLemmas::any_left))]
 fn any_lost<'a>(names: &Known<'a>, offsets: &BTreeSet<u32>, marks: &[Mark<'a>]) -> bool
     ensures { result ≡ list_any (mark_lost_by names.now offsets.now) marks.now }
 {

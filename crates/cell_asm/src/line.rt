@@ -20,7 +20,7 @@ use cell_num::Listed;
 use std::alloc::{AllocError, Global};
 
 /// Reads a line. Of several faults the first in the order Word, Operand, Range is answered.
-#[tactic(auto, using(crate::proofs::LineLemmas::bad_label))]
+#[tactic(auto, using(crate::proofs::ReadingLemmas::bad_label))]
 pub fn read_line<'a>(alloc: Global, text: &'a [u8]) -> Result<Line<'a>, Stop>
     ensures { Gives result (line_of text.now) }
 {
@@ -51,7 +51,7 @@ fn code_of(text: &[u8]) -> &[u8]
 }
 
 /// The place of the first `#`, or the length.
-#[tactic(auto, using(crate::proofs::Ends::ends))]
+#[tactic(auto, using(crate::proofs::ListLemmas::ends))]
 fn comment_start(text: &[u8]) -> usize
     ensures place { result ≡ prefix_len (λ b. not (b == 35)) text.now }
     ensures inside { result ≤ length text.now }
@@ -79,7 +79,7 @@ fn trimmed(text: &[u8]) -> &[u8]
 }
 
 /// How many blanks the text begins with.
-#[tactic(auto, using(crate::proofs::Ends::ends))]
+#[tactic(auto, using(crate::proofs::ListLemmas::ends))]
 fn blanks_before(text: &[u8]) -> usize
     ensures place { result ≡ prefix_len blank text.now }
     ensures inside { result ≤ length text.now }
@@ -93,7 +93,7 @@ fn blanks_before(text: &[u8]) -> usize
 }
 
 /// The place after the last byte that isn't blank.
-#[tactic(auto, using(crate::proofs::Ends::ends))]
+#[tactic(auto, using(crate::proofs::ListLemmas::ends))]
 fn end_of_ink(text: &[u8]) -> usize
     ensures place { result ≡ length text.now - suffix_len blank text.now }
     ensures inside { result ≤ length text.now }
@@ -108,7 +108,7 @@ fn end_of_ink(text: &[u8]) -> usize
 }
 
 /// The place of the first blank, or the length.
-#[tactic(auto, using(crate::proofs::Ends::ends))]
+#[tactic(auto, using(crate::proofs::ListLemmas::ends))]
 fn word_end(text: &[u8]) -> usize
     ensures place { result ≡ prefix_len inked text.now }
     ensures inside { result ≤ length text.now }

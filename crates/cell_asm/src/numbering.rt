@@ -38,7 +38,7 @@ impl<'a> Numbering<'a> {
     }
 
     /// Gives a key its number, where it has none.
-    #[tactic(auto, using(crate::proofs::KeyMaps::added))]
+    #[tactic(auto, using(crate::proofs::SymbolLemmas::added))]
     pub fn add(&mut self, key: &Key<'a>, number: u32) -> Result<(), AllocError>
         ensures { OnOk result ((q : KeyValue) → number_of self.new q ≡ or_else (number_of self.old q) (where_true (is_key key.now q) number)) }
     {

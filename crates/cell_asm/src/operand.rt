@@ -117,7 +117,7 @@ fn inside(text: &[u8]) -> &[u8]
 }
 
 /// The place after the last `(`, or 0.
-#[tactic(auto, using(crate::proofs::Ends::ends))]
+#[tactic(auto, using(crate::proofs::ListLemmas::ends))]
 fn after_open(text: &[u8]) -> usize
     ensures place { result ≡ length text.now - suffix_len (λ b. not (opens b)) text.now }
     ensures inside { result ≤ length text.now }
@@ -144,7 +144,7 @@ fn read_expression<'a>(text: &'a [u8]) -> Option<Expression<'a>>
 }
 
 /// The place of the first sign, or the length.
-#[tactic(auto, using(crate::proofs::Ends::ends))]
+#[tactic(auto, using(crate::proofs::ListLemmas::ends))]
 fn name_end(text: &[u8]) -> usize
     ensures place { result ≡ position_or_len sign text.now }
     ensures inside { result ≤ length text.now }

@@ -71,7 +71,7 @@ pub fn part_number(parts: &[Part], part: Part) -> u16
     }
 }
 
-#[tactic(auto, using(crate::proofs::Positions::positions))]
+#[tactic(auto, using(crate::proofs::ListLemmas::positions))]
 fn place_in(parts: &[Part], part: Part) -> Option<usize>
     ensures place { result ≡ position (same part) parts.now }
     ensures inside { IfSome result (λ i. i < length parts.now) }
@@ -233,7 +233,7 @@ fn put_statement(
     }
 }
 
-#[tactic(auto, using(crate::proofs::SectionLemmas::zeros_more))]
+#[tactic(auto, using(crate::proofs::ObjectLemmas::zeros_more))]
 fn put_zeros(bytes: &mut Vec<u8>, count: u128) -> Result<(), AllocError>
     ensures { OnOk result (bytes.new.items ≡ bytes.old.items ++ replicate count 0) }
 {
@@ -253,7 +253,7 @@ fn put_padding(bytes: &mut Vec<u8>, part: Part, count: u32) -> Result<(), AllocE
     }
 }
 
-#[tactic(auto, using(crate::proofs::SectionLemmas::nops_more))]
+#[tactic(auto, using(crate::proofs::ObjectLemmas::nops_more))]
 fn put_nops(bytes: &mut Vec<u8>, count: u32) -> Result<(), AllocError>
     ensures { OnOk result (bytes.new.items ≡ bytes.old.items ++ flat_map (λ word. bytes_of 4 word) (replicate count 0x13)) }
 {

@@ -29,7 +29,7 @@ use std::alloc::{AllocError, Global};
 /// from 1. The first line with a fault other than Label is answered, with the first of its faults in
 /// the order Word, Operand, Range, Section, Twice, Long; where there is none, the first line with
 /// the fault Label.
-#[tactic(auto, using(crate::proofs::SourceLemmas::wholes))]
+#[tactic(auto, using(crate::proofs::PlacingLemmas::wholes))]
 pub fn assemble(alloc: Global, source: &[u8]) -> Result<Object, AsmFail>
     requires { length source.now < 2 ^ 31 }
     ensures object { Assembles result (assembled source.now) }
@@ -94,7 +94,7 @@ fn place_line<'a>(
 }
 
 /// The object of the lines, unless one refers to a label that is none.
-#[tactic(auto, using(crate::proofs::SourceLemmas::answers))]
+#[tactic(auto, using(crate::proofs::PlacingLemmas::answers))]
 fn object<'a>(alloc: Global, lines: &[Laid<'a>], progress: &Progress<'a>) -> Result<Object, AsmFail>
     requires follows { Follows progress.now lines.now }
     requires room { All HasRoom lines.now }
@@ -111,7 +111,7 @@ fn object<'a>(alloc: Global, lines: &[Laid<'a>], progress: &Progress<'a>) -> Res
 }
 
 /// The object of lines that refer to labels alone.
-#[tactic(auto, using(crate::proofs::Parts::few))]
+#[tactic(auto, using(crate::proofs::ObjectLemmas::few))]
 fn whole_object<'a>(
     alloc: Global,
     lines: &[Laid<'a>],

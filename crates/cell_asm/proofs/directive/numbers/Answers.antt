@@ -3,7 +3,7 @@ use Rattle.cell_asm.specs.Blocks.{block}
 use Rattle.cell_asm.specs.Faults.{each, with_value}
 use Rattle.cell_asm.specs.Gathering.{more}
 use Rattle.cell_asm.specs.Statements.{datum}
-use Rattle.cell_asm.proofs.Each.{block_more}
+use Rattle.cell_asm.proofs.ReadingLemmas.{block_more}
 use Rattle.cell_asm.proofs.directive.numbers.Goals as goal
 
 pub loop-operand-preserved : goal.loop-operand-preserved

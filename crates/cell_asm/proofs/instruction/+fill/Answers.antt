@@ -1,7 +1,7 @@
 use Rattle.std.proofs.Common.{sym, ◌∙◌, arith, ap, Err}
 use Rattle.std.proofs.lemmas.Bool.Decides.{nat_tests}
-use Rattle.cell_asm.specs.declared.slot.Slot.TheVariants.{Rd}
-use Rattle.cell_asm.proofs.Filled.{goes_on, first_fails, both_fail, too_many, too_few}
+use Rattle.cell_asm.specs.Types.{Rd}
+use Rattle.cell_asm.proofs.ReadingLemmas.{goes_on, first_fails, both_fail, too_many, too_few}
 use Rattle.cell_asm.proofs.instruction.+fill.Goals as goal
 use Rattle.cell_asm.proofs.instruction.+fill.Goals.{in_default-via-then-slots-lt1+else-operands-lt1, in_default-via-else-slots-lt1+then-this-lt1}
 

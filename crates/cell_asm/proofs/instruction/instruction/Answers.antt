@@ -1,9 +1,8 @@
 use Rattle.std.proofs.Common.{List, sym, ap, ◌∙◌}
-use Rattle.cell_asm.specs.declared.slot.Slot.{Slot}
-use Rattle.cell_asm.specs.declared.instruction.Fields.{Fields}
+use Rattle.cell_asm.specs.Types.{Slot, Fields}
 use Rattle.cell_asm.specs.Blocks.{block}
 use Rattle.cell_asm.specs.Instructions.{slots, fixed, filled, pieces}
-use Rattle.cell_asm.proofs.Filled.{onto, made_value, made_fault}
+use Rattle.cell_asm.proofs.ReadingLemmas.{onto, made_value, made_fault}
 use Rattle.cell_asm.proofs.instruction.instruction.Goals as goal
 
 pub returns-in_ok-code-in-Ok : goal.returns-in_ok-code-in-Ok

@@ -1,5 +1,5 @@
 use Rattle.std.proofs.Common.{ap, ◌∙◌, option_map}
-use Rattle.cell_asm.proofs.LabelLemmas.{lost_is}
+use Rattle.cell_asm.proofs.ObjectLemmas.{lost_is}
 use Rattle.cell_asm.proofs.label.first_lost.Goals as goal
 
 pub returns : goal.returns

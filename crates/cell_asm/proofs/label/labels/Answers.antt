@@ -1,6 +1,6 @@
 use Rattle.std.proofs.Common.{◌<◌, ◌++◌, take, length, ap, sym, ◌∙◌, arith}
 use Rattle.cell_asm.specs.Places.{labels, labels_at, keys_of}
-use Rattle.cell_asm.proofs.LabelLemmas.{labels_more}
+use Rattle.cell_asm.proofs.ObjectLemmas.{labels_more}
 use Rattle.cell_asm.proofs.label.labels.Goals as goal
 
 pub loop-laid-preserved : goal.loop-laid-preserved

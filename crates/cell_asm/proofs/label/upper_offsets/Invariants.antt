@@ -2,7 +2,7 @@ use Rattle.std.proofs.Common.{◌≡◌, ◌==◌, ◌&&◌, ℕ, take}
 use Rattle.std.specs.List.{list_any}
 use Rattle.std.specs.Ordering.{nat_cmp}
 use Rattle.std.specs.BTreeSet.{contains}
-use Rattle.cell_asm.specs.declared.statement.Part.TheVariants.{Text}
+use Rattle.cell_asm.specs.Types.{Text}
 use Rattle.cell_asm.specs.Assembled.{has_upper}
 use Rattle.cell_asm.specs.Places.{is_in}
 use Rattle.cell_asm.proofs.label.upper_offsets.Given as goal

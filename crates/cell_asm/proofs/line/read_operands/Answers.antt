@@ -3,7 +3,7 @@ use Rattle.cell_asm.specs.Faults.{each}
 use Rattle.cell_asm.specs.Outcome.{Gives}
 use Rattle.cell_asm.specs.Lines.{spelled, trimmed}
 use Rattle.std.proofs.Common.{map, Bor, List, ℕ}
-use Rattle.cell_asm.proofs.LineLemmas.{parts_spelled}
+use Rattle.cell_asm.proofs.ReadingLemmas.{parts_spelled}
 use Rattle.cell_asm.proofs.line.read_operands.Goals as goal
 
 pub returns : goal.returns

@@ -1,9 +1,9 @@
 use Rattle.std.proofs.Common.{ℕ, List, Bor, ◌<◌, [], length, get_or, Ok, ap, sym, ◌∙◌, arith}
 use Rattle.std.specs.Prelude.{ok_or}
-use Rattle.cell_asm.specs.declared.kind.AsmKind.TheVariants.{Word}
+use Rattle.cell_asm.specs.Types.{AsmKindWord as Word}
 use Rattle.cell_asm.specs.Lines.{spelled, trimmed}
 use Rattle.cell_asm.specs.Operands.{operand}
-use Rattle.cell_asm.proofs.Each.{listed, each_more, each_word}
+use Rattle.cell_asm.proofs.ReadingLemmas.{listed, each_more, each_word}
 use Rattle.cell_asm.proofs.line.read_parts.Goals as goal
 
 -- stands for an element where there is none

@@ -3,7 +3,7 @@ use Rattle.cell_asm.specs.Faults.{each}
 use Rattle.cell_asm.specs.Outcome.{Gives}
 use Rattle.cell_asm.specs.Lines.{spelled, operand_texts, read_with, first_word}
 use Rattle.cell_asm.specs.Statements.{statement}
-use Rattle.cell_asm.proofs.LineLemmas.{statement_filled}
+use Rattle.cell_asm.proofs.ReadingLemmas.{statement_filled}
 use Rattle.cell_asm.proofs.line.read_statement.Goals as goal
 
 pub returns : goal.returns

@@ -1,5 +1,5 @@
 use Rattle.std.proofs.Common.{◌∙◌, Bor, List, ℕ}
-use Rattle.cell_asm.proofs.Tables.{row_found}
+use Rattle.cell_asm.proofs.ReadingLemmas.{row_found}
 use Rattle.cell_asm.proofs.mnemonic.row_in.Goals as goal
 
 pub returns : goal.returns

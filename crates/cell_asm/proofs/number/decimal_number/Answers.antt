@@ -1,7 +1,7 @@
 use Rattle.std.proofs.Common.{◌≡◌, true, arith}
 use Rattle.std.specs.List.{list_all}
 use Rattle.std.specs.Char.{is_ascii_digit}
-use Rattle.cell_asm.proofs.Digits.{digits_are_hex}
+use Rattle.cell_asm.proofs.ReadingLemmas.{digits_are_hex}
 use Rattle.cell_asm.proofs.number.decimal_number.Goals as goal
 
 pub value-requires-clause-digits : goal.value-requires-clause-digits

@@ -2,7 +2,7 @@ use Rattle.std.proofs.Common.{◌<◌, length, ap, sym, ◌∙◌, arith, take, 
 use Rattle.std.specs.Prelude.{fold}
 use Rattle.cell_asm.specs.Objects.{adds_part, adds_choice}
 use Rattle.cell_asm.specs.Places.{choices}
-use Rattle.cell_asm.proofs.SectionLemmas.{parts_more}
+use Rattle.cell_asm.proofs.ObjectLemmas.{parts_more}
 use Rattle.cell_asm.proofs.section.parts_of.Goals as goal
 
 pub loop-laid-preserved : goal.loop-laid-preserved

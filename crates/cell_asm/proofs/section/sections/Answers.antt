@@ -1,6 +1,6 @@
 use Rattle.std.proofs.Common.{◌<◌, ◌++◌, ◌∷◌, [], map, take, length, ap, sym, ◌∙◌, arith}
 use Rattle.cell_asm.specs.Objects.{section_of}
-use Rattle.cell_asm.proofs.SectionLemmas.{mapped_more}
+use Rattle.cell_asm.proofs.ObjectLemmas.{mapped_more}
 use Rattle.cell_asm.proofs.section.sections.Goals as goal
 
 pub loop-part-preserved : goal.loop-part-preserved

@@ -1,6 +1,6 @@
 use Rattle.std.proofs.Common.{◌≡◌, ◌+◌, ◌≤◌, [], map, drop, Ok}
 use Rattle.cell_asm.specs.Progress.{Follows}
-use Rattle.cell_asm.proofs.SourceLemmas.{placed_from}
+use Rattle.cell_asm.proofs.PlacingLemmas.{placed_from}
 use Rattle.cell_asm.proofs.source.place_lines.Given as goal
 
 -- the lines so far, and what the texts that are left come to behind them, are what all texts come to

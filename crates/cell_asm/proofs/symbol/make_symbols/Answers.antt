@@ -2,8 +2,7 @@ use Rattle.std.proofs.Common.{[], ap, ◌∙◌, map}
 use Rattle.std.specs.Prelude.{fold}
 use Rattle.cell_asm.specs.Numberings.{local_in, mentioned}
 use Rattle.cell_asm.specs.Making.{locals_in}
-use Rattle.cell_asm.proofs.Mentioned.{none_yet, list_is, numbers_are}
-use Rattle.cell_asm.proofs.Listing.{same_names}
+use Rattle.cell_asm.proofs.SymbolLemmas.{none_yet, list_is, numbers_are, same_names}
 use Rattle.cell_asm.proofs.symbol.make_symbols.Goals as goal
 
 pub returns-clause-list : goal.returns-clause-list

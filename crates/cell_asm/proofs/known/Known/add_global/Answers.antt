@@ -1,5 +1,5 @@
 use Rattle.std.proofs.Common.{◌∙◌}
-use Rattle.cell_asm.proofs.NamesKnown.{global_added}
+use Rattle.cell_asm.proofs.PlacingLemmas.{global_added}
 use Rattle.cell_asm.proofs.known.Known.add_global.Goals as goal
 
 pub returns : goal.returns

@@ -1,5 +1,5 @@
 use Rattle.std.proofs.Common.{◌∙◌}
-use Rattle.cell_asm.proofs.NamesKnown.{spot_added}
+use Rattle.cell_asm.proofs.PlacingLemmas.{spot_added}
 use Rattle.cell_asm.proofs.known.Known.add_spot.Goals as goal
 
 pub returns : goal.returns

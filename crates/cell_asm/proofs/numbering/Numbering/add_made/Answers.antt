@@ -1,7 +1,7 @@
 use Rattle.std.proofs.Common.{◌≡◌, ◌==◌, cond, Some, None, sym, ap, ◌∙◌, rules}
-use Rattle.cell_asm.specs.declared.laid.Key.TheVariants.{Made}
+use Rattle.cell_asm.specs.Types.{KeyMade as Made}
 use Rattle.cell_asm.specs.Numberings.{number_of}
-use Rattle.cell_asm.proofs.KeyMaps.{taken, same_test, same_number}
+use Rattle.cell_asm.proofs.SymbolLemmas.{taken, same_test, same_number}
 use Rattle.cell_asm.proofs.numbering.Numbering.add_made.Goals as goal
 
 pub returns-in_ok-insert-clause-made : goal.returns-in_ok-insert-clause-made

@@ -1,9 +1,9 @@
 use Rattle.std.proofs.Common.{◌≡◌, ℕ, List, None, sym, ap, ◌∙◌, rules, bytes_eq}
 use Rattle.std.proofs.lemmas.Map.Text.{btree_map_updates_str}
 use Rattle.std.proofs.lemmas.Slice.Eq.{bytes_eq-Decides}
-use Rattle.cell_asm.specs.declared.laid.Key.TheVariants.{Named}
+use Rattle.cell_asm.specs.Types.{KeyNamed as Named}
 use Rattle.cell_asm.specs.Numberings.{number_of}
-use Rattle.cell_asm.proofs.KeyMaps.{taken}
+use Rattle.cell_asm.proofs.SymbolLemmas.{taken}
 use Rattle.cell_asm.proofs.numbering.Numbering.add_name.Goals as goal
 
 pub returns-in_ok-insert-clause-names : goal.returns-in_ok-insert-clause-names

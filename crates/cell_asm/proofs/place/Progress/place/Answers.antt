@@ -1,7 +1,7 @@
 use Rattle.std.proofs.Common.{◌≡◌, Ok, None, refl, sym, ap, subst, ◌∙◌, rules}
 use Rattle.cell_asm.specs.Places.{size_at}
 use Rattle.cell_asm.specs.Assembled.{placed_unless}
-use Rattle.cell_asm.proofs.Follow.{fault_is, laid_is, follows_more}
+use Rattle.cell_asm.proofs.PlacingLemmas.{fault_is, laid_is, follows_more}
 use Rattle.cell_asm.proofs.place.Progress.place.Goals as goal
 
 pub returns-in-Some-clause-line : goal.returns-in-Some-clause-line

@@ -1,4 +1,4 @@
-use Rattle.cell_asm.proofs.Listing.{lists_by}
+use Rattle.cell_asm.proofs.SymbolLemmas.{lists_by}
 use Rattle.cell_asm.proofs.symbol.Symbols.add.Goals as goal
 
 pub returns : goal.returns

@@ -1,6 +1,6 @@
 use Rattle.std.proofs.Common.{◌<◌, ◌++◌, ◌∷◌, [], length, take, ap, sym, ◌∙◌, arith}
 use Rattle.std.proofs.lemmas.List.{take_more}
-use Rattle.cell_asm.proofs.Mentioned.{same_labels}
+use Rattle.cell_asm.proofs.SymbolLemmas.{same_labels}
 use Rattle.cell_asm.proofs.symbol.Symbols.add_locals.Goals as goal
 
 pub loop-label-preserved : goal.loop-label-preserved

@@ -1,7 +1,7 @@
 use Rattle.std.proofs.Common.{◌++◌, map, sym, ap, ◌∙◌}
 use Rattle.cell_asm.specs.Known.{about}
 use Rattle.cell_asm.specs.Numberings.{keys_with, other_in}
-use Rattle.cell_asm.proofs.Listing.{mention_known, mention_by}
+use Rattle.cell_asm.proofs.SymbolLemmas.{mention_known, mention_by}
 use Rattle.cell_asm.proofs.symbol.Symbols.mention.Goals as goal
 
 pub returns-in_ok-add_other : goal.returns-in_ok-add_other

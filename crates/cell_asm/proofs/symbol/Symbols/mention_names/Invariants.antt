@@ -1,7 +1,6 @@
 use Rattle.std.proofs.Common.{List, [], take}
 use Rattle.std.specs.Prelude.{fold}
-use Rattle.cell_object.specs.declared.object.Symbol.{Symbol}
-use Rattle.cell_asm.specs.declared.laid.Key.{Key}
+use Rattle.cell_asm.specs.Types.{Symbol, Key}
 use Rattle.cell_asm.specs.Numberings.{mentioned, Mentions}
 use Rattle.cell_asm.proofs.symbol.Symbols.mention_names.Given as goal
 

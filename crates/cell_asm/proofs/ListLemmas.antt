@@ -1,0 +1,419 @@
+-- The members of a list.
+--     In x xs                   the element is in the list
+use Rattle.std.proofs.Common.{◌≡◌, refl, sym, subst, ◌⊎◌, inl, inr, ℕ, zero, suc, Bool, true, false, ◌||◌, cond, List, [], ◌∷◌, ◌++◌, ap, ◌∙◌, map, true≢false, Some, None, slice_get, ◌+◌, ◌*◌, ◌≤◌, not, length, take, drop, length-append, zero-add, suc-add, arith, ◌<◌}
+use Rattle.std.proofs.lemmas.Bool.{or_parts, or_left, or_right}
+use Rattle.std.proofs.lemmas.Bool.Decides.{nat_tests}
+use Rattle.std.proofs.lemmas.List.Folds.{list_any-append}
+use Rattle.std.proofs.lemmas.List.Sums.{sum_by-cons, prefix_len-drop_yes, prefix_len-drop_no, prefix_len-drop_all, suffix_len-take_yes, suffix_len-take_no, suffix_len-le-length, prefix_len-le-length}
+use Rattle.std.specs.List.{list_any, position_or_len}
+use Rattle.std.specs.Prelude.{find, filter, flat_map, if◌then◌else◌, fold, sum_by, IfSome, nat_lt, position, Option, is_some}
+use Rattle.cell_num.specs.Lists.{or_else, where_true}
+use Rattle.cell_asm.specs.Numberings.{has_key}
+use Rattle.cell_asm.specs.Objects.{number_from}
+use Rattle.cell_asm.specs.Places.{is_key}
+use Rattle.cell_asm.specs.Types.{Key}
+
+abbrev pub In : {X : Type 0} → X → List X → Type 0
+In x [] = ⊥
+In x (y ∷ ys) = (x ≡ y) ⊎ In x ys
+
+or_first : (a b : Bool) → a ≡ true → (a || b) ≡ true
+or_first true b e = refl
+or_first false b e = absurd (true≢false (sym e))
+
+or_second : (a b : Bool) → b ≡ true → (a || b) ≡ true
+or_second true b e = refl
+or_second false b e = e
+
+by_test : (b c : Bool) → (b ≡ true → c ≡ true) → c ≡ false → b ≡ false
+by_test true c f e = absurd (true≢false (sym (f refl) ∙ e))
+by_test false c f e = refl
+
+none_by : (b c : Bool) → b ≡ false → c ≡ false → (b || c) ≡ false
+none_by true c e f = absurd (true≢false e)
+none_by false c e f = f
+
+module _ {X : Type 0} where
+  pub In-left : (xs ys : List X) (x : X) → In x xs → In x (xs ++ ys)
+  In-left [] ys x h = absurd h
+  In-left (y ∷ xs) ys x (inl e) = inl e
+  In-left (y ∷ xs) ys x (inr h) = inr (In-left xs ys x h)
+
+  pub In-right : (xs ys : List X) (x : X) → In x ys → In x (xs ++ ys)
+  In-right [] ys x h = h
+  In-right (y ∷ xs) ys x h = inr (In-right xs ys x h)
+
+  pub In-append : (xs ys : List X) (x : X) → In x (xs ++ ys) → In x xs ⊎ In x ys
+  In-append [] ys x h = inr h
+  In-append (y ∷ xs) ys x (inl e) = inl (inl e)
+  In-append (y ∷ xs) ys x (inr h) = go (In-append xs ys x h)
+    where
+      go : In x xs ⊎ In x ys → ((x ≡ y) ⊎ In x xs) ⊎ In x ys
+      go (inl k) = inl (inr k)
+      go (inr k) = inr k
+
+  filtered_cons : (b : Bool) (x y : X) (xs : List X) → In x (cond b (y ∷ xs) xs) → (x ≡ y) ⊎ In x xs
+  filtered_cons true x y xs h = h
+  filtered_cons false x y xs h = inr h
+
+  pub In-filtered : (p : X → Bool) (xs : List X) (x : X) → In x (filter p xs) → In x xs
+  In-filtered p [] x h = h
+  In-filtered p (y ∷ ys) x h = go (filtered_cons (p y) x y (filter p ys) h) (In-filtered p ys x)
+    where
+      go : (x ≡ y) ⊎ In x (filter p ys) → (In x (filter p ys) → In x ys) → (x ≡ y) ⊎ In x ys
+      go (inl e) f = inl e
+      go (inr k) f = inr (f k)
+
+  pub filter_passes : (p : X → Bool) (xs : List X) (x : X) → In x (filter p xs) → p x ≡ true
+  filter_passes p [] x h = absurd h
+  filter_passes p (y ∷ ys) x h = passes (p y) refl h (filter_passes p ys x)
+    where
+      passes : (b : Bool) → p y ≡ b → In x (cond b (y ∷ filter p ys) (filter p ys)) → (In x (filter p ys) → p x ≡ true) → p x ≡ true
+      passes true e (inl k) f = subst (λ v. p v ≡ true) (sym k) e
+      passes true e (inr k) f = f k
+      passes false e k f = f k
+
+  In-cons : (b : Bool) (x y : X) (xs : List X) → In x xs → In x (cond b (y ∷ xs) xs)
+  In-cons true x y xs h = inr h
+  In-cons false x y xs h = h
+
+  In-head : (b : Bool) (x y : X) (xs : List X) → x ≡ y → b ≡ true → In x (cond b (y ∷ xs) xs)
+  In-head true x y xs e h = inl e
+  In-head false x y xs e h = absurd (true≢false (sym h))
+
+  pub filter-In : (p : X → Bool) (xs : List X) (x : X) → In x xs → p x ≡ true → In x (filter p xs)
+  filter-In p [] x h t = absurd h
+  filter-In p (y ∷ ys) x (inl e) t = In-head (p y) x y (filter p ys) e (subst (λ v. p v ≡ true) e t)
+  filter-In p (y ∷ ys) x (inr h) t = In-cons (p y) x y (filter p ys) (filter-In p ys x h t)
+
+  found_cons : (b : Bool) (p : X → Bool) (y : X) (ys : List X) (x : X) → p y ≡ b → cond b (Some y) (find p ys) ≡ Some x → (find p ys ≡ Some x → In x ys × (p x ≡ true)) → In x (y ∷ ys) × (p x ≡ true)
+  found_cons true p y ys x e h f = let k : x ≡ y = cc in (inl k, subst (λ v. p v ≡ true) (sym k) e)
+  found_cons false p y ys x e h f = (inr (f h).0, (f h).1)
+
+  pub found-In : (p : X → Bool) (xs : List X) (x : X) → find p xs ≡ Some x → In x xs × (p x ≡ true)
+  found-In p [] x h = cc
+  found-In p (y ∷ ys) x h = found_cons (p y) p y ys x refl h (found-In p ys x)
+
+  -- what passes is found, be it the one or another
+  pub find_there : (p : X → Bool) (xs : List X) (x : X) → In x xs → p x ≡ true → (y : X) × (find p xs ≡ Some y)
+  find_there p [] x h t = absurd h
+  find_there p (y ∷ ys) x h t = go (p y) refl h (find_there p ys x)
+    where
+      go : (b : Bool) → p y ≡ b → (x ≡ y) ⊎ In x ys → (In x ys → p x ≡ true → (z : X) × (find p ys ≡ Some z)) → (z : X) × (cond b (Some y) (find p ys) ≡ Some z)
+      go true e k f = (y, refl)
+      go false e (inl k) f = absurd (true≢false (sym t ∙ (ap p k ∙ e)))
+      go false e (inr k) f = f k t
+
+  not_found : (b : Bool) (p : X → Bool) (y : X) (ys : List X) → p y ≡ b → cond b (Some y) (find p ys) ≡ None → (p y ≡ false) × (find p ys ≡ None)
+  not_found true p y ys e h = absurd cc
+  not_found false p y ys e h = (e, h)
+
+  -- where none is found, none passes
+  pub find_none : (p : X → Bool) (xs : List X) (x : X) → find p xs ≡ None → In x xs → p x ≡ false
+  find_none p [] x h k = absurd k
+  find_none p (y ∷ ys) x h (inl e) = subst (λ v. p v ≡ false) (sym e) (not_found (p y) p y ys refl h).0
+  find_none p (y ∷ ys) x h (inr k) = find_none p ys x (not_found (p y) p y ys refl h).1 k
+
+  any_cons : (b : Bool) (p : X → Bool) (y : X) (ys : List X) → p y ≡ b → (b || list_any p ys) ≡ true → (list_any p ys ≡ true → (x : X) × In x ys × (p x ≡ true)) → (x : X) × In x (y ∷ ys) × (p x ≡ true)
+  any_cons true p y ys e h f = (y, inl refl, e)
+  any_cons false p y ys e h f = let r : (x : X) × In x ys × (p x ≡ true) = f h in (r.0, inr r.1, r.2)
+
+  -- one that passes
+  pub any-In : (p : X → Bool) (xs : List X) → list_any p xs ≡ true → (x : X) × In x xs × (p x ≡ true)
+  any-In p [] h = absurd (true≢false (sym h))
+  any-In p (y ∷ ys) h = any_cons (p y) p y ys refl h (any-In p ys)
+
+  pub In-any : (p : X → Bool) (xs : List X) (x : X) → In x xs → p x ≡ true → list_any p xs ≡ true
+  In-any p [] x h t = absurd h
+  In-any p (y ∷ ys) x (inl e) t = or_first (p y) (list_any p ys) (subst (λ v. p v ≡ true) e t)
+  In-any p (y ∷ ys) x (inr h) t = or_second (p y) (list_any p ys) (In-any p ys x h t)
+
+  -- where none passes
+  pub In-none : (p : X → Bool) (xs : List X) (x : X) → list_any p xs ≡ false → In x xs → p x ≡ false
+  In-none p xs x e h = by_test (p x) (list_any p xs) (λ t. In-any p xs x h t) e
+
+  pub none-In : (p : X → Bool) (xs : List X) → ((x : X) → In x xs → p x ≡ false) → list_any p xs ≡ false
+  none-In p [] f = refl
+  none-In p (y ∷ ys) f = none_by (p y) (list_any p ys) (f y (inl refl)) (none-In p ys (λ x k. f x (inr k)))
+
+  pub get-In : (xs : List X) (k : ℕ) (x : X) → slice_get xs k ≡ Some x → In x xs
+  get-In [] k x e = absurd cc
+  get-In (y ∷ ys) zero x e = inl cc
+  get-In (y ∷ ys) (suc k) x e = inr (get-In ys k x e)
+
+module _ {X Y : Type 0} where
+  pub map-In : (f : X → Y) (xs : List X) (x : X) → In x xs → In (f x) (map f xs)
+  map-In f [] x h = absurd h
+  map-In f (y ∷ ys) x (inl e) = inl (ap f e)
+  map-In f (y ∷ ys) x (inr h) = inr (map-In f ys x h)
+
+  pub In-map : (f : X → Y) (xs : List X) (y : Y) → In y (map f xs) → (x : X) × In x xs × (y ≡ f x)
+  In-map f [] y h = absurd h
+  In-map f (x ∷ xs) y (inl e) = (x, inl refl, e)
+  In-map f (x ∷ xs) y (inr h) = let r : (x : X) × In x xs × (y ≡ f x) = In-map f xs y h in (r.0, inr r.1, r.2)
+
+  pub In-flat : (g : X → List Y) (xs : List X) (y : Y) → In y (flat_map g xs) → (x : X) × In x xs × In y (g x)
+  In-flat g [] y h = absurd h
+  In-flat g (x ∷ xs) y h = go (In-append (g x) (flat_map g xs) y h) (In-flat g xs y)
+    where
+      go : In y (g x) ⊎ In y (flat_map g xs) → (In y (flat_map g xs) → (z : X) × In z xs × In y (g z)) → (z : X) × In z (x ∷ xs) × In y (g z)
+      go (inl k) f = (x, inl refl, k)
+      go (inr k) f = let r : (z : X) × In z xs × In y (g z) = f k in (r.0, inr r.1, r.2)
+
+  pub flat-In : (g : X → List Y) (xs : List X) (x : X) (y : Y) → In x xs → In y (g x) → In y (flat_map g xs)
+  flat-In g [] x y h k = absurd h
+  flat-In g (z ∷ xs) x y (inl e) k = In-left (g z) (flat_map g xs) y (subst (λ v. In y (g v)) e k)
+  flat-In g (z ∷ xs) x y (inr h) k = In-right (g z) (flat_map g xs) y (flat-In g xs x y h k)
+
+-- Lists: what stands at a place, sums over the elements, and elements that a test tells apart.
+--     get_split, get_map      an element at a place
+--     total f xs                         the sum of f over the elements
+--     AreApart t xs                      no element passes the test of one before it
+--     adds t xs x                        the element behind the others, unless one of them passes its test
+
+-- WHAT STANDS AT A PLACE
+
+next : (k n j : ℕ) → k ≡ n + j → suc k ≡ suc n + j
+next k n j e = omega (arith, e)
+
+from_none : (k : ℕ) → k ≡ 0 + k
+from_none k = omega arith
+
+module _ {X : Type 0} where
+  -- an element of the first list, or one of the second
+  abbrev pub IsSplit : List X → List X → ℕ → X → Type 0
+  IsSplit xs ys k x = (slice_get xs k ≡ Some x) ⊎ ((j : ℕ) × (k ≡ length xs + j) × (slice_get ys j ≡ Some x))
+
+  split_next : (y : X) (xs ys : List X) (k : ℕ) (x : X) → IsSplit xs ys k x → IsSplit (y ∷ xs) ys (suc k) x
+  split_next y xs ys k x (inl e) = inl e
+  split_next y xs ys k x (inr r) = inr (r.0, next k (length xs) r.0 r.1, r.2)
+
+  pub get_split : (xs ys : List X) (k : ℕ) (x : X) → slice_get (xs ++ ys) k ≡ Some x → IsSplit xs ys k x
+  get_split [] ys k x e = inr (k, from_none k, e)
+  get_split (y ∷ xs) ys zero x e = inl e
+  get_split (y ∷ xs) ys (suc k) x e = split_next y xs ys k x (get_split xs ys k x e)
+
+  -- the first elements, where a whole list stands before
+  pub take_behind : (xs ys : List X) (j : ℕ) → take (length xs + j) (xs ++ ys) ≡ xs ++ take j ys
+  take_behind [] ys j = ap (λ k. take k ys) (zero-add j)
+  take_behind (x ∷ xs) ys j = ap (λ k. take k (x ∷ (xs ++ ys))) (suc-add (length xs) j) ∙ ap (λ zs. x ∷ zs) (take_behind xs ys j)
+
+  pub take_le : (n : ℕ) (xs : List X) → length (take n xs) ≤ length xs
+  take_le zero xs = omega arith
+  take_le (suc n) [] = omega arith
+  take_le (suc n) (x ∷ xs) = let h : length (take n xs) ≤ length xs = take_le n xs in omega (arith, h)
+
+  pub drop_le : (n : ℕ) (xs : List X) → length (drop n xs) ≤ length xs
+  drop_le zero xs = omega arith
+  drop_le (suc n) [] = omega arith
+  drop_le (suc n) (x ∷ xs) = let h : length (drop n xs) ≤ length xs = drop_le n xs in omega (arith, h)
+
+  filter_longer : (b : Bool) (n : ℕ) (x : X) (xs ys : List X) → length ys ≤ length xs → length (cond b (x ∷ ys) ys) ≤ suc (length xs)
+  filter_longer true n x xs ys h = omega (arith, h)
+  filter_longer false n x xs ys h = omega (arith, h)
+
+  pub filter_le : (p : X → Bool) (xs : List X) → length (filter p xs) ≤ length xs
+  filter_le p [] = omega arith
+  filter_le p (x ∷ xs) = filter_longer (p x) 0 x xs (filter p xs) (filter_le p xs)
+
+module _ {X Y : Type 0} where
+  pub get_map : (f : X → Y) (xs : List X) (k : ℕ) (y : Y) → slice_get (map f xs) k ≡ Some y → (x : X) × (slice_get xs k ≡ Some x) × (y ≡ f x)
+  get_map f [] k y e = absurd cc
+  get_map f (x ∷ xs) zero y e = (x, refl, cc)
+  get_map f (x ∷ xs) (suc k) y e = get_map f xs k y e
+
+-- SUMS
+
+-- the sum of f over the elements
+abbrev pub total : {X : Type 0} → (X → ℕ) → List X → ℕ
+total f [] = 0
+total f (x ∷ xs) = f x + total f xs
+
+behind : (a b c d : ℕ) → b ≡ c + d → a + b ≡ (a + c) + d
+behind a b c d e = omega (arith, e)
+
+both_le : (a b c d : ℕ) → a ≤ b → c ≤ d → a + c ≤ b + d
+both_le a b c d h k = omega (arith, h, k)
+
+times_more : (a t c n : ℕ) → a ≤ c → t ≤ c * n → a + t ≤ c * suc n
+times_more a t c n h k = omega (arith, h, k)
+
+none_le : (c : ℕ) → 0 ≤ c * 0
+none_le c = omega arith
+
+module _ {X : Type 0} where
+  pub total-append : (f : X → ℕ) (xs ys : List X) → total f (xs ++ ys) ≡ total f xs + total f ys
+  total-append f [] ys = sym (zero-add (total f ys))
+  total-append f (x ∷ xs) ys = behind (f x) (total f (xs ++ ys)) (total f xs) (total f ys) (total-append f xs ys)
+
+  pub total_le : (f g : X → ℕ) (xs : List X) → ((x : X) → In x xs → f x ≤ g x) → total f xs ≤ total g xs
+  total_le f g [] h = omega arith
+  total_le f g (x ∷ xs) h = both_le (f x) (g x) (total f xs) (total g xs) (h x (inl refl)) (total_le f g xs (λ y k. h y (inr k)))
+
+  pub total_same : (f g : X → ℕ) (xs : List X) → ((x : X) → In x xs → f x ≡ g x) → total f xs ≡ total g xs
+  total_same f g [] h = refl
+  total_same f g (x ∷ xs) h = ap (λ n. n + total f xs) (h x (inl refl)) ∙ ap (λ n. g x + n) (total_same f g xs (λ y k. h y (inr k)))
+
+  pub total_times : (f : X → ℕ) (c : ℕ) (xs : List X) → ((x : X) → In x xs → f x ≤ c) → total f xs ≤ c * length xs
+  total_times f c [] h = none_le c
+  total_times f c (x ∷ xs) h = times_more (f x) (total f xs) c (length xs) (h x (inl refl)) (total_times f c xs (λ y k. h y (inr k)))
+
+  pub sum_is_total : (f : X → ℕ) (xs : List X) → sum_by f xs ≡ total f xs
+  sum_is_total f [] = refl
+  sum_is_total f (x ∷ xs) = sum_by-cons f x xs ∙ ap (λ n. f x + n) (sum_is_total f xs)
+
+module _ {X : Type 0} (f : X → ℕ) (p : X → Bool) where
+  total_by : (b : Bool) (x : X) (ys ns : List X) (n : ℕ) → total f ys + total f ns ≡ n → total f (cond b (x ∷ ys) ys) + total f (cond (not b) (x ∷ ns) ns) ≡ f x + n
+  total_by true x ys ns n e = omega (arith, e)
+  total_by false x ys ns n e = omega (arith, e)
+
+  -- those that pass and those that don't
+  pub total_split : (xs : List X) → total f (filter p xs) + total f (filter (λ x. not (p x)) xs) ≡ total f xs
+  total_split [] = refl
+  total_split (x ∷ xs) = total_by (p x) x (filter p xs) (filter (λ y. not (p y)) xs) (total f xs) (total_split xs)
+
+module _ {X Y : Type 0} where
+  pub flat_length : (g : X → List Y) (xs : List X) → length (flat_map g xs) ≡ total (λ x. length (g x)) xs
+  flat_length g [] = refl
+  flat_length g (x ∷ xs) = length-append (g x) (flat_map g xs) ∙ ap (λ n. length (g x) + n) (flat_length g xs)
+
+  pub total-map : (f : Y → ℕ) (g : X → Y) (xs : List X) → total f (map g xs) ≡ total (λ x. f (g x)) xs
+  total-map f g [] = refl
+  total-map f g (x ∷ xs) = ap (λ n. f (g x) + n) (total-map f g xs)
+
+  pub mapped_length : (g : X → Y) (xs : List X) → length (map g xs) ≡ length xs
+  mapped_length g [] = refl
+  mapped_length g (x ∷ xs) = ap suc (mapped_length g xs)
+
+-- ELEMENTS THAT A TEST TELLS APART
+
+module _ {X : Type 0} (t : X → X → Bool) where
+  -- no element passes the test of one before it
+  abbrev pub AreApart : List X → Type 0
+  AreApart [] = Unit {0}
+  AreApart (x ∷ xs) = ((y : X) → In y xs → t y x ≡ false) × AreApart xs
+
+  pushed : (ys : List X) (x y : X) → ((z : X) → In z ys → t z y ≡ false) → t x y ≡ false → (z : X) → In z (ys ++ x ∷ []) → t z y ≡ false
+  pushed ys x y h e z k = go (In-append ys (x ∷ []) z k)
+    where
+      go : In z ys ⊎ In z (x ∷ []) → t z y ≡ false
+      go (inl i) = h z i
+      go (inr (inl f)) = subst (λ v. t v y ≡ false) (sym f) e
+      go (inr (inr i)) = absurd i
+
+  apart_one : (x : X) → AreApart (x ∷ [])
+  apart_one x = ((λ y k. absurd k), tt)
+
+  apart_push : (xs : List X) (x : X) → AreApart xs → list_any (t x) xs ≡ false → AreApart (xs ++ x ∷ [])
+  apart_push [] x h e = apart_one x
+  apart_push (y ∷ ys) x h e =
+      let p : (t x y ≡ false) × (list_any (t x) ys ≡ false) = or_parts (t x y) (list_any (t x) ys) e in
+      (pushed ys x y h.0 p.0, apart_push ys x h.1 p.1)
+
+  -- the element behind the others, unless one of them passes its test
+  abbrev pub adds : List X → X → List X
+  adds xs x = if list_any (t x) xs then xs else xs ++ x ∷ []
+
+  adds_apart : (xs : List X) (x : X) (b : Bool) → list_any (t x) xs ≡ b → AreApart xs → AreApart (if b then xs else xs ++ x ∷ [])
+  adds_apart xs x true e h = h
+  adds_apart xs x false e h = apart_push xs x h e
+
+  pub fold_apart : (xs more : List X) → AreApart xs → AreApart (fold adds xs more)
+  fold_apart xs [] h = h
+  fold_apart xs (x ∷ more) h = fold_apart (adds xs x) more (adds_apart xs x (list_any (t x) xs) refl h)
+
+  adds_In : (xs : List X) (x y : X) (b : Bool) → In y (if b then xs else xs ++ x ∷ []) → In y xs ⊎ In y (x ∷ [])
+  adds_In xs x y true k = inl k
+  adds_In xs x y false k = In-append xs (x ∷ []) y k
+
+  first_In : (xs more : List X) (x y : X) → In y xs ⊎ In y (x ∷ []) → In y xs ⊎ In y (x ∷ more)
+  first_In xs more x y (inl i) = inl i
+  first_In xs more x y (inr (inl e)) = inr (inl e)
+  first_In xs more x y (inr (inr i)) = absurd i
+
+  rest_In : (xs more : List X) (x y : X) → In y (adds xs x) ⊎ In y more → In y xs ⊎ In y (x ∷ more)
+  rest_In xs more x y (inl i) = first_In xs more x y (adds_In xs x y (list_any (t x) xs) i)
+  rest_In xs more x y (inr i) = inr (inr i)
+
+  pub fold_In : (xs more : List X) (y : X) → In y (fold adds xs more) → In y xs ⊎ In y more
+  fold_In xs [] y k = inl k
+  fold_In xs (x ∷ more) y k = rest_In xs more x y (fold_In (adds xs x) more y k)
+
+  adds_total : (f : X → ℕ) (xs : List X) (x : X) (b : Bool) (a n : ℕ) → a ≤ total f (if b then xs else xs ++ x ∷ []) + n → a ≤ total f xs + (f x + n)
+  adds_total f xs x true a n h = omega (arith, h)
+  adds_total f xs x false a n h = omega (arith, h, total-append f xs (x ∷ []))
+
+  pub fold_total : (f : X → ℕ) (xs more : List X) → total f (fold adds xs more) ≤ total f xs + total f more
+  fold_total f xs [] = omega arith
+  fold_total f xs (x ∷ more) = adds_total f xs x (list_any (t x) xs) (total f (fold adds (adds xs x) more)) (total f more) (fold_total f (adds xs x) more)
+
+  adds_keeps : (xs : List X) (x : X) (p : X → Bool) (b : Bool) → list_any p xs ≡ true → list_any p (if b then xs else xs ++ x ∷ []) ≡ true
+  adds_keeps xs x p true h = h
+  adds_keeps xs x p false h = list_any-append p xs (x ∷ []) ∙ or_left (list_any p xs) (list_any p (x ∷ [])) h
+
+  fold_keeps : (p : X → Bool) (xs more : List X) → list_any p xs ≡ true → list_any p (fold adds xs more) ≡ true
+  fold_keeps p xs [] h = h
+  fold_keeps p xs (x ∷ more) h = fold_keeps p (adds xs x) more (adds_keeps xs x p (list_any (t x) xs) h)
+
+  adds_there : (xs : List X) (x : X) (b : Bool) → t x x ≡ true → list_any (t x) xs ≡ b → list_any (t x) (if b then xs else xs ++ x ∷ []) ≡ true
+  adds_there xs x true same e = e
+  adds_there xs x false same e = list_any-append (t x) xs (x ∷ []) ∙ or_right (list_any (t x) xs) (t x x || false) (or_left (t x x) false same)
+
+  -- each element that is added passes the test of one that is there at the end
+  pub fold_there : ((x : X) → t x x ≡ true) → (xs more : List X) (y : X) → In y more → list_any (t y) (fold adds xs more) ≡ true
+  fold_there same xs [] y k = absurd k
+  fold_there same xs (x ∷ more) y (inl e) =
+      fold_keeps (t y) (adds xs x) more (subst (λ v. list_any (t v) (adds xs x) ≡ true) (sym e) (adds_there xs x (list_any (t x) xs) (same x) refl))
+  fold_there same xs (x ∷ more) y (inr k) = fold_there same (adds xs x) more y k
+
+  -- an element before it doesn't pass the test
+  pub before_fails : (xs : List X) (j : ℕ) (x y : X) → AreApart xs → slice_get xs j ≡ Some x → In y (take j xs) → t x y ≡ false
+  before_fails [] j x y h e k = absurd cc
+  before_fails (z ∷ zs) zero x y h e k = absurd k
+  before_fails (z ∷ zs) (suc j) x y h e (inl f) = subst (λ v. t x v ≡ false) (sym f) (h.0 x (get-In zs j x e))
+  before_fails (z ∷ zs) (suc j) x y h e (inr k) = before_fails zs j x y h.1 e k
+
+-- How far a test passes from the front of a text, and from its end.
+
+pub ruleset ends = (prefix_len-drop_yes, prefix_len-drop_no, prefix_len-drop_all, suffix_len-take_yes, suffix_len-take_no, suffix_len-le-length, prefix_len-le-length)
+
+-- The place of the first element that passes a test.
+
+below : (b : Bool) (n len : ℕ) → nat_lt n len ≡ b → IfSome (cond b (Some n) None) (λ i. i < len)
+below true n len e = grind (arith, nat_tests)
+below false n len e = tt
+
+-- the place is within the list
+pub position-below : {X : Type 0} (p : X → Bool) (xs : List X) → IfSome (position p xs) (λ i. i < length xs)
+position-below p xs = below (nat_lt (position_or_len (λ x. p x) xs) (length xs)) (position_or_len (λ x. p x) xs) (length xs) refl
+
+pub ruleset positions = (position-below)
+
+-- The numbers of keys in a list, after one more key.
+
+last_number : (b : Bool) (n m : ℕ) → m ≡ n → (if b then Some n else None) ≡ where_true b m
+last_number true n m e = ap Some (sym e)
+last_number false n m e = refl
+
+first_number : (b : Bool) (n : ℕ) (o p last : Option ℕ) → o ≡ or_else p last → (if b then Some n else o) ≡ or_else (if b then Some n else p) last
+first_number true n o p last e = refl
+first_number false n o p last e = e
+
+pub next_place : (i n : ℕ) → i + suc n ≡ suc i + n
+next_place i n = omega arith
+
+-- one key more: the keys before it have their numbers, and it has the next, unless it is there
+pub number_more : (n : ℕ) (keys : List Key) (k q : Key) → number_from n (keys ++ k ∷ []) q ≡ or_else (number_from n keys q) (where_true (is_key k q) (length keys + n))
+number_more n [] k q = last_number (is_key k q) n (0 + n) (zero-add n)
+number_more n (x ∷ keys) k q =
+    first_number (is_key x q) n (number_from (suc n) (keys ++ k ∷ []) q) (number_from (suc n) keys q) (where_true (is_key k q) (suc (length keys) + n))
+    (number_more (suc n) keys k q ∙ ap (λ m. or_else (number_from (suc n) keys q) (where_true (is_key k q) m)) (next_place (length keys) n))
+
+some_number : (b : Bool) (n : ℕ) (o : Option ℕ) (c : Bool) → is_some o ≡ c → is_some (if b then Some n else o) ≡ (b || c)
+some_number true n o c e = refl
+some_number false n o c e = e
+
+-- a key has a number if it is there
+pub numbered_if : (n : ℕ) (keys : List Key) (q : Key) → is_some (number_from n keys q) ≡ has_key keys q
+numbered_if n [] q = refl
+numbered_if n (x ∷ keys) q = some_number (is_key x q) n (number_from (suc n) keys q) (has_key keys q) (numbered_if (suc n) keys q)

@@ -1,0 +1,313 @@
+-- What is known of names, after one more name, and behind one more line.
+use Rattle.std.proofs.Common.{◌≡◌, ℕ, Bool, true, false, ◌||◌, List, [], ◌∷◌, ◌++◌, cond, find, map, Some, None, refl, sym, ap, ◌∙◌, append-nil, ◌+◌, add-zero, zero-add, suc, ◌<◌, length, drop, get_or, Bor, Result, Ok, Err, subst, add-one, ◌≤◌, ◌^◌, arith, append_assoc, ◌⊎◌, inl, inr}
+use Rattle.std.proofs.lemmas.List.{drop_more}
+use Rattle.std.proofs.lemmas.List.Concat.{flat_map-append}
+use Rattle.std.proofs.lemmas.List.Elements.{filter_map-append, filter-append}
+use Rattle.std.proofs.lemmas.List.Folds.{list_any-append, find-append}
+use Rattle.std.proofs.lemmas.List.Sums.{sum_by-append}
+use Rattle.std.proofs.lemmas.Slice.Eq.{bytes_eq-Decides}
+use Rattle.std.specs.List.{list_any, cons_option}
+use Rattle.std.specs.Option.{option_or, unwrap_or}
+use Rattle.std.specs.Prelude.{Option, option_map, is_some, if◌then◌else◌, filter, sum_by, fold}
+use Rattle.cell_num.specs.Lists.{equals, where_true, holds_name, last, or_else, numbered_from}
+use Rattle.cell_text.specs.Text.{lines_in, Behind}
+use Rattle.cell_asm.specs.Assembled.{add_line, with_line, placed_line, placed_texts, object_from, object_unless, has_lost, assembled, Assembles, placed_unless, placed_lines}
+use Rattle.cell_asm.specs.Known.{about, with_spot, with_global, spot_here, declares, about_with, spot_at, spot_among, about_in}
+use Rattle.cell_asm.specs.Lines.{line_of}
+use Rattle.cell_asm.specs.Objects.{global_name, globals, object_of}
+use Rattle.cell_asm.specs.Outcome.{Gives}
+use Rattle.cell_asm.specs.Places.{is_key, holds_key, makes_label, own_key, made_key, keys_of, label, labels_at, labels, fault_at, is_at, is_in, choice, choices, taken, size_in, size_at, made_in, is_twice, placed}
+use Rattle.cell_asm.specs.Placing.{Places, failure}
+use Rattle.cell_asm.specs.Progress.{size_of, size_chosen, offset_of, twice_of, fault_after, laid_after, Adds, Follows}
+use Rattle.cell_asm.specs.Types.{Part, Statement, StatementGlobal as Global, Laid, Label, AsmKindLabel, KeyNamed as Named, KeyMade as Made, Spot, About, Known, Line, Progress, AsmKind, Stop, StopFault as Fault, StopOutOfMemory as OutOfMemory, Object, AsmFail, AsmFailFault as Faulty, AsmFailOutOfMemory as NoMemory}
+use Rattle.cell_asm.proofs.ListLemmas.{In, In-append}
+use Rattle.cell_asm.proofs.ObjectLemmas.{same_part}
+
+-- ONE MORE NAME
+
+pub unwrapped : {X : Type 0} (b : Bool) (x d : X) (o : Option X) → unwrap_or (cond b (Some x) o) d ≡ (if b then x else unwrap_or o d)
+unwrapped true x d o = refl
+unwrapped false x d o = refl
+
+-- a change at a name, as a change at each
+changed : (f : Bool → About → About) → ((a : About) → f false a ≡ a) → (old : List ℕ → About) (name q : List ℕ) (b : Bool) → equals name q ≡ b → (if b then f true (old name) else old q) ≡ f b (old q)
+changed f same old name q true e = ap (λ m. f true (old m)) ((bytes_eq-Decides name q).0 e)
+changed f same old name q false e = sym (same (old q))
+
+pub spot_added : (known : Known) (name q : List ℕ) (spot : Spot) (a : About) (o : Option Spot) → a ≡ about known name → o ≡ option_or a.spot (Some spot)
+    → (if equals name q then record { spot = o; global = a.global } else about known q) ≡ with_spot (where_true (equals name q) spot) (about known q)
+spot_added known name q spot a o is e =
+    ap (λ s. if equals name q then record { spot = s; global = a.global } else about known q) e
+    ∙ ap (λ b. if equals name q then with_spot (Some spot) b else about known q) is
+    ∙ changed (λ b. with_spot (where_true b spot)) (λ b. refl) (about known) name q (equals name q) refl
+
+pub global_added : (known : Known) (name q : List ℕ) (a : About) → a ≡ about known name
+    → (if equals name q then record { spot = a.spot; global = true } else about known q) ≡ with_global (equals name q) (about known q)
+global_added known name q a is =
+    ap (λ b. if equals name q then with_global true b else about known q) is ∙ changed with_global (λ b. refl) (about known) name q (equals name q) refl
+
+-- ONE MORE LINE
+
+or_false : (b : Bool) → (b || false) ≡ b
+or_false true = refl
+or_false false = refl
+
+no_made : (part : Part) (offset n : ℕ) (b : Bool) (q : List ℕ) → find (λ l. is_key l.key (Named q)) (map (label part offset) (if b then Made n ∷ [] else [])) ≡ None
+no_made part offset n true q = refl
+no_made part offset n false q = refl
+
+first_or_none : (b : Bool) (l : Label) (o : Option Label) → o ≡ None → option_map spot_at (cond b (Some l) o) ≡ where_true b (spot_at l)
+first_or_none true l o e = refl
+first_or_none false l o e = ap (option_map spot_at) e
+
+-- the label of a line is among its labels
+here_is : (o : Option Part) (offset n : ℕ) (own : Option (List ℕ)) (s : Statement) (q : List ℕ) → spot_among (labels_at o offset (own_key own ++ made_key s n)) q ≡ spot_here o offset own q
+here_is None offset n None s q = refl
+here_is None offset n (Some name) s q = refl
+here_is (Some part) offset n None s q = ap (option_map spot_at) (no_made part offset n (makes_label s) q)
+here_is (Some part) offset n (Some name) s q = first_or_none (equals name q) (label part offset (Named name)) _ (no_made part offset n (makes_label s) q)
+
+mapped_or : (o p : Option Label) → option_map spot_at (option_or o p) ≡ option_or (option_map spot_at o) (option_map spot_at p)
+mapped_or None p = refl
+mapped_or (Some l) p = refl
+
+spot_more : (before : List Laid) (l : Laid) (q : List ℕ) → spot_among (labels (before ++ l ∷ [])) q ≡ option_or (spot_among (labels before) q) (spot_here l.part l.offset l.line.label q)
+spot_more before l q =
+    let new : List Label = labels_at l.part l.offset (keys_of l) in
+    ap (λ ls. spot_among ls q) (flat_map-append (λ m. labels_at m.part m.offset (keys_of m)) before (l ∷ []) ∙ ap (λ ls. labels before ++ ls) (append-nil new))
+    ∙ ap (option_map spot_at) (find-append (λ m. is_key m.key (Named q)) (labels before) new)
+    ∙ mapped_or (find (λ m. is_key m.key (Named q)) (labels before)) (find (λ m. is_key m.key (Named q)) new)
+    ∙ ap (option_or (spot_among (labels before) q)) (here_is l.part l.offset l.made l.line.label l.line.statement q)
+
+declared : (q : List ℕ) (s : Statement) → list_any (λ other. equals other q) (cons_option (global_name s) []) ≡ declares q s
+declared q (Global name) = or_false (equals name q)
+declared q _ = refl
+
+global_more : (before : List Laid) (l : Laid) (q : List ℕ) → holds_name (globals (before ++ l ∷ [])) q ≡ (holds_name (globals before) q || declares q l.line.statement)
+global_more before l q =
+    ap (λ names. holds_name names q) (filter_map-append (λ m. global_name m.line.statement) before (l ∷ []))
+    ∙ list_any-append (λ other. equals other q) (globals before) (cons_option (global_name l.line.statement) [])
+    ∙ ap (λ b. holds_name (globals before) q || b) (declared q l.line.statement)
+
+none_more : {X : Type 0} (o : Option X) → option_or o None ≡ o
+none_more None = refl
+none_more (Some x) = refl
+
+or_true : (b : Bool) → (b || true) ≡ true
+or_true true = refl
+or_true false = refl
+
+joined : (o p : Option Spot) (g b : Bool) → record { spot = option_or o p; global = g || b } ≡ with_global b (with_spot p (record { spot = o; global = g }))
+joined o None g true = rw (none_more o, or_true g) refl
+joined o None g false = rw (none_more o, or_false g) refl
+joined o (Some s) g true = rw (or_true g) refl
+joined o (Some s) g false = rw (or_false g) refl
+
+pub about_more : (before : List Laid) (l : Laid) (q : List ℕ) → about_in (before ++ l ∷ []) q ≡ about_with l q (about_in before q)
+about_more before l q =
+    let spot : Option Spot = spot_here l.part l.offset l.line.label q in
+    rw (spot_more before l q, global_more before l q) (joined (spot_among (labels before) q) spot (holds_name (globals before) q) (declares q l.line.statement))
+
+-- whether a label has the name
+found_is : (p : Label → Bool) (ls : List Label) → is_some (option_map spot_at (find p ls)) ≡ list_any p ls
+found_is p [] = refl
+found_is p (l ∷ ls) = go (p l) (found_is p ls)
+  where
+    go : (b : Bool) → is_some (option_map spot_at (find p ls)) ≡ list_any p ls → is_some (option_map spot_at (cond b (Some l) (find p ls))) ≡ (b || list_any p ls)
+    go true e = refl
+    go false e = e
+
+pub taken_is : (ls : List Label) (q : List ℕ) → is_some (spot_among ls q) ≡ holds_key ls (Named q)
+taken_is ls q = found_is (λ l. is_key l.key (Named q)) ls
+
+-- One line more behind those that are in their places.
+
+size_is : (p : Progress) (before : List Laid) (part : Option Part) → Follows p before → size_chosen p.sizes part ≡ size_at part before
+size_is p before None h = refl
+size_is p before (Some part) h = h.sizes part
+
+pub offset_is : (p : Progress) (before : List Laid) → Follows p before → offset_of p ≡ size_at (last (choices before)) before
+offset_is p before h = ap (size_chosen p.sizes) h.chosen ∙ size_is p before (last (choices before)) h
+
+twice_is : (p : Progress) (before : List Laid) (name : Option (List ℕ)) → Follows p before → twice_of p name ≡ is_twice before name
+twice_is p before None h = refl
+twice_is p before (Some name) h = ap (λ a. is_some a.spot) (h.names name) ∙ taken_is (labels before) name
+
+-- what is wrong with the next line
+pub fault_is : (p : Progress) (before : List Laid) (line : Line) → Follows p before → fault_after p line ≡ fault_at before line
+fault_is p before line h = rw (offset_is p before h, twice_is p before line.label h, h.chosen) refl
+
+pub laid_is : (p : Progress) (before : List Laid) (n : ℕ) (line : Line) → Follows p before → laid_after p n line ≡ placed before n line
+laid_is p before n line h = rw (offset_is p before h, h.made, h.chosen) refl
+
+last_push : {X : Type 0} (xs : List X) (x : X) → last (xs ++ x ∷ []) ≡ Some x
+last_push [] x = refl
+last_push (y ∷ []) x = refl
+last_push (y ∷ z ∷ zs) x = last_push (z ∷ zs) x
+
+last_more : {X : Type 0} (xs : List X) (o : Option X) → last (xs ++ cons_option o []) ≡ or_else o (last xs)
+last_more xs None = ap last (append-nil xs)
+last_more xs (Some x) = last_push xs x
+
+chosen_more : (before : List Laid) (l : Laid) → last (choices (before ++ l ∷ [])) ≡ or_else (choice l.line.statement) (last (choices before))
+chosen_more before l =
+    ap last (filter_map-append (λ m. choice m.line.statement) before (l ∷ [])) ∙ last_more (choices before) (choice l.line.statement)
+
+one_size : (part : Part) (l : Laid) (b : Bool) → sum_by (λ m. taken m.line.statement m.offset) (cond b (l ∷ []) []) ≡ (if b then taken l.line.statement l.offset else 0)
+one_size part l true = zero-add (taken l.line.statement l.offset)
+one_size part l false = refl
+
+size_more : (part : Part) (before : List Laid) (l : Laid) → size_in part (before ++ l ∷ []) ≡ size_in part before + (if is_in part l then taken l.line.statement l.offset else 0)
+size_more part before l =
+    ap (sum_by (λ m. taken m.line.statement m.offset)) (filter-append (is_in part) before (l ∷ []))
+    ∙ sum_by-append (λ m. taken m.line.statement m.offset) (filter (is_in part) before) (filter (is_in part) (l ∷ []))
+    ∙ ap (λ n. size_in part before + n) (one_size part l (is_in part l))
+
+made_more : (before : List Laid) (l : Laid) → made_in (before ++ l ∷ []) ≡ made_in before + (if makes_label l.line.statement then 1 else 0)
+made_more before l =
+    sum_by-append (λ m. cond (makes_label m.line.statement) 1 0) before (l ∷ []) ∙ ap (λ n. made_in before + n) (zero-add (cond (makes_label l.line.statement) 1 0))
+
+-- where a line stands in a section, its offset is the section's size
+stands_at : (part : Part) (before : List Laid) (o : Option Part) → is_at part o ≡ true → size_at o before ≡ size_in part before
+stands_at part before None e = absurd cc
+stands_at part before (Some other) e = ap (λ p. size_in p before) (sym (same_part part other e))
+
+size_joined : (part : Part) (before : List Laid) (l : Laid) (b : Bool) (was : ℕ) → is_in part l ≡ b → l.offset ≡ size_at l.part before → was ≡ size_in part before
+    → (if b then l.offset + taken l.line.statement l.offset else was) ≡ size_in part before + (if b then taken l.line.statement l.offset else 0)
+size_joined part before l true was e at w = ap (λ n. n + taken l.line.statement l.offset) (at ∙ stands_at part before l.part e)
+size_joined part before l false was e at w = w ∙ sym (add-zero (size_in part before))
+
+pub follows_more : (p q : Progress) (before : List Laid) (l : Laid) → Follows p before → l.offset ≡ size_at l.part before → Adds p q l → Follows q (before ++ l ∷ [])
+follows_more p q before l h at a = record {
+  chosen = a.chosen ∙ ap (or_else (choice l.line.statement)) h.chosen ∙ sym (chosen_more before l);
+  sizes = λ part. a.sizes part ∙ size_joined part before l (is_in part l) (size_of p.sizes part) refl at (h.sizes part) ∙ sym (size_more part before l);
+  made = a.made ∙ ap (λ n. n + (if makes_label l.line.statement then 1 else 0)) h.made ∙ sym (made_more before l);
+  names = λ q. a.names q ∙ ap (about_with l q) (h.names q) ∙ sym (about_more before l q);
+}
+
+-- The lines of a source, one after the other.
+
+-- what the lines from number n on come to, behind those before them
+abbrev pub placed_from : Result (List Laid) (ℕ × AsmKind) → ℕ → List (List ℕ) → Result (List Laid) (ℕ × AsmKind)
+placed_from before n texts = fold add_line before (numbered_from n texts)
+
+-- nothing is read behind a fault
+pub after_fault : (fault : ℕ × AsmKind) (n : ℕ) (texts : List (List ℕ)) → placed_from (Err fault) n texts ≡ Err fault
+after_fault fault n [] = refl
+after_fault fault n (text ∷ texts) = after_fault fault (suc n) texts
+
+-- one line more
+pub goes_on : (before : List Laid) (n : ℕ) (text : List ℕ) (texts : List (List ℕ)) (l : Laid) → placed_line before n (line_of text) ≡ Ok l → placed_from (Ok before) n (text ∷ texts) ≡ placed_from (Ok (before ++ l ∷ [])) (n + 1) texts
+goes_on before n text texts l e =
+    ap (λ r. placed_from (with_line before n r) (suc n) texts) e ∙ ap (λ m. placed_from (Ok (before ++ l ∷ [])) m texts) (sym (add-one n))
+
+-- a line with a fault
+stops : (before : List Laid) (n : ℕ) (text : List ℕ) (texts : List (List ℕ)) (kind : AsmKind) → placed_line before n (line_of text) ≡ Err kind → placed_from (Ok before) n (text ∷ texts) ≡ Err (n, kind)
+stops before n text texts kind e = ap (λ r. placed_from (with_line before n r) (suc n) texts) e ∙ after_fault (n, kind) (suc n) texts
+
+pub stopped : (stop : Stop) (n : ℕ) (before : List Laid) (text : List ℕ) (texts : List (List ℕ)) (all : Result (List Laid) (ℕ × AsmKind)) → Gives {A = Laid} (Err stop) (placed_line before n (line_of text))
+    → placed_from (Ok before) n (text ∷ texts) ≡ all → Places (Err (failure stop n)) all
+stopped (Fault kind) n before text texts all g e = sym e ∙ stops before n text texts kind g
+stopped OutOfMemory n before text texts all g e = tt
+
+-- the texts that are left
+pub dropped : (texts : List (Bor (List ℕ))) (i : ℕ) (d : Bor (List ℕ)) → i < length texts → map (λ text. text.now) (drop i texts) ≡ (get_or texts i d).now ∷ map (λ text. text.now) (drop (i + 1) texts)
+dropped texts i d lt = ap (map (λ text. text.now)) (drop_more texts i d lt)
+
+mapped_length : {X Y : Type 0} (f : X → Y) (xs : List X) → length (map f xs) ≡ length xs
+mapped_length f [] = refl
+mapped_length f (x ∷ xs) = ap suc (mapped_length f xs)
+
+behind_last : (n m : ℕ) → m ≡ n → n < suc m
+behind_last n m e = omega arith
+
+last_line : (size n rest : ℕ) → n + rest ≤ size → size < 2 ^ 31 → suc n < 2 ^ 32
+last_line size n rest h small = omega arith
+
+-- there are no more line feeds than bytes
+pub few_lines : (size : ℕ) (texts : List (Bor (List ℕ))) → Behind size (map (λ text. text.now) texts) → size < 2 ^ 31 → length texts < 2 ^ 32
+few_lines size [] h small = omega arith
+few_lines size (text ∷ texts) h small =
+    last_line size (length texts) _ (h (length texts) (behind_last (length texts) _ (mapped_length (λ t. t.now) texts))) small
+
+-- the source has the fault at which its lines stop
+pub stops_all : (fail : AsmFail) (texts : List (List ℕ)) (source : List ℕ) → texts ≡ lines_in source → Places (Err fail) (placed_texts texts) → Assembles (Err fail) (assembled source)
+stops_all (Faulty line kind) texts source e h = ap (λ ts. object_from (placed_texts ts)) (sym e) ∙ ap object_from h
+stops_all NoMemory texts source e h = tt
+
+pub goes_all : (r : Result Object AsmFail) (lines : List Laid) (texts : List (List ℕ)) (source : List ℕ) → texts ≡ lines_in source → placed_texts texts ≡ Ok lines
+    → Assembles r (object_unless lines (find (has_lost lines) lines)) → Assembles r (assembled source)
+goes_all r lines texts source e h object = subst (λ said. Assembles r said) (sym (ap (λ ts. object_from (placed_texts ts)) (sym e) ∙ ap object_from h)) object
+
+-- the first line that refers to a label that is none, or the object
+pub lost_answer : (lines : List Laid) (o : Option Laid) (line : ℕ) → Some line ≡ option_map (λ l. l.number) o → Assembles (Err (Faulty line AsmKindLabel)) (object_unless lines o)
+lost_answer lines None line e = absurd cc
+lost_answer lines (Some l) line e = cc
+
+pub whole_answer : (lines : List Laid) (o : Option Laid) (object : Object) → None ≡ option_map (λ l. l.number) o → object ≡ object_of lines → Assembles (Ok object) (object_unless lines o)
+whole_answer lines None object e is = ap Ok (sym is)
+whole_answer lines (Some l) object e is = absurd cc
+
+pub ruleset answers = (lost_answer, whole_answer)
+
+pub ruleset wholes = (few_lines, stops_all, goes_all)
+
+-- Lines in their places: what holds of none, and goes on with each line, holds of all.
+
+-- what goes on with each line that is read and has no fault behind those before it; and the same of the texts that are read
+abbrev pub Goes : (List Laid → Type 0) → Type 0
+Goes P = (before : List Laid) (n : ℕ) (text : List ℕ) (line : Line) → P before → line_of text ≡ Ok line → fault_at before line ≡ None → P (before ++ placed before n line ∷ [])
+
+abbrev pub GoesOn : (List (List ℕ) → List Laid → Type 0) → Type 0
+GoesOn P =
+    (done : List (List ℕ)) (before : List Laid) (n : ℕ) (text : List ℕ) (line : Line) → P done before → line_of text ≡ Ok line → fault_at before line ≡ None
+    → P (done ++ text ∷ []) (before ++ placed before n line ∷ [])
+
+not_both : (fault : ℕ × AsmKind) (lines : List Laid) (r : Result (List Laid) (ℕ × AsmKind)) → r ≡ Err fault → r ≡ Ok lines → {P : Type 0} → P
+not_both fault lines r e f = absurd cc
+
+same_lines : (a b : List Laid) (r : Result (List Laid) (ℕ × AsmKind)) → r ≡ Ok a → r ≡ Ok b → a ≡ b
+same_lines a b r e f = cc
+
+module _ (P : List (List ℕ) → List Laid → Type 0) (goes : GoesOn P) where
+  -- what follows the line
+  abbrev Rest : List (List ℕ) → List Laid → ℕ → List ℕ → List (List ℕ) → List Laid → Type 0
+  Rest done before n text texts lines = (l : Laid) → P (done ++ text ∷ []) (before ++ l ∷ []) → placed_from (Ok (before ++ l ∷ [])) (suc n) texts ≡ Ok lines → P (done ++ text ∷ texts) lines
+
+  by_fault : (done : List (List ℕ)) (before : List Laid) (n : ℕ) (text : List ℕ) (texts : List (List ℕ)) (lines : List Laid) (line : Line) (o : Option AsmKind) → P done before → Rest done before n text texts lines
+      → line_of text ≡ Ok line → fault_at before line ≡ o → placed_from (with_line before n (placed_unless before n line o)) (suc n) texts ≡ Ok lines → P (done ++ text ∷ texts) lines
+  by_fault done before n text texts lines line None p rest read f e = rest (placed before n line) (goes done before n text line p read f) e
+  by_fault done before n text texts lines line (Some k) p rest read f e = not_both (n, k) lines _ (after_fault (n, k) (suc n) texts) e
+
+  by_line : (done : List (List ℕ)) (before : List Laid) (n : ℕ) (text : List ℕ) (texts : List (List ℕ)) (lines : List Laid) (r : Result Line AsmKind) → P done before → Rest done before n text texts lines
+      → line_of text ≡ r → placed_from (with_line before n (placed_line before n r)) (suc n) texts ≡ Ok lines → P (done ++ text ∷ texts) lines
+  by_line done before n text texts lines (Ok line) p rest read e = by_fault done before n text texts lines line (fault_at before line) p rest read refl e
+  by_line done before n text texts lines (Err k) p rest read e = not_both (n, k) lines _ (after_fault (n, k) (suc n) texts) e
+
+  from : (done : List (List ℕ)) (before : List Laid) (n : ℕ) (texts : List (List ℕ)) (lines : List Laid) → P done before → placed_from (Ok before) n texts ≡ Ok lines → P (done ++ texts) lines
+  from done before n [] lines p e = subst (λ ts. P ts lines) (sym (append-nil done)) (subst (P done) (same_lines before lines (Ok before) refl e) p)
+  from done before n (text ∷ texts) lines p e =
+      by_line done before n text texts lines (line_of text) p
+      (λ l q h. subst (λ ts. P ts lines) (append_assoc done (text ∷ []) texts) (from (done ++ text ∷ []) (before ++ l ∷ []) (suc n) texts lines q h)) refl e
+
+  pub grows_with : (texts : List (List ℕ)) (lines : List Laid) → P [] [] → placed_texts texts ≡ Ok lines → P texts lines
+  grows_with texts lines p e = from [] [] 1 texts lines p e
+
+pub grows : (P : List Laid → Type 0) → Goes P → (texts : List (List ℕ)) (lines : List Laid) → P [] → placed_texts texts ≡ Ok lines → P lines
+grows P goes texts lines p e = grows_with (λ done ls. P ls) (λ done before n text line q r f. goes before n text line q r f) texts lines p e
+
+-- LINE BY LINE
+
+pub pushed : (Q : Laid → Type 0) (before : List Laid) (new : Laid) → ((l : Laid) → In l before → Q l) → Q new → (l : Laid) → In l (before ++ new ∷ []) → Q l
+pushed Q before new h s l k = go (In-append before (new ∷ []) l k)
+  where
+    go : In l before ⊎ In l (new ∷ []) → Q l
+    go (inl i) = h l i
+    go (inr (inl e)) = subst Q (sym e) s
+    go (inr (inr i)) = absurd i
+
+-- what holds of each line in its place
+pub each_line : (Q : Laid → Type 0) → ((before : List Laid) (n : ℕ) (text : List ℕ) (line : Line) → line_of text ≡ Ok line → fault_at before line ≡ None → Q (placed before n line))
+    → (source : List ℕ) (lines : List Laid) → placed_lines source ≡ Ok lines → (l : Laid) → In l lines → Q l
+each_line Q one source lines e =
+    grows (λ ls. (l : Laid) → In l ls → Q l) (λ before n text line h read f. pushed Q before (placed before n line) h (one before n text line read f)) (lines_in source) lines (λ l k. absurd k) e
