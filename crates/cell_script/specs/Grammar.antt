@@ -36,7 +36,7 @@ symbol word = where_true (is_symbol word) word
 abbrev pub number : List ℕ → Option ℕ
 number word = number_in 4294967295 word
 
--- how many turns `step` may give a task, and a swap each of its routines
+-- how many turns `step` may give a task, and a swap all its routines together
 abbrev pub turns_of_one : List ℕ → Option ℕ
 turns_of_one word = number_in 100000 word
 
@@ -157,11 +157,11 @@ abbrev pub after_routines : List (List ℕ) → List (List ℕ)
 after_routines (word ∷ routine ∷ words) = if bytes_eq word (codes "transfer") then after_routines words else word ∷ routine ∷ words
 after_routines words = words
 
--- how many turns a routine may have where the line doesn't say it
+-- how many turns all routines may have together where the line doesn't say it
 abbrev pub usual_budget : ℕ
 usual_budget = 10000
 
--- how many turns each of that many routines may have: `budget N`, which needs one at least, or nothing
+-- how many turns that many routines may have together: `budget N`, which needs one at least, or nothing
 abbrev pub budget_of : ℕ → List (List ℕ) → Option ℕ
 budget_of routines [] = Some usual_budget
 budget_of routines (word ∷ turns ∷ []) = if nat_lt 0 routines && bytes_eq word (codes "budget") then turns_of_one turns else None

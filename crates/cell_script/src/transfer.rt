@@ -7,10 +7,10 @@ use crate::words::{is_symbol, read_turns_of_one};
 use cell_num::{Listed, Name};
 use std::alloc::{AllocError, Global};
 
-/// How many turns a routine may have where the line doesn't say it.
+/// How many turns all routines may have together where the line doesn't say it.
 const USUAL_BUDGET: u32 = 10000;
 
-/// The routines of a swap, and how many turns each may have.
+/// The routines of a swap, and how many turns all may have together.
 #[derive(Drop)]
 pub struct Transfer {
     pub routines: Listed<Name>,
@@ -64,7 +64,7 @@ fn read_symbols(alloc: Global, words: &[&[u8]]) -> Result<Option<Listed<Name>>, 
     Ok(Some(Listed::from_vec(symbols)))
 }
 
-/// How many turns each of that many routines may have: `budget N`, which needs one at least, or nothing.
+/// How many turns that many routines may have together: `budget N`, which needs one at least, or nothing.
 fn read_budget(routines: usize, words: &[&[u8]]) -> Option<u32>
     ensures { result ≡ budget_of routines (map (λ word. word.now) words.now) }
 {

@@ -16,7 +16,7 @@ pub fn read_number(word: &[u8]) -> Option<u32>
     }
 }
 
-/// How many turns `step` may give a task, and a swap each of its routines: at most 100000.
+/// How many turns `step` may give a task, and a swap all its routines together: at most 100000.
 pub fn read_turns_of_one(word: &[u8]) -> Option<u32>
     ensures { result ≡ turns_of_one word.now }
 {

@@ -49,4 +49,3 @@ mod BeginsPlain
 mod RoutinesRun
 mod AddressesSaid
 mod Rows
-mod ReadyRoom

@@ -1,4 +1,4 @@
-//! Taking cells away, and new cells in the place of old ones: first the whole decision, then steps that can't fail or go back.
+//! Taking cells away, and new cells in the place of old ones: first the whole decision, then steps that take no memory.
 #![tactic(auto)]
 
 mod affected;

@@ -73,7 +73,7 @@ impl System {
         let _ = &self.machine;
     }
 
-    /// Does a command that a line of a script can say, which are all but swaps.
+    /// Does a command that a line of a script can say, which are all but a swap of no cell.
     pub fn do_command(&mut self, command: &Command) -> Result<Reply, Fail>
         requires { is_said command.now ≡ true }
         ensures { IsStep self.old command.now result self.new }
