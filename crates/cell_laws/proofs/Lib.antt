@@ -8,3 +8,8 @@ mod Parts
 mod Fresh
 mod FreshSaid
 mod CoverageExact
+mod Counted
+mod CountsLoad
+mod CountsRemoval
+mod CountsSwap
+mod Counts

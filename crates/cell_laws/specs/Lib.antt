@@ -1,4 +1,5 @@
 pub mod Commands
+pub mod Counts
 pub mod KeepsTargets
 pub mod Lost
 pub mod NextTurn

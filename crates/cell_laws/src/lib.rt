@@ -12,10 +12,12 @@
 //! - `undo`: what going back by the records of all writes gives back
 //! - `removal`: which cells are kept, who holds them, which are left, and that nothing leads into one that went
 //! - `swaps`: what a swap plans, and when it is accepted
+//! - `counting`: how many cells there are, by what replies say of them
 #![tactic(auto)]
 
 pub mod coherence;
 pub mod contents;
+pub mod counting;
 pub mod presence;
 pub mod relinking;
 pub mod removal;
