@@ -1,5 +1,5 @@
 -- The words of a command line, read by the command.
-use Rattle.std.proofs.Common.{◌≡◌, ◌⊎◌, inl, inr, ℕ, List, [], ◌∷◌, true, Some, None, Err, refl, sym, ap, ◌∙◌}
+use Rattle.std.proofs.Common.{◌≡◌, ◌⊎◌, inl, inr, ℕ, List, [], ◌∷◌, true, None, Err, refl, sym, ap, ◌∙◌}
 use Rattle.std.specs.declared.option.Option.{Option}
 use Rattle.clap.specs.Words.{Kinds, IsAmong, Row, fault_of, is_simple, is_simple_and_free, matches_of}
 use Rattle.clap.specs.declared.error.kind.ErrorKind.{ErrorKind}
@@ -7,7 +7,7 @@ use Rattle.clap.specs.declared.error.kind.ErrorKind.TheVariants as kind
 use Rattle.clap.proofs.OnLiterals.{clap_on_literals}
 use Rattle.cell_arguments.specs.declared.arguments.ArgumentsFault.{ArgumentsFault}
 use Rattle.cell_arguments.specs.declared.arguments.ArgumentsFault.TheVariants.{Usage, OutOfMemory}
-use Rattle.cell_arguments.specs.Arguments.{command, Said, arguments_in, arguments_of, unless_fault, joined, ReadsArguments}
+use Rattle.cell_arguments.specs.Arguments.{command, Said, arguments_in, arguments_of, unless_fault, ReadsArguments}
 
 pub is_simple-command : is_simple command ≡ true
 unfolding command clap_on_literals
@@ -39,20 +39,3 @@ pub taken : (words : List (List ℕ)) (rows : List Row) (said : Option Said) →
 unfolding arguments_of
 taken words rows said none same e =
     ap (λ k. unless_fault k (arguments_in (matches_of command words))) none ∙ ap arguments_in (sym same) ∙ sym e
-
--- the parts that are there, and the first that isn't
-pub all_joined : (d s : Option (List ℕ)) (b p : Option ℕ) (dir script : List ℕ) (base pages : ℕ) → Some dir ≡ d → Some script ≡ s → Some base ≡ b → Some pages ≡ p
-    → Some (record { dir = dir; script = script; base = base; pages = pages }) ≡ joined d s b p
-all_joined d s b p dir script base pages e f g h = λ i. joined (e i) (f i) (g i) (h i)
-
-pub no_dir : (d s : Option (List ℕ)) (b p : Option ℕ) → None ≡ d → None ≡ joined d s b p
-no_dir d s b p e = ap (λ x. joined x s b p) e
-
-pub no_script : (d s : Option (List ℕ)) (b p : Option ℕ) (dir : List ℕ) → Some dir ≡ d → None ≡ s → None ≡ joined d s b p
-no_script d s b p dir e f = λ i. joined (e i) (f i) b p
-
-pub no_base : (d s : Option (List ℕ)) (b p : Option ℕ) (dir script : List ℕ) → Some dir ≡ d → Some script ≡ s → None ≡ b → None ≡ joined d s b p
-no_base d s b p dir script e f g = λ i. joined (e i) (f i) (g i) p
-
-pub no_pages : (d s : Option (List ℕ)) (b p : Option ℕ) (dir script : List ℕ) (base : ℕ) → Some dir ≡ d → Some script ≡ s → Some base ≡ b → None ≡ p → None ≡ joined d s b p
-no_pages d s b p dir script base e f g h = λ i. joined (e i) (f i) (g i) (h i)

@@ -1,12 +1,14 @@
 -- What the words of a command line say.
 --     command                the command that `clap` reads, by its own definition of simple commands
---     arguments_of words     the folder, the script and the memory; none where the words are refused
-use Rattle.std.specs.Prelude.{◌≡◌, ℕ, ◌%◌, ◌≤◌, nat_le, Bool, true, ◌&&◌, ◌==◌, List, [], ◌∷◌, take, drop, Option, Some, None, option_and_then, if◌then◌else◌, bytes_eq, codes, Result, Ok, Err}
+--     arguments_of words     what is to be run, and the memory; none where the words are refused
+use Rattle.std.specs.Prelude.{◌≡◌, ℕ, ◌%◌, ◌≤◌, nat_le, Bool, true, ◌&&◌, ◌==◌, List, [], ◌∷◌, take, drop, Option, Some, None, option_and_then, option_map, if◌then◌else◌, bytes_eq, codes, Result, Ok, Err}
 use Rattle.clap.specs.Words.{App, Kinds, Row, Rule, fault_of, first_of, matches_of, new_app, new_rule, with_rule}
 use Rattle.clap.specs.Simple.{new_shape}
 use Rattle.cell_num.specs.Lists.{where_true}
 use Rattle.cell_text.specs.Number.{number_in, hex_number_in}
 use Rattle.cell_arguments.specs.declared.arguments.Arguments.{Arguments}
+use Rattle.cell_arguments.specs.declared.arguments.Task.{Task as TaskRead}
+use Rattle.cell_arguments.specs.declared.arguments.Task.TheVariants.{Script as ScriptRead, Generated as GeneratedRead}
 use Rattle.cell_arguments.specs.declared.arguments.ArgumentsFault.{ArgumentsFault}
 use Rattle.cell_arguments.specs.declared.arguments.ArgumentsFault.TheVariants.{Usage, OutOfMemory}
 
@@ -18,14 +20,23 @@ option name = record (new_rule name) { long = Some name }
 abbrev pub plain : App
 plain = record (new_app (codes "cells")) { top = record (new_shape (codes "cells")) { no_binary_name = true; disable_help_flag = true; disable_version_flag = true } }
 
--- two positionals and two options
+-- two positionals
+abbrev pub with_positionals : App
+with_positionals = with_rule (with_rule plain (new_rule (codes "dir"))) (new_rule (codes "script"))
+
+-- two positionals and four options
 unfoldable pub command : App
-command = with_rule (with_rule (with_rule (with_rule plain (new_rule (codes "dir"))) (new_rule (codes "script"))) (option (codes "base"))) (option (codes "pages"))
+command =
+    with_rule (with_rule (with_rule (with_rule with_positionals (option (codes "base"))) (option (codes "pages"))) (option (codes "generate"))) (option (codes "seed"))
+
+-- what is to be run: a script of a folder, or what the generator makes of so many crates and a seed
+pub data Task : Type 0 where
+  Script : (dir : List ℕ) → (script : List ℕ) → Task
+  Generated : (crates : ℕ) → (seed : ℕ) → Task
 
 -- what the words say
 pub record Said : Type 0 where
-  pub dir : List ℕ
-  pub script : List ℕ
+  pub task : Task
   pub base : ℕ
   pub pages : ℕ
 
@@ -48,22 +59,43 @@ base_in text = if bytes_eq (take 2 text) (codes "0x") then option_and_then (λ n
 abbrev pub pages_in : List ℕ → Option ℕ
 pages_in text = option_and_then (λ n. where_true (nat_le 16 n) n) (number_in 4096 text)
 
+-- how many crates the text spells: 1 to 400
+abbrev pub crates_in : List ℕ → Option ℕ
+crates_in text = option_and_then (λ n. where_true (nat_le 1 n) n) (number_in 400 text)
+
+-- the seed that the text spells, below 2^64
+abbrev pub seed_in : List ℕ → Option ℕ
+seed_in text = number_in 18446744073709551615 text
+
 -- what an option's text spells, or what stands for an option that isn't given
 abbrev pub value_or : ℕ → (List ℕ → Option ℕ) → Option (List ℕ) → Option ℕ
 value_or default spelled None = Some default
 value_or default spelled (Some text) = spelled text
 
--- folder, script, base and pages, where each is there
-abbrev pub joined : Option (List ℕ) → Option (List ℕ) → Option ℕ → Option ℕ → Option Said
-joined (Some dir) (Some script) (Some base) (Some pages) = Some (record { dir = dir; script = script; base = base; pages = pages })
-joined _ _ _ _ = None
+-- what the generator is to make
+abbrev pub generated : List ℕ → List ℕ → Option Task
+generated crates seed = option_and_then (λ n. option_map (Generated n) (seed_in seed)) (crates_in crates)
+
+-- a folder and a script alone, or a number of crates and a seed alone
+abbrev pub task_of : Option (List ℕ) → Option (List ℕ) → Option (List ℕ) → Option (List ℕ) → Option Task
+task_of (Some dir) (Some script) None None = Some (Script dir script)
+task_of None None (Some crates) (Some seed) = generated crates seed
+task_of _ _ _ _ = None
+
+abbrev pub task_in : List Row → Option Task
+task_in rows = task_of (first_of (codes "dir") rows) (first_of (codes "script") rows) (first_of (codes "generate") rows) (first_of (codes "seed") rows)
+
+abbrev pub run_on : Task → ℕ → ℕ → Said
+run_on task base pages = record { task = task; base = base; pages = pages }
 
 -- what matched words say
 abbrev pub arguments_in : List Row → Option Said
 arguments_in rows =
-    joined (first_of (codes "dir") rows) (first_of (codes "script") rows)
-    (value_or default_base base_in (first_of (codes "base") rows))
-    (value_or default_pages pages_in (first_of (codes "pages") rows))
+    option_and_then (λ task.
+    option_and_then (λ base.
+    option_map (run_on task base) (value_or default_pages pages_in (first_of (codes "pages") rows)))
+    (value_or default_base base_in (first_of (codes "base") rows)))
+    (task_in rows)
 
 -- nothing where there is a fault
 abbrev pub unless_fault : Kinds → Option Said → Option Said
@@ -74,8 +106,17 @@ unless_fault (kind ∷ kinds) said = None
 unfoldable pub arguments_of : List (List ℕ) → Option Said
 arguments_of words = unless_fault (fault_of command words) (arguments_in (matches_of command words))
 
+abbrev pub task_said : TaskRead → Task
+task_said (ScriptRead dir script) = Script dir.now script.now
+task_said (GeneratedRead crates seed) = Generated crates seed
+
 abbrev pub said : Arguments → Said
-said a = record { dir = a.dir.now; script = a.script.now; base = a.base; pages = a.pages }
+said a = record { task = task_said a.task; base = a.base; pages = a.pages }
+
+-- what the generator is asked for is in its range
+abbrev pub IsTask : Task → Type 0
+IsTask (Script dir script) = Unit {0}
+IsTask (Generated crates seed) = (1 ≤ crates) × (crates ≤ 400)
 
 -- the answer is what the words say, or memory ran out
 abbrev pub ReadsArguments : Result Arguments ArgumentsFault → Option Said → Type 0

@@ -1,28 +1,36 @@
 //! The command that `clap` reads.
 
-ghost use Rattle.std.specs.Prelude.{◌≡◌, ◌≢◌, [], map, IfOk, IfErr, string_bytes};
-ghost use Rattle.clap.specs.Words.{app_of, fault_of, found_of, matches_of, rows_of};
-ghost use Rattle.cell_arguments.specs.Arguments.{command};
+ghost use Rattle.std.specs.Prelude.{◌≡◌, ◌≢◌, false, [], map, IfOk, IfErr, string_bytes};
+ghost use Rattle.clap.specs.Words.{app_of, fault_of, found_of, matches_of, rows_of, rule_of};
+ghost use Rattle.cell_arguments.specs.Arguments.{command, option};
 
 use crate::ArgumentsFault;
 use clap::error::ErrorKind;
 use clap::{Arg, ArgMatches, Command};
 use std::alloc::{AllocError, Global};
 
-/// Two positionals and two options that each take one value, without help and version.
+/// An option that takes one value.
+fn option<'a>(alloc: Global, name: &'a str) -> Arg<'a>
+    ensures rule { rule_of result ≡ option name.now }
+    ensures own { result.global ≡ false }
+{
+    Arg::new(alloc, name).long(name)
+}
+
+/// Two positionals and four options that each take one value, without help and version.
 fn command<'a>(alloc: Global) -> Result<Command<'a>, AllocError>
     ensures { IfOk result (λ c. app_of c ≡ command) }
 {
-    let base = Arg::new(alloc, "base").long("base");
-    let pages = Arg::new(alloc, "pages").long("pages");
     Command::new(alloc, "cells")
         .no_binary_name(true)
         .disable_help_flag(true)
         .disable_version_flag(true)
         .arg(Arg::new(alloc, "dir"))?
         .arg(Arg::new(alloc, "script"))?
-        .arg(base)?
-        .arg(pages)
+        .arg(option(alloc, "base"))?
+        .arg(option(alloc, "pages"))?
+        .arg(option(alloc, "generate"))?
+        .arg(option(alloc, "seed"))
 }
 
 /// What the words match. Words that the command refuses are `Usage`.

@@ -1,7 +1,7 @@
-//! The command line: two words, and two options.
+//! The command line: a folder and a script, or what the generator takes.
 #![tactic(auto)]
 
 mod arguments;
 mod command;
 
-pub use arguments::{Arguments, ArgumentsFault, read_arguments};
+pub use arguments::{Arguments, ArgumentsFault, Task, read_arguments};

@@ -7,14 +7,12 @@ use Rattle.std.specs.Io.KnownBytes.{Appends}
 use Rattle.cell_io.specs.Files.{File, folder, bytes_named}
 use Rattle.cell_io.specs.Written.{AppendsPartOf}
 use Rattle.cell_io.specs.Within.{within, ◌>>=◌}
-use Rattle.cell_object.specs.declared.object.Object.{Object}
 use Rattle.cell_asm.specs.declared.kind.AsmKind.{AsmKind}
-use Rattle.cell_asm.specs.Assembled.{assembled}
-use Rattle.cell_object.specs.Image.{image}
 use Rattle.cell_assemble.specs.declared.status.AsStatus.{AsStatus}
 use Rattle.cell_assemble.specs.declared.status.AsStatus.TheVariants as statuses
 use Rattle.cell_assemble.specs.declared.status.Refusal.{Refusal}
 use Rattle.cell_assemble.specs.declared.status.Refusal.TheVariants.{TooManyNames, NoSource, TooLong, Fault}
+use Rattle.cell_assemble.specs.SourceImage.{image_of_source}
 use Rattle.cell_assemble.specs.RefusalLine.{usage_line, refusal_line}
 
 -- the bytes of the source, where its name is among these: at most 1048576
@@ -25,13 +23,13 @@ source_among source files names = if list_any (bytes_eq source) names then withi
 unfoldable pub source_in : List ℕ → List File → Result (List ℕ) Refusal
 source_in source files = within 65536 TooManyNames (map (λ f. f.name) files) >>= source_among source files
 
-abbrev pub image_or_fault : Result Object (ℕ × AsmKind) → Result (List ℕ) Refusal
-image_or_fault (Ok o) = Ok (image o)
-image_or_fault (Err fault) = Err (Fault fault.0 fault.1)
+abbrev pub image_unless : Result (List ℕ) (ℕ × AsmKind) → Result (List ℕ) Refusal
+image_unless (Ok bytes) = Ok bytes
+image_unless (Err fault) = Err (Fault fault.0 fault.1)
 
 -- the image of the object that a source is assembled to
 abbrev pub object_of : List ℕ → Result (List ℕ) Refusal
-object_of text = image_or_fault (assembled text)
+object_of text = image_unless (image_of_source text)
 
 -- the image of the object of the source of that name in a folder, or the first refusal
 unfoldable pub object_in : List ℕ → List File → Result (List ℕ) Refusal

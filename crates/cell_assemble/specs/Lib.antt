@@ -1,2 +1,3 @@
 pub mod RefusalLine
+pub mod SourceImage
 pub mod Assembling

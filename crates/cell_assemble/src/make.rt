@@ -1,20 +1,17 @@
 //! The object of a source in a folder.
 
-ghost use Rattle.std.specs.Prelude.{◌≡◌, ◌≢◌, ◌≤◌, Err, Ok, length, IfOk, IsErrOf};
+ghost use Rattle.std.specs.Prelude.{◌≡◌, ◌≢◌, ◌≤◌, Err, length, IfOk, IsErrOf};
 ghost use Rattle.cell_io.specs.Causes.{HasCause};
 ghost use Rattle.cell_io.specs.Files.{folder};
 ghost use Rattle.cell_io.specs.Within.{IfTold, Gives};
-ghost use Rattle.cell_object.specs.Reads.{reads};
-ghost use Rattle.cell_object.specs.Image.{image};
 ghost use Rattle.cell_assemble.specs.Assembling.{source_in, object_of, object_in};
 
+use crate::image::image_of_source;
 use crate::status::{MAX_NAMES, MAX_SOURCE_BYTES, Refusal};
-use cell_asm::{AsmFail, assemble};
-use cell_elfw::{WriteFail, write_object};
+use cell_asm::AsmFail;
 use cell_io::{Host, Stop, is_listed, list_within, read_within};
 use cell_num::Shared;
-use cell_object::Object;
-use std::alloc::{AllocError, Global};
+use std::alloc::Global;
 
 /// The bytes of the object of the source of that name in a folder.
 pub fn object_in<H: Host>(
@@ -58,21 +55,9 @@ fn object_of(alloc: Global, text: &[u8]) -> Result<Shared, Stop<Refusal>>
     ensures object { Gives (λ bytes. bytes) result (object_of text.now) }
     ensures no_fault { result ≢ Err Stop.ReadFault }
 {
-    match assemble(alloc, text) {
-        Ok(object) => Ok(image_of(alloc, &object)?),
+    match image_of_source(alloc, text) {
+        Ok(image) => Ok(image),
         Err(AsmFail::Fault { line, kind }) => Err(Stop::Refused(Refusal::Fault { line, kind })),
         Err(AsmFail::OutOfMemory) => Err(Stop::OutOfMemory),
-    }
-}
-
-/// The image of an object that is read from it again.
-fn image_of(alloc: Global, object: &Object) -> Result<Shared, AllocError>
-    requires { reads (image object.now) ≡ Ok object.now }
-    ensures { IfOk result (λ bytes. bytes ≡ image object.now) }
-{
-    match write_object(alloc, object) {
-        Ok(bytes) => Ok(bytes),
-        Err(WriteFail::Unwritable { .. }) => unreachable!(),
-        Err(WriteFail::OutOfMemory) => Err(AllocError),
     }
 }

@@ -12,4 +12,4 @@ mod Counted
 mod CountsLoad
 mod CountsRemoval
 mod CountsSwap
-mod Counts
+pub mod Counts

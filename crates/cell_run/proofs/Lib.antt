@@ -1,4 +1,7 @@
-pub mod Transcript
+pub mod Going
+pub mod Steps
+pub mod Telling
+pub mod Inputs
 pub mod Words
 pub mod Whole
 pub mod DistinctFiles

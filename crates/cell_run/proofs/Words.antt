@@ -1,5 +1,5 @@
 -- The run of words that are read, and of words that aren't.
-use Rattle.std.proofs.Common.{◌≡◌, ℕ, List, [], Some, None, sym, ◌∙◌}
+use Rattle.std.proofs.Common.{◌≡◌, ℕ, List, Some, None, sym, ◌∙◌}
 use Rattle.std.specs.declared.option.Option.{Option}
 use Rattle.std.specs.Prelude.{IfSome}
 use Rattle.cell_io.specs.Files.{File as HostFile}

@@ -4,7 +4,7 @@ ghost use Rattle.std.specs.Prelude.{◌≡◌, ◌≢◌, ◌<◌, ◌+◌, [], 
 ghost use Rattle.cell_io.specs.MemoryHost.{file_of};
 ghost use Rattle.cell_run.specs.Run.{run_of, IsWhole};
 
-use crate::{Status, cells};
+use crate::{Shelf, Status, cells};
 use cell_io::{MemSink, SoundHost};
 use std::alloc::Global;
 
@@ -21,5 +21,6 @@ pub fn cells_in_memory(
         length out.old.bytes + length (run_of (map string_bytes words.now.items) (map file_of host.old.files.items)).text < out.old.room →
         IsWhole (run_of (map string_bytes words.now.items) (map file_of host.old.files.items)) result out.old.bytes out.new.bytes }
 {
-    cells(alloc, words, host, out)
+    let mut shelf = Shelf::new();
+    cells(alloc, words, host, out, &mut shelf)
 }

@@ -1,6 +1,7 @@
 //! How a run ends.
 
 ghost use Rattle.std.specs.Prelude.{◌≡◌, ◌≢◌};
+ghost use Rattle.cell_run.specs.Driven.{IsFinished};
 ghost use Rattle.cell_run.specs.Run.{status_of};
 
 use cell_input::{Reason, What};
@@ -24,6 +25,7 @@ pub enum Status {
 pub fn status_of(reason: Reason) -> Status
     ensures status { result ≡ status_of reason }
     ensures other { result ≢ Status.Usage }
+    ensures unfinished { IsFinished result → ⊥ }
 {
     match reason {
         Reason::NoScript => Status::NoScript,

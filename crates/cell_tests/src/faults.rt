@@ -7,7 +7,7 @@ ghost use Rattle.cell_io.specs.MemoryHost.{file_of};
 use crate::folder::{Folder, ObjectFile, words_of};
 use crate::samples::{POINTER, SEVEN, first_example};
 use cell_io::{MemFile, MemHost, MemSink};
-use cell_run::{Status, cells};
+use cell_run::{Shelf, Status, cells};
 use std::alloc::{AllocError, Global};
 use std::test::Fail;
 
@@ -25,7 +25,7 @@ fn write_to(alloc: Global, files: &[ObjectFile], sink: &mut MemSink) -> Result<S
         script: SCRIPT,
         files,
     };
-    Ok(cells(alloc, &words, &mut folder, sink))
+    Ok(cells(alloc, &words, &mut folder, sink, &mut Shelf::new()))
 }
 
 #[test]
@@ -99,7 +99,7 @@ fn a_folder_that_fails(rt: HostRuntime) -> Result<(), Fail> {
         let mut host = failing_at(rt.alloc(), call)?;
         let mut sink = MemSink::new(rt.alloc(), 1000, Vec::new(rt.alloc()))?;
         let words = words_of(rt.alloc(), &["d", "s"])?;
-        let status = cells(rt.alloc(), &words, &mut host, &mut sink);
+        let status = cells(rt.alloc(), &words, &mut host, &mut sink, &mut Shelf::new());
         assert!(rt; status == Status::ReadFault, "call {call}");
         assert!(rt; sink.written().is_empty(), "call {call}");
     }
@@ -112,7 +112,7 @@ fn a_folder_in_any_order(rt: HostRuntime) -> Result<(), Fail> {
     let mut host = failing_at(rt.alloc(), 4)?;
     let mut sink = MemSink::new(rt.alloc(), 1000, Vec::new(rt.alloc()))?;
     let words = words_of(rt.alloc(), &["d", "s"])?;
-    let status = cells(rt.alloc(), &words, &mut host, &mut sink);
+    let status = cells(rt.alloc(), &words, &mut host, &mut sink, &mut Shelf::new());
     assert!(rt; status == Status::Done);
     assert!(rt; sink.written() == TEXT);
     Ok(())
@@ -124,8 +124,10 @@ fn a_run_after_one_that_failed(rt: HostRuntime) -> Result<(), Fail> {
     let mut host = failing_at(rt.alloc(), 0)?;
     let mut sink = MemSink::new(rt.alloc(), 1000, Vec::new(rt.alloc()))?;
     let words = words_of(rt.alloc(), &["d", "s"])?;
-    assert!(rt; cells(rt.alloc(), &words, &mut host, &mut sink) == Status::ReadFault);
-    assert!(rt; cells(rt.alloc(), &words, &mut host, &mut sink) == Status::Done);
+    assert!(rt;
+        cells(rt.alloc(), &words, &mut host, &mut sink, &mut Shelf::new()) == Status::ReadFault
+    );
+    assert!(rt; cells(rt.alloc(), &words, &mut host, &mut sink, &mut Shelf::new()) == Status::Done);
     assert!(rt; sink.written() == TEXT);
     Ok(())
 }

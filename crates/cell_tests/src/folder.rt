@@ -3,7 +3,7 @@
 ghost use Rattle.std.specs.declared.option.Option.TheVariants.{None};
 
 use cell_io::{Host, HostFault, MemSink};
-use cell_run::{Status, cells};
+use cell_run::{Shelf, Status, cells};
 use std::alloc::{AllocError, Global};
 
 /// An object file of a folder.
@@ -91,6 +91,6 @@ pub fn outcome(
     let words = words_of(alloc, words)?;
     let mut folder = Folder { script, files };
     let mut sink = MemSink::new(alloc, 10000, Vec::new(alloc))?;
-    let status = cells(alloc, &words, &mut folder, &mut sink);
+    let status = cells(alloc, &words, &mut folder, &mut sink, &mut Shelf::new());
     Ok((status, sink))
 }

@@ -2,7 +2,7 @@
 
 use crate::folder::words_of;
 use cell_io::{MemSink, RepeatHost};
-use cell_run::{Status, What, cells};
+use cell_run::{Shelf, Status, What, cells};
 use std::test::Fail;
 
 /// So many names beside the script and so many object files, the bytes of the script, which is a comment,
@@ -111,7 +111,7 @@ fn limits_of_a_folder(rt: HostRuntime) -> Result<(), Fail> {
             object: vec![in alloc; 0; case.object]?,
         };
         let mut sink = MemSink::new(alloc, 1000, Vec::new(alloc))?;
-        let status = cells(alloc, &words, &mut host, &mut sink);
+        let status = cells(alloc, &words, &mut host, &mut sink, &mut Shelf::new());
         assert_eq!(rt; status, case.status);
         assert!(rt; sink.written() == case.text);
     }

@@ -3,7 +3,7 @@
 use crate::folder::words_of;
 use crate::sources::assembled;
 use cell_io::{MemSink, RepeatHost};
-use cell_run::{Status, cells};
+use cell_run::{Shelf, Status, cells};
 use std::alloc::{AllocError, Global};
 use std::test::Fail;
 
@@ -25,7 +25,7 @@ pub fn outcome(
         object: assembled(alloc, "k#c.o", source)?.bytes,
     };
     let mut sink = MemSink::new(alloc, room, Vec::new(alloc))?;
-    let status = cells(alloc, &words, &mut host, &mut sink);
+    let status = cells(alloc, &words, &mut host, &mut sink, &mut Shelf::new());
     Ok((status, sink))
 }
 

@@ -26,7 +26,7 @@ fn memory(alloc: Global, text: &str) -> Result<Option<(u64, u32)>, AllocError> {
 /// Words, and the base and the pages that they name.
 struct Named(&'static str, u64, u32);
 
-const NAMED: [Named; 9] = [
+const NAMED: [Named; 10] = [
     Named("d s", 0x1000_0000, 1024),
     Named("--base=0x1000 d s", 0x1000, 1024),
     Named("d --base 0x1000 s --pages 16", 0x1000, 16),
@@ -40,6 +40,7 @@ const NAMED: [Named; 9] = [
     Named(" s", 0x1000_0000, 1024),
     Named("d ", 0x1000_0000, 1024),
     Named("- s", 0x1000_0000, 1024),
+    Named("--generate 2 --seed 3 --pages 16", 0x1000_0000, 16),
 ];
 
 #[test]
@@ -51,7 +52,7 @@ fn options(rt: HostRuntime) -> Result<(), Fail> {
     Ok(())
 }
 
-const REFUSED: [&str; 36] = [
+const REFUSED: [&str; 48] = [
     "",
     "d",
     "d s x",
@@ -87,7 +88,19 @@ const REFUSED: [&str; 36] = [
     "d s --pages +16",
     "d s --pages 0x10",
     "d s --generate 1 --seed 1",
-    "--generate 1 --seed 1",
+    "d s --generate 1",
+    "d s --seed 1",
+    "d --generate 1 --seed 1",
+    "--generate 1",
+    "--seed 1",
+    "--generate 0 --seed 1",
+    "--generate 401 --seed 1",
+    "--generate 01 --seed 1",
+    "--generate 1 --seed 00",
+    "--generate 1 --seed 0x1",
+    "--generate 1 --seed 18446744073709551616",
+    "--generate 1 --generate 1 --seed 1",
+    "--generate 1 --seed 1 --pages 15",
 ];
 
 #[test]
@@ -105,12 +118,50 @@ fn no_words(rt: HostRuntime) {
     assert!(rt; read.err() == Some(ArgumentsFault::Usage));
 }
 
+/// The task that the words name.
+fn task<'a>(alloc: Global, words: &'a [String]) -> Result<Task<'a>, Fail> {
+    let read = read_arguments(alloc, words);
+    let arguments = read.ok().ok_or("the words are read")?;
+    Ok(arguments.task)
+}
+
 #[test]
 fn dir_and_script(rt: HostRuntime) -> Result<(), Fail> {
     let words = words(rt.alloc(), "a --pages 16 -- --b")?;
-    let read = read_arguments(rt.alloc(), words.as_slice());
-    let arguments = read.ok().ok_or("the words are read")?;
-    assert!(rt; arguments.dir == "a");
-    assert!(rt; arguments.script == "--b");
+    match task(rt.alloc(), words.as_slice())? {
+        Task::Script { dir, script } => {
+            assert!(rt; dir == "a");
+            assert!(rt; script == "--b");
+        }
+        Task::Generated { .. } => assert!(rt; false, "a script is named"),
+    }
+    Ok(())
+}
+
+/// Words, and the crates and the seed that they name.
+struct Crates(&'static str, u32, u64);
+
+const CRATES: [Crates; 3] = [
+    Crates("--generate 1 --seed 0", 1, 0),
+    Crates(
+        "--seed 18446744073709551615 --generate=400",
+        400,
+        18_446_744_073_709_551_615,
+    ),
+    Crates("--generate 9 --base 0x1000 --pages 16 --seed 10", 9, 10),
+];
+
+#[test]
+fn crates_and_seed(rt: HostRuntime) -> Result<(), Fail> {
+    for case in &CRATES {
+        let words = words(rt.alloc(), case.0)?;
+        match task(rt.alloc(), words.as_slice())? {
+            Task::Script { .. } => assert!(rt; false, "{}", case.0),
+            Task::Generated { crates, seed } => {
+                assert!(rt; crates == case.1, "{}", case.0);
+                assert!(rt; seed == case.2, "{}", case.0);
+            }
+        }
+    }
     Ok(())
 }

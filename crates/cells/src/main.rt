@@ -6,7 +6,7 @@ ghost use Rattle.std.specs.Prelude.{◌≡◌};
 ghost use Rattle.cells.specs.Exit.{exit_of};
 
 use cell_io::{RealHost, StdSink};
-use cell_run::{Status, cells};
+use cell_run::{Shelf, Status, cells};
 use std::process::ExitCode;
 use std::{env, io};
 
@@ -21,7 +21,8 @@ fn main(rt: HostRuntime) -> ExitCode {
     };
     let mut out = StdSink::new(io::writer(&rt));
     let mut host = RealHost::new(rt);
-    let status = cells(rt.alloc(), &words, &mut host, &mut out);
+    let mut shelf = Shelf::new();
+    let status = cells(rt.alloc(), &words, &mut host, &mut out, &mut shelf);
     ExitCode::from(exit_status(status))
 }
 

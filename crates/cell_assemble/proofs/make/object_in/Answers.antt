@@ -1,4 +1,3 @@
-use Rattle.std.proofs.Common.{List, ℕ}
 use Rattle.std.proofs.lemmas.Result.{err_from_is_err_and}
 use Rattle.cell_io.specs.Files.{folder}
 use Rattle.cell_io.proofs.Binds.{stops_first, goes_on, gives_same}
