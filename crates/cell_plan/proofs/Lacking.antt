@@ -1,6 +1,6 @@
 -- The first need that nobody provides, by what the spaces answer.
 use Rattle.std.proofs.Common.{◌≡◌, refl, sym, ◌∙◌, ap, ap₂, ℕ, ◌+◌, ◌<◌, ◌≤◌, Bool, true, false, cond, not, List, [], ◌∷◌, map, length, drop, get_or}
-use Rattle.std.specs.Prelude.{Option, Some, None, Ok, Err, filter, find, is_none, option_map, unwrap_or}
+use Rattle.std.specs.Prelude.{Option, Some, None, Err, filter, find, is_none, option_map, unwrap_or}
 use Rattle.std.proofs.lemmas.List.{drop_more}
 use Rattle.std.proofs.Math.ListN.{drop_of_length-le}
 use Rattle.cell_num.specs.Lists.{first, holds, or_else}
@@ -10,9 +10,9 @@ use Rattle.cell_world.specs.declared.refusal.Refusal.{Refusal}
 use Rattle.cell_world.specs.declared.refusal.Refusal.TheVariants.{Missing}
 use Rattle.cell_world.specs.declared.state.Namespace.{Namespace}
 use Rattle.cell_world.specs.declared.state.NewCell.{NewCell}
-use Rattle.cell_world.specs.World.{World, Cell}
-use Rattle.cell_world.specs.Gather.{Need, first_lack, lacks_of, missing}
-use Rattle.cell_world.specs.Names.{Provider, chain, needs_of, provider_of}
+use Rattle.cell_world.specs.World.{World}
+use Rattle.cell_world.specs.Gather.{first_lack, lacks_of, missing}
+use Rattle.cell_world.specs.Names.{chain, needs_of, provider_of}
 use Rattle.cell_space.specs.Ahead.{AheadState}
 use Rattle.cell_space.specs.Joined.{standing_of}
 use Rattle.cell_space.specs.Machine.{called, state_of}
@@ -23,7 +23,7 @@ use Rattle.cell_space.specs.declared.cell.CellState.TheVariants.{Attached, Detac
 use Rattle.cell_space.specs.declared.cell.SpaceCell.{SpaceCell}
 use Rattle.cell_space.proofs.Machines.{provider_for-called}
 use Rattle.cell_target.specs.Scene.{in_state}
-use Rattle.cell_plan.specs.Coverage.{Covers, IsAhead, as_it_stands, first_lost, lost_by, others_in, state_in}
+use Rattle.cell_plan.specs.Coverage.{Covers, IsAhead, as_it_stands, first_lost, lost_by, others_in}
 
 state_back : (s : CellState) → state_of (standing_of s) ≡ s
 state_back Attached = refl

@@ -2,12 +2,10 @@
 
 ghost use Rattle.std.specs.Prelude.{◌≡◌, ◌++◌, ◌∷◌, [], All, IfOk, OnErr, OnOk, map};
 ghost use Rattle.cell_coherent.specs.Grown.{In};
-ghost use Rattle.cell_plan.specs.Changes.{AreChanges};
-ghost use Rattle.cell_plan.specs.Exchanged.{Change, MayChange, links_before, targets_now};
+ghost use Rattle.cell_plan.specs.Exchanged.{Change, MayChange, links_before};
 ghost use Rattle.cell_plan.specs.Viewed.{Adds, view_of};
 
 use crate::changed::Changed;
-use crate::changes::{Changes, changes_of};
 use crate::old::Old;
 use cell_graph::Graph;
 use cell_space::Spaces;
@@ -32,26 +30,16 @@ impl<'a> Exchange<'a> {
         self.graph.deps_of_cell(cell.id).collect(alloc)
     }
 
-    /// What changes in one cell.
-    fn changes(&self, alloc: Global, cell: &NewCell) -> Result<Changes, Fail>
-        requires there { In cell.now (self.now.scene.now.present.now ++ self.now.scene.now.fresh.now) }
-        requires may { MayChange (view_of self.now) cell.now }
-        ensures { AreChanges (map (λ c. c.0) self.now.old.now.cells.now) cell.now (targets_now (view_of self.now) cell.now) (links_before (view_of self.now) cell.now) result }
-    {
-        let state = self.spaces.state(cell.id);
-        let targets = self.scene.targets(alloc, cell, state)?;
-        let links = self.links(alloc, cell)?;
-        changes_of(alloc, cell, &targets, &links, self.old)
-    }
-
     /// Adds what changes in one cell.
     fn add(&self, alloc: Global, changed: &mut Changed, cell: &NewCell) -> Result<(), Fail>
         requires there { In cell.now (self.now.scene.now.present.now ++ self.now.scene.now.fresh.now) }
         requires may { MayChange (view_of self.now) cell.now }
         ensures { Adds (view_of self.now) cell.now changed.old result changed.new }
     {
-        let changes = self.changes(alloc, cell)?;
-        changed.add(alloc, cell, &changes)?;
+        let state = self.spaces.state(cell.id);
+        let targets = self.scene.targets(alloc, cell, state)?;
+        let links = self.links(alloc, cell)?;
+        changed.take_in(alloc, cell, &targets, &links, self.old)?;
         Ok(())
     }
 

@@ -1,5 +1,5 @@
-use Rattle.std.proofs.Common.{◌≡◌, sym, ap, ◌∙◌, ℕ, List, Bor}
-use Rattle.std.specs.Prelude.{Option, Some, None, find, option_map}
+use Rattle.std.proofs.Common.{sym, ap, ◌∙◌, ℕ, List, Bor}
+use Rattle.std.specs.Prelude.{Some, find, option_map}
 use Rattle.cell_world.specs.declared.refusal.Refusal.TheVariants.{Missing}
 use Rattle.cell_plan.proofs.Lacking.{lost_is, nobody}
 use Rattle.cell_plan.proofs.coverage.check_cell.Goals as goal

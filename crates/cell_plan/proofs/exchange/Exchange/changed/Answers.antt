@@ -1,4 +1,4 @@
-use Rattle.std.proofs.Common.{subst, sym, map, arith, length, ◌++◌, Bor}
+use Rattle.std.proofs.Common.{subst, sym, map, arith, ◌++◌, Bor}
 use Rattle.cell_world.specs.declared.state.NewCell.{NewCell}
 use Rattle.std.proofs.lemmas.List.{length-map}
 use Rattle.std.proofs.lemmas.Result.{err_from_is_err_and}
