@@ -9,5 +9,6 @@ pub mod Taking
 pub mod Staying
 pub mod Users
 pub mod Coverage
+pub mod Known
 pub mod Exchanged
 pub mod Viewed

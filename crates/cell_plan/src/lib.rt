@@ -6,6 +6,7 @@ mod changes;
 mod coverage;
 mod exchange;
 mod firsts;
+mod known;
 mod lasts;
 mod laws;
 mod marks;

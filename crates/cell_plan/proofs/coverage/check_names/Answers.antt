@@ -2,7 +2,7 @@ use Rattle.std.proofs.Common.{sym, ap, ◌∙◌, ℕ, List, Bor}
 use Rattle.std.specs.Prelude.{Some, find, option_map}
 use Rattle.cell_world.specs.declared.refusal.Refusal.TheVariants.{Missing}
 use Rattle.cell_plan.proofs.Lacking.{lost_is, nobody}
-use Rattle.cell_plan.proofs.coverage.check_cell.Goals as goal
+use Rattle.cell_plan.proofs.coverage.check_names.Goals as goal
 
 pub returns-in-Some : goal.returns-in-Some
 returns-in-Some c = λ w ahead.
