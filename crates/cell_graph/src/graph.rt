@@ -15,6 +15,7 @@ use crate::links::{
     add_section, bind_row, cell_rows, cell_sections, has_section, link_named, move_row,
     remove_rows, remove_sections, row_index, section_place, unbind_at,
 };
+use crate::near::{Near, row_index_near};
 use crate::order::{RowPlace, SectionPlace};
 use crate::removal::{StillUsed, is_listed};
 use crate::rows::Rows;
@@ -167,6 +168,17 @@ impl Graph {
         link_named(&self.rows, &self.row_list, index)
     }
 
+    /// The same, with the index behind it in the list of links. It is looked for at an index first.
+    pub fn link_near(&self, user: SecKey, entry: u32, near: usize) -> (LinkRow, usize)
+        requires { IsTrue (is_bound self.now.rows user entry) }
+        ensures there { Contains self.now.rows result.0 }
+        ensures user { result.0.user ≡ user }
+        ensures entry { result.0.entry ≡ entry }
+    {
+        let index = row_index_near(&self.row_list, near, user, entry);
+        (link_named(&self.rows, &self.row_list, index), index + 1)
+    }
+
     /// The links of others to a section that is there, in no stated order.
     pub fn users_of(&self, sec: SecKey) -> Users<'_>
         requires { Contains self.now.sections sec }
@@ -210,8 +222,8 @@ impl Graph {
         }
     }
 
-    /// Gives one link its new target.
-    fn move_one<L: Ledger>(&mut self, to: LinkRow, steps: &mut Steps<L>)
+    /// Gives one link its new target, and tells where to look for the next one first.
+    fn move_one<L: Ledger>(&mut self, to: LinkRow, near: Near, steps: &mut Steps<L>) -> Near
         requires bound { IsTrue (is_bound self.old.rows to.user to.entry) }
         requires present { Contains self.old.sections to.target }
         ensures moved { self.new.rows ≡ moved self.old.rows (to ∷ []) }
@@ -226,8 +238,9 @@ impl Graph {
             &self.section_list,
             &self.row_list,
             to,
+            near,
             steps,
-        );
+        )
     }
 
     /// Gives each named user and entry its new target. Takes no memory. For each, one link is read.
@@ -241,8 +254,9 @@ impl Graph {
         ensures same_room_for_links { self.old.spare_rows ≤ self.new.spare_rows }
         ensures same_room_for_sections { self.old.spare_sections ≤ self.new.spare_sections }
     {
+        let mut near = Near::start();
         for to in moves {
-            self.move_one(*to, steps);
+            near = self.move_one(*to, near, steps);
         }
     }
 

@@ -16,6 +16,7 @@ ghost use Rattle.cell_graph.specs.Order.{below_section, with_link};
 ghost use Rattle.cell_graph.specs.Places.{link_at};
 
 use crate::chains::{link, unlink};
+use crate::near::{Near, row_index_near, section_index_near};
 use crate::order::{
     RowPlace, SectionPlace, is_same, row_cell_end, row_cell_start, row_cut, section_cell_end,
     section_cell_start, section_cut,
@@ -52,13 +53,21 @@ pub fn has_section(list: &[SectionPlace], key: SecKey) -> bool
     }
 }
 
+/// The place of the section at an index.
+fn place_at(list: &[SectionPlace], index: usize, key: SecKey) -> usize
+    requires { IsSectionAt list.now index key }
+    ensures { Contains list.now (record { key = key; place = result }) }
+{
+    list[index].place
+}
+
 /// The place of a section that is there.
 pub fn section_place(list: &[SectionPlace], key: SecKey) -> usize
     requires rise { SectionsRise list.now }
     requires present { Contains (map (λ s. s.key) list.now) key }
     ensures { Contains list.now (record { key = key; place = result }) }
 {
-    list[section_index(list, key)].place
+    place_at(list, section_index(list, key), key)
 }
 
 /// The links that the list names with users of the cell.
@@ -123,15 +132,16 @@ pub fn link_named(rows: &Rows, list: &[RowPlace], index: usize) -> LinkRow
     }
 }
 
-/// Gives a link its new target. One link is read.
+/// Gives a link its new target, and tells where to look for the next one first. One link is read.
 pub fn move_row<L: Ledger>(
     sections: &mut Slab<Section>,
     rows: &mut Rows,
     section_list: &[SectionPlace],
     row_list: &[RowPlace],
     to: LinkRow,
+    near: Near,
     steps: &mut Steps<L>,
-)
+) -> Near
     requires whole { IsWhole (get rows.old) (get sections.old) section_list.now row_list.now }
     requires bound { IsTrue (has_row row_list.now to.user to.entry) }
     requires present { Contains (map (λ s. s.key) section_list.now) to.target }
@@ -143,12 +153,20 @@ pub fn move_row<L: Ledger>(
     ensures row_capacity { rows.new.capacity ≡ rows.old.capacity }
     ensures section_capacity { sections.new.capacity ≡ sections.old.capacity }
 {
-    let place = row_list[row_index(row_list, to.user, to.entry)].place;
+    let row = row_index_near(row_list, near.row, to.user, to.entry);
+    let place = row_list[row].place;
     let chain = rows.read(place, steps);
-    let old = section_place(section_list, chain.row.target);
+    let old_index = section_index_near(section_list, near.old, chain.row.target);
+    let old = place_at(section_list, old_index, chain.row.target);
     unlink(sections, rows, old, place, chain);
-    let new = section_place(section_list, to.target);
+    let new_index = section_index_near(section_list, near.new, to.target);
+    let new = place_at(section_list, new_index, to.target);
     link(sections, rows, new, place, to);
+    Near {
+        row: row + 1,
+        old: old_index,
+        new: new_index,
+    }
 }
 
 /// Adds a link.

@@ -74,7 +74,8 @@ fn by_start(alloc: Global, places: &[Placed]) -> Result<Vec<Placed>, AllocError>
     ensures rising { IfOk result (λ sorted. IsNonDecreasingBy (λ s. s.start) sorted.items) }
 {
     let mut sorted = Vec::from_slice(alloc, places)?;
-    sorted.sort_unstable_by_key(|place| (place.start, place.size));
+    // Stable, since it goes by the few rising runs that sections by their cells are.
+    sorted.sort_by_key(|place| (place.start, place.size))?;
     Ok(sorted)
 }
 

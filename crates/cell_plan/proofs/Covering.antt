@@ -1,21 +1,20 @@
 -- Once old cells are put aside and new ones follow, the first lost need is that of a user of an old cell.
-use Rattle.std.proofs.Common.{◌≡◌, refl, sym, ◌∙◌, ap, subst, arith, ℕ, suc, ◌≤◌, inl, inr, Bool, true, false, cond, not, ◌&&◌, List, [], ◌∷◌, ◌++◌, map, true≢false}
-use Rattle.std.specs.Prelude.{filter, nat_lt, nat_le, ◌==◌}
+use Rattle.std.proofs.Common.{◌≡◌, refl, sym, ◌∙◌, ap, arith, ℕ, suc, inl, inr, Bool, true, false, cond, not, ◌&&◌, List, [], ◌∷◌, ◌++◌, map, true≢false}
+use Rattle.std.specs.Prelude.{filter, nat_lt, nat_le}
 use Rattle.std.specs.List.{list_all}
 use Rattle.std.proofs.lemmas.Bool.{eq-eqb, leb-true, ltb-true}
 use Rattle.std.proofs.lemmas.List.{append-nil}
 use Rattle.std.proofs.lemmas.List.Elements.{filter-append}
 use Rattle.cell_num.specs.Lists.{holds}
 use Rattle.cell_world.specs.World.{World, Cell, Detached, is_attached, is_of_group}
-use Rattle.cell_world.specs.Gather.{Need, first_lack}
+use Rattle.cell_world.specs.Gather.{first_lack}
 use Rattle.cell_world.specs.SwapCommand.{first_uncovered, is_bystander}
 use Rattle.cell_world.specs.Coherent.{IsCoherent, is_known_cell}
 use Rattle.cell_coherent.proofs.Elements.{In, all-In, In-filtered, filter-Passes, filter_none}
 use Rattle.cell_coherent.proofs.Attach.{Grows}
 use Rattle.cell_coherent.proofs.Known.{known_parts}
-use Rattle.cell_removal.proofs.Lookups.{filter_swap}
 use Rattle.cell_swaps_law.proofs.Coverage.{lacks_among, lacks_nothing}
-use Rattle.cell_swaps_law.proofs.Detached.{put, put_in, put_out, put_same}
+use Rattle.cell_swaps_law.proofs.Detached.{put, put_in, put_out}
 use Rattle.cell_swaps_law.proofs.SetAside.{aside}
 use Rattle.cell_swaps_law.proofs.SwapReady.{new_group}
 use Rattle.cell_plan.specs.Staying.{is_user}

@@ -1,6 +1,6 @@
 -- What changes, one user after the other.
-use Rattle.std.proofs.Common.{◌≡◌, refl, sym, ◌∙◌, ap, ap₂, arith, ℕ, ◌+◌, ◌<◌, ◌≤◌, List, [], ◌∷◌, ◌++◌, map, length, drop, get_or, append_assoc, append-nil}
-use Rattle.std.specs.Prelude.{Option, Some, None, Ok, Err, flat_map}
+use Rattle.std.proofs.Common.{◌≡◌, refl, sym, ◌∙◌, ap, ℕ, ◌+◌, ◌<◌, ◌≤◌, List, [], ◌∷◌, ◌++◌, length, drop, get_or, append_assoc, append-nil}
+use Rattle.std.specs.Prelude.{Option, Err, flat_map, option_map}
 use Rattle.std.proofs.lemmas.List.{drop_more}
 use Rattle.std.proofs.Math.ListN.{drop_of_length-le}
 use Rattle.cell_num.specs.Lists.{or_else}
@@ -10,9 +10,17 @@ use Rattle.cell_world.specs.declared.fail.Fail.TheVariants.{Refused, OutOfMemory
 use Rattle.cell_world.specs.declared.refusal.Refusal.{Refusal}
 use Rattle.cell_world.specs.declared.state.LinkRow.{LinkRow}
 use Rattle.cell_world.specs.declared.state.NewCell.{NewCell}
+use Rattle.cell_world.specs.declared.state.Target.{Target}
+use Rattle.cell_world.specs.Fit.{overflow_at}
+use Rattle.cell_world.specs.World.{attached}
 use Rattle.cell_plan.specs.declared.changed.Changed.{Changed}
 use Rattle.cell_plan.specs.declared.span.Span.{Span}
-use Rattle.cell_plan.specs.Exchanged.{Change, IsChange, View, first_unfit, moves_of, patches_of, spans_of, unfit_of}
+use Rattle.cell_plan.specs.Exchanged.{Change, IsChange, View, first_unfit, links_before, moves_of, patches_of, spans_of, targets_now}
+use Rattle.cell_plan.specs.Coverage.{state_in}
+use Rattle.cell_plan.specs.Taking.{HasTaken}
+use Rattle.cell_space.specs.declared.cell.CellState.{CellState}
+use Rattle.cell_target.specs.Scene.{in_state}
+use Rattle.cell_world.specs.Target.{targets_of}
 use Rattle.cell_plan.specs.Viewed.{Adds, HasAdded}
 
 -- what has been added, with what the users that are left change, is all of it
@@ -29,6 +37,20 @@ nothing_yet x users changed patches moves spans = record {
   moves = ap (λ (xs : List LinkRow). xs ++ flat_map (moves_of x) users) moves;
   spans = ap (λ (xs : List Span). xs ++ flat_map (spans_of x) users) spans;
 }
+
+-- what is taken in from a cell is what changes in it
+pub taken_in : (x : View) (c : NewCell) (state : CellState) (targets : List Target) (links : List LinkRow) (was now : Changed)
+    → state ≡ state_in x.spaces c.id.0 → targets ≡ targets_of x.now (in_state c state) → links ≡ links_before x c
+    → HasTaken x.old c targets links was now → HasAdded x c was now
+taken_in x c state targets links was now same_state same_targets same_links taken =
+    let now_named : targets ≡ targets_now x c = same_targets ∙ ap (λ s. targets_of x.now (in_state c s)) same_state in
+    let h = rw (now_named, same_links) at taken in
+    record {
+      fit = ap (option_map (overflow_at (attached c))) h.fit;
+      patches = h.patches;
+      moves = h.moves;
+      spans = h.spans;
+    }
 
 -- one more part of a list that is gone over
 part_more : {X Y : Type 0} (f : X → List Y) (c : X) (rest : List X) (old new all : List Y) → new ≡ old ++ f c → old ++ flat_map f (c ∷ rest) ≡ all → new ++ flat_map f rest ≡ all

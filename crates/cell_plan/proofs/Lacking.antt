@@ -1,18 +1,22 @@
 -- The first need that nobody provides, by what the spaces answer.
-use Rattle.std.proofs.Common.{◌≡◌, refl, sym, ◌∙◌, ap, ap₂, ℕ, ◌+◌, ◌<◌, ◌≤◌, Bool, true, false, cond, not, List, [], ◌∷◌, map, length, drop, get_or}
-use Rattle.std.specs.Prelude.{Option, Some, None, Ok, Err, filter, find, is_none, option_map, unwrap_or}
+use Rattle.std.proofs.Common.{◌≡◌, refl, sym, ◌∙◌, ap, ap₂, ℕ, suc, ◌&&◌, ◌||◌, ◌+◌, ◌<◌, ◌≤◌, Bool, true, false, cond, not, List, [], ◌∷◌, map, length, drop, get_or}
+use Rattle.std.specs.Prelude.{Option, Some, None, Err, filter, find, is_none, option_map, unwrap_or}
 use Rattle.std.proofs.lemmas.List.{drop_more}
 use Rattle.std.proofs.Math.ListN.{drop_of_length-le}
-use Rattle.cell_num.specs.Lists.{first, holds, or_else}
+use Rattle.std.specs.List.{list_any}
+use Rattle.cell_num.specs.Lists.{first, holds, numbered_from, or_else}
 use Rattle.cell_world.specs.declared.fail.Fail.{Fail}
 use Rattle.cell_world.specs.declared.fail.Fail.TheVariants.{Refused, OutOfMemory}
 use Rattle.cell_world.specs.declared.refusal.Refusal.{Refusal}
 use Rattle.cell_world.specs.declared.refusal.Refusal.TheVariants.{Missing}
 use Rattle.cell_world.specs.declared.state.Namespace.{Namespace}
 use Rattle.cell_world.specs.declared.state.NewCell.{NewCell}
-use Rattle.cell_world.specs.World.{World, Cell}
-use Rattle.cell_world.specs.Gather.{Need, first_lack, lacks_of, missing}
-use Rattle.cell_world.specs.Names.{Provider, chain, needs_of, provider_of}
+use Rattle.cell_world.specs.World.{World}
+use Rattle.cell_world.specs.Gather.{first_lack, lacks_of, missing}
+use Rattle.cell_object.specs.declared.object.Object.{Object}
+use Rattle.cell_object.specs.declared.object.Symbol.{Symbol}
+use Rattle.cell_object.specs.Parts.{is_global, is_undefined}
+use Rattle.cell_world.specs.Names.{chain, is_used, needs_of, provider_of}
 use Rattle.cell_space.specs.Ahead.{AheadState}
 use Rattle.cell_space.specs.Joined.{standing_of}
 use Rattle.cell_space.specs.Machine.{called, state_of}
@@ -23,7 +27,8 @@ use Rattle.cell_space.specs.declared.cell.CellState.TheVariants.{Attached, Detac
 use Rattle.cell_space.specs.declared.cell.SpaceCell.{SpaceCell}
 use Rattle.cell_space.proofs.Machines.{provider_for-called}
 use Rattle.cell_target.specs.Scene.{in_state}
-use Rattle.cell_plan.specs.Coverage.{Covers, IsAhead, as_it_stands, first_lost, lost_by, others_in, state_in}
+use Rattle.cell_plan.specs.Known.{is_lacking, is_open}
+use Rattle.cell_plan.specs.Coverage.{Covers, IsAhead, as_it_stands, first_lost, lost_by, others_in}
 
 state_back : (s : CellState) → state_of (standing_of s) ≡ s
 state_back Attached = refl
@@ -57,6 +62,32 @@ module _ (w : World) (ahead : AheadState) (is : IsAhead w ahead) (c : NewCell) (
   -- what is lost is the first of the needs that is provided by nobody
   pub lost_is : (names : List (List ℕ)) → names ≡ needs_of c.object → lost_by w (in_state c s) ≡ option_map (λ name. Missing name c.id) (find nobody names)
   lost_is names are = by_names (needs_of c.object) ∙ ap (λ (ns : List (List ℕ)). option_map (λ name. Missing name c.id) (find nobody ns)) (sym are)
+
+module _ (object : Object) (lacking : List ℕ → Bool) where
+  abbrev needed : ℕ → List Symbol → List (ℕ × Symbol)
+  needed k symbols = filter (λ p. is_global p.1.bind && is_undefined p.1.home && is_used object p.0) (numbered_from k symbols)
+
+  abbrev lacks_open : List Symbol → Bool
+  lacks_open symbols = list_any (λ s. is_open s && lacking s.name) symbols
+
+  one_needed : (k : ℕ) (s : Symbol) (symbols : List Symbol) → (lacks_open symbols ≡ false → find lacking (map (λ p. p.1.name) (needed (suc k) symbols)) ≡ None)
+      → (a u l : Bool) → lacking s.name ≡ l → (a && l || lacks_open symbols) ≡ false
+      → find lacking (map (λ p. p.1.name) (cond (a && u) ((k, s) ∷ needed (suc k) symbols) (needed (suc k) symbols))) ≡ None
+  one_needed k s symbols rest true true true is none = cc
+  one_needed k s symbols rest true true false is none = rw is (rest none)
+  one_needed k s symbols rest true false true is none = cc
+  one_needed k s symbols rest true false false is none = rest none
+  one_needed k s symbols rest false u l is none = rest none
+
+  -- where no name is lacking, none of the needs is
+  none_needed : (k : ℕ) (symbols : List Symbol) → lacks_open symbols ≡ false → find lacking (map (λ p. p.1.name) (needed k symbols)) ≡ None
+  none_needed k [] none = refl
+  none_needed k (s ∷ symbols) none = one_needed k s symbols (none_needed (suc k) symbols) (is_open s) (is_used object k) (lacking s.name) refl none
+
+-- a cell of which no name is lacking has lost nothing
+pub lost_nothing : (w : World) (ahead : AheadState) (is : IsAhead w ahead) (c : NewCell) (s : CellState) → list_any (λ x. is_open x && is_lacking ahead c.ns s x.name) c.object.symbols ≡ false → lost_by w (in_state c s) ≡ None
+lost_nothing w ahead is c s none =
+    lost_is w ahead is c s (needs_of c.object) refl ∙ ap (option_map (λ name. Missing name c.id)) (none_needed c.object (is_lacking ahead c.ns s) 1 c.object.symbols none)
 
 first_first : {X Y : Type 0} (f : X → Y) (a b : Option X) → option_map f (or_else a b) ≡ or_else (option_map f a) (option_map f b)
 first_first f None b = refl

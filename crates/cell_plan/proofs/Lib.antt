@@ -3,6 +3,9 @@ pub mod Latest
 pub mod Standing
 pub mod Ends
 pub mod Lists
+pub mod Scanning
+pub mod Marking
+pub mod Climbing
 pub mod Staying
 pub mod Using
 pub mod Moving

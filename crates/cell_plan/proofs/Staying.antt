@@ -109,7 +109,7 @@ any_self f e h = rw (at_self e, h) refl
 any_in : (f : Entry → Bool) (xs : List Entry) (k : ℕ) (e d : Entry) → k < length xs → get_or xs k d ≡ e → f e ≡ true → list_any (λ x. is_at e x && f x) xs ≡ true
 any_in f xs k e d below there h = list_any_at (λ x. is_at e x && f x) xs k d below (ap (λ x. is_at e x && f x) there ∙ any_self f e h)
 
-bound_entry : (es : List Entry) (ts : List Target) (k : ℕ) (d : Bound) (e : Entry) → k < length (bound_by es ts) → (k < length es) × (get_or es k e ≡ (get_or (bound_by es ts) k d).entry)
+pub bound_entry : (es : List Entry) (ts : List Target) (k : ℕ) (d : Bound) (e : Entry) → k < length (bound_by es ts) → (k < length es) × (get_or es k e ≡ (get_or (bound_by es ts) k d).entry)
 bound_entry [] ts k d e below = absurd (omega arith)
 bound_entry (x ∷ xs) [] k d e below = absurd (omega arith)
 bound_entry (x ∷ xs) (t ∷ ts) zero d e below = (omega arith, refl)

@@ -1,5 +1,5 @@
 -- What a swap changes in a cell that was there hangs on the cell's links into the old cells.
-use Rattle.std.proofs.Common.{◌≡◌, sym, ap, subst, ℕ, Bool, true, false, List, map}
+use Rattle.std.proofs.Common.{◌≡◌, sym, subst, ℕ, Bool, true, false, List, map}
 use Rattle.std.specs.Prelude.{All}
 use Rattle.cell_object.specs.declared.object.Entry.{Entry}
 use Rattle.cell_world.specs.declared.command.SwapItem.{SwapItem}

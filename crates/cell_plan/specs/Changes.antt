@@ -1,7 +1,7 @@
 -- What changes in one cell once some cells are put aside.
 --     AreChanges old c targets links r     the fields at which a link is lost, with what they hold by now, and the lost links as they lead by now;
 --                                          or the refusal of the first entry that doesn't fit
-use Rattle.std.specs.Prelude.{◌≡◌, ℕ, List, None, Some, Result, Ok, Err, map, filter, slice_get}
+use Rattle.std.specs.Prelude.{◌≡◌, ℕ, List, None, Result, Ok, Err, map, filter, slice_get}
 use Rattle.cell_object.specs.declared.object.Entry.{Entry}
 use Rattle.cell_world.specs.declared.fail.Fail.{Fail}
 use Rattle.cell_world.specs.declared.state.LinkRow.{LinkRow}

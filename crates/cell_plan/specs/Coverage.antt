@@ -4,7 +4,7 @@
 --     first_lost w cells     the first such refusal of the cells
 --     Covers o result        the answer is that refusal, or none, or want of memory
 --     others_in spaces old users   the users that aren't old themselves, as they stand
-use Rattle.std.specs.Prelude.{◌≡◌, ℕ, not, List, [], Option, Some, None, Result, Ok, Err, filter, map, option_map, unwrap_or}
+use Rattle.std.specs.Prelude.{◌≡◌, ℕ, not, List, Option, Some, None, Result, Ok, Err, filter, map, option_map, unwrap_or}
 use Rattle.cell_num.specs.Lists.{first, holds}
 use Rattle.cell_world.specs.declared.fail.Fail.{Fail}
 use Rattle.cell_world.specs.declared.fail.Fail.TheVariants.{Refused, OutOfMemory}

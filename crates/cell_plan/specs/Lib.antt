@@ -2,10 +2,13 @@ pub mod Spans
 pub mod Uppers
 pub mod Lasts
 pub mod Firsts
+pub mod Rising
 pub mod Lost
 pub mod Changes
+pub mod Taking
 pub mod Staying
 pub mod Users
 pub mod Coverage
+pub mod Known
 pub mod Exchanged
 pub mod Viewed

@@ -1,15 +1,24 @@
 //! What a swap changes in cells that stay.
 
-ghost use Rattle.std.specs.Prelude.{◌≡◌, ◌++◌, [], IfOk, OnOk, map};
+ghost use Rattle.std.specs.Prelude.{◌≡◌, ◌<◌, ◌^◌, ◌++◌, [], ◌∷◌, All, Bool, IfOk, OnOk, cond, filter, length, map, true};
+ghost use Rattle.cell_object.specs.declared.object.Entry.{Entry as SomeEntry};
+ghost use Rattle.cell_link.specs.declared.value.FieldValue.{FieldValue as Value};
 ghost use Rattle.cell_placed.specs.Low.{IsLow};
+ghost use Rattle.cell_plan.specs.Rising.{rises as Rises};
 ghost use Rattle.cell_plan.specs.Spans.{span_in};
+ghost use Rattle.cell_plan.specs.Taking.{AreMarked, Takes};
 
-use crate::changes::{Change, Changes};
+use crate::changes::{Changes, changes_of};
+use crate::lasts::Lasts;
+use crate::marks::marks_of;
+use crate::old::Old;
+use crate::rising::rises;
 use crate::span::Span;
-use crate::spans::spans_of;
+use crate::spans::span_of;
+use crate::values::values_of;
 use cell_link::FieldValue;
 use cell_object::Entry;
-use cell_world::{LinkRow, NewCell};
+use cell_world::{Fail, LinkRow, NewCell, Target};
 use std::alloc::{AllocError, Global};
 
 /// The fields that change, by what they hold then; the links that move, as they lead then; and where
@@ -19,28 +28,6 @@ pub struct Changed {
     pub patches: Vec<FieldValue>,
     pub moves: Vec<LinkRow>,
     pub spans: Vec<Span>,
-}
-
-/// The fields by their first entries.
-fn entries_of(alloc: Global, fields: &[Change]) -> Result<Vec<Entry>, AllocError>
-    ensures { IfOk result (λ entries. entries.items ≡ map (λ f. f.field) fields.now) }
-{
-    let mut entries = Vec::new(alloc);
-    for change in fields {
-        entries.push(change.field)?;
-    }
-    Ok(entries)
-}
-
-/// What the fields hold.
-fn values_of(alloc: Global, fields: &[Change]) -> Result<Vec<FieldValue>, AllocError>
-    ensures { IfOk result (λ values. values.items ≡ map (λ f. f.value) fields.now) }
-{
-    let mut values = Vec::new(alloc);
-    for change in fields {
-        values.push(change.value)?;
-    }
-    Ok(values)
 }
 
 impl Changed {
@@ -69,11 +56,102 @@ impl Changed {
         ensures moves { OnOk result (self.new.moves.items ≡ self.old.moves.items ++ changes.now.moves.items) }
         ensures spans { OnOk result (self.new.spans.items ≡ self.old.spans.items ++ map (span_in cell.now) (map (λ f. f.field) changes.now.fields.items)) }
     {
-        let values = values_of(alloc, &changes.fields)?;
-        self.patches.extend_from_slice(&values)?;
         self.moves.extend_from_slice(&changes.moves)?;
-        let entries = entries_of(alloc, &changes.fields)?;
-        let spans = spans_of(alloc, cell, &entries)?;
-        self.spans.extend_from_slice(&spans)
+        let lasts = Lasts::of(alloc, cell)?;
+        for change in &changes.fields {
+            self.add_field(&lasts, &change.field, &change.value, true)?;
+        }
+        Ok(())
+    }
+
+    /// Adds a field with what it holds by then, where it changes.
+    fn add_field(
+        &mut self,
+        lasts: &Lasts,
+        field: &Entry,
+        value: &FieldValue,
+        changes: bool,
+    ) -> Result<(), AllocError>
+        requires { IsLow lasts.now.cell.now }
+        ensures patches { OnOk result (self.new.patches.items ≡ self.old.patches.items ++ cond changes (value.now ∷ []) []) }
+        ensures spans { OnOk result (self.new.spans.items ≡ self.old.spans.items ++ cond changes (span_in lasts.now.cell.now field.now ∷ []) []) }
+        ensures moves { self.new.moves.items ≡ self.old.moves.items }
+    {
+        if changes {
+            self.patches.push(*value)?;
+            self.spans.push(span_of(lasts, field))?;
+        }
+        Ok(())
+    }
+
+    /// Adds the marked ones of a cell's fields, each of which is an entry.
+    fn add_marked(
+        &mut self,
+        lasts: &Lasts,
+        values: &[FieldValue],
+        marks: &[bool],
+    ) -> Result<(), AllocError>
+        requires low { IsLow lasts.now.cell.now }
+        requires values { length values.now ≡ length lasts.now.cell.now.object.entries }
+        requires marks { length marks.now ≡ length lasts.now.cell.now.object.entries }
+        ensures patches { (value : SomeEntry → Value) (kept : SomeEntry → Bool) → values.now ≡ map value lasts.now.cell.now.object.entries → marks.now ≡ map kept lasts.now.cell.now.object.entries →
+            OnOk result (self.new.patches.items ≡ self.old.patches.items ++ map value (filter kept lasts.now.cell.now.object.entries)) }
+        ensures spans { (kept : SomeEntry → Bool) → marks.now ≡ map kept lasts.now.cell.now.object.entries →
+            OnOk result (self.new.spans.items ≡ self.old.spans.items ++ map (span_in lasts.now.cell.now) (filter kept lasts.now.cell.now.object.entries)) }
+        ensures moves { self.new.moves.items ≡ self.old.moves.items }
+    {
+        let entries = lasts.cell.object.entries.as_slice();
+        for index in 0..entries.len() {
+            self.add_field(lasts, &entries[index], &values[index], marks[index])?;
+        }
+        Ok(())
+    }
+
+    /// Adds what changes in a cell each of whose entries is a field of its own.
+    fn take_in_rising(
+        &mut self,
+        alloc: Global,
+        cell: &NewCell,
+        targets: &[Target],
+        links: &[LinkRow],
+        old: &Old,
+    ) -> Result<(), Fail>
+        requires rises { Rises 0 cell.now.object.entries ≡ true }
+        requires each { length targets.now ≡ length cell.now.object.entries }
+        requires few { length cell.now.object.entries < 2 ^ 32 }
+        requires places { All (λ p. p.start < 2 ^ 63) cell.now.places }
+        requires low { IsLow cell.now }
+        ensures { Takes (map (λ c. c.0) old.now.cells.now) cell.now targets.now links.now self.old result self.new }
+    {
+        let values = values_of(alloc, cell, targets)?;
+        let count = cell.object.entries.as_slice().len();
+        let marks = marks_of(alloc, &mut self.moves, count, old, targets, links)?;
+        let lasts = Lasts::of(alloc, cell)?;
+        self.add_marked(&lasts, values.as_slice(), &marks)?;
+        Ok(())
+    }
+
+    /// Adds what changes in one cell where the old cells are put aside: `links` are its links before,
+    /// and `targets` what its entries name by now. The first entry that doesn't fit is refused.
+    pub(crate) fn take_in(
+        &mut self,
+        alloc: Global,
+        cell: &NewCell,
+        targets: &[Target],
+        links: &[LinkRow],
+        old: &Old,
+    ) -> Result<(), Fail>
+        requires each { length targets.now ≡ length cell.now.object.entries }
+        requires few { length cell.now.object.entries < 2 ^ 32 }
+        requires places { All (λ p. p.start < 2 ^ 63) cell.now.places }
+        requires low { IsLow cell.now }
+        ensures { Takes (map (λ c. c.0) old.now.cells.now) cell.now targets.now links.now self.old result self.new }
+    {
+        if rises(cell.object.entries.as_slice()) {
+            return self.take_in_rising(alloc, cell, targets, links, old);
+        }
+        let changes = changes_of(alloc, cell, targets, links, old)?;
+        self.add(alloc, cell, &changes)?;
+        Ok(())
     }
 }

@@ -8,7 +8,9 @@ ghost use Rattle.cell_world.specs.Names.{chain};
 ghost use Rattle.cell_world.specs.World.{World};
 ghost use Rattle.cell_world.specs.declared.refusal.Refusal.TheVariants.{Missing};
 ghost use Rattle.cell_plan.specs.Coverage.{Covers, IsAhead, first_lost, lost_by, others_in};
+ghost use Rattle.cell_plan.specs.Known.{IsKnown};
 
+use crate::known::{Known, has_all};
 use crate::old::Old;
 use cell_gather::needs;
 use cell_num::{CellId, Name};
@@ -45,8 +47,8 @@ fn first_lacking<'a>(
     names.iter().find(|name| is_lacking(ahead, ns, state, name))
 }
 
-/// Sees that each need of a cell in that state has a provider.
-fn check_cell(alloc: Global, ahead: &Ahead, cell: &NewCell, state: CellState) -> Result<(), Fail>
+/// Sees that each need of a cell in that state has a provider, name by name.
+fn check_names(alloc: Global, ahead: &Ahead, cell: &NewCell, state: CellState) -> Result<(), Fail>
     requires { cell.now.ns < length ahead.now.namespaces }
     ensures { (w : World) → IsAhead w ahead.now → Covers (lost_by w (in_state cell.now state)) result }
 {
@@ -57,39 +59,63 @@ fn check_cell(alloc: Global, ahead: &Ahead, cell: &NewCell, state: CellState) ->
     }
 }
 
+/// Sees that each need of a cell in that state has a provider. Where all names have one, the needs are
+/// not picked out.
+fn check_cell<'a>(
+    alloc: Global,
+    ahead: &Ahead,
+    known: &mut Option<Known<'a>>,
+    cell: &'a NewCell,
+    state: CellState,
+) -> Result<(), Fail>
+    requires ns { cell.now.ns < length ahead.now.namespaces }
+    requires known { IsKnown ahead.now known.old }
+    ensures known { IsKnown ahead.now known.new }
+    ensures covers { (w : World) → IsAhead w ahead.now → Covers (lost_by w (in_state cell.now state)) result }
+{
+    if has_all(ahead, known, cell, state) {
+        return Ok(());
+    }
+    check_names(alloc, ahead, cell, state)
+}
+
 /// Sees that each need of a user that isn't old itself has a provider.
-fn check_user(
+fn check_user<'a>(
     alloc: Global,
     spaces: &Spaces,
     ahead: &Ahead,
-    cell: &NewCell,
+    known: &mut Option<Known<'a>>,
+    cell: &'a NewCell,
     old: &Old,
 ) -> Result<(), Fail>
     requires there { HasCell spaces.now cell.now.id.0 }
     requires ns { cell.now.ns < length ahead.now.namespaces }
-    ensures { (w : World) → IsAhead w ahead.now → Covers (first_lost w (others_in spaces.now (map (λ c. c.0) old.now.cells.now) (cell.now ∷ []))) result }
+    requires known { IsKnown ahead.now known.old }
+    ensures known { IsKnown ahead.now known.new }
+    ensures covers { (w : World) → IsAhead w ahead.now → Covers (first_lost w (others_in spaces.now (map (λ c. c.0) old.now.cells.now) (cell.now ∷ []))) result }
 {
     if old.has(cell.id) {
         return Ok(());
     }
-    check_cell(alloc, ahead, cell, spaces.state(cell.id))
+    check_cell(alloc, ahead, known, cell, spaces.state(cell.id))
 }
 
 /// Sees that each need of the users that aren't old themselves has a provider still. The old cells keep
 /// each other. The first need without one is refused, by cells and then by symbols.
-pub fn check_coverage(
+pub fn check_coverage<'a>(
     alloc: Global,
     spaces: &Spaces,
     ahead: &Ahead,
-    users: &[&NewCell],
+    users: &[&'a NewCell],
     old: &Old,
 ) -> Result<(), Fail>
     requires there { All (λ c. HasCell spaces.now c.now.id.0) users.now }
     requires ns { All (λ c. c.now.ns < length ahead.now.namespaces) users.now }
     ensures { (w : World) → IsAhead w ahead.now → Covers (first_lost w (others_in spaces.now (map (λ c. c.0) old.now.cells.now) (map (λ c. c.now) users.now))) result }
 {
+    let mut known = None;
     for place in 0..users.len() {
-        check_user(alloc, spaces, ahead, users[place], old)?;
+        check_user(alloc, spaces, ahead, &mut known, users[place], old)?;
     }
     Ok(())
 }

@@ -2,16 +2,15 @@
 
 ghost use Rattle.std.specs.Prelude.{◌≡◌, ◌++◌, ◌∷◌, [], All, IfOk, OnErr, OnOk, map};
 ghost use Rattle.cell_coherent.specs.Grown.{In};
-ghost use Rattle.cell_plan.specs.Changes.{AreChanges};
-ghost use Rattle.cell_plan.specs.Exchanged.{Change, MayChange, links_before, targets_now};
+ghost use Rattle.cell_plan.specs.Exchanged.{Change, MayChange, links_before};
+ghost use Rattle.cell_target.specs.Named.{IsNamed, world_of};
 ghost use Rattle.cell_plan.specs.Viewed.{Adds, view_of};
 
 use crate::changed::Changed;
-use crate::changes::{Changes, changes_of};
 use crate::old::Old;
 use cell_graph::Graph;
 use cell_space::Spaces;
-use cell_target::Scene;
+use cell_target::{Named, Scene};
 use cell_world::{Fail, LinkRow, NewCell};
 use std::alloc::{AllocError, Global};
 
@@ -32,38 +31,37 @@ impl<'a> Exchange<'a> {
         self.graph.deps_of_cell(cell.id).collect(alloc)
     }
 
-    /// What changes in one cell.
-    fn changes(&self, alloc: Global, cell: &NewCell) -> Result<Changes, Fail>
+    /// Adds what changes in one cell.
+    fn add<'n>(
+        &self,
+        alloc: Global,
+        named: &mut Option<Named<'n>>,
+        changed: &mut Changed,
+        cell: &'n NewCell,
+    ) -> Result<(), Fail>
+        requires named { IsNamed (world_of self.now.scene.now) named.old }
         requires there { In cell.now (self.now.scene.now.present.now ++ self.now.scene.now.fresh.now) }
         requires may { MayChange (view_of self.now) cell.now }
-        ensures { AreChanges (map (λ c. c.0) self.now.old.now.cells.now) cell.now (targets_now (view_of self.now) cell.now) (links_before (view_of self.now) cell.now) result }
+        ensures named { IsNamed (world_of self.now.scene.now) named.new }
+        ensures adds { Adds (view_of self.now) cell.now changed.old result changed.new }
     {
         let state = self.spaces.state(cell.id);
-        let targets = self.scene.targets(alloc, cell, state)?;
+        let targets = self.scene.targets_after(alloc, named, cell, state)?;
         let links = self.links(alloc, cell)?;
-        changes_of(alloc, cell, &targets, &links, self.old)
-    }
-
-    /// Adds what changes in one cell.
-    fn add(&self, alloc: Global, changed: &mut Changed, cell: &NewCell) -> Result<(), Fail>
-        requires there { In cell.now (self.now.scene.now.present.now ++ self.now.scene.now.fresh.now) }
-        requires may { MayChange (view_of self.now) cell.now }
-        ensures { Adds (view_of self.now) cell.now changed.old result changed.new }
-    {
-        let changes = self.changes(alloc, cell)?;
-        changed.add(alloc, cell, &changes)?;
+        changed.take_in(alloc, cell, &targets, &links, self.old)?;
         Ok(())
     }
 
     /// What changes in the users of the old cells. The first entry that doesn't fit is refused.
-    pub fn changed(&self, alloc: Global, users: &[&NewCell]) -> Result<Changed, Fail>
+    pub fn changed<'n>(&self, alloc: Global, users: &[&'n NewCell]) -> Result<Changed, Fail>
         requires there { All (λ c. In c.now (self.now.scene.now.present.now ++ self.now.scene.now.fresh.now)) users.now }
         requires may { All (λ c. MayChange (view_of self.now) c.now) users.now }
         ensures { Change (view_of self.now) (map (λ c. c.now) users.now) result }
     {
         let mut changed = Changed::none(alloc);
+        let mut named = None;
         for place in 0..users.len() {
-            self.add(alloc, &mut changed, users[place])?;
+            self.add(alloc, &mut named, &mut changed, users[place])?;
         }
         Ok(changed)
     }

@@ -16,7 +16,7 @@ pub fn is_lost(old: &Old, targets: &[Target], link: &LinkRow) -> bool
 }
 
 /// The link to the section that its entry names by now.
-fn led_to(targets: &[Target], link: &LinkRow) -> LinkRow
+pub fn led_to(targets: &[Target], link: &LinkRow) -> LinkRow
     ensures { result ≡ led link.now (slice_get targets.now link.now.entry) }
 {
     match targets.get(link.entry as usize) {

@@ -13,7 +13,7 @@ use cell_world::NewCell;
 use std::alloc::{AllocError, Global};
 
 /// A call is two instructions, and a high part goes on to the last low part that goes with it.
-fn span_of(lasts: &Lasts, field: &Entry) -> Span
+pub fn span_of(lasts: &Lasts, field: &Entry) -> Span
     requires { IsLow lasts.now.cell.now }
     ensures { result ≡ span_in lasts.now.cell.now field.now }
 {

@@ -109,9 +109,12 @@ fn links_before(
     requires apart { AreApart moves.now }
     ensures { IfOk result (λ back. AreAsTheyWere machine.now.graph.rows moves.now back.items) }
 {
-    let mut back = Vec::new(alloc);
+    let mut back = Vec::with_capacity(alloc, moves.len())?;
+    let mut near = 0;
     for row in moves {
-        back.push(machine.graph.link(row.user, row.entry))?;
+        let (link, next) = machine.graph.link_near(row.user, row.entry, near);
+        back.push(link)?;
+        near = next;
     }
     Ok(back)
 }

@@ -1,16 +1,13 @@
 -- Look-ups in the machine that is seen.
 use Rattle.std.proofs.Common.{◌≡◌, refl, sym, ◌∙◌, ap, arith, ℕ, zero, suc, ◌<◌, Bool, true, false, cond, inl, inr, List, [], ◌∷◌, ◌++◌, map, length, get_or}
-use Rattle.std.specs.Prelude.{Option, Some, None, ◌==◌, find, option_map, option_and_then, slice_get}
+use Rattle.std.specs.Prelude.{Option, Some, None, ◌==◌, find, option_map, option_and_then}
 use Rattle.std.specs.Option.{option_or}
 use Rattle.std.proofs.lemmas.List.Folds.{find-append}
-use Rattle.cell_object.specs.declared.object.Object.{Object}
-use Rattle.cell_object.specs.declared.object.Symbol.{Symbol}
-use Rattle.cell_object.specs.Parts.{symbol_at}
 use Rattle.cell_world.specs.declared.state.Namespace.{Namespace}
 use Rattle.cell_world.specs.declared.state.NewCell.{NewCell}
 use Rattle.cell_world.specs.declared.state.Target.{Target}
 use Rattle.cell_world.specs.Target.{provided_target}
-use Rattle.cell_world.specs.World.{World, Cell, cell_of}
+use Rattle.cell_world.specs.World.{World, cell_of}
 use Rattle.cell_world.specs.Names.{Provider, chain, provider_for as provider_in}
 use Rattle.cell_coherent.specs.Grown.{In}
 use Rattle.cell_space.specs.declared.cell.CellState.{CellState}

@@ -1,5 +1,5 @@
 -- What is looked up depends on a machine's namespaces and cells alone.
-use Rattle.std.proofs.Common.{◌≡◌, refl, ◌∙◌, ap, ℕ, zero, suc, List, map}
+use Rattle.std.proofs.Common.{◌≡◌, refl, ◌∙◌, ap, ℕ, zero, suc, List}
 use Rattle.std.specs.Prelude.{Option, Some, None, option_and_then, slice_get, unwrap_or, find, filter, ◌==◌, if◌then◌else◌}
 use Rattle.cell_object.specs.declared.object.Entry.{Entry}
 use Rattle.cell_object.specs.declared.object.Home.{Home}

@@ -1,3 +1,4 @@
 pub mod Scene
 pub mod Entries
+pub mod Named
 pub mod Highs

@@ -2,7 +2,7 @@
 --     seen namespaces cells known   the machine with these namespaces and cells, and nothing else
 --     in_state c state              the cell in that state, under its own names
 --     AreCells known cells          places and names are those of the same cells, which stand in the order of their numbers, far below the numbers of 64 bits
-use Rattle.std.specs.Prelude.{◌≡◌, ◌<◌, ◌^◌, ℕ, nat_lt, IsTrue, true, List, []}
+use Rattle.std.specs.Prelude.{nat_lt, IsTrue, List, []}
 use Rattle.cell_num.specs.Lists.{each_pair}
 use Rattle.cell_world.specs.declared.state.NewCell.{NewCell}
 use Rattle.cell_world.specs.declared.state.Namespace.{Namespace}

@@ -54,8 +54,8 @@ pub fn entry_targets(
 ) -> Result<Vec<Target>, AllocError>
     ensures { IfOk result (λ targets. targets.items ≡ entry_targets symbols.now highs.now.object.now) }
 {
-    let mut targets = Vec::new(alloc);
     let entries = highs.object.entries.as_slice();
+    let mut targets = Vec::with_capacity(alloc, entries.len())?;
     for index in 0..entries.len() {
         targets.push(target_or_zero(symbols, highs, &entries[index]))?;
     }

@@ -5,6 +5,7 @@
 mod cells;
 mod entries;
 mod highs;
+mod named;
 mod provided;
 mod scene;
 mod symbols;
@@ -12,4 +13,5 @@ mod targets;
 
 pub use cell_world::{NewCell, Target};
 pub use highs::Highs;
+pub use named::Named;
 pub use scene::Scene;

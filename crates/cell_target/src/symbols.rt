@@ -4,9 +4,11 @@ ghost use Rattle.std.specs.Prelude.{◌≡◌, ◌<◌, ◌++◌, IfOk, length};
 ghost use Rattle.cell_world.specs.Target.{symbol_target as target_with};
 ghost use Rattle.cell_coherent.specs.Grown.{In};
 ghost use Rattle.cell_target.specs.Entries.{symbol_targets as targets_with};
+ghost use Rattle.cell_target.specs.Named.{IsNamed, world_of};
 ghost use Rattle.cell_target.specs.Scene.{in_state, seen};
 ghost use Rattle.cell_placed.specs.Low.{IsLow};
 
+use crate::named::Named;
 use crate::scene::Scene;
 use cell_object::{Bind, Home, Symbol};
 use cell_placed::own_target;
@@ -16,11 +18,19 @@ use std::alloc::{AllocError, Global};
 
 impl<'a> Scene<'a> {
     /// The target of a symbol of the cell, in that state.
-    fn symbol_target(&self, cell: &NewCell, state: CellState, symbol: &Symbol) -> Option<Target>
+    fn symbol_target<'n>(
+        &self,
+        named: &mut Option<Named<'n>>,
+        cell: &NewCell,
+        state: CellState,
+        symbol: &'n Symbol,
+    ) -> Option<Target>
+        requires named { IsNamed (world_of self.now) named.old }
         requires low { IsLow cell.now }
         requires there { In symbol.now cell.now.object.symbols }
         requires ns { cell.now.ns < length self.now.ahead.now.namespaces }
-        ensures { result ≡ target_with (seen self.now.ahead.now.namespaces (self.now.present.now ++ self.now.fresh.now) self.now.ahead.now.cells) (in_state cell.now state) symbol.now symbol.now.home }
+        ensures named { IsNamed (world_of self.now) named.new }
+        ensures target { result ≡ target_with (seen self.now.ahead.now.namespaces (self.now.present.now ++ self.now.fresh.now) self.now.ahead.now.cells) (in_state cell.now state) symbol.now symbol.now.home }
     {
         if symbol.home != Home::Undef {
             return own_target(cell, symbol);
@@ -28,24 +38,27 @@ impl<'a> Scene<'a> {
         if symbol.bind != Bind::Global {
             return None;
         }
-        self.provided(cell.ns, state, symbol.name.as_slice())
+        self.provided_after(named, cell.ns, state, symbol.name.as_slice())
     }
 
     /// The target of each symbol of the cell, in that state.
-    pub(crate) fn symbol_targets(
+    pub(crate) fn symbol_targets<'n>(
         &self,
         alloc: Global,
-        cell: &NewCell,
+        named: &mut Option<Named<'n>>,
+        cell: &'n NewCell,
         state: CellState,
     ) -> Result<Vec<Option<Target>>, AllocError>
+        requires named { IsNamed (world_of self.now) named.old }
         requires low { IsLow cell.now }
         requires ns { cell.now.ns < length self.now.ahead.now.namespaces }
-        ensures { IfOk result (λ targets. targets.items ≡ targets_with (seen self.now.ahead.now.namespaces (self.now.present.now ++ self.now.fresh.now) self.now.ahead.now.cells) (in_state cell.now state)) }
+        ensures named { IsNamed (world_of self.now) named.new }
+        ensures targets { IfOk result (λ targets. targets.items ≡ targets_with (seen self.now.ahead.now.namespaces (self.now.present.now ++ self.now.fresh.now) self.now.ahead.now.cells) (in_state cell.now state)) }
     {
-        let mut targets = Vec::new(alloc);
         let symbols = cell.object.symbols.as_slice();
+        let mut targets = Vec::with_capacity(alloc, symbols.len())?;
         for index in 0..symbols.len() {
-            targets.push(self.symbol_target(cell, state, &symbols[index]))?;
+            targets.push(self.symbol_target(named, cell, state, &symbols[index]))?;
         }
         Ok(targets)
     }

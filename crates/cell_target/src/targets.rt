@@ -3,18 +3,40 @@
 ghost use Rattle.std.specs.Prelude.{◌≡◌, ◌<◌, ◌++◌, IfOk, length};
 ghost use Rattle.cell_world.specs.Target.{targets_of};
 ghost use Rattle.cell_coherent.specs.Grown.{In};
+ghost use Rattle.cell_target.specs.Named.{IsNamed, world_of};
 ghost use Rattle.cell_target.specs.Scene.{in_state, seen};
 
 use crate::entries::entry_targets;
 use crate::highs::Highs;
+use crate::named::Named;
 use crate::scene::Scene;
 use cell_space::CellState;
 use cell_world::{NewCell, Target};
 use std::alloc::{AllocError, Global};
 
 impl<'a> Scene<'a> {
-    /// What each entry of the cell names in that state, in table order. A name that nobody provides is the number 0.
+    /// What each entry of the cell names in that state, in table order. A name that nobody provides is the
+    /// number 0. The last name that was looked up is at hand for the next cell.
     #[tactic(auto, using(crate::proofs::Tabled::targets_tabled))]
+    pub fn targets_after<'n>(
+        &self,
+        alloc: Global,
+        named: &mut Option<Named<'n>>,
+        cell: &'n NewCell,
+        state: CellState,
+    ) -> Result<Vec<Target>, AllocError>
+        requires named { IsNamed (world_of self.now) named.old }
+        requires there { In cell.now (self.now.present.now ++ self.now.fresh.now) }
+        requires ns { cell.now.ns < length self.now.ahead.now.namespaces }
+        ensures named { IsNamed (world_of self.now) named.new }
+        ensures targets { IfOk result (λ targets. targets.items ≡ targets_of (world_of self.now) (in_state cell.now state)) }
+    {
+        let symbols = self.symbol_targets(alloc, named, cell, state)?;
+        let highs = Highs::of(alloc, &cell.object)?;
+        entry_targets(alloc, &symbols, &highs)
+    }
+
+    /// What each entry of the cell names in that state, in table order. A name that nobody provides is the number 0.
     pub fn targets(
         &self,
         alloc: Global,
@@ -25,8 +47,7 @@ impl<'a> Scene<'a> {
         requires ns { cell.now.ns < length self.now.ahead.now.namespaces }
         ensures { IfOk result (λ targets. targets.items ≡ targets_of (seen self.now.ahead.now.namespaces (self.now.present.now ++ self.now.fresh.now) self.now.ahead.now.cells) (in_state cell.now state)) }
     {
-        let symbols = self.symbol_targets(alloc, cell, state)?;
-        let highs = Highs::of(alloc, &cell.object)?;
-        entry_targets(alloc, &symbols, &highs)
+        let mut named = None;
+        self.targets_after(alloc, &mut named, cell, state)
     }
 }

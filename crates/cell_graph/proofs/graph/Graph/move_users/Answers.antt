@@ -7,8 +7,8 @@ use Rattle.cell_graph.proofs.Apart.{bound-moved}
 use Rattle.cell_graph.proofs.Moving.{moved_next, moved_end}
 use Rattle.cell_graph.proofs.graph.Graph.move_users.Goals as goal
 
-pub move_one-requires-clause-present : goal.move_one-requires-clause-present
-move_one-requires-clause-present g c =
+pub move_one-near-requires-clause-present : goal.move_one-near-requires-clause-present
+move_one-near-requires-clause-present g c =
     let none : SecKey = record { cell = record { 0 = 0 }; section = 0 } in
     let nothing : LinkRow = record { user = none; entry = 0; target = none } in
     subst (λ s. Contains s (get_or c.args.moves.now c.loop-to.to-index nothing).target) (sym c.loop-to.invariant.3)
@@ -23,13 +23,13 @@ loop-to-preserved g c =
     let place = c.loop-to.to-index in
     let here = get_or moves place nothing ∷ [] in
     let next = moved_next rows moves place nothing c.loop-to-test.true c.loop-to.invariant.1 in
-    let now = c.move_one.ensures.moved in (
+    let now = c.move_one-near.ensures.moved in (
       ap (λ rs. moved rs (drop (place + 1) moves)) now ∙ next.0 ∙ c.loop-to.invariant.0,
       next.1,
       omega (arith, c.loop-to.invariant.2),
-      c.move_one.ensures.same_sections ∙ c.loop-to.invariant.3,
-      c.move_one.ensures.same_room_for_links ∙ c.loop-to.invariant.4,
-      c.move_one.ensures.same_room_for_sections ∙ c.loop-to.invariant.5,
+      c.move_one-near.ensures.same_sections ∙ c.loop-to.invariant.3,
+      c.move_one-near.ensures.same_room_for_links ∙ c.loop-to.invariant.4,
+      c.move_one-near.ensures.same_room_for_sections ∙ c.loop-to.invariant.5,
       λ m. ap (λ rs. is_bound rs m.user m.entry) now ∙ bound-moved rows here m.user m.entry ∙ c.loop-to.invariant.6 m,
     )
 

@@ -1,4 +1,4 @@
-use Rattle.std.proofs.Common.{subst, sym, map, arith, length, ◌++◌, Bor}
+use Rattle.std.proofs.Common.{subst, sym, map, arith, ◌++◌, Bor}
 use Rattle.cell_world.specs.declared.state.NewCell.{NewCell}
 use Rattle.std.proofs.lemmas.List.{length-map}
 use Rattle.std.proofs.lemmas.Result.{err_from_is_err_and}
@@ -17,13 +17,16 @@ returns-in_err-add c =
     let p = err_from_is_err_and c.from_residual.result c.from_residual.ensures.1 in
     let at = referred c.args.users.now c.loop-place.place c.index-users-place.result c.loop-place-test.true c.index-users-place.is in
     rw (p.1, p.2)
-    (one_refused (view_of c.args.self.now) (map (λ r. r.now) c.args.users.now) c.loop-place.place c.loop-place.changed c.loop-place.invariant at.0 c.index-users-place.result.now at.1 c.add.new.changed c.in_err-add.field-0.0
-    (c.in_err-add.ensures {u = tt}))
+    (one_refused (view_of c.args.self.now) (map (λ r. r.now) c.args.users.now) c.loop-place.place c.loop-place.changed c.loop-place.invariant.to at.0 c.index-users-place.result.now at.1 c.add.new.changed c.in_err-add.field-0.0
+    ((c.in_err-add.ensures {u = tt}).adds))
 
 pub loop-place-preserved : goal.loop-place-preserved
 loop-place-preserved c =
     let at = referred c.args.users.now c.loop-place.place c.index-users-place.result c.loop-place-test.true c.index-users-place.is in
-    one_added (view_of c.args.self.now) (map (λ r. r.now) c.args.users.now) c.loop-place.place c.loop-place.changed c.loop-place.invariant at.0 c.index-users-place.result.now at.1 c.add.new.changed (c.in_ok-add.ensures {u = tt})
+    record {
+      named = c.add.ensures.named;
+      to = one_added (view_of c.args.self.now) (map (λ r. r.now) c.args.users.now) c.loop-place.place c.loop-place.changed c.loop-place.invariant.to at.0 c.index-users-place.result.now at.1 c.add.new.changed ((c.in_ok-add.ensures {u = tt}).adds);
+    }
 
 pub returns : goal.returns
-returns c = all_added (view_of c.args.self.now) (map (λ r. r.now) c.args.users.now) c.loop-place.place c.loop-place.changed c.loop-place.invariant (omega (arith, c.loop-place-test.false, length-map c.args.users.now (λ r. r.now)))
+returns c = all_added (view_of c.args.self.now) (map (λ r. r.now) c.args.users.now) c.loop-place.place c.loop-place.changed c.loop-place.invariant.to (omega (arith, c.loop-place-test.false, length-map c.args.users.now (λ r. r.now)))

@@ -1,5 +1,0 @@
-use Rattle.cell_graph.proofs.Listing.{place_named}
-use Rattle.cell_graph.proofs.links.section_place.Goals as goal
-
-pub returns : goal.returns
-returns c = place_named c.args.list.now c.section_index.result c.args.key _ c.section_index.ensures
