@@ -5,12 +5,12 @@ use Rattle.std.specs.List.{list_all, list_any}
 use Rattle.std.proofs.lemmas.Bool.{and_parts, eqb-true}
 use Rattle.std.proofs.lemmas.List.Elements.{All-contains_itself}
 use Rattle.cell_num.specs.declared.ids.SecKey.{SecKey}
-use Rattle.cell_num.specs.Lists.{holds}
+use Rattle.cell_num.specs.Lists.{holds, In}
 use Rattle.cell_graph.specs.Links.{Links, is_same}
 use Rattle.cell_world.specs.World.{key_of}
 use Rattle.cell_world.specs.declared.state.LinkRow.{LinkRow}
 use Rattle.cell_world.specs.declared.state.Placed.{Placed}
-use Rattle.cell_coherent.proofs.Elements.{In, any-Has, All-In}
+use Rattle.cell_num.proofs.Elements.{any-Has, All-In}
 use Rattle.cell_hold.specs.declared.roots.Root.{Root}
 use Rattle.cell_hold.specs.Places.{HasTargets, has_section}
 use Rattle.cell_hold.specs.Roots.{HasRoom, named_by}

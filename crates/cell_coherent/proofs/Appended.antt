@@ -12,13 +12,13 @@ use Rattle.cell_object.specs.Parts.{is_global}
 use Rattle.cell_object.specs.Sound.{IsSoundObject, may_both_be}
 use Rattle.cell_world.specs.declared.refusal.Refusal.TheVariants.{BadObject, TooMany}
 use Rattle.cell_world.specs.declared.refusal.Many.TheVariants.{Cells, CellNumbers}
-use Rattle.cell_num.specs.Lists.{equals, holds, holds_name, numbered_from, each_pair}
+use Rattle.cell_num.specs.Lists.{equals, holds, holds_name, numbered_from, each_pair, In}
 use Rattle.cell_world.specs.World.{World, Cell, Alias, is_attached}
 use Rattle.cell_world.specs.Names.{chain, rivals, clash_stem, clash_name, has_name, names_of, definitions_of, is_definition, are_on_one_path}
 use Rattle.cell_world.specs.Gather.{Source, stem_of_file, clash_among, duplicate, object_in, new_cell, append_cell}
 use Rattle.cell_world.specs.Outcome.{Outcome, need, refused_by}
 use Rattle.cell_world.specs.Coherent.{all_names, may_both_stand, has_each_name_once}
-use Rattle.cell_coherent.proofs.Elements.{In, none-In, In-none, unfound-In, filter-In, In-map, pairs_push, all_push, or_else_parts}
+use Rattle.cell_num.proofs.Elements.{none-In, In-none, unfound-In, filter-In, In-map, pairs_push, all_push, or_else_parts}
 use Rattle.cell_coherent.proofs.Outcomes.{bind_ok, then_ok, need_ok, refused_ok}
 
 abbrev pub with_new : World → Source → ℕ → Object → World

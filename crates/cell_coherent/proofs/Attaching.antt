@@ -1,7 +1,7 @@
 -- Where attached cells have come behind those that were there, no field of these changes: linking writes the new cells' fields and adds their links.
 use Rattle.std.proofs.Common.{◌≡◌, refl, sym, ◌∙◌, ap, subst, Bool, true, false, not, ◌&&◌, List, [], ◌∷◌, ◌++◌, map, Option, Some, None, fold}
 use Rattle.std.specs.Prelude.{filter_map, flat_map, unwrap_or, ◌==◌}
-use Rattle.cell_num.specs.Lists.{numbered}
+use Rattle.cell_num.specs.Lists.{numbered, In}
 use Rattle.cell_object.specs.declared.object.Entry.{Entry}
 use Rattle.cell_world.specs.declared.state.LinkRow.{LinkRow}
 use Rattle.cell_world.specs.declared.state.Target.{Target}
@@ -14,7 +14,7 @@ use Rattle.cell_world.specs.Relink.{link_of, relink, patched, patches_of}
 use Rattle.cell_world.specs.Changed.{FieldAt, is_same_key, is_same_target, is_other_target, now_in, differs, is_changed, changed_in, changed_fields}
 use Rattle.cell_world.specs.Coherent.{IsReady, IsCoherent}
 use Rattle.cell_coherent.specs.Grown.{HasAttached, IsRegrown, with_fields, links_from, patch_at}
-use Rattle.cell_coherent.proofs.Elements.{In, In-none, In-left, filter_none, flat_same}
+use Rattle.cell_num.proofs.Elements.{In-none, In-left, filter_none, flat_same}
 use Rattle.cell_coherent.proofs.FreshLinks.{grows, links_grown}
 use Rattle.cell_coherent.proofs.Supplied.{same_target}
 use Rattle.cell_coherent.proofs.Targets.{In-find}

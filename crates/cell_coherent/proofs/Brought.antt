@@ -4,12 +4,12 @@ use Rattle.std.specs.Prelude.{fold, slice_get, is_some}
 use Rattle.std.proofs.lemmas.Bool.{ltb-true}
 use Rattle.cell_world.specs.declared.refusal.Refusal.{Refusal}
 use Rattle.cell_world.specs.declared.state.Namespace.{Namespace}
-use Rattle.cell_num.specs.Lists.{equals, is_before}
+use Rattle.cell_num.specs.Lists.{equals, is_before, In}
 use Rattle.cell_world.specs.World.{World}
 use Rattle.cell_world.specs.Names.{chain, chain_within, crate_of}
 use Rattle.cell_world.specs.Gather.{Source, Need, with_source, depot_files, one_file, name_of_ns, ns_of_file, stem_of_file, append_cell, first_lack, missing, has_stem_in, nearest_file, bring_one, fresh_cells, bring_within}
 use Rattle.cell_world.specs.Outcome.{Outcome, ◌>>=◌, need, found}
-use Rattle.cell_coherent.proofs.Elements.{In, In-filtered}
+use Rattle.cell_num.proofs.Elements.{In-filtered}
 use Rattle.cell_coherent.proofs.Outcomes.{bind_ok, then_ok}
 use Rattle.cell_coherent.proofs.Appended.{Appended, append_ok, ok_same}
 

@@ -7,7 +7,7 @@ use Rattle.cell_world.specs.declared.state.Namespace.{Namespace}
 use Rattle.cell_num.specs.Lists.{numbered}
 use Rattle.cell_world.specs.Names.{chain, chain_within}
 use Rattle.cell_world.specs.Coherent.{is_sound_parent}
-use Rattle.cell_coherent.proofs.Elements.{all-In, numbered-In}
+use Rattle.cell_num.proofs.Elements.{all-In, numbered-In}
 
 get_more : {X : Type 0} (xs ys : List X) (n : ℕ) → n < length xs → slice_get (xs ++ ys) n ≡ slice_get xs n
 get_more [] ys n h = absurd (omega (arith, h))

@@ -4,13 +4,13 @@ use Rattle.std.specs.Prelude.{fold, flat_map, nat_lt, ◌==◌}
 use Rattle.std.specs.List.{list_all}
 use Rattle.std.proofs.lemmas.List.Folds.{list_all-map}
 use Rattle.std.proofs.lemmas.Bool.{and_parts, and_from, leb-true, eqb-true, eq-eqb}
-use Rattle.cell_num.specs.Lists.{each_pair}
+use Rattle.cell_num.specs.Lists.{each_pair, In}
 use Rattle.cell_world.specs.World.{World, Cell, Region}
 use Rattle.cell_world.specs.Relink.{class_start}
 use Rattle.cell_world.specs.Layout.{image_of, sections_in, permission_of}
 use Rattle.cell_world.specs.declared.layout.Class.{Class}
 use Rattle.cell_world.specs.Coherent.{Shape, shape_of, with_shape, class_shape, stack_shape, wanted_shapes, is_in_space, ends_before}
-use Rattle.cell_coherent.proofs.Elements.{In, all-In, In-all, In-left, In-right, pairs_same, flat_map-In}
+use Rattle.cell_num.proofs.Elements.{all-In, In-all, In-left, In-right, pairs_same, flat_map-In}
 use Rattle.cell_coherent.proofs.Places.{whole_region}
 use Rattle.cell_coherent.proofs.FieldsInside.{In-with_shape, classes, class-In}
 

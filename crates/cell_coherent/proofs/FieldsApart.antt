@@ -14,7 +14,8 @@ use Rattle.cell_world.specs.Relink.{class_start}
 use Rattle.cell_world.specs.Layout.{sections_in, is_in_class, class_of, offset_in}
 use Rattle.cell_world.specs.declared.layout.Class.{Class}
 use Rattle.cell_world.specs.Coherent.{IsReady, ends_before}
-use Rattle.cell_coherent.proofs.Elements.{In, found-In, filter-In, In-filtered, pairs-In}
+use Rattle.cell_num.specs.Lists.{In}
+use Rattle.cell_num.proofs.Elements.{found-In, filter-In, In-filtered, pairs-In}
 use Rattle.cell_coherent.proofs.Known.{object_sound}
 use Rattle.cell_coherent.proofs.Targets.{entry_parts}
 use Rattle.cell_coherent.proofs.FieldsInside.{class_In, stands, section_class}

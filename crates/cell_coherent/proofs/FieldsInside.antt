@@ -12,7 +12,7 @@ use Rattle.cell_object.specs.Parts.{section_of}
 use Rattle.cell_object.specs.Sound.{IsSoundObject, is_sound_section, is_sound_entry_in, is_zero}
 use Rattle.cell_num.specs.Bits.{bytes_of}
 use Rattle.cell_num.specs.Kinds.{width_of, is_instruction}
-use Rattle.cell_num.specs.Lists.{each_pair}
+use Rattle.cell_num.specs.Lists.{each_pair, In}
 use Rattle.cell_world.specs.World.{World, Cell, Region}
 use Rattle.cell_world.specs.Target.{start_of}
 use Rattle.cell_world.specs.Field.{fields_among, fields_of, place_of, is_at}
@@ -21,7 +21,7 @@ use Rattle.cell_world.specs.Layout.{is_in_class, sections_in, image_of, laid_out
 use Rattle.cell_world.specs.declared.layout.Class.TheVariants.{Text, ReadOnly, Writable}
 use Rattle.cell_world.specs.declared.layout.Class.{Class}
 use Rattle.cell_world.specs.Coherent.{Shape, shape_of, with_shape, class_shape, stack_shape, wanted_shapes, is_placed, stands_by_rule, ends_before, IsLoadable}
-use Rattle.cell_coherent.proofs.Elements.{In, all-In, found-In, filter-In, In-map, In-left, In-filtered, In-flat_map, flat_map-In, pairs-In, first_has}
+use Rattle.cell_num.proofs.Elements.{all-In, found-In, filter-In, In-map, In-left, In-filtered, In-flat_map, flat_map-In, pairs-In, first_has}
 use Rattle.cell_coherent.proofs.Known.{object_sound}
 use Rattle.cell_coherent.proofs.Targets.{entry_parts}
 use Rattle.cell_coherent.proofs.Relinked.{FieldsEndIn}

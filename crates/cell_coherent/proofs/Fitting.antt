@@ -6,7 +6,8 @@ use Rattle.cell_world.specs.Relink.{bound_entries}
 use Rattle.cell_world.specs.Field.{misfit_of}
 use Rattle.cell_world.specs.Fit.{first_misfit, misfit_in, overflow_at}
 use Rattle.cell_world.specs.Coherent.{is_fitting}
-use Rattle.cell_coherent.proofs.Elements.{In, or_else_parts}
+use Rattle.cell_num.specs.Lists.{In}
+use Rattle.cell_num.proofs.Elements.{or_else_parts}
 use Rattle.cell_coherent.proofs.Appended.{unmapped}
 
 misfits_none : (w : World) (cells : List Cell) → first_misfit w cells ≡ None → (c : Cell) → In c cells → misfit_in w c ≡ None

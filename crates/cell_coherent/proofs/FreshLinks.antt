@@ -2,7 +2,7 @@
 use Rattle.std.proofs.Common.{◌≡◌, ◌∙◌, ap, ℕ, List, ◌++◌, Option, Some, None}
 use Rattle.std.specs.Prelude.{filter_map}
 use Rattle.std.proofs.lemmas.List.Concat.{flat_map-append}
-use Rattle.cell_num.specs.Lists.{numbered}
+use Rattle.cell_num.specs.Lists.{numbered, In}
 use Rattle.cell_object.specs.declared.object.Entry.{Entry}
 use Rattle.cell_world.specs.declared.state.LinkRow.{LinkRow}
 use Rattle.cell_world.specs.declared.state.Target.{Target}
@@ -10,7 +10,7 @@ use Rattle.cell_world.specs.World.{World, Cell}
 use Rattle.cell_world.specs.Relink.{link_to, link_of, links_of}
 use Rattle.cell_world.specs.Coherent.{IsCoherent}
 use Rattle.cell_coherent.specs.Grown.{HasAttached, links_from}
-use Rattle.cell_coherent.proofs.Elements.{In, In-numbered, get-In, flat_same, filter_map_same}
+use Rattle.cell_num.proofs.Elements.{In-numbered, get-In, flat_same, filter_map_same}
 use Rattle.cell_coherent.proofs.Supplied.{same_target}
 use Rattle.cell_coherent.proofs.Attach.{Grows}
 use Rattle.cell_world.specs.Names.{chain}

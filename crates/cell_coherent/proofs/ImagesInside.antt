@@ -3,14 +3,14 @@ use Rattle.std.proofs.Common.{◌≡◌, sym, ◌∙◌, ap, arith, ℕ, ◌+◌
 use Rattle.std.specs.Prelude.{All, filter}
 use Rattle.std.specs.List.{list_all}
 use Rattle.std.proofs.lemmas.Bool.{leb-true}
-use Rattle.cell_num.specs.Lists.{each_pair}
+use Rattle.cell_num.specs.Lists.{each_pair, In}
 use Rattle.cell_world.specs.World.{World, Region}
 use Rattle.cell_world.specs.Relink.{class_start, is_region_of, images_for, relink}
 use Rattle.cell_world.specs.Layout.{sections_in, image_of}
 use Rattle.cell_world.specs.declared.layout.Class.TheVariants.{Text, ReadOnly}
 use Rattle.cell_world.specs.declared.layout.Class.{Class}
 use Rattle.cell_world.specs.Coherent.{shape_of, wanted_shapes, is_placed, is_in_space, ends_before, IsLoadable}
-use Rattle.cell_coherent.proofs.Elements.{In, all-In, In-map, In-append, In-filtered, filter-Passes, first-In, pairs-In}
+use Rattle.cell_num.proofs.Elements.{all-In, In-map, In-append, In-filtered, filter-Passes, first-In, pairs-In}
 use Rattle.cell_coherent.proofs.Places.{whole_region}
 use Rattle.cell_coherent.proofs.Regions.{starts_at}
 use Rattle.cell_coherent.proofs.Reshaped.{ImagesFit, shapes_relinked}

@@ -4,13 +4,13 @@ use Rattle.std.specs.Prelude.{All, find, option_map, unwrap_or, nat_lt, nat_le, 
 use Rattle.std.specs.List.{list_all}
 use Rattle.std.proofs.lemmas.Bool.{and_parts, leb-true, eq-eqb}
 use Rattle.std.proofs.lemmas.Slice.Eq.{bytes_eq-Decides}
-use Rattle.cell_num.specs.Lists.{each_pair, equals}
+use Rattle.cell_num.specs.Lists.{each_pair, equals, In}
 use Rattle.cell_object.specs.declared.object.Section.{Section as ObjectSection}
 use Rattle.cell_world.specs.declared.state.SecPlace.{SecPlace}
 use Rattle.cell_world.specs.World.{World, Cell, Region}
 use Rattle.cell_world.specs.Target.{start_of}
 use Rattle.cell_world.specs.Coherent.{IsLoadable, shape_of, wanted_shapes, ends_before, is_in_space, is_placed, stands_by_rule}
-use Rattle.cell_coherent.proofs.Elements.{In, all-In, In-All, In-map, map-In, pairs-map}
+use Rattle.cell_num.proofs.Elements.{all-In, In-All, In-map, map-In, pairs-map}
 use Rattle.cell_coherent.proofs.Known.{object_sound}
 use Rattle.cell_coherent.proofs.FieldsInside.{classes, section_inside}
 

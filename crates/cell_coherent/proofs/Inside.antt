@@ -3,7 +3,7 @@ use Rattle.std.proofs.Common.{◌≡◌, sym, subst, arith, ℕ, ◌+◌, ◌*�
 use Rattle.std.specs.Prelude.{All, nat_lt, nat_le}
 use Rattle.std.proofs.lemmas.Bool.{and_parts, and_from, leb-true, ltb-true, le-leb, lt-ltb}
 use Rattle.cell_num.specs.Kinds.{width_of}
-use Rattle.cell_num.specs.Lists.{each_pair}
+use Rattle.cell_num.specs.Lists.{each_pair, In}
 use Rattle.cell_object.specs.declared.object.Section.{Section as ObjectSection}
 use Rattle.cell_object.specs.declared.object.Entry.{Entry}
 use Rattle.cell_num.specs.declared.kinds.RelKind.{RelKind}
@@ -14,7 +14,7 @@ use Rattle.cell_world.specs.Field.{place_of}
 use Rattle.cell_world.specs.Coherent.{IsReady, ends_before}
 use Rattle.cell_coherent.specs.Linkable.{IsLinkable}
 use Rattle.cell_coherent.specs.Present.{IsInside}
-use Rattle.cell_coherent.proofs.Elements.{In, In-All, found-In, pairs-In, find_there}
+use Rattle.cell_num.proofs.Elements.{In-All, found-In, pairs-In, find_there}
 use Rattle.cell_coherent.proofs.InSpace.{places_in_space}
 use Rattle.cell_coherent.proofs.FieldsInside.{section_inside, field_inside}
 

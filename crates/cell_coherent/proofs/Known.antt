@@ -7,7 +7,8 @@ use Rattle.cell_object.specs.Sound.{IsSoundObject}
 use Rattle.cell_world.specs.World.{World, Cell}
 use Rattle.cell_world.specs.Names.{definitions_of}
 use Rattle.cell_world.specs.Coherent.{IsLoadable, is_known_cell, is_sound_standing}
-use Rattle.cell_coherent.proofs.Elements.{In, All-In}
+use Rattle.cell_num.specs.Lists.{In}
+use Rattle.cell_num.proofs.Elements.{All-In}
 
 abbrev pub has_own_aliases : Cell → Bool
 has_own_aliases c = list_all (λ a. list_any (λ d. d.symbol == a.symbol) (definitions_of c.object)) c.aliases

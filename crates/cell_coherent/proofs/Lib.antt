@@ -1,4 +1,3 @@
-pub mod Elements
 pub mod Outcomes
 pub mod Known
 pub mod Attach
@@ -31,7 +30,6 @@ pub mod Present
 pub mod Inside
 pub mod InSpace
 pub mod Distinct
-pub mod Lists
 pub mod Pastes
 pub mod Writes
 pub mod Regions

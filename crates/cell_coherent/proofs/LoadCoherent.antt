@@ -13,7 +13,8 @@ use Rattle.cell_world.specs.Answer.{Done}
 use Rattle.cell_world.specs.LoadCommand.{next_load}
 use Rattle.cell_world.specs.Coherent.{AreSound, IsReady, IsCoherent, is_known_cell, is_supplied, is_fitting}
 use Rattle.cell_coherent.specs.Linkable.{IsLinkable}
-use Rattle.cell_coherent.proofs.Elements.{In, all-In, In-right, filter_all, filter_none}
+use Rattle.cell_num.specs.Lists.{In}
+use Rattle.cell_num.proofs.Elements.{all-In, In-right, filter_all, filter_none}
 use Rattle.cell_coherent.proofs.Known.{known_parts, object_sound}
 use Rattle.cell_coherent.proofs.Gathered.{Ranks, Extends}
 use Rattle.cell_coherent.proofs.Places.{Spaced}

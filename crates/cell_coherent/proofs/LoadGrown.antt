@@ -3,7 +3,7 @@ use Rattle.std.proofs.Common.{◌≡◌, refl, sym, ◌∙◌, ap, subst, ℕ, �
 use Rattle.std.specs.Prelude.{filter, flat_map, nat_le, nat_lt, length, Option, Some, unwrap_or}
 use Rattle.std.specs.List.{list_all}
 use Rattle.std.proofs.lemmas.List.{map-append}
-use Rattle.cell_num.specs.Lists.{each_pair, equals}
+use Rattle.cell_num.specs.Lists.{each_pair, equals, In}
 use Rattle.cell_world.specs.declared.refusal.Refusal.TheVariants.{Unknown, NoObject}
 use Rattle.cell_world.specs.World.{World, Cell, is_attached}
 use Rattle.cell_world.specs.Names.{namespace_named}
@@ -18,7 +18,7 @@ use Rattle.cell_world.specs.LoadCommand.{append_named}
 use Rattle.cell_world.specs.Coherent.{AreSound, IsReady, Shape, class_shape}
 use Rattle.cell_coherent.specs.Linkable.{IsLinkable}
 use Rattle.cell_coherent.specs.Grown.{HasAttached, IsOwn, IsRegrown}
-use Rattle.cell_coherent.proofs.Elements.{In, In-All, In-left, In-right, flat_map-In, below_there, position_below}
+use Rattle.cell_num.proofs.Elements.{In-All, In-left, In-right, flat_map-In, below_there, position_below}
 use Rattle.cell_coherent.proofs.Known.{object_sound}
 use Rattle.cell_coherent.proofs.Outcomes.{bind_ok, found_ok}
 use Rattle.cell_coherent.proofs.Brought.{In-depot, one_file-In}
@@ -26,7 +26,7 @@ use Rattle.cell_coherent.proofs.Gathered.{Ranks, Extends, gathered}
 use Rattle.cell_coherent.proofs.Places.{Spaced}
 use Rattle.cell_coherent.proofs.FieldsInside.{classes, class-In}
 use Rattle.cell_coherent.proofs.Renamed.{bare, all_bare, pairs_bare}
-use Rattle.cell_coherent.proofs.Lists.{In-fixed}
+use Rattle.cell_num.proofs.Sublists.{In-fixed}
 use Rattle.cell_coherent.proofs.Targets.{In-find}
 use Rattle.cell_world.specs.Changed.{now_in}
 use Rattle.cell_coherent.proofs.PlacedAll.{Placed, all_placed}

@@ -16,7 +16,7 @@ use Rattle.cell_coherent.proofs.Outcomes.{bind_ok, then_ok, refused_ok, found_ok
 use Rattle.cell_coherent.proofs.Appended.{ok_same}
 use Rattle.cell_coherent.proofs.Brought.{In-depot, one_file-In}
 use Rattle.cell_coherent.proofs.Gathered.{Ranks, Extends, gathered}
-use Rattle.cell_coherent.proofs.Elements.{below_there, position_below}
+use Rattle.cell_num.proofs.Elements.{below_there, position_below}
 use Rattle.cell_coherent.proofs.Places.{Spaced}
 use Rattle.cell_coherent.proofs.PlacedAll.{Placed, all_placed}
 

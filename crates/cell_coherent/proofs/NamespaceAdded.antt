@@ -2,7 +2,7 @@
 use Rattle.std.proofs.Common.{◌≡◌, ◌∙◌, ap, subst, ℕ, ◌<◌, true, List, map, length, None, Ok}
 use Rattle.std.specs.Prelude.{All, nat_lt, is_none, filter_map, fold}
 use Rattle.std.proofs.lemmas.Bool.{lt-ltb}
-use Rattle.cell_num.specs.Lists.{equals, numbered}
+use Rattle.cell_num.specs.Lists.{equals, numbered, In}
 use Rattle.cell_object.specs.declared.object.Entry.{Entry}
 use Rattle.cell_world.specs.declared.refusal.Many.TheVariants.{Namespaces}
 use Rattle.cell_world.specs.declared.refusal.Refusal.TheVariants.{NameTaken, TooMany, Unknown}
@@ -16,7 +16,7 @@ use Rattle.cell_world.specs.Outcome.{need}
 use Rattle.cell_world.specs.Answer.{Done, space_of}
 use Rattle.cell_world.specs.NsCommand.{with_namespace, next_ns}
 use Rattle.cell_world.specs.Coherent.{IsReady, IsCoherent, is_supplied, is_fitting}
-use Rattle.cell_coherent.proofs.Elements.{In, all-In, In-all, In-All, In-numbered, get-In, none_is, position_below, flat_same, filter_map_same, map_same}
+use Rattle.cell_num.proofs.Elements.{all-In, In-all, In-All, In-numbered, get-In, none_is, position_below, flat_same, filter_map_same, map_same}
 use Rattle.cell_coherent.proofs.Outcomes.{bind_ok, then_ok, need_ok, found_ok}
 use Rattle.cell_coherent.proofs.Appended.{ok_same}
 use Rattle.cell_coherent.proofs.FreshLinks.{link_with}

@@ -5,7 +5,7 @@ use Rattle.std.specs.List.{list_all}
 use Rattle.std.proofs.lemmas.Bool.{and_parts, and_from, eq-eqb}
 use Rattle.std.proofs.lemmas.List.{map-append}
 use Rattle.std.proofs.lemmas.List.Sums.{fold-append}
-use Rattle.cell_num.specs.Lists.{each_pair}
+use Rattle.cell_num.specs.Lists.{each_pair, In}
 use Rattle.cell_object.specs.declared.object.Section.{Section as ObjectSection}
 use Rattle.cell_object.specs.Sound.{IsSoundObject}
 use Rattle.cell_world.specs.World.{World, Cell, Region}
@@ -15,7 +15,7 @@ use Rattle.cell_world.specs.declared.layout.Class.TheVariants.{Text, ReadOnly, W
 use Rattle.cell_world.specs.declared.layout.Class.{Class}
 use Rattle.cell_world.specs.Place.{Placing, with_region, with_run, with_places, start_of_run, place_sections, place_cell, place_all}
 use Rattle.cell_world.specs.Coherent.{Shape, shape_of, with_shape, class_shape, is_in_space, is_placed}
-use Rattle.cell_coherent.proofs.Elements.{In, all-In, In-append, In-right}
+use Rattle.cell_num.proofs.Elements.{all-In, In-append, In-right}
 use Rattle.cell_coherent.proofs.Outcomes.{bind_ok}
 use Rattle.cell_coherent.proofs.Appended.{ok_same}
 use Rattle.cell_coherent.proofs.Places.{Spaced, Disjoint, run_ok, run_disjoint, whole_region, image_pages, shape_inserted}

@@ -10,7 +10,8 @@ use Rattle.cell_world.specs.declared.layout.Class.TheVariants.{Text, ReadOnly, W
 use Rattle.cell_world.specs.declared.layout.Class.{Class}
 use Rattle.cell_world.specs.Place.{Placing, with_run, with_places, start_of_run, place_sections, place_cell, place_all}
 use Rattle.cell_coherent.specs.Grown.{IsOwn}
-use Rattle.cell_coherent.proofs.Elements.{In, In-left}
+use Rattle.cell_num.specs.Lists.{In}
+use Rattle.cell_num.proofs.Elements.{In-left}
 use Rattle.cell_coherent.proofs.Outcomes.{bind_ok}
 use Rattle.cell_coherent.proofs.Appended.{ok_same}
 use Rattle.cell_coherent.proofs.Places.{Spaced, In-inserted}

@@ -4,7 +4,7 @@ use Rattle.std.specs.Prelude.{◌==◌}
 use Rattle.std.proofs.lemmas.Bool.{eqb-true, eq-eqb}
 use Rattle.cell_object.specs.declared.object.Section.{Section as ObjectSection}
 use Rattle.cell_world.specs.Layout.{gap, offset_from}
-use Rattle.cell_coherent.proofs.Elements.{In}
+use Rattle.cell_num.specs.Lists.{In}
 
 -- m bytes from x on and n bytes from y on have none in common
 abbrev pub Apart : ℕ → ℕ → ℕ → ℕ → Type 0

@@ -4,13 +4,13 @@ use Rattle.std.specs.Prelude.{filter, fold, nat_le, nat_lt}
 use Rattle.std.specs.List.{list_all}
 use Rattle.std.proofs.lemmas.Bool.{and_parts, cases_lt}
 use Rattle.std.proofs.lemmas.List.{ext_get_or}
-use Rattle.cell_num.specs.Lists.{each_pair}
+use Rattle.cell_num.specs.Lists.{each_pair, In}
 use Rattle.cell_world.specs.World.{Region}
 use Rattle.cell_world.specs.Memory.{covers, pasted, written}
 use Rattle.cell_world.specs.Relink.{Patch, patched}
-use Rattle.cell_coherent.proofs.Elements.{In, In-map, all-In}
+use Rattle.cell_num.proofs.Elements.{In-map, all-In}
 use Rattle.cell_coherent.proofs.Patches.{AllEndIn, EndsIn, length-pasted, pasted_before, pasted_in, pasted_after, shape_by, HasShape}
-use Rattle.cell_coherent.proofs.Lists.{fold_commutes}
+use Rattle.cell_num.proofs.Sublists.{fold_commutes}
 use Rattle.cell_coherent.proofs.Writes.{Holds, covered, begins_below, ends_above, written_exchanged, written_in, written_out}
 use Rattle.cell_coherent.proofs.Offsets.{Apart}
 

@@ -4,7 +4,7 @@ use Rattle.std.specs.Prelude.{◌%◌, ◌==◌, max, find, option_map, unwrap_o
 use Rattle.std.proofs.Math.Nat.{mod_self}
 use Rattle.std.proofs.lemmas.Bool.{and_from, eqb-true, eq-eqb, ltb-true}
 use Rattle.std.proofs.lemmas.Slice.Eq.{bytes_eq-Decides}
-use Rattle.cell_num.specs.Lists.{first}
+use Rattle.cell_num.specs.Lists.{first, In}
 use Rattle.cell_object.specs.declared.object.Object.{Object}
 use Rattle.cell_object.specs.declared.object.Section.{Section as ObjectSection}
 use Rattle.cell_object.specs.Sound.{IsSoundObject}
@@ -17,7 +17,7 @@ use Rattle.cell_world.specs.declared.layout.Starts.{Starts}
 use Rattle.cell_world.specs.declared.layout.Class.TheVariants.{Text, ReadOnly, Writable}
 use Rattle.cell_world.specs.declared.layout.Class.{Class}
 use Rattle.cell_world.specs.Coherent.{Shape, class_shape, stands_by_rule, is_placed}
-use Rattle.cell_coherent.proofs.Elements.{In, In-all, In-filtered, filter-Passes, pairs-In}
+use Rattle.cell_num.proofs.Elements.{In-all, In-filtered, filter-Passes, pairs-In}
 use Rattle.cell_coherent.proofs.Relinked.{map_twice}
 use Rattle.cell_coherent.proofs.FieldsInside.{classes}
 

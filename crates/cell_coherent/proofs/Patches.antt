@@ -6,7 +6,7 @@ use Rattle.std.proofs.lemmas.List.{length-take-le, get_or-take, get_or-drop, get
 use Rattle.cell_world.specs.World.{Region, Permission}
 use Rattle.cell_world.specs.Memory.{pasted, covers}
 use Rattle.cell_world.specs.Relink.{Patch, patched}
-use Rattle.cell_coherent.proofs.Elements.{In}
+use Rattle.cell_num.specs.Lists.{In}
 
 pub length-pasted : (bytes new : List ℕ) (i : ℕ) → i + length new ≤ length bytes → length (pasted bytes i new) ≡ length bytes
 length-pasted bytes new i h =

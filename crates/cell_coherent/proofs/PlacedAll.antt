@@ -12,7 +12,7 @@ use Rattle.cell_world.specs.Place.{Placing, with_run, start_of_run, place_sectio
 use Rattle.cell_world.specs.Coherent.{Shape, with_shape}
 use Rattle.cell_world.specs.Outcome.{Outcome, each}
 use Rattle.std.proofs.lemmas.Bool.{cases_lt}
-use Rattle.cell_coherent.proofs.Elements.{In}
+use Rattle.cell_num.specs.Lists.{In}
 use Rattle.cell_coherent.proofs.Outcomes.{bind_ok}
 use Rattle.cell_coherent.proofs.Appended.{ok_same}
 use Rattle.cell_coherent.proofs.Places.{Spaced, spaced_more, image_pages, shapes_swap}

@@ -4,7 +4,7 @@ use Rattle.std.proofs.lemmas.List.{length-replicate, length-map, get_or_past}
 use Rattle.std.specs.Prelude.{◌/◌, ◌%◌, ◌==◌, nat_lt, nat_le, slice_index_or}
 use Rattle.std.specs.List.{list_all}
 use Rattle.std.proofs.lemmas.Bool.{and_parts, and_from, cases_lt, ltb-true, ltb-false, lt-ltb, leb-true, le-leb, le-ltb, eqb-true, eq-eqb}
-use Rattle.cell_num.specs.Lists.{each_pair, from_on, upto}
+use Rattle.cell_num.specs.Lists.{each_pair, from_on, upto, In}
 use Rattle.cell_world.specs.World.{World, Region}
 use Rattle.cell_world.specs.Layout.{to_pages, gap}
 use Rattle.cell_world.specs.Memory.{covers}
@@ -12,7 +12,7 @@ use Rattle.cell_world.specs.Pages.{is_free, is_free_run, lowest_run, longest_run
 use Rattle.cell_world.specs.Place.{is_taken, page_table, with_region, start_of_run}
 use Rattle.cell_world.specs.Coherent.{Shape, shape_of, with_shape, is_in_space, ends_before}
 use Rattle.cell_coherent.specs.Clear.{IsClear}
-use Rattle.cell_coherent.proofs.Elements.{In, all-In, In-all, none-In, found-In}
+use Rattle.cell_num.proofs.Elements.{all-In, In-all, none-In, found-In}
 use Rattle.cell_coherent.proofs.Appended.{ok_same}
 use Rattle.cell_world.specs.Outcome.{Outcome}
 use Rattle.cell_world.specs.declared.refusal.Refusal.TheVariants.{Exhausted}

@@ -3,7 +3,7 @@ use Rattle.std.proofs.Common.{◌≡◌, refl, sym, ◌∙◌, ap, subst, ℕ, z
 use Rattle.std.specs.Prelude.{All, filter_map, option_map, option_and_then, unwrap_or, slice_get, nat_lt, nat_le, ◌==◌}
 use Rattle.std.specs.List.{cons_option}
 use Rattle.std.proofs.lemmas.Bool.{leb-true, and_parts}
-use Rattle.cell_num.specs.Lists.{each_pair, numbered}
+use Rattle.cell_num.specs.Lists.{each_pair, numbered, In}
 use Rattle.cell_object.specs.declared.object.Section.{Section as ObjectSection}
 use Rattle.cell_object.specs.declared.object.Symbol.{Symbol}
 use Rattle.cell_object.specs.declared.object.Entry.{Entry}
@@ -21,7 +21,7 @@ use Rattle.cell_world.specs.Relink.{link_to, link_of, links_of}
 use Rattle.cell_world.specs.Coherent.{IsCoherent, IsLoadable, is_supplied}
 use Rattle.cell_coherent.specs.Linkable.{IsLinkable}
 use Rattle.cell_coherent.specs.Present.{HasSection, IsInSection, IsThere, NamesPresent, JoinsPresent}
-use Rattle.cell_coherent.proofs.Elements.{In, Has, all-In, found-In, get-In, In-All, In-flat_map, In-numbered}
+use Rattle.cell_num.proofs.Elements.{Has, all-In, found-In, get-In, In-All, In-flat_map, In-numbered}
 use Rattle.cell_coherent.proofs.Known.{object_sound}
 use Rattle.cell_coherent.proofs.Targets.{In-find, entry_parts, target_has}
 

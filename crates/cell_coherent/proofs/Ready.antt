@@ -14,7 +14,8 @@ use Rattle.cell_world.specs.Limits.{max_cells}
 use Rattle.cell_world.specs.Pages.{IsSpace}
 use Rattle.cell_world.specs.Coherent.{IsReady, AreSoundRegions, AreSoundSpaces, AreSoundTasks, only_regions, only_tasks, IsLoadable, Shape, shape_of, with_shape, stack_shape, wanted_shapes, may_both_stand, has_each_name_once, is_placed, is_supplied, is_fitting, is_known_cell, is_sound_task}
 use Rattle.cell_coherent.specs.Linkable.{IsLinkable}
-use Rattle.cell_coherent.proofs.Elements.{In, Has, all-In, In-all, All-In, In-All, In-append, In-right, In-map, filter-In, some_has}
+use Rattle.cell_num.specs.Lists.{In}
+use Rattle.cell_num.proofs.Elements.{Has, all-In, In-all, All-In, In-All, In-append, In-right, In-map, filter-In, some_has}
 use Rattle.cell_coherent.proofs.Attach.{Grows, cell_grown}
 use Rattle.cell_coherent.proofs.Supplied.{none_lacking}
 use Rattle.cell_coherent.proofs.Gathered.{Ranks}

@@ -6,7 +6,7 @@ use Rattle.cell_world.specs.Memory.{covers, pasted}
 use Rattle.cell_world.specs.Relink.{class_start, is_region_of, Patch, patched}
 use Rattle.cell_world.specs.World.{Cell, Region}
 use Rattle.cell_world.specs.declared.layout.Class.{Class}
-use Rattle.cell_coherent.proofs.Elements.{In}
+use Rattle.cell_num.specs.Lists.{In}
 use Rattle.cell_coherent.proofs.Relinked.{restore}
 
 -- no class of the cells starts at the region

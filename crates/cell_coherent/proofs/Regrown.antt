@@ -8,7 +8,7 @@ use Rattle.std.proofs.lemmas.List.Elements.{filter-append}
 use Rattle.std.proofs.lemmas.List.Concat.{flat_map-append}
 use Rattle.std.proofs.lemmas.List.Folds.{flat_map-map}
 use Rattle.std.proofs.lemmas.List.Sums.{fold-append}
-use Rattle.cell_num.specs.Lists.{first, each_pair, numbered}
+use Rattle.cell_num.specs.Lists.{first, each_pair, numbered, In}
 use Rattle.cell_num.specs.Kinds.{width_of}
 use Rattle.cell_object.specs.declared.object.Entry.{Entry}
 use Rattle.cell_world.specs.declared.state.LinkRow.{LinkRow}
@@ -23,14 +23,14 @@ use Rattle.cell_world.specs.declared.layout.Class.{Class}
 use Rattle.cell_world.specs.Changed.{FieldAt, now_in, is_changed, changed_in, changed_fields}
 use Rattle.cell_world.specs.Coherent.{IsReady, IsCoherent, ends_before}
 use Rattle.cell_coherent.specs.Grown.{IsOwn, links_from, IsRegrown, patch_at, with_changes}
-use Rattle.cell_coherent.proofs.Elements.{In, all-In, In-all, In-right, In-append, In-map, In-flat_map, In-filtered, filter-Passes, first-In, pairs-In, flat_same, map_same}
+use Rattle.cell_num.proofs.Elements.{all-In, In-all, In-right, In-append, In-map, In-flat_map, In-filtered, filter-Passes, first-In, pairs-In, flat_same, map_same}
 use Rattle.cell_coherent.proofs.FieldsInside.{among-In, field_inside, fields_end_in, length-bytes_of}
 use Rattle.cell_coherent.proofs.Distinct.{one_class}
 use Rattle.cell_coherent.proofs.Patches.{AllEndIn}
 use Rattle.cell_coherent.proofs.Relinked.{patches, own_image, restore, restored_is, map_twice}
 use Rattle.cell_coherent.proofs.ImagesInside.{images_fit}
 use Rattle.cell_coherent.proofs.Regions.{none_there, passed_by, starts_at, restore_same, uncovered}
-use Rattle.cell_coherent.proofs.Lists.{fixed-In, map_filter, filter_same}
+use Rattle.cell_num.proofs.Sublists.{fixed-In, map_filter, filter_same, pairs-append}
 use Rattle.cell_coherent.proofs.Offsets.{Apart}
 use Rattle.cell_coherent.proofs.FieldsApart.{AreFieldsApart, fields_apart}
 use Rattle.cell_coherent.proofs.Overwritten.{IsUpdate, overwritten}
@@ -46,25 +46,13 @@ pub filter_flat : {X Y : Type 0} (p : Y → Bool) (f : X → List Y) (xs : List 
 filter_flat p f [] = refl
 filter_flat p f (x ∷ xs) = filter-append p (f x) (flat_map f xs) ∙ ap (λ ys. filter p (f x) ++ ys) (filter_flat p f xs)
 
-pairs_append : {X : Type 0} (t : X → X → Bool) (xs ys : List X) → each_pair t xs ≡ true → each_pair t ys ≡ true → ((x y : X) → In x xs → In y ys → t x y ≡ true) → each_pair t (xs ++ ys) ≡ true
-pairs_append t [] ys h k f = k
-pairs_append {X = X} t (x ∷ xs) ys h k f =
-    let p = and_parts (list_all (t x) xs) (each_pair t xs) h in
-    and_from (list_all (t x) (xs ++ ys)) (each_pair t (xs ++ ys))
-    (In-all (t x) (xs ++ ys) (λ y m. across y (In-append xs ys y m)))
-    (pairs_append t xs ys p.1 k (λ a b m n. f a b (inr m) n))
-  where
-    across : (y : X) → In y xs ⊎ In y ys → t x y ≡ true
-    across y (inl m) = all-In (t x) xs (and_parts (list_all (t x) xs) (each_pair t xs) h).0 y m
-    across y (inr m) = f x y (inl refl) m
-
 -- of lists in a row: each by itself, and one against a later one
 pairs_flat : {X Y : Type 0} (t : Y → Y → Bool) (u : X → X → Bool) (f : X → List Y) (xs : List X) → each_pair u xs ≡ true → ((x : X) → In x xs → each_pair t (f x) ≡ true)
     → ((x y : X) → u x y ≡ true → (p q : Y) → In p (f x) → In q (f y) → t p q ≡ true) → each_pair t (flat_map f xs) ≡ true
 pairs_flat t u f [] h own far = refl
 pairs_flat t u f (x ∷ xs) h own far =
     let p = and_parts (list_all (u x) xs) (each_pair u xs) h in
-    pairs_append t (f x) (flat_map f xs) (own x (inl refl)) (pairs_flat t u f xs p.1 (λ y m. own y (inr m)) far)
+    pairs-append t (f x) (flat_map f xs) (own x (inl refl)) (pairs_flat t u f xs p.1 (λ y m. own y (inr m)) far)
     (λ a b m n. let r = In-flat_map f xs b n in far x r.0 (all-In (u x) xs p.0 r.0 r.1) a b m r.2)
 
 -- the fields of an object are at different places

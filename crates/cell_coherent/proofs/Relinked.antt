@@ -1,11 +1,11 @@
 -- Relinking twice is relinking once, where no field begins in a region and ends past it.
 use Rattle.std.proofs.Common.{◌≡◌, refl, sym, ◌∙◌, ap, ℕ, List, [], ◌∷◌, ◌++◌, map, length, Option, Some, None}
 use Rattle.std.specs.Prelude.{fold, flat_map}
-use Rattle.cell_num.specs.Lists.{first}
+use Rattle.cell_num.specs.Lists.{first, In}
 use Rattle.cell_world.specs.World.{World, Region}
 use Rattle.cell_world.specs.Relink.{Patch, patched, patches_of, images_for, restored, remade, links_of, relink}
 use Rattle.cell_world.specs.declared.layout.Class.TheVariants.{Text, ReadOnly}
-use Rattle.cell_coherent.proofs.Elements.{In, map_same}
+use Rattle.cell_num.proofs.Elements.{map_same}
 use Rattle.cell_coherent.proofs.Patches.{AllEndIn, patched_again, same_region, start_by, permission_by}
 
 -- all that relinking writes

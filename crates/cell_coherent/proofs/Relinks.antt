@@ -7,7 +7,7 @@ use Rattle.cell_num.specs.Lists.{each_pair}
 use Rattle.cell_world.specs.World.{World}
 use Rattle.cell_world.specs.Relink.{relink}
 use Rattle.cell_world.specs.Coherent.{IsReady, IsCoherent, Shape, shape_of}
-use Rattle.cell_coherent.proofs.Elements.{pairs-map}
+use Rattle.cell_num.proofs.Elements.{pairs-map}
 use Rattle.cell_coherent.proofs.Relinked.{relink_twice}
 use Rattle.cell_coherent.proofs.Reshaped.{shapes_relinked}
 use Rattle.cell_coherent.proofs.FieldsInside.{fields_end_in}

@@ -2,8 +2,8 @@
 use Rattle.std.proofs.Common.{◌≡◌, refl, sym, ◌∙◌, ap, subst, ℕ, Bool, true, false, cond, List, [], ◌∷◌, map}
 use Rattle.std.specs.Prelude.{filter, filter_map, option_map, ◌==◌}
 use Rattle.std.specs.List.{cons_option, list_all}
-use Rattle.cell_num.specs.Lists.{first, holds, or_else, each_pair}
-use Rattle.cell_coherent.proofs.Elements.{In, all-In, In-all, In-map, map-In, pairs-map, pairs_equal}
+use Rattle.cell_num.specs.Lists.{first, holds, or_else, each_pair, In}
+use Rattle.cell_num.proofs.Elements.{all-In, In-all, In-map, map-In, pairs-map, pairs_equal}
 use Rattle.cell_world.specs.World.{World, Cell, Standing, Attached, Detached, is_attached, is_of_group}
 use Rattle.cell_world.specs.Names.{Provider, chain, first_provider, provider_for, symbol_named}
 use Rattle.cell_world.specs.Place.{with_places}

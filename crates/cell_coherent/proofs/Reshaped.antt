@@ -4,7 +4,8 @@ use Rattle.std.specs.Prelude.{fold}
 use Rattle.cell_world.specs.World.{World, Region, Permission}
 use Rattle.cell_world.specs.Relink.{Patch, patched, remade, relink}
 use Rattle.cell_world.specs.Coherent.{shape_of}
-use Rattle.cell_coherent.proofs.Elements.{In, map_same}
+use Rattle.cell_num.specs.Lists.{In}
+use Rattle.cell_num.proofs.Elements.{map_same}
 use Rattle.cell_coherent.proofs.Patches.{AllEndIn, shape_by, start_by, permission_by}
 use Rattle.cell_coherent.proofs.Relinked.{patches, own_image, restore, remade_is, map_twice, FieldsEndIn}
 

@@ -4,13 +4,13 @@ use Rattle.std.specs.Prelude.{position, nat_lt, filter}
 use Rattle.std.specs.List.{list_any, list_all, prefix_len}
 use Rattle.std.proofs.lemmas.Bool.{and_parts, and_from, lt-ltb, ltb-true}
 use Rattle.std.proofs.lemmas.List.{append-nil}
-use Rattle.cell_num.specs.Lists.{equals, holds, holds_name, numbered, numbered_from, each_pair, or_else}
+use Rattle.cell_num.specs.Lists.{equals, holds, holds_name, numbered, numbered_from, each_pair, or_else, In}
 use Rattle.cell_world.specs.declared.state.Namespace.{Namespace}
 use Rattle.cell_world.specs.World.{World, Cell, Standing, Attached, Detached, is_attached, is_of_group}
 use Rattle.cell_world.specs.Names.{chain, are_on_one_path, first_provider, provider_for}
 use Rattle.cell_world.specs.NsCommand.{with_namespace}
 use Rattle.cell_world.specs.Coherent.{all_names, may_both_stand, is_sound_parent, begins_with_k, is_known_cell}
-use Rattle.cell_coherent.proofs.Elements.{In, all-In, In-all, pairs_push, pairs_same}
+use Rattle.cell_num.proofs.Elements.{all-In, In-all, pairs_push, pairs_same}
 use Rattle.cell_coherent.proofs.Known.{known_parts, known_from}
 use Rattle.cell_coherent.proofs.Chains.{chain_more}
 use Rattle.cell_coherent.proofs.Attach.{Grows}

@@ -3,7 +3,7 @@ use Rattle.std.proofs.Common.{◌≡◌, refl, sym, ◌∙◌, ap, subst, ℕ, i
 use Rattle.std.specs.Prelude.{All, is_some, is_none, unwrap_or, nat_lt}
 use Rattle.std.specs.List.{list_all}
 use Rattle.cell_object.specs.declared.object.Entry.{Entry}
-use Rattle.cell_num.specs.Lists.{each_pair, first}
+use Rattle.cell_num.specs.Lists.{each_pair, first, In}
 use Rattle.cell_world.specs.declared.state.Target.{Target}
 use Rattle.cell_world.specs.declared.state.Target.TheVariants.{Number}
 use Rattle.cell_world.specs.World.{World, Cell}
@@ -14,7 +14,7 @@ use Rattle.cell_world.specs.Relink.{bound_entries}
 use Rattle.cell_world.specs.Gather.{Need, first_lack}
 use Rattle.cell_world.specs.Coherent.{IsLoadable, is_known_cell, is_supplied, is_fitting}
 use Rattle.std.specs.Prelude.{filter}
-use Rattle.cell_coherent.proofs.Elements.{In, Has, all-In, In-all, map_same, some_has, or_else_parts}
+use Rattle.cell_num.proofs.Elements.{Has, all-In, In-all, map_same, some_has, or_else_parts}
 use Rattle.cell_coherent.proofs.Known.{known_parts, object_sound}
 use Rattle.cell_coherent.proofs.Attach.{Grows, provider_grown, target_grown}
 use Rattle.cell_coherent.proofs.Targets.{target_has}

@@ -13,7 +13,7 @@ use Rattle.cell_world.specs.Coherent.{is_in_space, ends_before}
 use Rattle.cell_object.specs.declared.object.Object.{Object}
 use Rattle.cell_num.specs.Lists.{each_pair}
 use Rattle.cell_coherent.specs.Clear.{IsClear}
-use Rattle.cell_coherent.proofs.Elements.{all-In, In-All}
+use Rattle.cell_num.proofs.Elements.{all-In, In-All}
 use Rattle.cell_coherent.proofs.Places.{table_length, taken_at, run_at, free_clear, whole_region}
 use Rattle.cell_coherent.proofs.PlacedAll.{Placed, class_placed}
 

@@ -13,14 +13,14 @@ use Rattle.cell_object.specs.Sound.{IsSoundObject, is_sound_entry, is_known_kind
 use Rattle.std.specs.Ordering.{int_eq}
 use Rattle.std.specs.Prelude.{pos}
 use Rattle.cell_num.specs.Kinds.{is_pcrel_lo12, is_pcrel_hi20}
-use Rattle.cell_num.specs.Lists.{numbered_from, each_pair, first, or_else, holds, equals}
+use Rattle.cell_num.specs.Lists.{numbered_from, each_pair, first, or_else, holds, equals, In}
 use Rattle.cell_world.specs.declared.state.Target.TheVariants.{Number}
 use Rattle.cell_world.specs.World.{World, Cell, Alias, Standing, Attached, Detached, is_attached, is_of_group, cell_of}
 use Rattle.cell_world.specs.Names.{Provider, chain, first_provider, attached_provider, provider_for, provider_of, symbol_named, names_of, definitions_of, is_definition, needs_of, is_used}
 use Rattle.cell_world.specs.Target.{own_target, provided_target, symbol_target, numbered_target, naming_entry, target_of}
 use Rattle.cell_world.specs.Coherent.{is_known_cell}
 use Rattle.cell_coherent.proofs.Known.{known_parts}
-use Rattle.cell_coherent.proofs.Elements.{In, Has, all-In, found-In, filter-In, In-map, map-In, numbered-In, In-numbered, any-In, any-Has, some_has, In-append, In-filtered, filter-Passes}
+use Rattle.cell_num.proofs.Elements.{Has, all-In, found-In, filter-In, In-map, map-In, numbered-In, In-numbered, any-In, any-Has, some_has, In-append, In-filtered, filter-Passes}
 
 -- what is_sound_entry says of a symbol and of a low entry
 four : (a b c d : Bool) → (a && b && c && d) ≡ true → (b ≡ true) × (c ≡ true) × (d ≡ true)

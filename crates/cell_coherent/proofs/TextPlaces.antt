@@ -3,7 +3,7 @@ use Rattle.std.proofs.Common.{◌≡◌, refl, arith, ℕ, ◌+◌, ◌-◌, ◌
 use Rattle.std.specs.Prelude.{◌%◌, ◌==◌, unwrap_or}
 use Rattle.std.specs.List.{list_all}
 use Rattle.std.proofs.lemmas.Bool.{and_parts, eqb-true}
-use Rattle.cell_num.specs.Lists.{equals}
+use Rattle.cell_num.specs.Lists.{equals, In}
 use Rattle.cell_object.specs.declared.object.Section.{Section as ObjectSection}
 use Rattle.cell_world.specs.Coherent.{IsReady, is_in_space, is_placed, stands_by_rule}
 use Rattle.cell_world.specs.Layout.{offset_in, is_in_class, sections_in}
@@ -12,7 +12,7 @@ use Rattle.cell_world.specs.declared.layout.Class.TheVariants.{Text, ReadOnly, W
 use Rattle.cell_world.specs.declared.layout.Class.{Class}
 use Rattle.cell_world.specs.Target.{start_of}
 use Rattle.cell_world.specs.World.{World, Cell}
-use Rattle.cell_coherent.proofs.Elements.{In, all-In, filter-In}
+use Rattle.cell_num.proofs.Elements.{all-In, filter-In}
 use Rattle.cell_coherent.proofs.FieldsInside.{region_There}
 use Rattle.cell_coherent.proofs.Places.{whole_region}
 

@@ -20,7 +20,8 @@ use Rattle.cell_world.specs.Relink.{bound_entries, Patch, patch_of}
 use Rattle.cell_world.specs.Changed.{is_same_key, is_same_target, is_other_target, now_in, differs, is_changed}
 use Rattle.cell_world.specs.Coherent.{IsReady}
 use Rattle.cell_coherent.specs.Present.{IsThere}
-use Rattle.cell_coherent.proofs.Elements.{In, All-In, In-left, map-In, found-In, none-In}
+use Rattle.cell_num.specs.Lists.{In}
+use Rattle.cell_num.proofs.Elements.{All-In, In-left, map-In, found-In, none-In}
 use Rattle.cell_coherent.proofs.Present.{target_there}
 use Rattle.cell_coherent.specs.Grown.{IsRegrown}
 use Rattle.cell_coherent.proofs.Values.{bind, bound_map, HasSame, same_fits, same_value}

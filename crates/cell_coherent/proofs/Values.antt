@@ -9,8 +9,9 @@ use Rattle.cell_reloc.specs.Relocation.{does_fit, inserted}
 use Rattle.cell_world.specs.declared.state.NewCell.{NewCell}
 use Rattle.cell_world.specs.declared.state.Target.{Target}
 use Rattle.cell_world.specs.Field.{Bound, bound_by, number_at, bound_high_of, number_of, fits, is_at, own_number, field_value_of}
-use Rattle.cell_coherent.proofs.Elements.{In, In-filtered, filter-Passes, fold_same}
-use Rattle.cell_coherent.proofs.Lists.{map_filter}
+use Rattle.cell_num.specs.Lists.{In}
+use Rattle.cell_num.proofs.Elements.{In-filtered, filter-Passes, fold_same}
+use Rattle.cell_num.proofs.Sublists.{map_filter}
 
 abbrev pub bind : (Entry → Target) → Entry → Bound
 bind t e = record { entry = e; target = t e }

@@ -5,7 +5,7 @@ use Rattle.std.proofs.lemmas.Bool.{and_from, leb-true, ltb-true, le-leb, lt-ltb}
 use Rattle.cell_world.specs.World.{Region}
 use Rattle.cell_world.specs.Memory.{covers, pasted, written}
 use Rattle.cell_coherent.proofs.Patches.{length-pasted}
-use Rattle.cell_coherent.proofs.Lists.{and_left, and_right}
+use Rattle.cell_num.proofs.Sublists.{and_left, and_right}
 use Rattle.cell_coherent.proofs.Pastes.{paste_exchanged, paste_length}
 
 -- the bytes from the address on stand in the region

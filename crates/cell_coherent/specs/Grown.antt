@@ -1,5 +1,4 @@
 -- What it is for a machine to have new cells behind its own, and what linking writes then.
---     In x xs                    the element is in the list
 --     IsOwn new r                the region is that of a class of one of the new cells, with the class's own bytes
 --     IsRegrown v w new          w has the cells of v as they are by now, and then the new ones, in regions of their own
 --     HasAttached v w new        w has the cells of v as they were, and then the new ones, which are attached
@@ -9,18 +8,13 @@
 --     links_from w new           one link for each entry of the new cells whose target is a section
 use Rattle.std.specs.Prelude.{ℕ, ◌≡◌, ◌⊎◌, IsTrue, List, [], ◌∷◌, ◌++◌, Some, All, filter_map, flat_map, fold, map}
 use Rattle.std.specs.List.{list_all}
-use Rattle.cell_num.specs.Lists.{numbered}
+use Rattle.cell_num.specs.Lists.{In, numbered}
 use Rattle.cell_world.specs.declared.state.LinkRow.{LinkRow}
 use Rattle.cell_world.specs.World.{World, Cell, Region, is_attached}
 use Rattle.cell_world.specs.Relink.{Patch, bound_entries, class_start, patch_of, patched, patches_of, link_of}
 use Rattle.cell_world.specs.Layout.{permission_of, sections_in, image_of}
 use Rattle.cell_world.specs.declared.layout.Class.{Class}
 use Rattle.cell_world.specs.Changed.{FieldAt, changed_fields, now_in}
-
--- x is an element of the list
-abbrev pub In : {X : Type 0} → X → List X → Type 0
-In x [] = ⊥
-In x (y ∷ ys) = (x ≡ y) ⊎ In x ys
 
 pub record IsOwn (new : List Cell) (r : Region) : Type 0 where
   pub cell : Cell

@@ -14,7 +14,8 @@ use Rattle.cell_object.specs.Header.{file_header, section_place, section_header}
 use Rattle.cell_object.specs.Sections.{is_nobits, has_flag}
 use Rattle.cell_object.specs.Symbols.{symtab, symbols_of}
 use Rattle.cell_object.specs.Relocations.{is_rela, is_number, is_relocated_below, is_for_loaded, rule_19, rela_row, entry_count, entry_place, entry_from, entry_of_kind, entry_of, entries_below, rule_20, is_unusable, symbol_total, rule_21, rule_22, is_clash, rule_23, field_rules, entry_rules, relocation_rules, relocations_rules, section_entries, entries_of, is_unpaired, rule_24, pair_rules, section_pairs, pairs_rules}
-use Rattle.cell_object.proofs.Elements.{In, In-range, range-In}
+use Rattle.cell_num.specs.Lists.{In}
+use Rattle.cell_num.proofs.Ranges.{In-range, range-In}
 use Rattle.cell_elf.proofs.Loads.{checked-both, not_broken, round_passed}
 use Rattle.cell_elf.proofs.LastPass.{section_pairs_loaded}
 use Rattle.cell_elf.proofs.Tables.{relocation_rules_loaded, section_entries_loaded, section_entries_other}

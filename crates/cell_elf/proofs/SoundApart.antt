@@ -3,14 +3,15 @@ use Rattle.std.proofs.Common.{◌≡◌, ℕ, ◌+◌, ◌-◌, ◌<◌, ◌≤�
 use Rattle.std.specs.Prelude.{◌==◌, nat_lt, nat_le}
 use Rattle.std.proofs.lemmas.Bool.{and_parts}
 use Rattle.std.proofs.lemmas.Bool.Decides.{nat_tests}
-use Rattle.cell_num.specs.Lists.{each_pair}
+use Rattle.cell_num.specs.Lists.{each_pair, In}
 use Rattle.cell_num.specs.Kinds.{width_of, is_stacking}
 use Rattle.cell_object.specs.declared.object.Entry.{Entry}
 use Rattle.cell_object.specs.Bytes.{checked, between}
 use Rattle.cell_object.specs.Header.{file_header, section_header}
 use Rattle.cell_object.specs.Relocations.{is_rela, is_for_loaded, is_relocated_below, entry_count, entry_of, entries_below, is_clash, relocations_rules, section_entries, entries_of}
 use Rattle.cell_object.specs.Sound.{may_share}
-use Rattle.cell_object.proofs.Elements.{In, In-numbers, none-In, range-In, pairs-range}
+use Rattle.cell_num.proofs.Ranges.{In-numbers, range-In, pairs-range}
+use Rattle.cell_num.proofs.Elements.{none-In}
 use Rattle.cell_elf.proofs.SoundSections.{yes_or_no, in_range, range_in}
 use Rattle.cell_elf.proofs.Tables.{section_entries_loaded, section_entries_other}
 use Rattle.cell_elf.proofs.EntryFacts.{IsTable, IsRow, one_entry, entry_in, entry_kind, table_fit, entry_fit}

@@ -24,14 +24,16 @@ use Rattle.cell_object.specs.Relocations.{rela_row, entry_count, entry_of, entri
 use Rattle.cell_object.specs.Parts.{is_global, is_local, section_of, symbol_at, label_of, high_of}
 use Rattle.cell_object.specs.Reads.{object_of, fill_of}
 use Rattle.cell_object.specs.Sound.{is_zero, is_known_bind, is_sound_home, is_sound_symbol, is_nameable, is_sound_entry_in, is_known_kind, is_sound_entry}
-use Rattle.cell_object.proofs.Elements.{In, In-all, In-range, all-In, any-In, find-In, found-In, slice_get-In}
+use Rattle.cell_num.specs.Lists.{In}
+use Rattle.cell_num.proofs.Elements.{In-all, all-In, any-Has, found-In, find_there, get-In}
+use Rattle.cell_num.proofs.Ranges.{In-range}
 use Rattle.cell_elf.proofs.SoundSections.{yes_or_no, and_three, and_four, section_found}
 use Rattle.cell_elf.proofs.EntryFacts.{IsTable, IsRow, one_entry, entry_at, entry_there, entry_kind, table_fit, entry_fit, entry_paired}
 
 -- a kind that has a number is known
 known_kind : (number : ℕ) (kind : RelKind) → kind_of number ≡ Some kind → is_known_kind kind ≡ true
 known_kind number kind e =
-    all-In is_known_kind kinds refl kind (find-In (λ kind. (row_of kind).number == number) kinds kind e)
+    all-In is_known_kind kinds refl kind ((found-In (λ kind. (row_of kind).number == number) kinds kind e).0)
 
 not_zero : (h : SectionHeader) → is_nobits h ≡ false → not (is_zero (fill_of h)) ≡ true
 not_zero h e = rw e (go (is_note h))
@@ -98,7 +100,7 @@ named object (suc n) sound usable =
     go : (o : Option Symbol) → slice_get object.symbols n ≡ o → is_unusable_symbol o ≡ false → unwrap_or (option_map (λ s. is_nameable s s.home) o) false ≡ true
     go None is usable = absurd cc
     go (Some s) is usable =
-        let one = all-In (is_sound_symbol object) object.symbols sound s (slice_get-In object.symbols n s is) in
+        let one = all-In (is_sound_symbol object) object.symbols sound s (get-In object.symbols n s is) in
         let parts = symbol_parts (is_known_bind s.bind) (is_sound_home object s s.home) _ one in
         nameable object s s.home parts.0 parts.1 usable
 
@@ -141,9 +143,9 @@ label_sound : (object : Object) (e : Entry) (entries : List Entry) → ((h : Ent
     → (is_some (high_of object e) ≡ true) × (unwrap_or (option_map (λ label. label.0 == e.section) (label_of object e)) false ≡ true)
 label_sound object e entries among label =
     let s = label.symbol in
-    let high = any-In (λ (h : Entry). is_pcrel_hi20 h.kind && h.offset == s.value) entries label.high in
+    let high = any-Has (λ (h : Entry). is_pcrel_hi20 h.kind && h.offset == s.value) entries label.high in
     let there = among high.0 high.1 in
-    let found = found-In (λ (h : Entry). is_pcrel_hi20 h.kind && h.section == label.number && h.offset == s.value) object.entries high.0 there.0 (high_here (is_pcrel_hi20 high.0.kind) high.0.section label.number high.0.offset s.value high.2 (there.1 ∙ sym label.here)) in
+    let found = find_there (λ (h : Entry). is_pcrel_hi20 h.kind && h.section == label.number && h.offset == s.value) object.entries high.0 there.0 (high_here (is_pcrel_hi20 high.0.kind) high.0.section label.number high.0.offset s.value high.2 (there.1 ∙ sym label.here)) in
     (rw (label.is, label.home, found.1) refl, rw (label.is, label.home) (same_true label.number e.section label.here))
   where
     same_true : (m n : ℕ) → m ≡ n → (m == n) ≡ true

@@ -3,7 +3,7 @@ use Rattle.std.proofs.Common.{◌≡◌, ℕ, ◌+◌, ◌-◌, ◌<◌, ◌≤�
 use Rattle.std.specs.Prelude.{◌==◌, ◌^◌, nat_lt, nat_le, unwrap_or, if◌then◌else◌}
 use Rattle.std.specs.List.{find, list_any, list_all, range_with_len, slice_range}
 use Rattle.std.proofs.lemmas.Bool.Decides.{nat_tests}
-use Rattle.cell_num.specs.Lists.{each_pair, upto}
+use Rattle.cell_num.specs.Lists.{each_pair, upto, In}
 use Rattle.cell_object.specs.declared.headers.SectionHeader.{SectionHeader}
 use Rattle.cell_object.specs.declared.object.Section.{Section}
 use Rattle.cell_object.specs.declared.object.Fill.TheVariants.{Prog, Note}
@@ -13,7 +13,8 @@ use Rattle.cell_object.specs.Sections.{is_alloc, is_nobits, is_note, has_flag, i
 use Rattle.cell_object.specs.Reads.{fill_of, loaded_section, loaded_sections}
 use Rattle.cell_object.specs.Sound.{is_zero, is_sound_section}
 use Rattle.cell_elf.specs.Loadable.{Loadable}
-use Rattle.cell_object.proofs.Elements.{In, In-one, In-all, In-range, find-range, pairs-range}
+use Rattle.cell_num.proofs.Ranges.{In-one, In-range, find-range, pairs-range}
+use Rattle.cell_num.proofs.Elements.{In-all}
 use Rattle.cell_elf.proofs.Loads.{checked-both, not_broken, loadable, round_passed}
 
 pub yes_or_no : (b : Bool) → (b ≡ true) ⊎ (b ≡ false)

@@ -4,7 +4,7 @@ use Rattle.std.specs.Prelude.{◌==◌, ◌%◌, nat_lt, nat_le, if◌then◌els
 use Rattle.std.specs.List.{list_all, flat_map}
 use Rattle.std.specs.Str.{bytes_eq}
 use Rattle.std.proofs.lemmas.Bool.Decides.{nat_tests}
-use Rattle.cell_num.specs.Lists.{each_pair}
+use Rattle.cell_num.specs.Lists.{each_pair, In}
 use Rattle.cell_object.specs.declared.headers.SectionHeader.{SectionHeader}
 use Rattle.cell_object.specs.declared.headers.SymbolRow.{SymbolRow}
 use Rattle.cell_object.specs.declared.object.Symbol.{Symbol}
@@ -16,7 +16,8 @@ use Rattle.cell_object.specs.Symbols.{symtab, symbol_count, symbol_place, symbol
 use Rattle.cell_object.specs.Parts.{is_global as is_global_bind}
 use Rattle.cell_object.specs.Reads.{object_of}
 use Rattle.cell_object.specs.Sound.{is_sound_symbol, is_sound_home, is_known_bind, is_plain_sort, may_both_be}
-use Rattle.cell_object.proofs.Elements.{In, In-one, In-all, In-range, range-In, none-In, pairs-range, map-flat_map}
+use Rattle.cell_num.proofs.Ranges.{In-one, In-range, range-In, pairs-range, map-flat_map}
+use Rattle.cell_num.proofs.Elements.{In-all, none-In}
 use Rattle.cell_elf.proofs.Loads.{checked-both, not_broken, round_passed}
 use Rattle.cell_file.proofs.NameLemmas.{global_is}
 use Rattle.cell_elf.proofs.SoundSections.{yes_or_no, and_three, section_found, in_range, range_in}

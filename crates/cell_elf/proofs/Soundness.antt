@@ -21,7 +21,7 @@ use Rattle.cell_object.specs.Sound.{IsSoundObject}
 use Rattle.cell_file.specs.declared.fail.ReadFail.{ReadFail}
 use Rattle.cell_file.specs.Outcome.{Passes}
 use Rattle.cell_elf.proofs.Loads.{checked-both, not_broken, section_inside}
-use Rattle.cell_object.proofs.Elements.{length-range}
+use Rattle.cell_num.proofs.Ranges.{length-range}
 use Rattle.cell_file.proofs.Passing.{gives_object}
 use Rattle.cell_elf.proofs.Tables.{section_entries_loaded, section_entries_other}
 use Rattle.cell_elf.proofs.SoundSections.{yes_or_no, in_range, numbers_rise, sections_sound}

@@ -7,7 +7,7 @@ use Rattle.std.specs.List.{list_all}
 use Rattle.std.proofs.lemmas.Bool.{and_from, lt-ltb, le-leb}
 use Rattle.std.proofs.lemmas.Fmt.{length-decimal-le, decimal_nonempty}
 use Rattle.std.proofs.lemmas.List.Folds.{list_all-append}
-use Rattle.cell_object.proofs.Elements.{all-In, In-all}
+use Rattle.cell_num.proofs.Elements.{all-In, In-all}
 use Rattle.cell_text.specs.Number.{are_digits, has_leading_zero}
 use Rattle.cell_text.specs.Text.{is_filled}
 use Rattle.cell_text.proofs.Decimal.{and_parts, is_canonical-decimal}

@@ -9,8 +9,9 @@ use Rattle.std.proofs.lemmas.Fmt.{decimal_injective}
 use Rattle.std.proofs.lemmas.List.{append_cancel_left, append_cancel_right}
 use Rattle.std.proofs.lemmas.Slice.Eq.{bytes_eq-Decides}
 use Rattle.std.proofs.Math.Seq.{take-append_seam, drop-append_seam, drop-append-add}
-use Rattle.cell_num.specs.Lists.{equals}
-use Rattle.cell_object.proofs.Elements.{In, In-all, In-range, pairs-range}
+use Rattle.cell_num.specs.Lists.{equals, In}
+use Rattle.cell_num.proofs.Elements.{In-all}
+use Rattle.cell_num.proofs.Ranges.{In-range, pairs-range}
 use Rattle.cell_world.specs.declared.file.File.{File}
 use Rattle.cell_depot.specs.Files.{are_apart}
 use Rattle.cell_depot.specs.ObjectName.{cut, is_crate, is_letter_or_digit, is_name, is_object_name, is_stem}

@@ -6,7 +6,8 @@ use Rattle.std.specs.List.{range_with_len}
 use Rattle.std.proofs.lemmas.Bool.{leb-true}
 use Rattle.std.proofs.lemmas.List.FromFn.{length-map-range_with_len}
 use Rattle.std.proofs.lemmas.List.Elements.{All-nil, All-cons}
-use Rattle.cell_object.proofs.Elements.{In, In-range, length-range}
+use Rattle.cell_num.specs.Lists.{In}
+use Rattle.cell_num.proofs.Ranges.{In-range, length-range}
 use Rattle.cell_assemble.specs.SourceImage.{image_of_source}
 use Rattle.cell_asm.specs.declared.kind.AsmKind.{AsmKind}
 use Rattle.cell_world.specs.declared.file.File.{File}

@@ -6,9 +6,9 @@ use Rattle.std.specs.List.Sorted.{IsNonDecreasingBy}
 use Rattle.std.proofs.lemmas.Bool.{and_parts, and_from, or_cases, or_left, or_right, eqb-true, eq-eqb, lt-ltb, ltb-true, cases_order}
 use Rattle.std.proofs.lemmas.List.Sums.{sum_by-cons}
 use Rattle.cell_num.specs.declared.ids.CellId.{CellId}
-use Rattle.cell_num.specs.Lists.{each_pair, holds}
-use Rattle.cell_coherent.proofs.Elements.{In, In-all, all-In, All-In, any-In, filter-In, In-map}
-use Rattle.cell_coherent.proofs.Lists.{length-filter_le}
+use Rattle.cell_num.specs.Lists.{each_pair, holds, In}
+use Rattle.cell_num.proofs.Elements.{In-all, all-In, All-In, any-In, filter-In, In-map}
+use Rattle.cell_num.proofs.Sublists.{length-filter_le}
 use Rattle.cell_removal.proofs.KeptPaths.{In-holds, holds-In}
 use Rattle.cell_hold.specs.Adds.{IsOnceEach, has_cell}
 use Rattle.cell_hold.proofs.Adding.{none_counted}

@@ -6,14 +6,14 @@ use Rattle.std.specs.List.Sorted.{IsNonDecreasingBy, IsPermutation}
 use Rattle.std.proofs.lemmas.Bool.{and_parts, or_cases, eqb-true, eq-eqb, leb-true}
 use Rattle.std.proofs.lemmas.List.Sorted.{list_any-IsPermutation, sum_by-IsPermutation}
 use Rattle.cell_num.specs.declared.ids.CellId.{CellId}
-use Rattle.cell_num.specs.Lists.{holds}
+use Rattle.cell_num.specs.Lists.{holds, In}
 use Rattle.cell_graph.specs.Links.{Links, is_same}
 use Rattle.cell_mem.specs.State.{MemoryState}
 use Rattle.cell_world.specs.declared.state.LinkRow.{LinkRow}
 use Rattle.cell_world.specs.declared.state.Placed.{Placed}
 use Rattle.cell_world.specs.Kept.{Holding, IsKept, Leads, has_link_to, has_word_in, is_held_directly, is_inside, kept_in, reaches, writable_words}
 use Rattle.cell_world.specs.Words.{words_of}
-use Rattle.cell_coherent.proofs.Elements.{In, all-In, any-In, any-Has, In-map, map-In}
+use Rattle.cell_num.proofs.Elements.{all-In, any-In, any-Has, In-map, map-In}
 use Rattle.cell_removal.proofs.KeptPaths.{In-holds, holds-In, directly_kept, kept_complete, kept_on, kept_present, kept_rises, kept_sound}
 use Rattle.cell_hold.specs.declared.roots.Root.{Root}
 use Rattle.cell_hold.specs.declared.roots.Root.TheVariants.{Attached, Task, Word}

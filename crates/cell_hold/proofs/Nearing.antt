@@ -13,7 +13,8 @@ use Rattle.cell_hold.specs.declared.spots.Span.{Span}
 use Rattle.cell_hold.specs.Adds.{Adds, has_or_full}
 use Rattle.cell_hold.specs.Places.{is_at, is_cells_at}
 use Rattle.cell_hold.specs.Reached.{touches}
-use Rattle.cell_coherent.proofs.Elements.{In, all-In, any-Has}
+use Rattle.cell_num.specs.Lists.{In}
+use Rattle.cell_num.proofs.Elements.{all-In, any-Has}
 use Rattle.cell_hold.specs.Spans.{IsSettled, OnlyNear, is_above, is_below, is_within}
 use Rattle.cell_hold.specs.Spots.{AreSpots, places_of}
 use Rattle.cell_hold.proofs.Adding.{added_same, none_added, nothing_added}

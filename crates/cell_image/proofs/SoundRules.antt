@@ -4,10 +4,10 @@ use Rattle.std.specs.Prelude.{◌==◌, ◌%◌, nat_lt, nat_le, Option, Some, N
 use Rattle.std.specs.List.{list_any, list_all}
 use Rattle.std.specs.Ordering.{int_eq}
 use Rattle.std.specs.Str.{bytes_eq}
-use Rattle.std.proofs.lemmas.Bool.{and_parts, and_from, eqb-true}
+use Rattle.std.proofs.lemmas.Bool.{and_parts, and_from, or_cases, or_right, eqb-true}
 use Rattle.std.proofs.lemmas.Bool.Decides.{nat_tests}
 use Rattle.std.proofs.lemmas.Option.{slice_get_within}
-use Rattle.cell_num.specs.Lists.{each_pair, upto}
+use Rattle.cell_num.specs.Lists.{each_pair, upto, In}
 use Rattle.cell_num.specs.Kinds.{width_of, is_instruction, is_stacking, is_pcrel_lo12, is_pcrel_hi20}
 use Rattle.cell_object.specs.declared.object.Object.{Object}
 use Rattle.cell_object.specs.declared.object.Section.{Section}
@@ -28,7 +28,8 @@ use Rattle.cell_object.specs.ImageParts.{entries_for}
 use Rattle.cell_object.specs.Sound as sound
 use Rattle.cell_object.specs.Sound.{IsSoundObject, is_sound_section, is_sound_symbol, is_sound_home, is_known_bind, is_plain_sort, is_nameable, is_sound_entry, is_sound_entry_in, is_known_kind, may_share, may_both_be}
 use Rattle.cell_object.specs.Writable.{is_file, IsStorableSection, IsWritable}
-use Rattle.cell_object.proofs.Elements.{In, all-In, any-In, found-In, slice_get-In}
+use Rattle.cell_num.proofs.Elements.{all-In, In-none, any-In, any-Has, find_there, get-In, filter-In, In-filtered, filter-Passes}
+use Rattle.cell_num.proofs.Sublists.{pairs-filter}
 use Rattle.cell_image.proofs.Ruled.{is_section, IsWhole, IsWithin, IsWritableHome, IsWritableSection, IsWritableSymbol, IsWritableEntry, IsRuled}
 
 -- TESTS
@@ -36,14 +37,6 @@ use Rattle.cell_image.proofs.Ruled.{is_section, IsWhole, IsWithin, IsWritableHom
 not_true : (b : Bool) → not b ≡ true → b ≡ false
 not_true true h = absurd (true≢false (sym h))
 not_true false h = refl
-
-or_cases : (a b : Bool) → (a || b) ≡ true → (a ≡ true) ⊎ (b ≡ true)
-or_cases true b h = inl refl
-or_cases false b h = inr h
-
-or_right : (a b : Bool) → b ≡ true → (a || b) ≡ true
-or_right true b h = refl
-or_right false b h = h
 
 le_of : (m n : ℕ) → nat_le m n ≡ true → m ≤ n
 le_of m n h = grind (arith, nat_tests)
@@ -54,21 +47,6 @@ same_number a b c e f = grind (arith, nat_tests)
 -- ELEMENTS OF LISTS
 
 module _ {X : Type 0} where
-  none_any : (p : X → Bool) (xs : List X) → ((x : X) → In x xs → p x ≡ false) → list_any p xs ≡ false
-  none_any p [] f = refl
-  none_any p (y ∷ ys) f = either (p y) (list_any p ys) (f y (inl refl)) (none_any p ys (λ x k. f x (inr k)))
-    where
-      either : (a b : Bool) → a ≡ false → b ≡ false → (a || b) ≡ false
-      either a b h k = cc
-
-  one_any : (p : X → Bool) (xs : List X) (x : X) → In x xs → p x ≡ true → list_any p xs ≡ true
-  one_any p [] x k h = absurd k
-  one_any p (y ∷ ys) x (inl e) h = left (p y) (list_any p ys) (ap p (sym e) ∙ h)
-    where
-      left : (a b : Bool) → a ≡ true → (a || b) ≡ true
-      left a b h = cc
-  one_any p (y ∷ ys) x (inr k) h = or_right (p y) (list_any p ys) (one_any p ys x k h)
-
   found_place : (p : X → Bool) (y : X) (ys : List X) (x : X) (b : Bool) → p y ≡ b → find p (y ∷ ys) ≡ Some x
       → (find p ys ≡ Some x → (k : ℕ) × (slice_get ys k ≡ Some x) × (p x ≡ true)) → (k : ℕ) × (slice_get (y ∷ ys) k ≡ Some x) × (p x ≡ true)
   found_place p y ys x true e h f =
@@ -83,38 +61,13 @@ module _ {X : Type 0} where
   find_place p [] x h = absurd cc
   find_place p (y ∷ ys) x h = found_place p y ys x (p y) refl h (find_place p ys x)
 
-  kept_both : (p : X → Bool) (y : X) (xs : List X) (x : X) (b : Bool) → p y ≡ b → In x (filter p (y ∷ xs)) → ((In x (filter p xs)) → In x xs × (p x ≡ true)) → In x (y ∷ xs) × (p x ≡ true)
-  kept_both p y xs x true e h f =
-      let same : filter p (y ∷ xs) ≡ y ∷ filter p xs = rw e refl in
-      elim (subst (λ (zs : List X). In x zs) same h) [
-        | inl is ↦ (inl is, ap p is ∙ e)
-        | inr k ↦ let r = f k in (inr r.0, r.1)
-      ]
-  kept_both p y xs x false e h f =
-      let same : filter p (y ∷ xs) ≡ filter p xs = rw e refl in
-      let r = f (subst (λ (zs : List X). In x zs) same h) in (inr r.0, r.1)
-
-  In-filter : (p : X → Bool) (xs : List X) (x : X) → In x (filter p xs) → In x xs × (p x ≡ true)
-  In-filter p [] x h = absurd h
-  In-filter p (y ∷ ys) x h = kept_both p y ys x (p y) refl h (In-filter p ys x)
-
-  stays : (p : X → Bool) (y : X) (ys : List X) (x : X) (b : Bool) → p y ≡ b → In x (y ∷ ys) → p x ≡ true → (In x ys → In x (filter p ys)) → In x (filter p (y ∷ ys))
-  stays p y ys x true e (inl is) t f = let same : filter p (y ∷ ys) ≡ y ∷ filter p ys = rw e refl in subst (λ (zs : List X). In x zs) (sym same) (inl is)
-  stays p y ys x true e (inr k) t f = let same : filter p (y ∷ ys) ≡ y ∷ filter p ys = rw e refl in subst (λ (zs : List X). In x zs) (sym same) (inr (f k))
-  stays p y ys x false e (inl is) t f = absurd (true≢false (sym t ∙ ap p is ∙ e))
-  stays p y ys x false e (inr k) t f = let same : filter p (y ∷ ys) ≡ filter p ys = rw e refl in subst (λ (zs : List X). In x zs) (sym same) (f k)
-
-  filter-In : (p : X → Bool) (xs : List X) (x : X) → In x xs → p x ≡ true → In x (filter p xs)
-  filter-In p [] x h t = absurd h
-  filter-In p (y ∷ ys) x h t = stays p y ys x (p y) refl h t (λ k. filter-In p ys x k t)
-
   -- a test of pairs, of an element and one before it
   pairs_before : (t : X → X → Bool) (xs : List X) (k : ℕ) (x y : X) → each_pair t xs ≡ true → slice_get xs k ≡ Some y → In x (take k xs) → t x y ≡ true
   pairs_before t [] k x y h e i = absurd cc
   pairs_before t (z ∷ zs) zero x y h e i = absurd i
   pairs_before t (z ∷ zs) (suc k) x y h e (inl is) =
       let all = (and_parts (list_all (t z) zs) (each_pair t zs) h).0 in
-      ap (λ (v : X). t v y) is ∙ all-In (t z) zs all y (slice_get-In zs k y e)
+      ap (λ (v : X). t v y) is ∙ all-In (t z) zs all y (get-In zs k y e)
   pairs_before t (z ∷ zs) (suc k) x y h e (inr i) = pairs_before t zs k x y (and_parts (list_all (t z) zs) (each_pair t zs) h).1 e i
 
   In-take : (k : ℕ) (xs : List X) (x : X) → In x (take k xs) → In x xs
@@ -123,29 +76,11 @@ module _ {X : Type 0} where
   In-take (suc k) (y ∷ ys) x (inl e) = inl e
   In-take (suc k) (y ∷ ys) x (inr h) = inr (In-take k ys x h)
 
-  all_kept : (p q : X → Bool) (xs : List X) → list_all q xs ≡ true → list_all q (filter p xs) ≡ true
-  all_kept p q [] h = refl
-  all_kept p q (y ∷ ys) h =
-      let both = and_parts (q y) (list_all q ys) h in here (p y) refl both.0 (all_kept p q ys both.1)
-    where
-      here : (b : Bool) → p y ≡ b → q y ≡ true → list_all q (filter p ys) ≡ true → list_all q (filter p (y ∷ ys)) ≡ true
-      here true e one more = rw e (and_from (q y) (list_all q (filter p ys)) one more)
-      here false e one more = rw e more
-
-  pairs_kept : (p : X → Bool) (t : X → X → Bool) (xs : List X) → each_pair t xs ≡ true → each_pair t (filter p xs) ≡ true
-  pairs_kept p t [] h = refl
-  pairs_kept p t (y ∷ ys) h =
-      let both = and_parts (list_all (t y) ys) (each_pair t ys) h in here (p y) refl (all_kept p (t y) ys both.0) (pairs_kept p t ys both.1)
-    where
-      here : (b : Bool) → p y ≡ b → list_all (t y) (filter p ys) ≡ true → each_pair t (filter p ys) ≡ true → each_pair t (filter p (y ∷ ys)) ≡ true
-      here true e one more = rw e (and_from (list_all (t y) (filter p ys)) (each_pair t (filter p ys)) one more)
-      here false e one more = rw e more
-
 -- SECTIONS
 
 power_bounds : (align : ℕ) (ks : List ℕ) → list_all (λ k. nat_le 1 (2 ^ k) && nat_le (2 ^ k) 4096) ks ≡ true → list_any (λ k. align == 2 ^ k) ks ≡ true → (1 ≤ align) × (align ≤ 4096)
 power_bounds align ks all one =
-    let k = any-In (λ k. align == 2 ^ k) ks one in
+    let k = any-Has (λ k. align == 2 ^ k) ks one in
     let is : align ≡ 2 ^ k.0 = eqb-true align (2 ^ k.0) k.2 in
     let both = and_parts (nat_le 1 (2 ^ k.0)) (nat_le (2 ^ k.0) 4096) (all-In (λ k. nat_le 1 (2 ^ k) && nat_le (2 ^ k) 4096) ks all k.0 k.1) in
     let low = le_of 1 (2 ^ k.0) both.0 in
@@ -274,7 +209,7 @@ labelled object e all among = go (symbol_at object e.symbol) refl
             let first = and_parts (is_pcrel_hi20 x.kind) (x.section == m) parts.0 in
             let same : x.section ≡ e.section = eqb-true x.section m first.1 ∙ eqb-true m e.section own in
             and_from (m == e.section) _ own
-            (one_any (λ (x : Entry). is_pcrel_hi20 x.kind && x.offset == s.value) all x (among x (slice_get-In object.entries at.0 x at.1) same) (and_from (is_pcrel_hi20 x.kind) (x.offset == s.value) first.0 parts.1))
+            (any-In (λ (x : Entry). is_pcrel_hi20 x.kind && x.offset == s.value) all x (among x (get-In object.entries at.0 x at.1) same) (and_from (is_pcrel_hi20 x.kind) (x.offset == s.value) first.0 parts.1))
 
     go : (o : Option Symbol) → symbol_at object e.symbol ≡ o
         → is_some (option_and_then (λ (label : ℕ × ℕ). find (λ (x : Entry). is_pcrel_hi20 x.kind && x.section == label.0 && x.offset == label.1) object.entries) (option_and_then (λ (s : Symbol). option_map (λ (section : ℕ). (section, s.value)) (inside_of s.home)) o)) ≡ true
@@ -319,7 +254,7 @@ module _ (object : Object) (w : IsWritable object) where
   found n s e =
       let is : s.number ≡ n + 1 = numbered n s e in
       let test : (s.number == n + 1) ≡ true = grind (arith, nat_tests) in
-      let some = found-In (λ (x : Section). x.number == n + 1) object.sections s (slice_get-In object.sections n s e) test in
+      let some = find_there (λ (x : Section). x.number == n + 1) object.sections s (get-In object.sections n s e) test in
       let at = placed (n + 1) some.0 some.1 in
       let place : n + 1 - 1 ≡ n = omega arith in
       let there : slice_get object.sections n ≡ Some some.0 = subst (λ (i : ℕ). slice_get object.sections i ≡ Some some.0) place at.1 in
@@ -339,7 +274,7 @@ module _ (object : Object) (w : IsWritable object) where
   symbol_ruled : (k : ℕ) (s : Symbol) → slice_get object.symbols k ≡ Some s → IsWritableSymbol object k s
   symbol_ruled k s e =
       let st = w.symbols k s e in
-      let h : is_sound_symbol object s ≡ true = all-In (is_sound_symbol object) object.symbols w.sound.symbols s (slice_get-In object.symbols k s e) in
+      let h : is_sound_symbol object s ≡ true = all-In (is_sound_symbol object) object.symbols w.sound.symbols s (get-In object.symbols k s e) in
       let named = and_parts (is_known_bind s.bind && is_sound_home object s s.home) (not (is_global s.bind) || is_global_name s.name && is_plain_sort s.sort) h in
       let homed = and_parts (is_known_bind s.bind) (is_sound_home object s s.home) named.0 in
       record {
@@ -350,7 +285,7 @@ module _ (object : Object) (w : IsWritable object) where
         filed = st.filed;
         home = home_ruled s s.home homed.0 homed.1;
         named = well_named (is_global s.bind) (is_global_name s.name) (defines (take k object.symbols) s.name) (is_plain_sort s.sort) named.1
-            (λ global. none_any (λ x. is_global x.bind && bytes_eq x.name s.name) (take k object.symbols)
+            (λ global. In-none (λ x. is_global x.bind && bytes_eq x.name s.name) (take k object.symbols)
             (λ x i. other_name (is_global x.bind) (is_global s.bind) (bytes_eq x.name s.name) (pairs_before may_both_be object.symbols k x s w.sound.names e i) global));
         value = st.value;
         size = st.size;
@@ -362,7 +297,8 @@ module _ (object : Object) (w : IsWritable object) where
   entry_ruled n s there k e at =
       let of : Entry → Bool = λ x. x.section == n + 1 in
       let all : List Entry = filter of object.entries in
-      let among = In-filter of object.entries e (slice_get-In all k e at) in
+      let at_all = get-In all k e at in
+      let among = (In-filtered of object.entries e at_all, filter-Passes of object.entries e at_all) in
       let own : e.section ≡ n + 1 = eqb-true e.section (n + 1) among.1 in
       let h : is_sound_entry object e ≡ true = all-In (is_sound_entry object) object.entries w.sound.entries e among.0 in
       let known : Bool = is_known_kind e.kind in
@@ -383,21 +319,21 @@ module _ (object : Object) (w : IsWritable object) where
         usable = symbol.1;
         inside = le_of (e.offset + width_of e.kind) s.size filled.1;
         code = code_of (is_instruction e.kind) s.exec (e.offset % 4 == 0) code.1;
-        apart = none_any (is_clash e) (take k all) (λ f i.
-            let one = In-filter of object.entries f (In-take k all f i) in
+        apart = In-none (is_clash e) (take k all) (λ f i.
+            let one = filter-Passes of object.entries f (In-take k all f i) in
             apart_of f.offset (width_of f.kind) e.offset (width_of e.kind) (f.section == e.section) (is_stacking f.kind) (is_stacking e.kind)
-            (same_number f.section e.section (n + 1) (eqb-true f.section (n + 1) one.1) own) (pairs_before may_share all k f e (pairs_kept of may_share object.entries w.sound.apart) at i));
+            (same_number f.section e.section (n + 1) (eqb-true f.section (n + 1) one) own) (pairs_before may_share all k f e (pairs-filter may_share of object.entries w.sound.apart) at i));
         paired = unpaired_of (is_pcrel_lo12 e.kind) (int_eq e.addend (pos 0)) (is_some (high_of object e)) own_label (has_label e.section all object.symbols e.symbol) last.1
             (labelled object e all (λ x i same. filter-In of object.entries x i (same_number x.section (n + 1) e.section same (sym own))));
       }
 
   pub ruled : IsRuled object
   ruled = record {
-    sections = λ k s e. section_ruled k s (all-In is_sound_section object.sections w.sound.sections s (slice_get-In object.sections k s e)) (w.sections k s e);
+    sections = λ k s e. section_ruled k s (all-In is_sound_section object.sections w.sound.sections s (get-In object.sections k s e)) (w.sections k s e);
     symbols = symbol_ruled;
     storable = λ k e at.
         let st = w.entries k e at in
-        record { kind = (and_parts (is_known_kind e.kind) _ (and_parts _ _ (and_parts _ _ (all-In (is_sound_entry object) object.entries w.sound.entries e (slice_get-In object.entries k e at))).0).0).0; offset = st.offset; symbol = st.symbol; addend = st.addend };
+        record { kind = (and_parts (is_known_kind e.kind) _ (and_parts _ _ (and_parts _ _ (all-In (is_sound_entry object) object.entries w.sound.entries e (get-In object.entries k e at))).0).0).0; offset = st.offset; symbol = st.symbol; addend = st.addend };
     entries = entry_ruled;
     fits = w.fits;
   }

@@ -6,14 +6,14 @@ use Rattle.std.proofs.lemmas.Bool.{ltb-true, lt-ltb, le-leb}
 use Rattle.std.proofs.lemmas.Bool.Decides.{nat_tests}
 use Rattle.std.proofs.lemmas.List.{length-map}
 use Rattle.std.proofs.lemmas.List.Elements.{filter-append}
-use Rattle.cell_num.specs.Lists.{each_pair}
+use Rattle.cell_num.specs.Lists.{each_pair, In}
 use Rattle.cell_world.specs.declared.reply.Reply.{Reply}
 use Rattle.cell_world.specs.Limits.{max_cells}
 use Rattle.cell_world.specs.World.{World, Cell}
 use Rattle.cell_world.specs.Answer.{Done, ids, numbers_of}
 use Rattle.cell_world.specs.Coherent.{IsCoherent}
-use Rattle.cell_coherent.proofs.Elements.{In, In-all, In-map, all-In, all_push, filter_none, map_same, pairs-map, pairs_push}
-use Rattle.cell_coherent.proofs.Lists.{map_filter}
+use Rattle.cell_num.proofs.Elements.{In-all, In-map, all-In, all_push, filter_none, map_same, pairs-map, pairs_push}
+use Rattle.cell_num.proofs.Sublists.{map_filter}
 use Rattle.cell_coherent.proofs.Relinked.{map_twice}
 use Rattle.cell_load_law.proofs.Loads.{older}
 use Rattle.cell_machine.specs.Does.{fresh_by}

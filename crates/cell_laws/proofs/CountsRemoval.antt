@@ -3,7 +3,7 @@ use Rattle.std.proofs.Common.{◌≡◌, refl, sym, ◌∙◌, ap, subst, arith,
 use Rattle.std.specs.Prelude.{filter, nat_lt}
 use Rattle.std.proofs.lemmas.List.{length-map}
 use Rattle.std.proofs.lemmas.List.Filters.{length-filter_both}
-use Rattle.cell_num.specs.Lists.{each_pair, holds}
+use Rattle.cell_num.specs.Lists.{each_pair, holds, In}
 use Rattle.cell_world.specs.declared.command.CellName.{CellName}
 use Rattle.cell_world.specs.World.{World, Cell, is_attached}
 use Rattle.cell_world.specs.Answer.{Done, ids, numbers_of}
@@ -12,8 +12,8 @@ use Rattle.cell_world.specs.Kept.{holding_of, kept_in}
 use Rattle.cell_world.specs.Outcome.{refused_by}
 use Rattle.cell_world.specs.UnloadCommand.{first_held, garbage_of, named_cells, next_purge, next_unload, purged, put_aside}
 use Rattle.cell_coherent.proofs.Appended.{ok_same}
-use Rattle.cell_coherent.proofs.Elements.{In, In-filtered, In-map, filter-In, filter-Passes}
-use Rattle.cell_coherent.proofs.Lists.{filter_same, map_filter}
+use Rattle.cell_num.proofs.Elements.{In-filtered, In-map, filter-In, filter-Passes}
+use Rattle.cell_num.proofs.Sublists.{filter_same, map_filter}
 use Rattle.cell_coherent.proofs.Outcomes.{bind_ok, then_ok}
 use Rattle.cell_removal.specs.Left.{with_aside}
 use Rattle.cell_removal.proofs.Freed.{number_holds, same_cell}

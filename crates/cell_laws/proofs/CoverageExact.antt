@@ -2,7 +2,7 @@
 use Rattle.std.proofs.Common.{◌≡◌, refl, sym, ◌∙◌, ap, ap₂, subst, ℕ, suc, Bool, true, false, cond, List, [], ◌∷◌, ◌++◌, Option, Some, None, Ok, Err, length, true≢false, ◌↔◌}
 use Rattle.std.specs.Prelude.{filter, filter_map, is_none, is_some, option_map, nat_lt}
 use Rattle.std.proofs.lemmas.List.Elements.{filter-append, filter_map-append}
-use Rattle.cell_num.specs.Lists.{first, holds, or_else}
+use Rattle.cell_num.specs.Lists.{first, holds, or_else, In}
 use Rattle.cell_world.specs.declared.command.SwapItem.{SwapItem}
 use Rattle.cell_world.specs.Coherent.{AreSound, IsCoherent, is_known_cell, is_supplied}
 use Rattle.cell_world.specs.Gather.{Need, Source, fresh_cells, missing}
@@ -12,9 +12,8 @@ use Rattle.cell_world.specs.Place.{place_all}
 use Rattle.cell_world.specs.SwapCommand.{Plan, Wanted, all_wanted, first_uncovered, gather_swap, old_numbers, plan_placed, plan_swap, set_aside}
 use Rattle.cell_world.specs.SwapTransfer.{begins_of, stack_for}
 use Rattle.cell_world.specs.World.{Attached, Cell, Detached, Standing, World, is_attached, is_of_group}
-use Rattle.cell_coherent.specs.Grown.{In}
 use Rattle.cell_coherent.proofs.Attach.{Grows}
-use Rattle.cell_coherent.proofs.Elements.{all-In, filter_all, filter_none, some_has}
+use Rattle.cell_num.proofs.Elements.{all-In, filter_all, filter_none, some_has}
 use Rattle.cell_coherent.proofs.Gathered.{Extends, Ranks}
 use Rattle.cell_coherent.proofs.Known.{known_parts}
 use Rattle.cell_coherent.proofs.LoadCoherent.{fresh_is}

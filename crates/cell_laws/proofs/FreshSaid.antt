@@ -4,7 +4,7 @@ use Rattle.std.specs.Prelude.{All, fold, slice_range, ◌==◌, ◌||◌}
 use Rattle.std.specs.List.{list_all}
 use Rattle.std.proofs.lemmas.Bool.{and_parts, eqb-true}
 use Rattle.cell_num.specs.Kinds.{width_of}
-use Rattle.cell_num.specs.Lists.{each_pair}
+use Rattle.cell_num.specs.Lists.{each_pair, In}
 use Rattle.cell_object.specs.declared.object.Section.{Section as ObjectSection}
 use Rattle.cell_object.specs.declared.object.Entry.{Entry}
 use Rattle.cell_object.specs.Sound.{is_sound_section, is_zero}
@@ -15,11 +15,11 @@ use Rattle.cell_world.specs.Fresh.{fields_in, value_bytes, with_value, fresh_byt
 use Rattle.cell_world.specs.Layout.{own_bytes}
 use Rattle.cell_world.specs.Memory.{pasted}
 use Rattle.cell_world.specs.Target.{start_of}
-use Rattle.cell_coherent.proofs.Elements.{In, In-All, all-In, In-filtered, filter-Passes}
+use Rattle.cell_num.proofs.Elements.{In-All, all-In, In-filtered, filter-Passes}
 use Rattle.cell_coherent.proofs.FieldsApart.{AreFieldsApart, fields_apart}
 use Rattle.cell_coherent.proofs.FieldsInside.{among-In, length-bytes_of, own_length}
 use Rattle.cell_coherent.proofs.Known.{object_sound}
-use Rattle.cell_coherent.proofs.Lists.{pairs-filter}
+use Rattle.cell_num.proofs.Sublists.{pairs-filter}
 use Rattle.cell_coherent.proofs.Offsets.{Apart}
 use Rattle.cell_coherent.proofs.Patches.{length-pasted}
 use Rattle.cell_coherent.proofs.Regrown.{among_apart, is_elsewhere}

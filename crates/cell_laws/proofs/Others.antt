@@ -1,7 +1,7 @@
 -- A command that is no swap changes no target of a cell that stays.
 use Rattle.std.proofs.Common.{◌≡◌, refl, sym, ◌∙◌, ap, subst, ℕ, List, map, Ok}
 use Rattle.std.specs.Prelude.{All, IsTrue, length, nat_le, nat_lt}
-use Rattle.cell_num.specs.Lists.{holds}
+use Rattle.cell_num.specs.Lists.{holds, In}
 use Rattle.cell_object.specs.declared.object.Entry.{Entry}
 use Rattle.cell_world.specs.declared.command.Command.{Command}
 use Rattle.cell_world.specs.declared.command.Command.TheVariants.{Ns, Load, Spawn, Step, Run, Kill, Swap, Unload, Purge, Tasks, Find, Deps, Users, Map, Dump}
@@ -23,7 +23,7 @@ use Rattle.cell_world.specs.Next.{outcome_of}
 use Rattle.cell_world.specs.Coherent.{AreSound, IsCoherent}
 use Rattle.cell_coherent.specs.Grown.{HasAttached}
 use Rattle.cell_coherent.proofs.Appended.{ok_same}
-use Rattle.cell_coherent.proofs.Elements.{In, In-All, All-In, In-left, In-map, In-filtered}
+use Rattle.cell_num.proofs.Elements.{In-All, All-In, In-left, In-map, In-filtered}
 use Rattle.cell_coherent.proofs.Inside.{ready_linkable}
 use Rattle.cell_coherent.proofs.LoadGrown.{load_attached}
 use Rattle.cell_coherent.proofs.NamespaceAdded.{Added, ns_ok}

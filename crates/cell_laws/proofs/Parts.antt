@@ -5,7 +5,7 @@ use Rattle.std.specs.List.{list_all}
 use Rattle.std.proofs.lemmas.Bool.{and_parts, and_from, eq-eqb, leb-true, ltb-true, le-leb, lt-ltb}
 use Rattle.std.proofs.lemmas.List.{append-nil}
 use Rattle.cell_num.specs.Kinds.{width_of}
-use Rattle.cell_num.specs.Lists.{each_pair, where_true}
+use Rattle.cell_num.specs.Lists.{each_pair, where_true, In}
 use Rattle.cell_object.specs.declared.object.Entry.{Entry}
 use Rattle.cell_world.specs.World.{World, Cell, Region}
 use Rattle.cell_world.specs.Coherent.{IsCoherent}
@@ -15,7 +15,7 @@ use Rattle.cell_world.specs.declared.layout.Class.{Class}
 use Rattle.cell_world.specs.declared.layout.Class.TheVariants.{Text, ReadOnly, Writable}
 use Rattle.cell_world.specs.Memory.{covers, pasted, part_of, read, region_at}
 use Rattle.cell_world.specs.Relink.{Patch, patch_of, patches_of, bound_entries, class_start, is_region_of, images_for, restored}
-use Rattle.cell_coherent.proofs.Elements.{In, all-In, In-left, In-right, In-append, In-map, In-flat_map, In-filtered, filter-In, filter_none, filter-Passes, find_there, found-In, first-In, first_has, map-In}
+use Rattle.cell_num.proofs.Elements.{all-In, In-left, In-right, In-append, In-map, In-flat_map, In-filtered, filter-In, filter_none, filter-Passes, find_there, found-In, first-In, first_has, map-In}
 use Rattle.cell_coherent.proofs.Distinct.{one_class}
 use Rattle.cell_coherent.proofs.FieldsInside.{fields_end_in, length-bytes_of}
 use Rattle.cell_coherent.proofs.ImagesInside.{images_fit}
@@ -25,7 +25,7 @@ use Rattle.cell_coherent.proofs.Patches.{HasShape}
 use Rattle.cell_coherent.proofs.Relinked.{patches, own_image, restore, restored_is}
 use Rattle.cell_turns.proofs.Bare.{covers_once}
 use Rattle.cell_turns.proofs.Fixed.{remade_fixed}
-use Rattle.cell_coherent.proofs.Lists.{map_filter}
+use Rattle.cell_num.proofs.Sublists.{map_filter}
 use Rattle.cell_coherent.proofs.Pastes.{over}
 use Rattle.cell_turns.proofs.Slices.{slice}
 use Rattle.cell_coherent.proofs.Offsets.{Apart}

@@ -6,7 +6,7 @@ use Rattle.std.proofs.lemmas.List.{ext_get_or}
 use Rattle.cell_world.specs.World.{Region}
 use Rattle.cell_world.specs.Memory.{covers, pasted}
 use Rattle.cell_world.specs.Relink.{Patch, patched}
-use Rattle.cell_coherent.proofs.Elements.{In}
+use Rattle.cell_num.specs.Lists.{In}
 use Rattle.cell_coherent.proofs.Patches.{HasShape, AllEndIn, shape_by, length-pasted, pasted_before, pasted_in, pasted_after}
 use Rattle.cell_turns.proofs.Slices.{slice, slice_length, slice_at, untouched}
 use Rattle.cell_coherent.proofs.Writes.{written_in}

@@ -1,7 +1,7 @@
 //! Which cells are kept and who holds them, which are left when others go, and that nothing leads into one that went.
 
 ghost use Rattle.std.specs.Prelude.{ℕ, ◌≡◌, ◌<◌, IsTrue, List, All, None, Ok, length, suc, ◌↔◌, false, is_some, filter, nat_lt, Bool};
-ghost use Rattle.cell_num.specs.Lists.{each_pair, holds};
+ghost use Rattle.cell_num.specs.Lists.{each_pair, holds, In};
 ghost use Rattle.cell_world.specs.Answer.{Done, numbers_of};
 ghost use Rattle.cell_world.specs.Coherent.{AreSound, IsCoherent};
 ghost use Rattle.cell_world.specs.Gather.{Source};
@@ -11,7 +11,6 @@ ghost use Rattle.cell_world.specs.UnloadCommand.{first_held, garbage_of, named_c
 ghost use Rattle.cell_world.specs.World.{Cell, World};
 ghost use Rattle.cell_world.specs.declared.command.CellName.{CellName};
 ghost use Rattle.cell_world.specs.declared.command.SwapItem.{SwapItem};
-ghost use Rattle.cell_coherent.specs.Grown.{In};
 ghost use Rattle.cell_removal.specs.Left.{IsFree, IsUnreached, LeavesFields, with_aside};
 ghost use Rattle.cell_swaps_law.specs.Swapping.{HasSwapped};
 

@@ -6,15 +6,15 @@ use Rattle.std.proofs.lemmas.List.Elements.{filter-append}
 use Rattle.std.proofs.lemmas.Bool.Decides.{nat_tests}
 use Rattle.std.specs.List.{list_all}
 use Rattle.std.proofs.lemmas.Bool.{and_parts, and_from, ltb-true}
-use Rattle.cell_num.specs.Lists.{each_pair}
+use Rattle.cell_num.specs.Lists.{each_pair, In}
 use Rattle.cell_object.specs.declared.object.Section.{Section as ObjectSection}
 use Rattle.cell_object.specs.Sound.{is_sound_section}
 use Rattle.cell_world.specs.declared.state.SecPlace.{SecPlace}
 use Rattle.cell_world.specs.Layout.{is_in_class, gap, class_of, offset_in, laid_end, laid_end_from}
 use Rattle.cell_world.specs.declared.layout.Class.TheVariants.{Text, ReadOnly, Writable}
 use Rattle.cell_world.specs.declared.layout.Class.{Class}
-use Rattle.cell_coherent.specs.Grown.{In}
-use Rattle.cell_load_law.proofs.Elements.{all-In, all-filter, In-filtered, In-right}
+use Rattle.cell_num.proofs.Elements.{all-In, In-filtered, In-right}
+use Rattle.cell_num.proofs.Sublists.{all-filter}
 use Rattle.cell_load_law.proofs.Offsets.{running_offset}
 use Rattle.cell_layout.specs.declared.layout.Ends.{Ends}
 use Rattle.cell_layout.specs.Layout.{in_class, end_for, with_end, end_of, AreEnds, AreSmall, next_in, offset_among, offset_place}

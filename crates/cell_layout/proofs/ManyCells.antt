@@ -13,7 +13,8 @@ use Rattle.cell_world.specs.World.{Region}
 use Rattle.cell_world.specs.Outcome.{Outcome, ◌>>=◌}
 use Rattle.cell_world.specs.declared.layout.Starts.{Starts}
 use Rattle.cell_world.specs.Layout.{places_in}
-use Rattle.cell_coherent.proofs.Elements.{In, All-In, In-right}
+use Rattle.cell_num.specs.Lists.{In}
+use Rattle.cell_num.proofs.Elements.{All-In, In-right}
 use Rattle.cell_load_law.specs.Loading.{AllTaken, ManyTaken, take_runs, take_all, all_regions, regions_at}
 use Rattle.cell_load_law.proofs.Binds.{bind_err}
 use Rattle.cell_load_law.proofs.Placing.{all_append}

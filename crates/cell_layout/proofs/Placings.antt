@@ -10,10 +10,11 @@ use Rattle.cell_world.specs.Layout.{is_in_class, sections_in, place_in, start_in
 use Rattle.cell_world.specs.declared.layout.Class.TheVariants.{Text, ReadOnly, Writable}
 use Rattle.cell_world.specs.declared.layout.Class.{Class}
 use Rattle.cell_world.specs.declared.layout.Starts.{Starts}
-use Rattle.cell_coherent.specs.Grown.{In}
+use Rattle.cell_num.specs.Lists.{In}
 use Rattle.cell_load_law.specs.Loading.{Taken, AllTaken, take_run, take_for, take_class, take_runs}
 use Rattle.cell_load_law.proofs.Binds.{bind_same}
-use Rattle.cell_load_law.proofs.Elements.{all-filter, pairs-filter, filter-In}
+use Rattle.cell_num.proofs.Sublists.{all-filter, pairs-filter}
+use Rattle.cell_num.proofs.Elements.{filter-In}
 use Rattle.cell_load_law.proofs.Offsets.{run_rounded, run_within}
 use Rattle.cell_layout.specs.declared.layout.Ends.{Ends}
 use Rattle.cell_layout.specs.Layout.{in_class, end_for, end_of, AreEnds, AreSmall}

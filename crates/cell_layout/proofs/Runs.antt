@@ -6,7 +6,7 @@ use Rattle.cell_object.specs.declared.object.Section.{Section as ObjectSection}
 use Rattle.cell_world.specs.World.{Region, Permission}
 use Rattle.cell_world.specs.Layout.{is_in_class, image_of, permission_of}
 use Rattle.cell_world.specs.declared.layout.Class.{Class}
-use Rattle.cell_coherent.specs.Grown.{In}
+use Rattle.cell_num.specs.Lists.{In}
 use Rattle.cell_load_law.specs.Loading.{run_region}
 
 abbrev pub run : ℕ → Class → List ObjectSection → List Region

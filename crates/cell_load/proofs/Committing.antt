@@ -5,7 +5,7 @@ use Rattle.std.specs.List.{list_all}
 use Rattle.std.proofs.lemmas.List.{map-append}
 use Rattle.std.proofs.lemmas.List.Concat.{flat_map-append}
 use Rattle.cell_num.specs.declared.ids.SecKey.{SecKey}
-use Rattle.cell_num.specs.Lists.{each_pair}
+use Rattle.cell_num.specs.Lists.{each_pair, In}
 use Rattle.cell_object.specs.declared.object.Object.{Object}
 use Rattle.cell_object.specs.declared.object.Section.{Section as ObjectSection}
 use Rattle.cell_world.specs.declared.state.LinkRow.{LinkRow}
@@ -13,8 +13,7 @@ use Rattle.cell_world.specs.declared.state.NewCell.{NewCell}
 use Rattle.cell_world.specs.World.{Alias, World, Cell, Region, Standing, is_attached}
 use Rattle.cell_world.specs.Coherent.{IsLoadable, ends_before, is_in_space, is_known_cell}
 use Rattle.cell_world.specs.Relink.{Patch}
-use Rattle.cell_coherent.specs.Grown.{In}
-use Rattle.cell_coherent.proofs.Elements.{all-In, All-In, In-map, In-right}
+use Rattle.cell_num.proofs.Elements.{all-In, All-In, In-map, In-right}
 use Rattle.cell_load_law.specs.Loading.{objects_of}
 use Rattle.cell_link.specs.declared.value.FieldValue.{FieldValue}
 use Rattle.cell_graph.specs.Moves.{moved}

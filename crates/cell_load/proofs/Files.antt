@@ -2,14 +2,13 @@
 use Rattle.std.proofs.Common.{◌≡◌, refl, ◌∙◌, ap, ap₂, sym, subst, ℕ, inl, inr, Bool, true, false, cond, ◌&&◌, List, [], ◌∷◌, map, true≢false}
 use Rattle.std.specs.Prelude.{Option, Some, Ok, Err, not, slice_get}
 use Rattle.std.proofs.lemmas.Bool.{and_parts, eq-eqb}
-use Rattle.cell_num.specs.Lists.{equals}
+use Rattle.cell_num.specs.Lists.{equals, In}
 use Rattle.cell_world.specs.declared.file.File.{File}
 use Rattle.cell_world.specs.declared.refusal.Refusal.{Refusal}
 use Rattle.cell_world.specs.declared.refusal.Refusal.TheVariants.{Ambiguous}
 use Rattle.cell_world.specs.Gather.{Source, file_named, one_file, source_of}
 use Rattle.cell_world.specs.Outcome.{Outcome}
-use Rattle.cell_coherent.specs.Grown.{In}
-use Rattle.cell_coherent.proofs.Elements.{all-In, get-In}
+use Rattle.cell_num.proofs.Elements.{all-In, get-In}
 use Rattle.cell_depot.specs.Files.{are_apart}
 use Rattle.cell_depot.specs.Found.{AreFirst, IsOnly}
 

@@ -9,12 +9,11 @@ use Rattle.cell_world.specs.World.{World, Cell, Attached}
 use Rattle.cell_world.specs.Answer.{space_of}
 use Rattle.cell_world.specs.Gather.{Source, append_cell, bring, depot_files, file_named, one_file, source_of, grown}
 use Rattle.cell_world.specs.Outcome.{Outcome, ◌>>=◌, found}
-use Rattle.cell_coherent.specs.Grown.{In}
-use Rattle.cell_coherent.proofs.Elements.{In-All}
+use Rattle.cell_num.specs.Lists.{In}
+use Rattle.cell_num.proofs.Elements.{In-All, In-map}
 use Rattle.cell_depot.specs.Files.{are_apart}
 use Rattle.cell_depot.specs.Found.{IsOnly}
 use Rattle.cell_load_law.specs.Loading.{gathered_by}
-use Rattle.cell_load_law.proofs.Elements.{In-map}
 use Rattle.cell_load_law.proofs.Loads.{older}
 use Rattle.cell_space.specs.Machine.{called}
 use Rattle.cell_space.specs.Joined.{placed_of}

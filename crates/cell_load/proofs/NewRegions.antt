@@ -7,13 +7,12 @@ use Rattle.std.proofs.lemmas.Grind.{flat_map-append}
 use Rattle.std.proofs.lemmas.List.{length-append, length-map}
 use Rattle.std.proofs.lemmas.List.Elements.{filter-append}
 use Rattle.cell_num.specs.declared.ids.CellId.{CellId}
-use Rattle.cell_num.specs.Lists.{holds}
+use Rattle.cell_num.specs.Lists.{holds, In}
 use Rattle.cell_world.specs.declared.reply.Reply.TheVariants.{Load}
 use Rattle.cell_world.specs.Answer.{ids, numbers_of}
 use Rattle.cell_world.specs.Coherent.{IsCoherent, Shape, shape_of, stack_shape, with_shape}
 use Rattle.cell_world.specs.World.{World, Cell}
-use Rattle.cell_coherent.specs.Grown.{In}
-use Rattle.cell_coherent.proofs.Elements.{any-In, filter_all, filter_none, map-In}
+use Rattle.cell_num.proofs.Elements.{any-In, filter_all, filter_none, map-In}
 use Rattle.cell_machine.specs.Does.{cell_shapes, new_runs}
 
 shape_more : (s : Shape) (shapes : List Shape) → length (with_shape s shapes) ≡ suc (length shapes)

@@ -1,13 +1,13 @@
 -- What attached cells are linked to doesn't hang on their aliases.
 use Rattle.std.proofs.Common.{◌≡◌, refl, ap, ap₂, inl, inr, List, [], ◌∷◌, ◌++◌, map}
 use Rattle.std.specs.Prelude.{filter_map}
-use Rattle.cell_num.specs.Lists.{numbered, or_else}
+use Rattle.cell_num.specs.Lists.{numbered, or_else, In}
 use Rattle.cell_world.specs.declared.state.LinkRow.{LinkRow}
 use Rattle.cell_world.specs.World.{World, Cell, Standing, Attached, attached}
 use Rattle.cell_world.specs.Fit.{first_misfit, misfit_in}
 use Rattle.cell_world.specs.Relink.{link_of}
 use Rattle.cell_world.specs.Target.{targets_of}
-use Rattle.cell_coherent.specs.Grown.{In, links_from}
+use Rattle.cell_coherent.specs.Grown.{links_from}
 use Rattle.cell_link.specs.declared.value.FieldValue.{FieldValue}
 use Rattle.cell_link.specs.Linked.{field_values}
 use Rattle.cell_space.specs.Joined.{placed_of}

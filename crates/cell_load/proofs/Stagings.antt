@@ -2,7 +2,7 @@
 use Rattle.std.proofs.Common.{◌≡◌, refl, sym, ◌∙◌, ap, subst, arith, ℕ, Bool, true, List, [], ◌∷◌, ◌++◌, map, length, Option}
 use Rattle.std.specs.Prelude.{Ok, Err, All, nat_lt}
 use Rattle.std.proofs.lemmas.List.{length-map}
-use Rattle.cell_num.specs.Lists.{each_pair}
+use Rattle.cell_num.specs.Lists.{each_pair, In}
 use Rattle.cell_object.specs.declared.object.Object.{Object}
 use Rattle.cell_object.specs.Sound.{IsSoundObject}
 use Rattle.cell_world.specs.declared.fail.Fail.{Fail}
@@ -15,8 +15,8 @@ use Rattle.cell_world.specs.Outcome.{Outcome, ◌>>=◌, ◌>>◌, refused_by}
 use Rattle.cell_world.specs.Layout.{places_in}
 use Rattle.cell_world.specs.Place.{page_table}
 use Rattle.cell_world.specs.Target.{targets_of}
-use Rattle.cell_coherent.specs.Grown.{In, links_from}
-use Rattle.cell_coherent.proofs.Elements.{All-In, In-All, In-map, In-right}
+use Rattle.cell_coherent.specs.Grown.{links_from}
+use Rattle.cell_num.proofs.Elements.{All-In, In-All, In-map, In-right}
 use Rattle.cell_load_law.specs.Loading.{ManyTaken, all_regions, objects_of, placed_after, placed_cells, take_all}
 use Rattle.cell_place.specs.Space.{SpaceState}
 use Rattle.cell_space.specs.declared.cell.SpaceCell.{SpaceCell}

@@ -1,7 +1,7 @@
 //! The fields and the links of new cells.
 
 ghost use Rattle.std.specs.Prelude.{◌≡◌, ◌++◌, All, OnOk};
-ghost use Rattle.cell_coherent.specs.Grown.{In};
+ghost use Rattle.cell_num.specs.Lists.{In};
 ghost use Rattle.cell_target.specs.Scene.{seen};
 ghost use Rattle.cell_load.specs.Linking.{CanLink, Links, LinksAll};
 

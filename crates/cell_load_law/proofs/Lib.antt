@@ -1,4 +1,3 @@
-pub mod Elements
 pub mod Offsets
 pub mod Tables
 pub mod Binds

@@ -18,11 +18,11 @@ use Rattle.cell_coherent.proofs.Gathered.{Ranks, Extends}
 use Rattle.cell_coherent.proofs.Known.{known_parts}
 use Rattle.cell_coherent.proofs.LoadGrown.{all_gathered}
 use Rattle.cell_coherent.proofs.Ready.{append_same}
-use Rattle.cell_coherent.specs.Grown.{In}
+use Rattle.cell_num.specs.Lists.{In}
 use Rattle.cell_world.specs.Coherent.{IsCoherent}
 use Rattle.cell_load_law.specs.Loading.{ManyTaken, gathered_by, objects_of, placed_after, placed_cells, take_all}
 use Rattle.cell_load_law.proofs.Binds.{bind_assoc, bind_err, bind_ok}
-use Rattle.cell_load_law.proofs.Elements.{all-In, filter_all, filter_none}
+use Rattle.cell_num.proofs.Elements.{all-In, filter_all, filter_none}
 use Rattle.cell_load_law.proofs.Placing.{all_is}
 
 -- gathering is refused

@@ -4,15 +4,14 @@ use Rattle.std.specs.Prelude.{nat_lt, ◌==◌, ◌%◌, max}
 use Rattle.std.specs.List.{list_all}
 use Rattle.std.proofs.lemmas.Bool.{and_parts, eqb-true, eq-eqb}
 use Rattle.std.proofs.lemmas.List.{length-replicate}
-use Rattle.cell_num.specs.Lists.{each_pair}
+use Rattle.cell_num.specs.Lists.{each_pair, In}
 use Rattle.cell_num.specs.Pages.{rounded_to_page}
 use Rattle.cell_object.specs.declared.object.Section.{Section as ObjectSection}
 use Rattle.cell_object.specs.declared.object.Fill.{Fill}
 use Rattle.cell_object.specs.declared.object.Fill.TheVariants.{Prog, Note, Zero}
 use Rattle.cell_object.specs.Sound.{is_zero, is_sound_section}
 use Rattle.cell_world.specs.Layout.{own_bytes, gap, laid_out, to_pages, offset_in, offset_from, laid_end, laid_end_from, run_size}
-use Rattle.cell_coherent.specs.Grown.{In}
-use Rattle.cell_load_law.proofs.Elements.{all-In}
+use Rattle.cell_num.proofs.Elements.{all-In}
 
 -- a computation that adds up the sections before a section arrives where the section stands
 pub running_from : (n : ℕ) (before after : List ObjectSection) (s : ObjectSection) → ((x : ObjectSection) → In x before → (x.number == s.number) ≡ false)

@@ -3,7 +3,7 @@ use Rattle.std.proofs.Common.{◌≡◌, refl, sym, ◌∙◌, ap, subst, arith,
 use Rattle.std.specs.Prelude.{◌/◌, ◌%◌, nat_lt, slice_index_or}
 use Rattle.std.proofs.lemmas.Bool.{cases_lt}
 use Rattle.std.proofs.lemmas.List.{map-append, length-map}
-use Rattle.cell_num.specs.Lists.{from_on, upto}
+use Rattle.cell_num.specs.Lists.{from_on, upto, In}
 use Rattle.cell_object.specs.declared.object.Object.{Object}
 use Rattle.cell_object.specs.declared.object.Section.{Section as ObjectSection}
 use Rattle.cell_world.specs.World.{World, Cell}
@@ -17,10 +17,9 @@ use Rattle.cell_world.specs.Place.{Placing, is_taken, page_table, with_run, with
 use Rattle.cell_world.specs.declared.refusal.Refusal.TheVariants.{Exhausted}
 use Rattle.cell_coherent.proofs.NewPlaced.{in_order, one_changes}
 use Rattle.cell_coherent.proofs.Renamed.{bare, pairs_bare}
-use Rattle.cell_coherent.specs.Grown.{In}
 use Rattle.cell_load_law.specs.Loading.{Taken, take_for, take_class, AllTaken, ManyTaken, take_runs, take_all, with_run_of, with_classes, with_all, objects_of, placed_cell, placed_cells}
 use Rattle.cell_load_law.proofs.Binds.{bind_map, bind_assoc, bind_same, bind_ok, ok_same}
-use Rattle.cell_load_law.proofs.Elements.{all-In, found-In}
+use Rattle.cell_num.proofs.Elements.{all-In, found-In}
 use Rattle.cell_load_law.proofs.Offsets.{image_pages}
 use Rattle.cell_load_law.proofs.Tables.{table_with, length-from}
 

@@ -6,13 +6,12 @@ use Rattle.std.proofs.lemmas.Bool.{and_from, lt-ltb, le-leb, le-ltb}
 use Rattle.std.proofs.lemmas.Bool.Decides.{nat_tests}
 use Rattle.std.proofs.lemmas.List.{map-append, length-map}
 use lib.Seq.{take-append_seam, drop-append_seam}
-use Rattle.cell_num.specs.Lists.{from_on}
+use Rattle.cell_num.specs.Lists.{from_on, In}
 use Rattle.cell_world.specs.World.{World, Region}
 use Rattle.cell_world.specs.Memory.{covers, end_of}
 use Rattle.cell_world.specs.Pages.{filled}
 use Rattle.cell_world.specs.Place.{is_taken, page_table, with_region}
-use Rattle.cell_coherent.specs.Grown.{In}
-use Rattle.cell_load_law.proofs.Elements.{map_same}
+use Rattle.cell_num.proofs.Elements.{map_same}
 
 from_split : (a m n : ℕ) → from_on a (m + n) ≡ from_on a m ++ from_on (a + m) n
 from_split a zero n = let i : zero + n ≡ n = omega arith in let j : a ≡ a + zero = omega arith in ap₂ from_on j i

@@ -6,12 +6,11 @@ use Rattle.std.specs.List.Sorted.{IsStrictlyIncreasing}
 use Rattle.std.proofs.lemmas.Bool.{and_parts, ltb-true}
 use Rattle.cell_num.specs.declared.ids.CellId.{CellId}
 use Rattle.cell_num.specs.declared.ids.SecKey.{SecKey}
-use Rattle.cell_num.specs.Lists.{each_pair}
+use Rattle.cell_num.specs.Lists.{each_pair, In}
 use Rattle.cell_object.specs.declared.object.Section.{Section as ObjectSection}
 use Rattle.cell_world.specs.declared.state.NewCell.{NewCell}
 use Rattle.cell_world.specs.World.{key_of}
-use Rattle.cell_coherent.specs.Grown.{In}
-use Rattle.cell_coherent.proofs.Elements.{all-In, In-All, In-append, In-map, pairs-map}
+use Rattle.cell_num.proofs.Elements.{all-In, In-All, In-append, In-map, pairs-map}
 use Rattle.cell_commit.specs.Cells.{AreAbove, keys_in}
 use Rattle.cell_commit.specs.declared.sections.CellSections.{CellSections}
 use Rattle.cell_machine.specs.Machine.{keys_of, section_keys}

@@ -5,17 +5,16 @@ use Rattle.std.proofs.lemmas.Bool.{le-leb}
 use Rattle.cell_num.specs.declared.kinds.RelKind.{RelKind}
 use Rattle.cell_num.specs.declared.kinds.RelKind.TheVariants.{Abs32, Abs64, Branch, Jal, Call, CallPlt, GotHi20, PcrelHi20, PcrelLo12I, PcrelLo12S, Hi20, Lo12I, Lo12S, Add8, Add16, Add32, Add64, Sub8, Sub16, Sub32, Sub64, Sub6, Set6, Set8, Set16, Set32, Pcrel32}
 use Rattle.cell_num.specs.Kinds.{width_of}
-use Rattle.cell_num.specs.Lists.{where_true}
+use Rattle.cell_num.specs.Lists.{where_true, In}
 use Rattle.cell_object.specs.declared.object.Entry.{Entry}
 use Rattle.cell_world.specs.declared.state.Target.{Target}
 use Rattle.cell_world.specs.World.{World, Cell, Region}
 use Rattle.cell_world.specs.Field.{fields_of, place_of}
 use Rattle.cell_world.specs.Memory.{end_of}
 use Rattle.cell_world.specs.Target.{targets_of}
-use Rattle.cell_coherent.specs.Grown.{In}
 use Rattle.cell_coherent.specs.Linkable.{IsLinkable}
 use Rattle.cell_coherent.specs.Present.{IsInside}
-use Rattle.cell_coherent.proofs.Elements.{All-In, In-All, In-flat_map, In-map}
+use Rattle.cell_num.proofs.Elements.{All-In, In-All, In-flat_map, In-map}
 use Rattle.cell_coherent.proofs.FieldsInside.{among-In}
 use Rattle.cell_coherent.proofs.Inside.{fields_lie}
 use Rattle.cell_mem.specs.State.{MemoryState, is_width, region_with}

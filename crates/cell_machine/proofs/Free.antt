@@ -5,13 +5,12 @@ use Rattle.std.specs.List.{list_any}
 use Rattle.std.proofs.lemmas.Slice.Eq.{bytes_eq-Decides}
 use Rattle.std.proofs.lemmas.Bool.{ltb-true}
 use Rattle.std.proofs.lemmas.List.{map-append}
-use Rattle.cell_num.specs.Lists.{each_pair, equals, holds, holds_name}
+use Rattle.cell_num.specs.Lists.{each_pair, equals, holds, holds_name, In}
 use Rattle.cell_world.specs.World.{Alias, World, Cell, is_attached}
 use Rattle.cell_world.specs.Names.{are_on_one_path, chain, names_of}
 use Rattle.cell_world.specs.Coherent.{all_names, is_known_cell, may_both_stand}
-use Rattle.cell_coherent.specs.Grown.{In}
 use Rattle.cell_coherent.proofs.Distinct.{pairs_across}
-use Rattle.cell_coherent.proofs.Elements.{none-In, In-none, In-All, In-filtered, filter-Passes, In-map, map-In}
+use Rattle.cell_num.proofs.Elements.{none-In, In-none, In-All, In-filtered, filter-Passes, In-map, map-In}
 use Rattle.cell_coherent.proofs.Known.{known_parts}
 use Rattle.cell_space.specs.declared.cell.SpaceCell.{SpaceCell}
 use Rattle.cell_space.specs.Machine.{called}

@@ -3,8 +3,8 @@ use Rattle.std.proofs.Common.{◌≡◌, ◌∙◌, ap, sym, subst, arith, ℕ, 
 use Rattle.std.proofs.lemmas.List.{get_or-map, length-map, take_more}
 use Rattle.cell_world.specs.declared.state.NewCell.{NewCell}
 use Rattle.cell_world.specs.World.{Cell, Attached}
-use Rattle.cell_coherent.specs.Grown.{In}
-use Rattle.cell_coherent.proofs.Elements.{In-map, map-In}
+use Rattle.cell_num.specs.Lists.{In}
+use Rattle.cell_num.proofs.Elements.{In-map, map-In}
 use Rattle.cell_space.specs.Joined.{placed_of}
 use Rattle.cell_machine.specs.declared.machine.Machine.{Machine}
 use Rattle.cell_machine.specs.Machine.{IsSound, world_of}

@@ -4,7 +4,7 @@ use Rattle.std.specs.Prelude.{Option, Some, None, filter_map, flat_map, nat_lt}
 use Rattle.std.specs.List.{AllByRecursion, list_all, cons_option}
 use Rattle.std.proofs.lemmas.Bool.{and_parts, and_from, ltb-true}
 use Rattle.std.proofs.lemmas.Bool.Decides.{nat_tests}
-use Rattle.cell_num.specs.Lists.{each_pair, numbered_from}
+use Rattle.cell_num.specs.Lists.{each_pair, numbered_from, In}
 use Rattle.cell_object.specs.declared.object.Entry.{Entry}
 use Rattle.cell_world.specs.declared.state.LinkRow.{LinkRow}
 use Rattle.cell_world.specs.declared.state.Target.{Target}
@@ -13,8 +13,8 @@ use Rattle.cell_world.specs.World.{World, Cell, key_of}
 use Rattle.cell_world.specs.Coherent.{IsCoherent}
 use Rattle.cell_world.specs.Relink.{link_of, link_to}
 use Rattle.cell_world.specs.Target.{target_of}
-use Rattle.cell_coherent.specs.Grown.{In}
-use Rattle.cell_coherent.proofs.Elements.{all-In, In-all, In-append, In-flat_map}
+use Rattle.cell_num.proofs.Elements.{all-In, In-all, In-append, In-flat_map}
+use Rattle.cell_num.proofs.Sublists.{pairs-append}
 use Rattle.cell_graph.specs.Order.{Rises, below_link}
 use Rattle.cell_machine.specs.LinkOrder.{is_before}
 
@@ -24,17 +24,6 @@ lower_cell a b m n lt = grind (arith, nat_tests)
 lower_entry : (a b m n : ℕ) → a ≡ b → m < n → (nat_lt a b || a == b && nat_lt m n) ≡ true
 lower_entry a b m n same lt = grind (arith, nat_tests)
 
-pairs_append : {X : Type 0} (t : X → X → Bool) (xs ys : List X) → each_pair t xs ≡ true → each_pair t ys ≡ true → ((x y : X) → In x xs → In y ys → t x y ≡ true) → each_pair t (xs ++ ys) ≡ true
-pairs_append t [] ys up more across = more
-pairs_append {X = X} t (x ∷ xs) ys up more across =
-    let k : (list_all (t x) xs ≡ true) × (each_pair t xs ≡ true) = and_parts (list_all (t x) xs) (each_pair t xs) up in
-    and_from (list_all (t x) (xs ++ ys)) (each_pair t (xs ++ ys)) (In-all (t x) (xs ++ ys) (λ y i. each y k.0 (In-append xs ys y i)))
-    (pairs_append t xs ys k.1 more (λ y z i j. across y z (inr i) j))
-  where
-    each : (y : X) → list_all (t x) xs ≡ true → In y xs ⊎ In y ys → t x y ≡ true
-    each y own (inl i) = all-In (t x) xs own y i
-    each y own (inr j) = across x y (inl refl) j
-
 -- lists that rise, of elements that rise
 pairs_flat : {X Y : Type 0} (t : X → X → Bool) (u : Y → Y → Bool) (f : X → List Y) (xs : List X) → each_pair t xs ≡ true
     → ((x : X) → In x xs → each_pair u (f x) ≡ true)
@@ -43,7 +32,7 @@ pairs_flat : {X Y : Type 0} (t : X → X → Bool) (u : Y → Y → Bool) (f : X
 pairs_flat t u f [] up own across = refl
 pairs_flat {X = X} {Y = Y} t u f (x ∷ xs) up own across =
     let k : (list_all (t x) xs ≡ true) × (each_pair t xs ≡ true) = and_parts (list_all (t x) xs) (each_pair t xs) up in
-    pairs_append u (f x) (flat_map f xs) (own x (inl refl)) (pairs_flat t u f xs k.1 (λ y i. own y (inr i)) across)
+    pairs-append u (f x) (flat_map f xs) (own x (inl refl)) (pairs_flat t u f xs k.1 (λ y i. own y (inr i)) across)
     (λ a b i j. let y : (y : X) × In y xs × In b (f y) = In-flat_map f xs b j in across x y.0 (all-In (t x) xs k.0 y.0 y.1) a b i y.2)
 
 module _ (w : World) (c : Cell) where

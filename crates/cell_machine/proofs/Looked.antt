@@ -1,15 +1,14 @@
 -- What is found in a machine.
 use Rattle.std.proofs.Common.{◌≡◌, sym, ◌∙◌, ap, subst, arith, ℕ, ◌+◌, ◌*◌, ◌<◌, ◌^◌, true, List}
 use Rattle.std.specs.Prelude.{Option, Some, None, nat_lt, find, option_and_then, option_map}
-use Rattle.cell_num.specs.Lists.{each_pair}
+use Rattle.cell_num.specs.Lists.{each_pair, In}
 use Rattle.cell_world.specs.declared.state.NewCell.{NewCell}
 use Rattle.cell_world.specs.declared.state.Target.{Target}
 use Rattle.cell_world.specs.Names.{Provider, attached_provider, chain}
 use Rattle.cell_world.specs.Target.{provided_target}
 use Rattle.cell_world.specs.World.{World, cell_of}
-use Rattle.cell_coherent.specs.Grown.{In}
 use Rattle.cell_coherent.specs.Linkable.{IsLinkable}
-use Rattle.cell_coherent.proofs.Elements.{found-In}
+use Rattle.cell_num.proofs.Elements.{found-In}
 use Rattle.cell_coherent.proofs.Inside.{ready_linkable}
 use Rattle.cell_placed.specs.Low.{IsLow}
 use Rattle.cell_space.specs.Joined.{placed_of}

@@ -4,7 +4,7 @@ use Rattle.std.specs.Prelude.{Option, Some, None, All, find, option_map, unwrap_
 use Rattle.std.specs.List.{list_all}
 use Rattle.std.proofs.lemmas.Bool.{and_parts}
 use Rattle.std.proofs.lemmas.Bool.Decides.{nat_tests}
-use Rattle.cell_num.specs.Lists.{each_pair, equals}
+use Rattle.cell_num.specs.Lists.{each_pair, equals, In}
 use Rattle.cell_object.specs.declared.object.Home.{Home}
 use Rattle.cell_object.specs.declared.object.Home.TheVariants.{Undef, Abs, Inside, Elsewhere}
 use Rattle.cell_object.specs.declared.object.Object.{Object}
@@ -17,9 +17,8 @@ use Rattle.cell_world.specs.World.{World, Cell}
 use Rattle.cell_world.specs.Coherent.{IsLoadable, is_placed, stands_by_rule}
 use Rattle.cell_world.specs.declared.layout.Class.TheVariants.{Text, ReadOnly, Writable}
 use Rattle.cell_world.specs.Target.{start_of}
-use Rattle.cell_coherent.specs.Grown.{In}
 use Rattle.cell_coherent.specs.Linkable.{IsLinkable}
-use Rattle.cell_coherent.proofs.Elements.{All-In, all-In, found-In}
+use Rattle.cell_num.proofs.Elements.{All-In, all-In, found-In}
 use Rattle.cell_coherent.proofs.Inside.{places_lie}
 use Rattle.cell_placed.specs.Low.{IsLow}
 use Rattle.cell_machine.proofs.Lists.{pairs-map, same_names}

@@ -14,10 +14,10 @@ use Rattle.cell_world.specs.LoadCommand.{field_count}
 use Rattle.cell_world.specs.Memory.{covers}
 use Rattle.cell_world.specs.Relink.{Patch, patches_of}
 use Rattle.cell_world.specs.Target.{targets_of}
-use Rattle.cell_coherent.specs.Grown.{In}
+use Rattle.cell_num.specs.Lists.{In}
 use Rattle.cell_coherent.specs.Linkable.{IsLinkable}
 use Rattle.cell_coherent.specs.Present.{IsInside}
-use Rattle.cell_coherent.proofs.Elements.{All-In, In-All, In-flat_map, In-map, all-In, found-In}
+use Rattle.cell_num.proofs.Elements.{All-In, In-All, In-flat_map, In-map, all-In, found-In}
 use Rattle.cell_coherent.proofs.FieldsInside.{among-In}
 use Rattle.cell_coherent.proofs.Inside.{fields_lie}
 use Rattle.cell_link.specs.Linked.{field_values, value_at}

@@ -18,7 +18,7 @@ use Rattle.cell_world.specs.declared.layout.Starts.{Starts}
 use Rattle.cell_world.specs.declared.layout.Class.TheVariants.{Text, ReadOnly, Writable}
 use Rattle.cell_world.specs.declared.layout.Class.{Class}
 use Rattle.cell_coherent.specs.Clear.{IsClear}
-use Rattle.cell_coherent.proofs.Elements.{All-In, In-all}
+use Rattle.cell_num.proofs.Elements.{All-In, In-all}
 use Rattle.cell_coherent.proofs.Tables.{class_spaced, run_clear, run_inside}
 use Rattle.cell_load_law.specs.Loading.{AllTaken, ManyTaken, Taken, all_regions, regions_at, run_region, take_all, take_class, take_for, take_runs, with_all, with_classes, with_run_of}
 use Rattle.cell_load_law.proofs.Binds.{bind_ok, ok_same}

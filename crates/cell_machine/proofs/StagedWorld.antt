@@ -3,14 +3,13 @@ use Rattle.std.proofs.Common.{◌≡◌, refl, sym, ◌∙◌, ap, ap₂, subst,
 use Rattle.std.specs.Prelude.{nat_le, nat_lt}
 use Rattle.std.proofs.lemmas.Bool.{leb-true}
 use Rattle.std.proofs.lemmas.List.{length-map}
-use Rattle.cell_num.specs.Lists.{each_pair}
+use Rattle.cell_num.specs.Lists.{each_pair, In}
 use Rattle.cell_world.specs.World.{World, Cell, Standing, Attached}
 use Rattle.cell_world.specs.Names.{names_of}
 use Rattle.cell_world.specs.declared.layout.Starts.{Starts}
-use Rattle.cell_coherent.specs.Grown.{In}
-use Rattle.cell_coherent.proofs.Elements.{All-In}
+use Rattle.cell_num.proofs.Elements.{All-In, filter-Passes}
 use Rattle.cell_load_law.specs.Loading.{ManyTaken, placed_after, placed_cell, placed_cells}
-use Rattle.cell_load_law.proofs.Elements.{filter-Passes, pairs-filter}
+use Rattle.cell_num.proofs.Sublists.{pairs-filter}
 use Rattle.cell_space.specs.Machine.{called, state_of}
 use Rattle.cell_space.specs.Joined.{placed_of}
 use Rattle.cell_space.specs.declared.cell.SpaceCell.{SpaceCell}

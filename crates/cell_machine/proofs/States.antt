@@ -2,12 +2,11 @@
 use Rattle.std.proofs.Common.{◌≡◌, ◌⊎◌, ◌∙◌, ap, refl, sym, arith, inl, inr, ℕ, Bool, true, false, cond, List, [], ◌∷◌, map}
 use Rattle.std.specs.Prelude.{Option, Some, None, IsSome, ◌==◌, find, nat_lt, option_map}
 use Rattle.std.proofs.lemmas.Bool.{ltb-true, eqb-true, eq-eqb}
-use Rattle.cell_num.specs.Lists.{each_pair}
+use Rattle.cell_num.specs.Lists.{each_pair, In}
 use Rattle.cell_world.specs.declared.state.NewCell.{NewCell}
 use Rattle.cell_world.specs.MapCommand.{group_of}
 use Rattle.cell_world.specs.World.{Cell, Standing, Attached as IsAttached, Detached as IsDetached}
-use Rattle.cell_coherent.specs.Grown.{In}
-use Rattle.cell_coherent.proofs.Elements.{find_there, found-In, pairs-In}
+use Rattle.cell_num.proofs.Elements.{find_there, found-In, pairs-In}
 use Rattle.cell_space.specs.declared.cell.CellState.{CellState}
 use Rattle.cell_space.specs.declared.cell.CellState.TheVariants.{Attached, Detached}
 use Rattle.cell_space.specs.declared.cell.SpaceCell.{SpaceCell}

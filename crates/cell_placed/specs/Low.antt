@@ -1,12 +1,11 @@
 -- Addresses far below the numbers of 64 bits, so that sums of them are numbers of 64 bits.
 use Rattle.std.specs.Prelude.{◌≡◌, ◌<◌, ◌^◌, ℕ, nat_lt, IsTrue, true}
-use Rattle.cell_num.specs.Lists.{each_pair}
+use Rattle.cell_num.specs.Lists.{each_pair, In}
 use Rattle.cell_object.specs.declared.object.Object.{Object}
 use Rattle.cell_object.specs.declared.object.Symbol.{Symbol}
 use Rattle.cell_object.specs.Parts.{is_defined}
 use Rattle.cell_world.specs.declared.state.NewCell.{NewCell}
 use Rattle.cell_world.specs.Target.{start_of}
-use Rattle.cell_coherent.specs.Grown.{In}
 
 -- the values of the symbols that the object defines are far below the numbers of 64 bits
 abbrev pub AreLow : Object → Type 0

@@ -3,7 +3,7 @@
 ghost use Rattle.std.specs.Prelude.{◌≡◌, option_map, option_and_then};
 ghost use Rattle.cell_object.specs.Parts.{symbol_at as symbol_with};
 ghost use Rattle.cell_world.specs.Target.{own_target as own};
-ghost use Rattle.cell_coherent.specs.Grown.{In};
+ghost use Rattle.cell_num.specs.Lists.{In};
 ghost use Rattle.cell_placed.specs.Low.{IsLow};
 
 use crate::places::start_of;

@@ -6,7 +6,7 @@ use Rattle.std.proofs.lemmas.Bool.{leb-true, eqb-true, cases_Bool}
 use Rattle.std.proofs.lemmas.Bool.Decides.{eqb_tells, nat_tests}
 use Rattle.std.proofs.lemmas.List.{drop_more}
 use Rattle.std.proofs.Math.ListN.{drop_of_length-le}
-use Rattle.cell_coherent.proofs.Lists.{and_left, and_right}
+use Rattle.cell_num.proofs.Sublists.{and_left, and_right}
 use Rattle.cell_link.proofs.FirstFieldLemmas.{among_new, at_self}
 use Rattle.cell_object.specs.declared.object.Entry.{Entry}
 use Rattle.cell_world.specs.Field.{fields_among, is_at}

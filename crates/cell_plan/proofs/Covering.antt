@@ -5,12 +5,12 @@ use Rattle.std.specs.List.{list_all}
 use Rattle.std.proofs.lemmas.Bool.{eq-eqb, leb-true, ltb-true}
 use Rattle.std.proofs.lemmas.List.{append-nil}
 use Rattle.std.proofs.lemmas.List.Elements.{filter-append}
-use Rattle.cell_num.specs.Lists.{holds}
+use Rattle.cell_num.specs.Lists.{holds, In}
 use Rattle.cell_world.specs.World.{World, Cell, Detached, is_attached, is_of_group}
 use Rattle.cell_world.specs.Gather.{first_lack}
 use Rattle.cell_world.specs.SwapCommand.{first_uncovered, is_bystander}
 use Rattle.cell_world.specs.Coherent.{IsCoherent, is_known_cell}
-use Rattle.cell_coherent.proofs.Elements.{In, all-In, In-filtered, filter-Passes, filter_none}
+use Rattle.cell_num.proofs.Elements.{all-In, In-filtered, filter-Passes, filter_none}
 use Rattle.cell_coherent.proofs.Attach.{Grows}
 use Rattle.cell_coherent.proofs.Known.{known_parts}
 use Rattle.cell_swaps_law.proofs.Coverage.{lacks_among, lacks_nothing}

@@ -10,7 +10,8 @@ use Rattle.cell_world.specs.Gather.{Source, fresh_cells}
 use Rattle.cell_world.specs.Changed.{differs, now_in}
 use Rattle.cell_world.specs.SwapCommand.{old_numbers}
 use Rattle.cell_world.specs.Coherent.{AreSound, IsCoherent}
-use Rattle.cell_coherent.proofs.Elements.{In, All-In, In-All, In-map}
+use Rattle.cell_num.specs.Lists.{In}
+use Rattle.cell_num.proofs.Elements.{All-In, In-All, In-map}
 use Rattle.cell_coherent.proofs.Unchanged.{bound_now, named_in}
 use Rattle.cell_coherent.proofs.Values.{bind}
 use Rattle.cell_swaps_law.specs.Swapping.{HasSwapPlaced}

@@ -4,7 +4,7 @@ use Rattle.std.specs.Prelude.{◌==◌, nat_lt, IsTrue, filter, filter_map, flat
 use Rattle.std.specs.List.{list_any, list_all, cons_option}
 use Rattle.std.proofs.lemmas.Bool.Decides.{nat_tests}
 use Rattle.std.proofs.lemmas.List.Elements.{filter-append}
-use Rattle.cell_num.specs.Lists.{holds, each_pair, numbered_from}
+use Rattle.cell_num.specs.Lists.{holds, each_pair, numbered_from, In}
 use Rattle.cell_object.specs.declared.object.Entry.{Entry}
 use Rattle.cell_world.specs.declared.state.LinkRow.{LinkRow}
 use Rattle.cell_world.specs.declared.state.Target.{Target}
@@ -12,7 +12,6 @@ use Rattle.cell_world.specs.declared.state.Target.TheVariants.{Section, Number}
 use Rattle.cell_world.specs.World.{World, Cell}
 use Rattle.cell_world.specs.Relink.{link_of, link_to, links_of}
 use Rattle.cell_world.specs.Target.{target_of}
-use Rattle.cell_coherent.specs.Grown.{In}
 use Rattle.cell_plan.specs.Staying.{links_in}
 
 abbrev pub some_into : List ℕ → List LinkRow → Bool

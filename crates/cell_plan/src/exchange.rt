@@ -1,7 +1,7 @@
 //! An exchange of cells, before anything is changed.
 
 ghost use Rattle.std.specs.Prelude.{◌≡◌, ◌++◌, ◌∷◌, [], All, IfOk, OnErr, OnOk, map};
-ghost use Rattle.cell_coherent.specs.Grown.{In};
+ghost use Rattle.cell_num.specs.Lists.{In};
 ghost use Rattle.cell_plan.specs.Exchanged.{Change, MayChange, links_before};
 ghost use Rattle.cell_target.specs.Named.{IsNamed, world_of};
 ghost use Rattle.cell_plan.specs.Viewed.{Adds, view_of};

@@ -3,7 +3,7 @@ use Rattle.std.proofs.Common.{◌≡◌, refl, sym, ◌∙◌, ap, subst, ℕ, s
 use Rattle.std.specs.Prelude.{All, filter, flat_map, not, ◌==◌, ◌&&◌, ◌||◌}
 use Rattle.std.specs.List.{list_any}
 use Rattle.std.proofs.lemmas.Bool.{or_cases, or_left, or_right, or_parts, and_parts, or_from, eqb-true, false_from_ne_true, true_from_ne_false}
-use Rattle.cell_num.specs.Lists.{holds}
+use Rattle.cell_num.specs.Lists.{holds, In}
 use Rattle.cell_world.specs.declared.command.CellName.{CellName}
 use Rattle.cell_world.specs.declared.state.LinkRow.{LinkRow}
 use Rattle.cell_world.specs.declared.state.Placed.{Placed}
@@ -13,7 +13,7 @@ use Rattle.cell_world.specs.Kept.{Holding, Claim, IsKept, holding_of, claim_of, 
 use Rattle.cell_world.specs.UnloadCommand.{without_cells, garbage_of, purged, put_aside, detach, next_unload, next_purge}
 use Rattle.cell_world.specs.Coherent.{IsCoherent}
 use Rattle.cell_coherent.proofs.Appended.{ok_same}
-use Rattle.cell_coherent.proofs.Elements.{In, In-All, any-In, any-Has, In-map, map-In, In-filtered, filter-In, filter-Passes}
+use Rattle.cell_num.proofs.Elements.{In-All, any-In, any-Has, In-map, map-In, In-filtered, filter-In, filter-Passes}
 use Rattle.cell_removal.specs.Left.{IsUnreached}
 use Rattle.cell_removal.proofs.KeptPaths.{holds-In, kept_on, kept_present, directly_kept}
 use Rattle.cell_removal.proofs.Lookups.{unnot}

@@ -3,7 +3,7 @@ use Rattle.std.proofs.Common.{◌≡◌, refl, sym, ◌∙◌, ap, arith, ℕ, �
 use Rattle.std.specs.Prelude.{filter, flat_map, fold, not}
 use Rattle.std.proofs.lemmas.Bool.{leb-true}
 use Rattle.std.proofs.lemmas.List.Sums.{fold-append}
-use Rattle.cell_num.specs.Lists.{holds, first}
+use Rattle.cell_num.specs.Lists.{holds, first, In}
 use Rattle.cell_object.specs.declared.object.Entry.{Entry}
 use Rattle.cell_world.specs.World.{World, Cell, Region}
 use Rattle.cell_world.specs.Memory.{covers}
@@ -14,7 +14,7 @@ use Rattle.cell_world.specs.declared.layout.Class.TheVariants.{Text, ReadOnly}
 use Rattle.cell_world.specs.declared.layout.Class.{Class}
 use Rattle.cell_world.specs.UnloadCommand.{without_cells}
 use Rattle.cell_world.specs.Coherent.{IsCoherent, ends_before}
-use Rattle.cell_coherent.proofs.Elements.{In, In-map, In-left, In-right, In-filtered, filter-Passes, filter_all, flat_same, pairs-In}
+use Rattle.cell_num.proofs.Elements.{In-map, In-left, In-right, In-filtered, filter-Passes, filter_all, flat_same, pairs-In}
 use Rattle.cell_coherent.proofs.FieldsInside.{among-In, field_region, fields_end_in}
 use Rattle.cell_coherent.proofs.ImagesInside.{images_fit}
 use Rattle.cell_coherent.proofs.Inside.{wide}

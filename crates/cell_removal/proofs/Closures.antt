@@ -4,8 +4,9 @@ use Rattle.std.specs.Prelude.{filter}
 use Rattle.std.specs.List.{list_any}
 use Rattle.std.proofs.lemmas.Bool.{cases_lt}
 use Rattle.cell_world.specs.Closure.{more, after_steps, closure}
-use Rattle.cell_coherent.proofs.Elements.{In, any-In, any-Has, filter-In, In-filtered, filter-Passes}
-use Rattle.cell_coherent.proofs.Lists.{length-filter_le}
+use Rattle.cell_num.specs.Lists.{In}
+use Rattle.cell_num.proofs.Elements.{any-In, any-Has, filter-In, In-filtered, filter-Passes}
+use Rattle.cell_num.proofs.Sublists.{length-filter_le}
 
 module _ {X : Type 0} where
   -- p implies q on the list

@@ -4,7 +4,7 @@ use Rattle.std.specs.Prelude.{filter, find, ◌==◌, nat_lt, not}
 use Rattle.std.specs.List.{list_any}
 use Rattle.std.proofs.lemmas.Bool.{eqb-true, eq-eqb, or_left, and_from}
 use Rattle.std.proofs.Math.Bool.{or-true}
-use Rattle.cell_num.specs.Lists.{holds, each_pair}
+use Rattle.cell_num.specs.Lists.{holds, each_pair, In}
 use Rattle.cell_world.specs.declared.state.LinkRow.{LinkRow}
 use Rattle.cell_world.specs.World.{World, Cell, Task, cell_of, is_attached}
 use Rattle.cell_world.specs.Answer.{numbers_of}
@@ -12,7 +12,7 @@ use Rattle.cell_world.specs.Kept.{Holding, IsKept, holding_of, claim_of, kept_in
 use Rattle.cell_world.specs.UnloadCommand.{garbage_of}
 use Rattle.cell_world.specs.Coherent.{IsCoherent}
 use Rattle.cell_coherent.specs.Present.{JoinsPresent}
-use Rattle.cell_coherent.proofs.Elements.{In, All-In, any-In, filter-In, In-filtered, filter-Passes, found-In, map-In, In-map}
+use Rattle.cell_num.proofs.Elements.{All-In, any-In, filter-In, In-filtered, filter-Passes, found-In, map-In, In-map}
 use Rattle.cell_coherent.proofs.Present.{links_present, some_same}
 use Rattle.cell_coherent.proofs.Targets.{In-find}
 use Rattle.cell_removal.proofs.KeptPaths.{In-holds, holds-In, kept_complete, kept_sound, kept_on, directly_kept}

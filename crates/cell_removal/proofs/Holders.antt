@@ -3,11 +3,11 @@ use Rattle.std.proofs.Common.{◌≡◌, refl, sym, ◌∙◌, ap, subst, ℕ, �
 use Rattle.std.specs.Prelude.{All, Option, Some, None, find, is_some, option_map, ◌==◌, ◌&&◌, not, IsTrue, if◌then◌else◌}
 use Rattle.std.specs.List.{list_any}
 use Rattle.std.proofs.lemmas.Bool.{or_cases, eqb-true, and_from}
-use Rattle.cell_num.specs.Lists.{holds, or_else}
+use Rattle.cell_num.specs.Lists.{holds, or_else, In}
 use Rattle.cell_world.specs.declared.refusal.Refusal.{Refusal}
 use Rattle.cell_world.specs.Kept.{Holding, Claim, Leads, IsKept, reaches, kept_in, is_held_directly, is_claimed_by, holder_in, holding_task, holding_cell}
 use Rattle.cell_world.specs.UnloadCommand.{held_refusal, first_held}
-use Rattle.cell_coherent.proofs.Elements.{In, Has, All-In, In-All, any-Has, find_there, some_has, or_else_parts}
+use Rattle.cell_num.proofs.Elements.{Has, All-In, In-All, any-Has, find_there, some_has, or_else_parts}
 use Rattle.cell_removal.proofs.KeptPaths.{In-holds, holds-In, kept_complete, kept_on, kept_sound}
 
 some_map : {X Y : Type 0} (f : X → Y) (o : Option X) → Has o → is_some (option_map f o) ≡ true

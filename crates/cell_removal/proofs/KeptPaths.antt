@@ -3,10 +3,10 @@ use Rattle.std.proofs.Common.{◌≡◌, refl, sym, ◌∙◌, subst, ℕ, ◌�
 use Rattle.std.specs.Prelude.{filter, ◌==◌, nat_lt, IsTrue}
 use Rattle.std.proofs.lemmas.Bool.{or_cases, or_left, eqb-true, eq-eqb}
 use Rattle.std.proofs.Math.Bool.{or-true}
-use Rattle.cell_num.specs.Lists.{holds, each_pair}
+use Rattle.cell_num.specs.Lists.{holds, each_pair, In}
 use Rattle.cell_world.specs.Kept.{Holding, Leads, IsKept, reaches, leads_to, kept_in, is_held_directly}
-use Rattle.cell_coherent.proofs.Elements.{In, any-In, any-Has, filter-In, In-filtered, filter-Passes}
-use Rattle.cell_coherent.proofs.Lists.{filter_same, pairs-filter}
+use Rattle.cell_num.proofs.Elements.{any-In, any-Has, filter-In, In-filtered, filter-Passes}
+use Rattle.cell_num.proofs.Sublists.{filter_same, pairs-filter}
 use Rattle.cell_removal.proofs.Closures.{Path, IsReached, closure_complete, closure_sound, steps_part}
 
 pub In-holds : (xs : List ℕ) (n : ℕ) → In n xs → holds xs n ≡ true

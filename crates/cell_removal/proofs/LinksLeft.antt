@@ -1,7 +1,7 @@
 -- Where cells are removed, the links that are left are those of the cells that are left.
 use Rattle.std.proofs.Common.{◌≡◌, refl, sym, ◌∙◌, ap, subst, ℕ, Bool, true, false, ◌||◌, List, []}
 use Rattle.std.specs.Prelude.{Option, Some, None, filter, filter_map, not, unwrap_or}
-use Rattle.cell_num.specs.Lists.{holds, numbered}
+use Rattle.cell_num.specs.Lists.{holds, numbered, In}
 use Rattle.cell_object.specs.declared.object.Entry.{Entry}
 use Rattle.cell_world.specs.declared.state.LinkRow.{LinkRow}
 use Rattle.cell_world.specs.declared.state.Target.{Target}
@@ -12,7 +12,7 @@ use Rattle.cell_world.specs.Field.{bound_by}
 use Rattle.cell_world.specs.Relink.{bound_entries, links_of, link_of}
 use Rattle.cell_world.specs.UnloadCommand.{without_cells}
 use Rattle.cell_world.specs.Coherent.{IsCoherent}
-use Rattle.cell_coherent.proofs.Elements.{In, In-numbered, get-In, filter_all, filter_none, filter_map_same, map_same}
+use Rattle.cell_num.proofs.Elements.{In-numbered, get-In, filter_all, filter_none, filter_map_same, map_same}
 use Rattle.cell_coherent.proofs.FreshLinks.{link_with}
 use Rattle.cell_coherent.proofs.Present.{In-filter_map, some_same}
 use Rattle.cell_turns.proofs.Fixed.{links_fixed}

@@ -3,8 +3,7 @@ use Rattle.std.proofs.Common.{◌≡◌, refl, sym, ◌∙◌, ap, subst, ℕ, s
 use Rattle.std.specs.Prelude.{Option, Some, None, find, filter, filter_map, flat_map, not}
 use Rattle.std.specs.List.{cons_option}
 use Rattle.std.proofs.lemmas.List.Elements.{filter-append}
-use Rattle.cell_num.specs.Lists.{first, numbered_from}
-use Rattle.cell_coherent.proofs.Elements.{In}
+use Rattle.cell_num.specs.Lists.{first, numbered_from, In}
 
 module _ {X Y : Type 0} (f : X → Option Y) where
   -- the first stays the first where no element that gives it is taken away

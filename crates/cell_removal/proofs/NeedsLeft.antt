@@ -4,7 +4,7 @@ use Rattle.std.specs.Prelude.{Option, Some, None, filter, ◌&&◌, ◌||◌, �
 use Rattle.std.specs.Ordering.{int_eq}
 use Rattle.std.proofs.lemmas.Bool.{eqb-true}
 use Rattle.cell_num.specs.Kinds.{is_pcrel_lo12}
-use Rattle.cell_num.specs.Lists.{holds, numbered_from}
+use Rattle.cell_num.specs.Lists.{holds, numbered_from, In}
 use Rattle.cell_object.specs.declared.object.Object.{Object}
 use Rattle.cell_object.specs.declared.object.Symbol.{Symbol}
 use Rattle.cell_object.specs.declared.object.Entry.{Entry}
@@ -18,10 +18,10 @@ use Rattle.cell_world.specs.Target.{target_of, numbered_target, symbol_target, p
 use Rattle.cell_world.specs.Field.{Bound, misfit_of}
 use Rattle.cell_world.specs.UnloadCommand.{without_cells}
 use Rattle.cell_world.specs.Coherent.{IsCoherent, is_supplied, is_fitting}
-use Rattle.cell_coherent.proofs.Elements.{In, all-In, In-all, In-map, In-numbered, In-filtered, filter-Passes, any-Has}
+use Rattle.cell_num.proofs.Elements.{all-In, In-all, In-map, In-numbered, In-filtered, filter-Passes, any-Has}
 use Rattle.cell_coherent.proofs.Known.{object_sound}
 use Rattle.cell_coherent.proofs.Targets.{entry_parts}
-use Rattle.cell_coherent.proofs.Lists.{and_left, and_right}
+use Rattle.cell_num.proofs.Sublists.{and_left, and_right}
 use Rattle.cell_removal.proofs.TargetsLeft.{Closed, IsFree, provider_free, provider_same, target_free}
 use Rattle.cell_removal.proofs.LinksLeft.{bound_same}
 

@@ -1,16 +1,16 @@
 -- Cells that are put aside keep their numbers, sections and links. Where none of them is kept, they all go.
 use Rattle.std.proofs.Common.{◌≡◌, refl, sym, ◌∙◌, ap, subst, ℕ, Bool, true, false, cond, List, [], ◌∷◌, ◌++◌, inl, inr, map, true≢false}
 use Rattle.std.specs.Prelude.{filter, flat_map, None, not, nat_lt}
-use Rattle.cell_num.specs.Lists.{holds, each_pair}
+use Rattle.cell_num.specs.Lists.{holds, each_pair, In}
 use Rattle.cell_world.specs.World.{World, Cell, Task, Detached, cell_of, is_attached}
 use Rattle.cell_world.specs.Answer.{numbers_of}
 use Rattle.cell_world.specs.Kept.{holding_of, kept_in}
 use Rattle.cell_world.specs.UnloadCommand.{without_cells, starts_of, garbage_of, purged, put_aside, detach, first_held}
 use Rattle.cell_world.specs.Coherent.{IsCoherent}
-use Rattle.cell_coherent.proofs.Elements.{In, In-map, map-In, In-filtered, filter-Passes, map_same, some_has}
+use Rattle.cell_num.proofs.Elements.{In-map, map-In, In-filtered, filter-Passes, map_same, some_has}
 use Rattle.cell_coherent.proofs.Relinked.{map_twice}
 use Rattle.cell_turns.proofs.Changed.{live_parts}
-use Rattle.cell_coherent.proofs.Lists.{filter_same, map_filter, pairs_kept}
+use Rattle.cell_num.proofs.Sublists.{filter_same, map_filter, pairs_kept}
 use Rattle.cell_removal.proofs.KeptPaths.{In-holds, holds-In, kept_complete}
 use Rattle.cell_removal.proofs.Holders.{none_kept}
 use Rattle.cell_removal.proofs.TargetsLeft.{Closed}

@@ -2,7 +2,7 @@
 use Rattle.std.proofs.Common.{◌≡◌, refl, sym, ◌∙◌, ap, subst, ℕ, suc, Bool, true, false, List, [], map, true≢false, ◌↔◌, Some, None, Ok}
 use Rattle.std.specs.Prelude.{All, Option, IsTrue, filter, nat_lt, not, option_and_then}
 use Rattle.cell_num.specs.Kinds.{width_of}
-use Rattle.cell_num.specs.Lists.{holds, each_pair}
+use Rattle.cell_num.specs.Lists.{holds, each_pair, In}
 use Rattle.cell_object.specs.declared.object.Entry.{Entry}
 use Rattle.cell_world.specs.declared.command.CellName.{CellName}
 use Rattle.cell_world.specs.declared.refusal.Refusal.{Refusal}
@@ -18,7 +18,7 @@ use Rattle.cell_world.specs.UnloadCommand.{without_cells, garbage_of, purged, pu
 use Rattle.cell_world.specs.Coherent.{IsCoherent}
 use Rattle.cell_coherent.specs.Present.{IsInside}
 use Rattle.cell_coherent.proofs.Appended.{ok_same}
-use Rattle.cell_coherent.proofs.Elements.{In, All-In, In-All, found-In, filter-In, In-filtered, filter-Passes, map-In, map_same, some_has}
+use Rattle.cell_num.proofs.Elements.{All-In, In-All, found-In, filter-In, In-filtered, filter-Passes, map-In, map_same, some_has}
 use Rattle.cell_coherent.proofs.FieldsInside.{among-In}
 use Rattle.cell_coherent.proofs.Inside.{fields_lie, ready_linkable}
 use Rattle.cell_coherent.proofs.Outcomes.{bind_ok, then_ok, refused_ok}

@@ -1,15 +1,15 @@
 -- Removing cells into which no cell that stays has a link, and which are no task's root, keeps the machine coherent.
 use Rattle.std.proofs.Common.{◌≡◌, ◌∙◌, ap, arith, ℕ, Bool, true, false, List}
 use Rattle.std.specs.Prelude.{is_some, not}
-use Rattle.cell_num.specs.Lists.{holds}
+use Rattle.cell_num.specs.Lists.{holds, In}
 use Rattle.cell_world.specs.World.{World, Cell, Region, Task}
 use Rattle.cell_world.specs.Relink.{remade}
 use Rattle.cell_world.specs.UnloadCommand.{without_cells}
 use Rattle.cell_world.specs.Coherent.{IsCoherent, IsLoadable, is_supplied, is_fitting, is_in_space, is_placed, is_known_cell, is_sound_task, may_both_stand, has_each_name_once, ends_before}
-use Rattle.cell_coherent.proofs.Elements.{In, In-all, All-In, In-All, In-filtered, filter-Passes}
+use Rattle.cell_num.proofs.Elements.{In-all, All-In, In-All, In-filtered, filter-Passes}
 use Rattle.cell_turns.proofs.Changed.{TaskParts, live_parts, task_from}
 use Rattle.cell_turns.proofs.Fixed.{relinked}
-use Rattle.cell_coherent.proofs.Lists.{all-filter, pairs-filter, length-filter_le}
+use Rattle.cell_num.proofs.Sublists.{all-filter, pairs-filter, length-filter_le}
 use Rattle.cell_removal.proofs.Lookups.{unnot}
 use Rattle.cell_removal.proofs.TargetsLeft.{Closed, cell_same}
 use Rattle.cell_removal.proofs.LinksLeft.{links_left}

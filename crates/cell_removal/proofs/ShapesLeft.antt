@@ -2,19 +2,19 @@
 use Rattle.std.proofs.Common.{◌≡◌, refl, sym, ◌∙◌, ap, ℕ, Bool, true, false, List, [], ◌∷◌, ◌++◌, inl, inr, length, map, true≢false}
 use Rattle.std.specs.Prelude.{Option, Some, None, filter, flat_map, not}
 use Rattle.std.proofs.lemmas.List.Elements.{filter-append}
-use Rattle.cell_num.specs.Lists.{holds}
+use Rattle.cell_num.specs.Lists.{holds, In}
 use Rattle.cell_world.specs.World.{World, Cell, Task}
 use Rattle.cell_world.specs.Relink.{class_start}
 use Rattle.cell_world.specs.Layout.{permission_of, image_of, sections_in}
 use Rattle.cell_world.specs.declared.layout.Class.{Class}
 use Rattle.cell_world.specs.UnloadCommand.{without_cells, starts_of}
 use Rattle.cell_world.specs.Coherent.{IsCoherent, Shape, shape_of, class_shape, stack_shape, wanted_shapes}
-use Rattle.cell_coherent.proofs.Elements.{In, In-map, In-flat_map, flat_map-In, filter-In, In-filtered, filter-Passes, filter_all, filter_none}
+use Rattle.cell_num.proofs.Elements.{In-map, In-flat_map, flat_map-In, filter-In, In-filtered, filter-Passes, filter_all, filter_none}
 use Rattle.cell_coherent.proofs.Distinct.{cell_shapes, one_class, shape_there}
 use Rattle.cell_coherent.proofs.FieldsInside.{classes, class-In}
 use Rattle.cell_coherent.proofs.PlacedAll.{Put}
 use Rattle.cell_coherent.proofs.Present.{In-filter_map}
-use Rattle.cell_coherent.proofs.Lists.{map_filter}
+use Rattle.cell_num.proofs.Sublists.{map_filter}
 use Rattle.cell_turns.proofs.Shapes.{filter_put}
 use Rattle.cell_turns.proofs.Stacks.{cells_elsewhere}
 use Rattle.cell_removal.proofs.KeptPaths.{In-holds, holds-In}

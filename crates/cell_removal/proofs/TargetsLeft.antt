@@ -3,7 +3,7 @@ use Rattle.std.proofs.Common.{◌≡◌, refl, sym, ◌∙◌, ap, subst, ℕ, z
 use Rattle.std.specs.Prelude.{Option, Some, None, find, filter, filter_map, ◌==◌, not, option_map, option_and_then, slice_get}
 use Rattle.std.proofs.lemmas.Bool.{eqb-true}
 use Rattle.cell_num.specs.declared.ids.SecKey.{SecKey}
-use Rattle.cell_num.specs.Lists.{first, holds, numbered, or_else}
+use Rattle.cell_num.specs.Lists.{first, holds, numbered, or_else, In}
 use Rattle.cell_object.specs.declared.object.Symbol.{Symbol}
 use Rattle.cell_object.specs.declared.object.Entry.{Entry}
 use Rattle.cell_object.specs.declared.object.Home.{Home}
@@ -18,7 +18,7 @@ use Rattle.cell_world.specs.Target.{target_of, numbered_target, symbol_target, p
 use Rattle.cell_world.specs.Relink.{links_of, link_of, link_to}
 use Rattle.cell_world.specs.UnloadCommand.{without_cells}
 use Rattle.cell_world.specs.Coherent.{IsCoherent, is_known_cell}
-use Rattle.cell_coherent.proofs.Elements.{In, all-In, flat_map-In}
+use Rattle.cell_num.proofs.Elements.{all-In, flat_map-In}
 use Rattle.cell_coherent.proofs.Targets.{In-find, Provides, provides, named_defines}
 use Rattle.cell_turns.proofs.Fixed.{links_fixed}
 use Rattle.cell_removal.proofs.Lookups.{first_stays, filter_map-In, filter_swap, find_stays, has_place}

@@ -2,7 +2,7 @@
 use Rattle.std.proofs.Common.{◌≡◌, refl, sym, ◌∙◌, ap, subst, arith, ℕ, zero, suc, ◌+◌, ◌-◌, ◌≤◌, ◌<◌, ◌⊎◌, inl, inr, Bool, true, false, List, [], ◌∷◌, ◌++◌, length, map, Option, Some, None, true≢false}
 use Rattle.std.specs.Prelude.{All, filter, flat_map, take, drop, unwrap_or, option_and_then, slice_range, not, nat_le, nat_lt, ◌==◌, ◌&&◌}
 use Rattle.std.proofs.lemmas.Bool.{and_from, le-leb, lt-ltb, eqb-true, cases_lt, false_from_ne_true}
-use Rattle.cell_num.specs.Lists.{holds, where_true}
+use Rattle.cell_num.specs.Lists.{holds, where_true, In}
 use Rattle.cell_object.specs.declared.object.Section.{Section as ObjectSection}
 use Rattle.cell_world.specs.declared.state.Placed.{Placed}
 use Rattle.cell_world.specs.World.{World, Cell, Region, Task, stack_size}
@@ -15,11 +15,11 @@ use Rattle.cell_world.specs.Words.{words_in, stack_from}
 use Rattle.cell_world.specs.Coherent.{IsCoherent, Shape, shape_of, stack_shape}
 use Rattle.cell_coherent.specs.Present.{IsInside}
 use Rattle.cell_coherent.proofs.Distinct.{cell_shapes}
-use Rattle.cell_coherent.proofs.Elements.{In, All-In, In-map, map-In, In-right, In-flat_map, flat_map-In, In-filtered, filter-In, filter-Passes, filter_all, filter_none, flat_same, find_there, found-In, map_same, any-In, any-Has}
+use Rattle.cell_num.proofs.Elements.{All-In, In-map, map-In, In-right, In-flat_map, flat_map-In, In-filtered, filter-In, filter-Passes, filter_all, filter_none, flat_same, find_there, found-In, map_same, any-In, any-Has}
 use Rattle.cell_coherent.proofs.FieldsInside.{In-fold_shape}
 use Rattle.cell_coherent.proofs.Inside.{sections_lie, ready_linkable}
 use Rattle.cell_turns.proofs.Bare.{covers_once}
-use Rattle.cell_coherent.proofs.Lists.{and_left}
+use Rattle.cell_num.proofs.Sublists.{and_left}
 use Rattle.cell_removal.proofs.Lookups.{flat_kept, unnot_false}
 use Rattle.cell_removal.proofs.TargetsLeft.{Closed}
 use Rattle.cell_removal.proofs.RemoveCoherent.{remove_coherent}

@@ -4,7 +4,7 @@ use Rattle.std.specs.Prelude.{All, filter_map, nat_le, option_and_then, option_m
 use Rattle.std.specs.List.{cons_option, list_all, list_any}
 use Rattle.std.proofs.lemmas.Bool.{and_parts}
 use Rattle.std.proofs.lemmas.Bool.Decides.{nat_tests}
-use Rattle.cell_num.specs.Lists.{first, upto, where_true}
+use Rattle.cell_num.specs.Lists.{first, upto, where_true, In}
 use Rattle.cell_object.specs.declared.object.Home.{Home}
 use Rattle.cell_object.specs.declared.object.Home.TheVariants.{Undef, Abs, Inside, Elsewhere}
 use Rattle.cell_object.specs.declared.object.Object.{Object}
@@ -19,7 +19,7 @@ use Rattle.cell_world.specs.declared.layout.Class.TheVariants.{Text}
 use Rattle.cell_world.specs.SpawnCommand.{entry_offset, inside_of, is_entry_in}
 use Rattle.cell_world.specs.SwapTransfer.{Begin as Place, begin_of, definition_named}
 use Rattle.cell_world.specs.World.{attached}
-use Rattle.cell_coherent.proofs.Elements.{In, All-In, all-In, found-In}
+use Rattle.cell_num.proofs.Elements.{All-In, all-In, found-In}
 use Rattle.cell_routines.proofs.Named.{defined, of_definition}
 
 -- the third of four tests

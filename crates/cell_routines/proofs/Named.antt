@@ -2,7 +2,7 @@
 use Rattle.std.proofs.Common.{◌≡◌, refl, sym, ◌∙◌, ap, arith, inl, inr, ℕ, suc, Bool, true, false, cond, List, [], ◌∷◌, Option, Some, None, map}
 use Rattle.std.specs.Prelude.{filter, filter_map, find, option_and_then, option_map, unwrap_or}
 use Rattle.std.specs.List.{cons_option}
-use Rattle.cell_num.specs.Lists.{equals, first, numbered_from, or_else, where_true}
+use Rattle.cell_num.specs.Lists.{equals, first, numbered_from, or_else, where_true, In}
 use Rattle.cell_object.specs.declared.object.Home.{Home}
 use Rattle.cell_object.specs.declared.object.Home.TheVariants.{Undef, Abs, Inside, Elsewhere}
 use Rattle.cell_object.specs.declared.object.Symbol.{Symbol}
@@ -12,7 +12,7 @@ use Rattle.cell_world.specs.Names.{is_definition}
 use Rattle.cell_world.specs.SpawnCommand.{entry_offset, inside_of, is_entry_in}
 use Rattle.cell_world.specs.SwapTransfer.{Begin as Place, begin_of, definition_named}
 use Rattle.cell_world.specs.World.{Alias, Cell, attached}
-use Rattle.cell_coherent.proofs.Elements.{In, In-numbered}
+use Rattle.cell_num.proofs.Elements.{In-numbered}
 use Rattle.cell_xfer.specs.Named.{AnswersAs, first_named}
 use Rattle.cell_xfer.proofs.Answering.{first_named_both}
 use Rattle.cell_routines.specs.declared.entries.Begin.{Begin}

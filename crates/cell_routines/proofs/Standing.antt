@@ -7,7 +7,7 @@ use Rattle.cell_world.specs.declared.state.NewCell.{NewCell}
 use Rattle.cell_world.specs.declared.transfer.Routine.{Routine}
 use Rattle.cell_world.specs.SwapTransfer.{Begin as Place}
 use Rattle.cell_world.specs.World.{Alias}
-use Rattle.cell_coherent.proofs.Elements.{All-In, found-In}
+use Rattle.cell_num.proofs.Elements.{All-In, found-In}
 use Rattle.cell_placed.specs.Low.{IsLow}
 use Rattle.cell_routines.specs.declared.entries.Begin.{Begin}
 use Rattle.cell_routines.specs.Begins.{begin_as}

@@ -16,7 +16,7 @@ use Rattle.cell_world.specs.declared.layout.Class.TheVariants.{Writable}
 use Rattle.cell_world.specs.SpawnCommand.{new_task}
 use Rattle.cell_world.specs.World.{World, Region, cell_of}
 use Rattle.cell_coherent.specs.Clear.{IsClear}
-use Rattle.cell_coherent.proofs.Elements.{All-In, In-all}
+use Rattle.cell_num.proofs.Elements.{All-In, In-all}
 use Rattle.cell_coherent.proofs.Places.{FreeAt, run_at, table_length}
 use Rattle.cell_coherent.proofs.Tables.{run_clear, table_filled}
 use Rattle.cell_mem.specs.State.{IsRoom, MemoryState, mapped, one_more, reserved}

@@ -11,7 +11,8 @@ use Rattle.cell_world.specs.Coherent.{IsCoherent}
 use Rattle.cell_world.specs.Pages.{filled, is_taken_run}
 use Rattle.cell_world.specs.Place.{page_table}
 use Rattle.cell_world.specs.Turn.{without_task}
-use Rattle.cell_coherent.proofs.Elements.{In, found-In, find_there}
+use Rattle.cell_num.specs.Lists.{In}
+use Rattle.cell_num.proofs.Elements.{found-In, find_there}
 use Rattle.cell_mem.specs.State.{MemoryState, region_from, size_of, unmapped}
 use Rattle.cell_place.specs.Space.{SpaceState}
 use Rattle.cell_space.specs.declared.cell.SpaceCell.{SpaceCell}

@@ -2,7 +2,7 @@
 use Rattle.std.proofs.Common.{◌≡◌, refl, sym, ◌∙◌, ap, subst, ℕ, ◌+◌, Bool, true, false, ◌&&◌, List, Option, Some, None}
 use Rattle.std.specs.Prelude.{◌%◌, ◌==◌, is_some, nat_le, option_map, option_and_then, unwrap_or}
 use Rattle.std.proofs.lemmas.Bool.{eq-eqb, eqb-true}
-use Rattle.cell_num.specs.Lists.{where_true}
+use Rattle.cell_num.specs.Lists.{where_true, In}
 use Rattle.cell_object.specs.declared.object.Home.{Home}
 use Rattle.cell_object.specs.declared.object.Home.TheVariants.{Undef, Abs, Inside, Elsewhere}
 use Rattle.cell_object.specs.declared.object.Section.{Section as ObjectSection}
@@ -20,7 +20,7 @@ use Rattle.cell_world.specs.declared.layout.Class.TheVariants.{Text}
 use Rattle.cell_world.specs.SpawnCommand.{entry_address, entry_named, inside_of, is_entry_in}
 use Rattle.cell_world.specs.Target.{own_target, provided_target, start_of}
 use Rattle.cell_world.specs.World.{World, Cell, cell_of}
-use Rattle.cell_coherent.proofs.Elements.{In, find_there, found-In}
+use Rattle.cell_num.proofs.Elements.{find_there, found-In}
 use Rattle.cell_coherent.proofs.TextPlaces.{text_rest}
 use Rattle.cell_machine.specs.declared.machine.Machine.{Machine}
 use Rattle.cell_machine.specs.Machine.{IsSound, world_of}

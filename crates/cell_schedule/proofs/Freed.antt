@@ -4,7 +4,7 @@ use Rattle.std.specs.Prelude.{◌/◌, ◌%◌, ◌==◌, flat_map, nat_le, nat_
 use Rattle.std.specs.List.{list_all}
 use Rattle.std.proofs.lemmas.Bool.{and_parts, cases_lt, eqb-true, eq-eqb, leb-true}
 use Rattle.std.proofs.lemmas.List.{ext_get_or}
-use Rattle.cell_num.specs.Lists.{from_on}
+use Rattle.cell_num.specs.Lists.{from_on, In}
 use Rattle.cell_world.specs.World.{World, Region, Task}
 use Rattle.cell_world.specs.Memory.{covers}
 use Rattle.cell_world.specs.Pages.{filled, is_taken_run}
@@ -12,7 +12,7 @@ use Rattle.cell_world.specs.Place.{is_taken, page_table}
 use Rattle.cell_world.specs.Coherent.{IsCoherent, Shape, shape_of, stack_shape, wanted_shapes, is_in_space}
 use Rattle.cell_world.specs.Turn.{without_task}
 use Rattle.cell_coherent.proofs.Distinct.{cell_shapes}
-use Rattle.cell_coherent.proofs.Elements.{In, all-In, none-In, In-none, any-In, any-Has, filter-In, filter-Passes, In-filtered, In-map, In-right, map-In}
+use Rattle.cell_num.proofs.Elements.{all-In, none-In, In-none, any-In, any-Has, filter-In, filter-Passes, In-filtered, In-map, In-right, map-In}
 use Rattle.cell_coherent.proofs.FieldsInside.{In-fold_shape}
 use Rattle.cell_coherent.proofs.Places.{table_length, taken_at, whole_region}
 use Rattle.cell_mem.proofs.Filling.{filled_above, filled_below, filled_inside, length-filled}

@@ -3,10 +3,10 @@ use Rattle.std.proofs.Common.{◌≡◌, refl, sym, ◌∙◌, ap, arith, ℕ, z
 use Rattle.std.specs.Prelude.{◌==◌, find, nat_lt}
 use Rattle.std.proofs.lemmas.Bool.{eq-eqb, eqb-true, ltb-true}
 use Rattle.std.proofs.lemmas.List.{map-append}
-use Rattle.cell_num.specs.Lists.{each_pair}
+use Rattle.cell_num.specs.Lists.{each_pair, In}
 use Rattle.cell_world.specs.World.{Task}
 use Rattle.cell_world.specs.TaskCommands.{task_line as line_of}
-use Rattle.cell_coherent.proofs.Elements.{In, find_there, found-In, pairs-In}
+use Rattle.cell_num.proofs.Elements.{find_there, found-In, pairs-In}
 
 -- the task at a place of the list, whose number comes next
 pub record Turn (ts : List Task) (n number : ℕ) (rest : List ℕ) : Type 0 where

@@ -4,16 +4,16 @@ use Rattle.std.specs.Prelude.{find, nat_le, nat_lt, ◌==◌, ◌-◌, ◌%◌}
 use Rattle.std.specs.List.{list_any}
 use Rattle.std.proofs.lemmas.Bool.{leb-true}
 use Rattle.std.proofs.lemmas.List.{length-map}
-use Rattle.cell_num.specs.Lists.{upto}
+use Rattle.cell_num.specs.Lists.{upto, In}
 use Rattle.cell_world.specs.World.{World, Region}
 use Rattle.cell_world.specs.Memory.{covers, end_of, region_in, written}
 use Rattle.cell_world.specs.Coherent.{IsCoherent, Shape, is_in_space, shape_of}
 use Rattle.cell_world.specs.Execute.{allows, seen_in}
 use Rattle.cell_world.specs.Place.{is_taken, page_table}
 use Rattle.cell_mem.specs.State.{size_of}
-use Rattle.cell_coherent.proofs.Elements.{In, all-In, found-In, map_same}
+use Rattle.cell_num.proofs.Elements.{all-In, found-In, map_same}
 use Rattle.cell_turns.proofs.Executed.{Stored}
-use Rattle.cell_coherent.proofs.Lists.{and_left, and_right}
+use Rattle.cell_num.proofs.Sublists.{and_left, and_right}
 use Rattle.cell_turns.proofs.Stored.{stored_shape}
 use Rattle.cell_coherent.proofs.Writes.{begins_below}
 use Rattle.cell_schedule.proofs.Marks.{any_map}

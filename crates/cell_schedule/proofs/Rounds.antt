@@ -4,7 +4,7 @@ use Rattle.std.specs.Prelude.{◌==◌, filter, fold, if◌then◌else◌, nat_l
 use Rattle.std.specs.List.{list_all}
 use Rattle.std.proofs.lemmas.List.{map-append}
 use Rattle.std.proofs.lemmas.Bool.{eqb-true}
-use Rattle.cell_num.specs.Lists.{each_pair}
+use Rattle.cell_num.specs.Lists.{each_pair, In}
 use Rattle.cell_world.specs.declared.reply.Reply.TheVariants.{Run as RunDone}
 use Rattle.cell_world.specs.declared.reply.TaskRun.{TaskRun}
 use Rattle.cell_world.specs.declared.reply.TaskState.{TaskState}
@@ -13,8 +13,8 @@ use Rattle.cell_world.specs.World.{Fault, World, Task, is_ready, task_of}
 use Rattle.cell_world.specs.Answer.{done}
 use Rattle.cell_world.specs.TaskCommands.{Round, next_run, run_task}
 use Rattle.cell_world.specs.Turn.{Ran, ran, slice_of, turn, turns_from}
-use Rattle.cell_coherent.proofs.Elements.{In, all-In, filter-Passes, found-In, pairs-map}
-use Rattle.cell_coherent.proofs.Lists.{and_left, and_right, filter_same, map_filter, pairs-filter}
+use Rattle.cell_num.proofs.Elements.{all-In, filter-Passes, found-In, pairs-map}
+use Rattle.cell_num.proofs.Sublists.{and_left, and_right, filter_same, map_filter, pairs-filter}
 use Rattle.cell_task.specs.State.{IsReady, TasksState, live_in}
 use Rattle.cell_machine.specs.declared.machine.Machine.{Machine}
 use Rattle.cell_machine.specs.Machine.{IsSound, world_of}

@@ -15,7 +15,8 @@ use Rattle.cell_world.specs.Coherent.{IsCoherent}
 use Rattle.cell_world.specs.Execute.{Effect, allows, execute, seen_in}
 use Rattle.cell_world.specs.Move.{Move, move, moved_by}
 use Rattle.cell_world.specs.Turn.{Turned, hart_of, task_column, turn, turned, without_task}
-use Rattle.cell_coherent.proofs.Elements.{In, found-In}
+use Rattle.cell_num.specs.Lists.{In}
+use Rattle.cell_num.proofs.Elements.{found-In}
 use Rattle.cell_turns.proofs.Executed.{Stored, good_move}
 use Rattle.cell_turns.proofs.Turned.{stored_coherent, turn_coherent}
 use Rattle.cell_task.specs.declared.turned.Turned.{Turned as Answer}

@@ -5,7 +5,7 @@ use Rattle.std.specs.List.{list_any}
 use Rattle.std.proofs.lemmas.Bool.{and_parts, cases_lt, leb-true, ltb-true}
 use Rattle.std.proofs.lemmas.List.{ext_get_or, length-map}
 use Rattle.cell_num.specs.Kinds.{width_of}
-use Rattle.cell_num.specs.Lists.{from_on, upto}
+use Rattle.cell_num.specs.Lists.{from_on, upto, In}
 use Rattle.cell_object.specs.declared.object.Entry.{Entry}
 use Rattle.cell_world.specs.declared.state.NewCell.{NewCell}
 use Rattle.cell_world.specs.World.{World, Cell, Task}
@@ -15,7 +15,7 @@ use Rattle.cell_world.specs.Pages.{filled}
 use Rattle.cell_world.specs.Coherent.{IsCoherent}
 use Rattle.cell_world.specs.Turn.{without_task}
 use Rattle.cell_coherent.specs.Present.{IsInside}
-use Rattle.cell_coherent.proofs.Elements.{In, All-In, In-none, In-flat_map, In-map, found-In, map-In}
+use Rattle.cell_num.proofs.Elements.{All-In, In-none, In-flat_map, In-map, found-In, map-In}
 use Rattle.cell_coherent.proofs.FieldsInside.{among-In}
 use Rattle.cell_coherent.proofs.Inside.{fields_lie, ready_linkable}
 use Rattle.cell_coherent.proofs.Places.{length-from}

@@ -4,11 +4,10 @@
 --     AreDue s turns due        they are ready tasks, by rising numbers, and have room
 --     HasGone old turns ..      each has had its turns
 use Rattle.std.specs.Prelude.{ℕ, ◌≡◌, ◌≤◌, ◌*◌, Bool, false, List, [], IsTrue, map, fold, nat_lt, option_map, unwrap_or, vec_capacity}
-use Rattle.cell_num.specs.Lists.{each_pair}
+use Rattle.cell_num.specs.Lists.{each_pair, In}
 use Rattle.cell_world.specs.declared.reply.TaskRun.{TaskRun}
 use Rattle.cell_world.specs.World.{World, is_ready}
 use Rattle.cell_world.specs.TaskCommands.{Round, run_task}
-use Rattle.cell_coherent.specs.Grown.{In}
 use Rattle.cell_task.specs.State.{IsReady, TasksState, live_in}
 use Rattle.cell_machine.specs.declared.machine.Machine.{Machine}
 use Rattle.cell_machine.specs.Machine.{IsSound, world_of}

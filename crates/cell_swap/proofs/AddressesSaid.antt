@@ -11,13 +11,11 @@ use Rattle.cell_world.specs.SwapCommand.{Wanted, old_numbers}
 use Rattle.cell_world.specs.SwapTransfer.{addresses_in, symbol_address}
 use Rattle.cell_world.specs.UnloadCommand.{put_aside}
 use Rattle.cell_world.specs.World.{Alias, Cell, Detached, World}
-use Rattle.cell_num.specs.Lists.{holds}
-use Rattle.cell_coherent.specs.Grown.{In}
-use Rattle.cell_coherent.proofs.Elements.{In-All, In-map, map-In, pairs-map}
+use Rattle.cell_num.specs.Lists.{holds, In, each_pair}
+use Rattle.cell_num.proofs.Elements.{In-All, In-map, map-In, pairs-map}
 use Rattle.cell_coherent.proofs.Inside.{ready_linkable}
 use Rattle.cell_coherent.proofs.Relinked.{map_twice}
 use Rattle.cell_machine.proofs.Low.{is_low}
-use Rattle.cell_num.specs.Lists.{each_pair}
 use Rattle.cell_placed.specs.Low.{IsLow}
 use Rattle.cell_space.specs.Spaces.{HasCell}
 use Rattle.cell_swaps_law.proofs.SwapGathered.{wanted_all}

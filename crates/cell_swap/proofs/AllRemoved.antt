@@ -2,14 +2,14 @@
 use Rattle.std.proofs.Common.{◌≡◌, refl, sym, ◌∙◌, ap, ap₂, subst, ℕ, ◌*◌, Bool, true, false, not, true≢false, cond, ◌&&◌, ◌||◌, List, [], ◌∷◌, ◌++◌, length, map}
 use Rattle.std.specs.Prelude.{◌==◌, All, IsTrue, filter, flat_map, is_some, nat_lt, slice_index_or}
 use Rattle.std.proofs.lemmas.Bool.{eqb-true, eq-eqb}
-use Rattle.cell_coherent.proofs.Elements.{In, In-All, In-map, any-Has, find_there, map-In, none-In}
+use Rattle.cell_num.specs.Lists.{In, each_pair, holds}
+use Rattle.cell_num.proofs.Elements.{In-All, In-map, any-Has, find_there, map-In, none-In}
 use Rattle.cell_commit.specs.Seals.{seal_table}
 use Rattle.cell_graph.specs.Removal.{is_listed, is_outside_use, is_used_outside, links_without, sections_without}
 use Rattle.cell_machine.specs.Machine.{IsSound, field_bytes, keys_of, section_keys, world_of}
 use Rattle.cell_machine.specs.Staged.{all_attached}
 use Rattle.cell_machine.specs.declared.machine.Machine.{Machine}
 use Rattle.cell_mem.specs.State.{MemoryState}
-use Rattle.cell_num.specs.Lists.{each_pair, holds}
 use Rattle.cell_num.specs.declared.ids.CellId.{CellId}
 use Rattle.cell_num.specs.declared.ids.SecKey.{SecKey}
 use Rattle.cell_object.specs.declared.object.Section.{Section as ObjectSection}

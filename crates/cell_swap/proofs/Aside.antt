@@ -5,7 +5,7 @@ use Rattle.std.specs.List.{list_any}
 use Rattle.std.proofs.lemmas.Bool.{or_left}
 use Rattle.cell_num.specs.declared.ids.CellId.{CellId}
 use Rattle.cell_num.specs.declared.ids.SecKey.{SecKey}
-use Rattle.cell_num.specs.Lists.{each_pair, holds}
+use Rattle.cell_num.specs.Lists.{each_pair, holds, In}
 use Rattle.cell_world.specs.declared.state.LinkRow.{LinkRow}
 use Rattle.cell_world.specs.declared.state.Placed.{Placed}
 use Rattle.cell_world.specs.Answer.{numbers_of}
@@ -13,9 +13,9 @@ use Rattle.cell_world.specs.Coherent.{IsCoherent}
 use Rattle.cell_world.specs.Kept.{Holding, holding_of, is_claimed_by, kept_in, placed_in}
 use Rattle.cell_world.specs.UnloadCommand.{detach, garbage_of, put_aside}
 use Rattle.cell_world.specs.World.{World, Cell, Detached, is_attached}
-use Rattle.cell_coherent.proofs.Elements.{In, In-All, In-none, In-filtered, filter-In, map-In, map_same, pairs-map}
+use Rattle.cell_num.proofs.Elements.{In-All, In-none, In-filtered, filter-In, map-In, map_same, pairs-map}
 use Rattle.cell_coherent.proofs.Relinked.{map_twice}
-use Rattle.cell_coherent.proofs.Lists.{pairs-filter}
+use Rattle.cell_num.proofs.Sublists.{pairs-filter}
 use Rattle.cell_graph.specs.Removal.{is_listed, is_outside_use}
 use Rattle.cell_removal.proofs.Freed.{number_holds}
 use Rattle.cell_removal.proofs.KeptPaths.{In-holds, directly_kept, kept_complete}

@@ -6,15 +6,14 @@ use Rattle.std.specs.Option.{ForSome}
 use Rattle.std.proofs.lemmas.Bool.{eq-eqb, ltb-true}
 use Rattle.std.proofs.lemmas.List.{length-map}
 use Rattle.cell_num.specs.declared.ids.CellId.{CellId}
-use Rattle.cell_num.specs.Lists.{holds}
+use Rattle.cell_num.specs.Lists.{holds, In}
 use Rattle.cell_world.specs.declared.file.File.{File}
 use Rattle.cell_world.specs.Coherent.{AreSound, IsCoherent, is_known_cell}
 use Rattle.cell_world.specs.Gather.{Source, source_of}
 use Rattle.cell_world.specs.SwapCommand.{Wanted, old_numbers, set_aside}
 use Rattle.cell_world.specs.UnloadCommand.{detach}
 use Rattle.cell_world.specs.World.{Cell, Detached, World}
-use Rattle.cell_coherent.specs.Grown.{In}
-use Rattle.cell_coherent.proofs.Elements.{In-All, In-map, all-In, find_there, map-In}
+use Rattle.cell_num.proofs.Elements.{In-All, In-map, all-In, find_there, map-In}
 use Rattle.cell_coherent.proofs.Known.{known_parts}
 use Rattle.cell_removal.proofs.KeptPaths.{In-holds}
 use Rattle.cell_swaps_law.proofs.Detached.{put, put_in}

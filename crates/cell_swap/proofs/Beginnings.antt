@@ -5,7 +5,7 @@ use Rattle.std.specs.List.{list_all, list_any}
 use Rattle.std.proofs.lemmas.Bool.{and_from, and_parts}
 use Rattle.std.proofs.lemmas.Grind.{flat_map-append}
 use Rattle.cell_num.specs.declared.ids.CellId.{CellId}
-use Rattle.cell_num.specs.Lists.{holds}
+use Rattle.cell_num.specs.Lists.{holds, In}
 use Rattle.cell_hold.specs.declared.roots.Root.{Root}
 use Rattle.cell_hold.specs.declared.roots.Root.TheVariants.{Attached as AttachedRoot}
 use Rattle.cell_hold.specs.Roots.{attached_by, claims_by, named_by}
@@ -15,8 +15,7 @@ use Rattle.cell_world.specs.Coherent.{is_sound_task}
 use Rattle.cell_world.specs.Kept.{Claim, claim_of}
 use Rattle.cell_world.specs.UnloadCommand.{put_aside}
 use Rattle.cell_world.specs.World.{Cell, Standing, Attached, Detached, Task, World, cell_of, is_attached}
-use Rattle.cell_coherent.specs.Grown.{In}
-use Rattle.cell_coherent.proofs.Elements.{all-In, In-all, In-append, In-flat_map, In-map, some_has}
+use Rattle.cell_num.proofs.Elements.{all-In, In-all, In-append, In-flat_map, In-map, some_has}
 use Rattle.cell_removal.proofs.Freed.{number_holds, present_holds}
 use Rattle.cell_swap.specs.Begun.{is_aside, root_of, root_of_task}
 

@@ -3,7 +3,7 @@ use Rattle.std.proofs.Common.{◌≡◌, refl, sym, ◌∙◌, ap, ap₂, subst,
 use Rattle.std.specs.Prelude.{◌==◌, filter_map, find, option_and_then, option_map, unwrap_or}
 use Rattle.std.specs.List.{cons_option}
 use Rattle.std.proofs.lemmas.Bool.{eqb-true}
-use Rattle.cell_num.specs.Lists.{first, holds, numbered_from}
+use Rattle.cell_num.specs.Lists.{first, holds, numbered_from, In}
 use Rattle.cell_world.specs.Outcome.{Outcome, ◌>>=◌, each, found}
 use Rattle.cell_world.specs.SpawnCommand.{entry_offset}
 use Rattle.cell_world.specs.SwapTransfer.{Begin, begin_of, begins_of, definition_named, entry_at, routines_in}
@@ -12,9 +12,8 @@ use Rattle.cell_world.specs.World.{Cell, Detached, World, attached}
 use Rattle.cell_world.specs.declared.refusal.Refusal.TheVariants.{NoEntry}
 use Rattle.cell_world.specs.declared.state.NewCell.{NewCell}
 use Rattle.cell_world.specs.declared.transfer.Routine.{Routine}
-use Rattle.cell_coherent.specs.Grown.{In}
 use Rattle.cell_coherent.proofs.Appended.{ok_same}
-use Rattle.cell_coherent.proofs.Elements.{In-map}
+use Rattle.cell_num.proofs.Elements.{In-map}
 use Rattle.std.proofs.lemmas.List.{length-append}
 use Rattle.cell_load_law.specs.Loading.{placed_cells}
 use Rattle.cell_load_law.proofs.Loads.{older}

@@ -2,7 +2,7 @@
 use Rattle.std.proofs.Common.{◌≡◌, refl, sym, ◌∙◌, ap, ap₂, ℕ, inl, inr, Bool, List, [], ◌∷◌, ◌++◌, map, length}
 use Rattle.std.specs.Prelude.{All, Option, None, Ok, filter, flat_map, option_map}
 use Rattle.std.proofs.lemmas.List.{length-map, map-append}
-use Rattle.cell_num.specs.Lists.{or_else}
+use Rattle.cell_num.specs.Lists.{or_else, In}
 use Rattle.cell_object.specs.declared.object.Entry.{Entry}
 use Rattle.cell_world.specs.declared.file.File.{File}
 use Rattle.cell_world.specs.declared.refusal.Refusal.{Refusal}
@@ -17,8 +17,8 @@ use Rattle.cell_world.specs.Place.{page_table}
 use Rattle.cell_world.specs.SwapCommand.{first_uncovered}
 use Rattle.cell_world.specs.Target.{targets_of}
 use Rattle.cell_world.specs.World.{Cell, World, attached}
-use Rattle.cell_coherent.specs.Grown.{In, patch_at}
-use Rattle.cell_coherent.proofs.Elements.{In-All, In-filtered}
+use Rattle.cell_coherent.specs.Grown.{patch_at}
+use Rattle.cell_num.proofs.Elements.{In-All, In-filtered}
 use Rattle.cell_coherent.proofs.Relinked.{map_twice}
 use Rattle.cell_load_law.specs.Loading.{ManyTaken, objects_of, placed_after, take_all}
 use Rattle.cell_swaps_law.specs.Swapping.{HasSwapPlaced}

@@ -2,7 +2,7 @@
 use Rattle.std.proofs.Common.{◌≡◌, refl, sym, ◌∙◌, ap, ap₂, subst, ℕ, suc, Bool, true, false, cond, not, true≢false, List, [], ◌∷◌, ◌++◌, map}
 use Rattle.std.specs.Prelude.{Option, Some, None, filter, is_none, option_map}
 use Rattle.std.proofs.lemmas.List.{map-append}
-use Rattle.cell_num.specs.Lists.{first, holds, or_else}
+use Rattle.cell_num.specs.Lists.{first, holds, or_else, In}
 use Rattle.cell_world.specs.declared.file.File.{File}
 use Rattle.cell_world.specs.declared.refusal.Refusal.{Refusal}
 use Rattle.cell_world.specs.declared.state.NewCell.{NewCell}
@@ -10,8 +10,7 @@ use Rattle.cell_world.specs.Gather.{Need, first_lack, grown, lacks_of, missing}
 use Rattle.cell_world.specs.Names.{needs_of, provider_of}
 use Rattle.cell_world.specs.SwapCommand.{first_uncovered}
 use Rattle.cell_world.specs.World.{Cell, World}
-use Rattle.cell_coherent.specs.Grown.{In}
-use Rattle.cell_coherent.proofs.Elements.{In-filtered, filter-Passes, map_same}
+use Rattle.cell_num.proofs.Elements.{In-filtered, filter-Passes, map_same}
 use Rattle.cell_coherent.proofs.Relinked.{map_twice}
 use Rattle.cell_removal.proofs.Lookups.{filter_swap}
 use Rattle.cell_swaps_law.proofs.Detached.{put_out}

@@ -3,7 +3,7 @@ use Rattle.std.proofs.Common.{◌≡◌, refl, sym, ap, ap₂, subst, ◌∙◌,
 use Rattle.std.specs.Prelude.{All, Contains, IsSome, IsTrue, filter, flat_map, fold, is_some, nat_lt}
 use Rattle.std.proofs.lemmas.List.{get_or_append_left, length-append, length-map}
 use Rattle.std.proofs.lemmas.List.Elements.{filter-append}
-use Rattle.cell_num.specs.Lists.{each_pair, holds}
+use Rattle.cell_num.specs.Lists.{each_pair, holds, In}
 use Rattle.cell_num.specs.declared.ids.CellId.{CellId}
 use Rattle.cell_num.specs.declared.ids.SecKey.{SecKey}
 use Rattle.cell_world.specs.World.{Cell, Region, Task, World, attached}
@@ -13,7 +13,7 @@ use Rattle.cell_world.specs.UnloadCommand.{without_cells}
 use Rattle.cell_world.specs.declared.state.LinkRow.{LinkRow}
 use Rattle.cell_world.specs.declared.state.NewCell.{NewCell}
 use Rattle.cell_coherent.proofs.Distinct.{cell_shapes}
-use Rattle.cell_coherent.proofs.Elements.{All-In, In, In-All, In-map, In-right, filter_all, filter_none, map-In, pairs-map}
+use Rattle.cell_num.proofs.Elements.{All-In, In-All, In-map, In-right, filter_all, filter_none, map-In, pairs-map}
 use Rattle.cell_removal.proofs.KeptPaths.{In-holds, holds-In}
 use Rattle.cell_removal.proofs.ShapesLeft.{shapes_left}
 use Rattle.cell_space.specs.Joined.{placed_of}

@@ -22,9 +22,8 @@ use Rattle.cell_swap.specs.declared.asked.Asked.{Asked}
 use Rattle.cell_world.specs.UnloadCommand.{attached_cell, cell_word}
 use Rattle.cell_world.specs.declared.command.CellName.{CellName}
 use Rattle.cell_world.specs.Names.{cell_at, namespace_named}
-use Rattle.cell_num.specs.Lists.{each_pair, equals}
-use Rattle.cell_coherent.specs.Grown.{In}
-use Rattle.cell_coherent.proofs.Elements.{found-In}
+use Rattle.cell_num.specs.Lists.{each_pair, equals, In}
+use Rattle.cell_num.proofs.Elements.{found-In}
 use Rattle.cell_coherent.proofs.Targets.{In-find}
 use Rattle.cell_swap.specs.Sweep.{cell_numbered}
 use Rattle.cell_swap.specs.Asking.{old_placed, AddsWant, AreAsked, AreWantsOf, Asks, HasWant, IsWantOf}

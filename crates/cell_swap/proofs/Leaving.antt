@@ -5,10 +5,11 @@ use Rattle.std.specs.List.{cons_option, list_all}
 use Rattle.std.proofs.lemmas.Bool.{and_from, and_parts, eq-eqb}
 use Rattle.std.proofs.lemmas.List.{map-append}
 use Rattle.cell_coherent.proofs.Distinct.{all_apart, cell_shapes, pairs_across, pairs_first, pairs_second, start_apart}
-use Rattle.cell_coherent.proofs.Elements.{In, In-all, In-filtered, In-flat_map, filter-Passes, find_there, flat_map-In, pairs-map}
+use Rattle.cell_num.specs.Lists.{In, each_pair, holds}
+use Rattle.cell_num.proofs.Elements.{In-all, In-filtered, In-flat_map, filter-Passes, find_there, flat_map-In, pairs-map}
+use Rattle.cell_num.proofs.Sublists.{pairs-append}
 use Rattle.cell_coherent.proofs.FieldsInside.{classes, region_There}
 use Rattle.cell_coherent.proofs.Present.{In-filter_map}
-use Rattle.cell_num.specs.Lists.{each_pair, holds}
 use Rattle.cell_world.specs.Coherent.{IsCoherent, Shape, stack_shape}
 use Rattle.cell_world.specs.Relink.{class_start}
 use Rattle.cell_world.specs.Layout.{image_of, permission_of, sections_in}
@@ -17,17 +18,6 @@ use Rattle.cell_world.specs.declared.layout.Class.{Class}
 use Rattle.cell_world.specs.UnloadCommand.{starts_of}
 use Rattle.cell_world.specs.World.{Cell, World}
 use Rattle.cell_swap.specs.Unmapped.{differs, lost_starts}
-
--- the test of pairs of two lists in a row, from its parts
-pairs_join : {X : Type 0} (t : X → X → Bool) (xs ys : List X) → each_pair t xs ≡ true → each_pair t ys ≡ true → ((x y : X) → In x xs → In y ys → t x y ≡ true) → each_pair t (xs ++ ys) ≡ true
-pairs_join t [] ys a b f = b
-pairs_join {X} t (x ∷ xs) ys a b f =
-    let p : (list_all (t x) xs ≡ true) × (each_pair t xs ≡ true) = and_parts (list_all (t x) xs) (each_pair t xs) a in
-    and_from (list_all (t x) (xs ++ ys)) (each_pair t (xs ++ ys)) (join xs p.0 (λ y i. f x y (inl refl) i)) (pairs_join t xs ys p.1 b (λ u v i j. f u v (inr i) j))
-  where
-    join : (zs : List X) → list_all (t x) zs ≡ true → ((y : X) → In y ys → t x y ≡ true) → list_all (t x) (zs ++ ys) ≡ true
-    join [] h g = In-all (t x) ys g
-    join (z ∷ zs) h g = let q : (t x z ≡ true) × (list_all (t x) zs ≡ true) = and_parts (t x z) (list_all (t x) zs) h in and_from (t x z) (list_all (t x) (zs ++ ys)) q.0 (join zs q.1 g)
 
 flat_filtered : {X Y : Type 0} (f : X → List Y) (p : X → Bool) (xs : List X) (y : Y) → In y (flat_map f (filter p xs)) → In y (flat_map f xs)
 flat_filtered f p xs y i = let x = In-flat_map f (filter p xs) y i in flat_map-In f xs x.0 y (In-filtered p xs x.0 x.1) x.2
@@ -38,7 +28,7 @@ pairs_filtered t f p (x ∷ xs) h = go (p x) (pairs_filtered t f p xs (pairs_sec
   where
     go : (b : Bool) → each_pair t (flat_map f (filter p xs)) ≡ true → each_pair t (flat_map f (cond b (x ∷ filter p xs) (filter p xs))) ≡ true
     go true k =
-        pairs_join t (f x) (flat_map f (filter p xs)) (pairs_first t (f x) (flat_map f xs) h) k
+        pairs-append t (f x) (flat_map f (filter p xs)) (pairs_first t (f x) (flat_map f xs) h) k
         (λ a b i j. pairs_across t (f x) (flat_map f xs) h a b i (flat_filtered f p xs b j))
     go false k = k
 

@@ -4,8 +4,8 @@ use Rattle.std.specs.Prelude.{◌==◌, filter, flat_map}
 use Rattle.std.specs.List.{list_any}
 use Rattle.std.proofs.lemmas.Bool.{eqb-true, eq-eqb}
 use Rattle.std.proofs.lemmas.List.Elements.{filter-append}
-use Rattle.cell_coherent.proofs.Elements.{In, filter_all, filter_none}
-use Rattle.cell_num.specs.Lists.{holds}
+use Rattle.cell_num.specs.Lists.{In, holds}
+use Rattle.cell_num.proofs.Elements.{filter_all, filter_none}
 use Rattle.cell_num.specs.declared.ids.CellId.{CellId}
 
 pub turn : (a b : ℕ) → (a == b) ≡ (b == a)

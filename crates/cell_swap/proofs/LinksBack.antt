@@ -5,7 +5,7 @@ use Rattle.std.proofs.lemmas.Bool.{eqb-true}
 use Rattle.std.proofs.lemmas.Bool.Decides.{nat_tests}
 use Rattle.std.proofs.lemmas.List.{map-append}
 use Rattle.std.proofs.lemmas.List.Elements.{filter-append}
-use Rattle.cell_num.specs.Lists.{holds, numbered}
+use Rattle.cell_num.specs.Lists.{holds, numbered, In}
 use Rattle.cell_num.specs.declared.ids.CellId.{CellId}
 use Rattle.cell_object.specs.declared.object.Entry.{Entry}
 use Rattle.cell_world.specs.World.{Cell, World}
@@ -18,7 +18,7 @@ use Rattle.cell_world.specs.declared.state.Target.{Target}
 use Rattle.cell_world.specs.declared.state.Target.TheVariants.{Section, Number}
 use Rattle.cell_coherent.specs.Grown.{links_from}
 use Rattle.cell_coherent.specs.Present.{JoinsPresent}
-use Rattle.cell_coherent.proofs.Elements.{All-In, In, In-append, In-flat_map, In-map, In-none, any-In, filter_all, filter_none, found-In, map-In, pairs-In, In-left}
+use Rattle.cell_num.proofs.Elements.{All-In, In-append, In-flat_map, In-map, In-none, any-In, filter_all, filter_none, found-In, map-In, pairs-In, In-left}
 use Rattle.cell_coherent.proofs.Present.{In-filter_map, links_present}
 use Rattle.cell_load_law.proofs.Loads.{older}
 use Rattle.cell_graph.specs.Links.{is_bound}

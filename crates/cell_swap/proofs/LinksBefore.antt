@@ -4,7 +4,8 @@ use Rattle.std.specs.Prelude.{Contains, ◌==◌}
 use Rattle.std.proofs.lemmas.List.{map-append, take_all, take_more}
 use Rattle.cell_num.specs.declared.ids.SecKey.{SecKey}
 use Rattle.cell_world.specs.declared.state.LinkRow.{LinkRow}
-use Rattle.cell_coherent.proofs.Elements.{In, In-append, In-map, map-In}
+use Rattle.cell_num.specs.Lists.{In}
+use Rattle.cell_num.proofs.Elements.{In-append, In-map, map-In}
 use Rattle.cell_graph.specs.Links.{is_bound, is_same}
 use Rattle.cell_graph.specs.Moves.{AreApart}
 use Rattle.cell_swap.specs.Before.{AreAsTheyWere}

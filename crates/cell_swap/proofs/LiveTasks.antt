@@ -4,9 +4,9 @@ use Rattle.std.specs.Prelude.{◌==◌, find, flat_map, nat_lt}
 use Rattle.std.proofs.lemmas.Bool.{eq-eqb, eqb-true, ltb-true}
 use Rattle.std.proofs.lemmas.List.{append-nil, append_assoc, map-append}
 use Rattle.std.proofs.lemmas.List.Concat.{flat_map-append}
-use Rattle.cell_num.specs.Lists.{each_pair}
+use Rattle.cell_num.specs.Lists.{each_pair, In}
 use Rattle.cell_world.specs.World.{Task}
-use Rattle.cell_coherent.proofs.Elements.{In, find_there, found-In, pairs-In}
+use Rattle.cell_num.proofs.Elements.{find_there, found-In, pairs-In}
 use Rattle.cell_hold.specs.declared.roots.Root.{Root}
 use Rattle.cell_swap.specs.Begun.{root_of_task}
 

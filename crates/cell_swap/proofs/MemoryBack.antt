@@ -1,13 +1,13 @@
 -- The memory once the regions of the new cells are gone again.
 use Rattle.std.proofs.Common.{◌≡◌, refl, sym, ap, subst, ◌∙◌, arith, ℕ, ◌+◌, ◌-◌, ◌*◌, ◌<◌, Bool, true, false, not, List, [], ◌∷◌, Option, length, map}
 use Rattle.std.specs.Prelude.{filter, ◌==◌}
-use Rattle.cell_num.specs.Lists.{holds}
+use Rattle.cell_num.specs.Lists.{holds, In}
 use Rattle.cell_num.specs.declared.ids.CellId.{CellId}
 use Rattle.cell_world.specs.World.{Region}
 use Rattle.cell_world.specs.Pages.{filled}
 use Rattle.cell_world.specs.Coherent.{Shape, shape_of}
-use Rattle.cell_coherent.proofs.Elements.{In, In-All, In-map, filter-In, filter-Passes, map-In}
-use Rattle.cell_coherent.proofs.Lists.{map_filter}
+use Rattle.cell_num.proofs.Elements.{In-All, In-map, filter-In, filter-Passes, map-In}
+use Rattle.cell_num.proofs.Sublists.{map_filter}
 use Rattle.cell_transfer_law.proofs.Undone.{undo_ended}
 use Rattle.cell_commit.specs.Seals.{seal_table}
 use Rattle.cell_mem.specs.Index.{IsLaid}

@@ -8,7 +8,7 @@ use Rattle.std.proofs.lemmas.Bool.Decides.{nat_tests}
 use Rattle.std.proofs.lemmas.List.{map-append}
 use Rattle.std.proofs.lemmas.List.Elements.{filter-append}
 use Rattle.cell_num.specs.declared.ids.SecKey.{SecKey}
-use Rattle.cell_num.specs.Lists.{each_pair, holds}
+use Rattle.cell_num.specs.Lists.{each_pair, holds, In}
 use Rattle.cell_object.specs.declared.object.Entry.{Entry}
 use Rattle.cell_world.specs.declared.command.SwapItem.{SwapItem}
 use Rattle.cell_world.specs.declared.state.LinkRow.{LinkRow}
@@ -21,10 +21,9 @@ use Rattle.cell_world.specs.Coherent.{AreSound, IsCoherent}
 use Rattle.cell_world.specs.Gather.{Source, fresh_cells}
 use Rattle.cell_world.specs.SwapCommand.{old_numbers}
 use Rattle.cell_world.specs.Target.{target_of, targets_of}
-use Rattle.cell_coherent.specs.Grown.{In}
 use Rattle.cell_coherent.specs.Linkable.{IsLinkable}
-use Rattle.cell_coherent.proofs.Elements.{All-In, In-All, In-filtered, In-flat_map, In-left, In-map, In-none, any-In, filter-In, filter-Passes, filter_none, find_there, found-In, map-In, map_same, none-In, all-In, pairs-In, pairs-map, pairs_same}
-use Rattle.cell_coherent.proofs.Lists.{filter_same, pairs-filter}
+use Rattle.cell_num.proofs.Elements.{All-In, In-All, In-filtered, In-flat_map, In-left, In-map, In-none, any-In, filter-In, filter-Passes, filter_none, find_there, found-In, map-In, map_same, none-In, all-In, pairs-In, pairs-map, pairs_same}
+use Rattle.cell_num.proofs.Sublists.{filter_same, pairs-filter}
 use Rattle.cell_coherent.proofs.Targets.{In-find}
 use Rattle.cell_coherent.proofs.Unchanged.{now_There, placed_same, target_same}
 use Rattle.cell_turns.proofs.Fixed.{links_fixed}

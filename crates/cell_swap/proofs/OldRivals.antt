@@ -5,12 +5,12 @@ use Rattle.std.specs.List.{list_any}
 use Rattle.std.proofs.lemmas.Bool.{and_parts, eqb-true}
 use Rattle.std.proofs.Math.Bool.{and_comm, or_comm}
 use Rattle.std.proofs.lemmas.Slice.Eq.{bytes_eq-Decides}
-use Rattle.cell_num.specs.Lists.{equals, holds, holds_name}
+use Rattle.cell_num.specs.Lists.{equals, holds, holds_name, In}
 use Rattle.cell_world.specs.Coherent.{all_names, may_both_stand}
 use Rattle.cell_world.specs.Names.{are_on_one_path, chain}
 use Rattle.cell_world.specs.World.{World, Cell, Standing, Attached as IsAttached, Detached as IsDetached, is_attached}
 use Rattle.cell_world.specs.declared.state.Namespace.{Namespace}
-use Rattle.cell_coherent.proofs.Elements.{In, In-All, In-map, any-Has, any-In, found-In, pairs-In, some_has}
+use Rattle.cell_num.proofs.Elements.{In-All, In-map, any-Has, any-In, found-In, pairs-In, some_has}
 use Rattle.cell_space.specs.declared.cell.CellState.{CellState}
 use Rattle.cell_space.specs.declared.cell.CellState.TheVariants.{Attached}
 use Rattle.cell_space.specs.declared.cell.SpaceCell.{SpaceCell}

@@ -4,10 +4,10 @@ use Rattle.std.specs.Prelude.{◌==◌, All, filter, flat_map, is_some, nat_lt}
 use Rattle.std.specs.List.{list_all}
 use Rattle.std.proofs.lemmas.Bool.{and_parts, eqb-true, ltb-true}
 use Rattle.std.proofs.lemmas.List.{drop_all, drop_more}
-use Rattle.cell_coherent.proofs.Elements.{In, All-In, In-All, all-In, filter-In, filter_all, find_there, found-In, map-In, some_has}
+use Rattle.cell_num.specs.Lists.{In, each_pair, holds}
+use Rattle.cell_num.proofs.Elements.{All-In, In-All, all-In, filter-In, filter_all, find_there, found-In, map-In, some_has}
 use Rattle.cell_machine.specs.Staged.{all_attached}
 use Rattle.cell_mem.specs.State.{MemoryState}
-use Rattle.cell_num.specs.Lists.{each_pair, holds}
 use Rattle.cell_num.specs.declared.ids.CellId.{CellId}
 use Rattle.cell_space.specs.Named.{cell_numbered, is_numbered, without}
 use Rattle.cell_space.specs.declared.cell.SpaceCell.{SpaceCell}

@@ -1,12 +1,11 @@
 -- The sections of a machine's cells as they are collected.
 use Rattle.std.proofs.Common.{◌≡◌, refl, sym, ◌∙◌, ap, true, List, [], ◌∷◌, ◌++◌, map}
 use Rattle.std.specs.Prelude.{flat_map, nat_lt}
-use Rattle.cell_num.specs.Lists.{each_pair}
+use Rattle.cell_num.specs.Lists.{each_pair, In}
 use Rattle.cell_world.specs.declared.state.NewCell.{NewCell}
 use Rattle.cell_world.specs.declared.state.Placed.{Placed}
 use Rattle.cell_world.specs.Kept.{placed_in}
 use Rattle.cell_world.specs.World.{Cell, attached}
-use Rattle.cell_coherent.specs.Grown.{In}
 use Rattle.cell_machine.specs.declared.machine.Machine.{Machine}
 use Rattle.cell_machine.specs.Machine.{IsSound, world_of}
 use Rattle.cell_space.specs.Joined.{placed_of}

@@ -3,7 +3,7 @@ use Rattle.std.proofs.Common.{◌≡◌, refl, sym, ◌∙◌, ap, ap₂, subst,
 use Rattle.std.specs.Prelude.{All, IsTrue, Option, None, Err, filter, flat_map, nat_lt, option_map}
 use Rattle.std.proofs.lemmas.Bool.{ltb-true}
 use Rattle.std.proofs.lemmas.List.{length-map}
-use Rattle.cell_num.specs.Lists.{each_pair}
+use Rattle.cell_num.specs.Lists.{each_pair, In}
 use Rattle.cell_world.specs.declared.fail.Fail.{Fail}
 use Rattle.cell_world.specs.declared.fail.Fail.TheVariants.{Refused, OutOfMemory}
 use Rattle.cell_world.specs.declared.file.File.{File}
@@ -18,9 +18,9 @@ use Rattle.cell_world.specs.Gather.{missing}
 use Rattle.cell_world.specs.SwapCommand.{first_uncovered}
 use Rattle.cell_world.specs.Torn.{first_torn}
 use Rattle.cell_world.specs.World.{Cell, World, attached, is_ready}
-use Rattle.cell_coherent.specs.Grown.{In, patch_at}
+use Rattle.cell_coherent.specs.Grown.{patch_at}
 use Rattle.cell_coherent.proofs.Appended.{unmapped}
-use Rattle.cell_coherent.proofs.Elements.{All-In, In-All, In-filtered, In-map, all-In, map-In}
+use Rattle.cell_num.proofs.Elements.{All-In, In-All, In-filtered, In-map, all-In, map-In}
 use Rattle.cell_coherent.proofs.Known.{known_parts}
 use Rattle.cell_coherent.proofs.Inside.{ready_linkable}
 use Rattle.cell_machine.proofs.Low.{is_low, place_low}

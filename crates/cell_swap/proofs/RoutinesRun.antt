@@ -4,7 +4,7 @@ use Rattle.std.specs.Prelude.{◌%◌, ◌==◌, All, Result, Ok, Err, nat_le, n
 use Rattle.std.proofs.lemmas.Bool.{and_parts, le-leb, leb-true, ltb-true, or_left, or_right}
 use Rattle.std.proofs.lemmas.List.{length-replicate}
 use Rattle.cell_num.specs.Kinds.{width_of}
-use Rattle.cell_num.specs.Lists.{each_pair}
+use Rattle.cell_num.specs.Lists.{each_pair, In}
 use Rattle.cell_object.specs.declared.object.Entry.{Entry}
 use Rattle.cell_world.specs.declared.refusal.Refusal.{Refusal}
 use Rattle.cell_world.specs.declared.refusal.Refusal.TheVariants.{Exhausted, Transfer as TransferRefused}
@@ -28,13 +28,13 @@ use Rattle.cell_world.specs.Transfer.{Addresses, Transferred, after_turns, routi
 use Rattle.cell_world.specs.Turn.{without_region}
 use Rattle.cell_coherent.specs.Clear.{IsClear}
 use Rattle.cell_coherent.specs.Present.{IsInside}
-use Rattle.cell_coherent.proofs.Elements.{All-In, In, In-all, In-flat_map, In-map, In-none, all-In, found-In}
+use Rattle.cell_num.proofs.Elements.{All-In, In-all, In-flat_map, In-map, In-none, all-In, found-In}
 use Rattle.cell_coherent.proofs.FieldsInside.{among-In}
 use Rattle.cell_coherent.proofs.Inside.{fields_lie, ready_linkable}
 use Rattle.cell_coherent.proofs.Places.{FreeAt, run_at}
 use Rattle.cell_coherent.proofs.Tables.{run_clear}
 use Rattle.cell_coherent.proofs.Writes.{begins_below}
-use Rattle.cell_coherent.proofs.Lists.{and_left, and_right}
+use Rattle.cell_num.proofs.Sublists.{and_left, and_right}
 use Rattle.cell_turns.proofs.Executed.{Stored, good_move}
 use Rattle.cell_turns.proofs.Stores.{keeps_apart, keeps_shape}
 use Rattle.cell_turns.proofs.Spawned.{spaced}

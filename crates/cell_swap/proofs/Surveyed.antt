@@ -7,7 +7,7 @@ use Rattle.std.proofs.lemmas.List.{length-map}
 use Rattle.cell_num.specs.declared.ids.CellId.{CellId}
 use Rattle.cell_num.specs.declared.ids.Holder.{Holder}
 use Rattle.cell_num.specs.declared.ids.SecKey.{SecKey}
-use Rattle.cell_num.specs.Lists.{holds}
+use Rattle.cell_num.specs.Lists.{holds, In}
 use Rattle.cell_object.specs.declared.object.Section.{Section as ObjectSection}
 use Rattle.cell_world.specs.declared.refusal.Refusal.{Refusal}
 use Rattle.cell_world.specs.declared.refusal.Refusal.TheVariants.{Held}
@@ -19,7 +19,7 @@ use Rattle.cell_world.specs.Kept.{Claim, Holding, holder_in, kept_in, placed_at,
 use Rattle.cell_world.specs.UnloadCommand.{held_refusal}
 use Rattle.cell_world.specs.World.{World, Cell, attached}
 use Rattle.cell_coherent.specs.Present.{HasSection, JoinsPresent}
-use Rattle.cell_coherent.proofs.Elements.{In, All-In, In-all, any-In, found-In, In-flat_map, flat_map-In, In-map, map-In, pairs-map}
+use Rattle.cell_num.proofs.Elements.{All-In, In-all, any-In, found-In, In-flat_map, flat_map-In, In-map, map-In, pairs-map}
 use Rattle.cell_coherent.proofs.Present.{links_present}
 use Rattle.cell_graph.specs.Links.{is_same}
 use Rattle.cell_removal.proofs.Freed.{number_holds}

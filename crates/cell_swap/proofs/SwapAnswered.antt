@@ -16,7 +16,8 @@ use Rattle.cell_world.specs.Outcome.{Outcome, ◌>>=◌, ◌>>◌, refused_by}
 use Rattle.cell_world.specs.SwapCommand.{Plan as SwapPlan, Wanted, all_wanted, first_held_old, next_swap, plan_swap, swap_reply, with_transfer}
 use Rattle.cell_world.specs.UnloadCommand.{purged}
 use Rattle.cell_world.specs.World.{World, Standing, Attached as IsAttached, Detached as IsDetached, is_attached}
-use Rattle.cell_coherent.proofs.Elements.{In, In-All, In-map, map-In}
+use Rattle.cell_num.specs.Lists.{In}
+use Rattle.cell_num.proofs.Elements.{In-All, In-map, map-In}
 use Rattle.cell_mem.specs.State.{MemoryState}
 use Rattle.cell_space.specs.declared.cell.CellState.{CellState}
 use Rattle.cell_space.specs.declared.cell.CellState.TheVariants.{Attached}

@@ -2,7 +2,7 @@
 use Rattle.std.proofs.Common.{◌≡◌, refl, sym, ap, ap₂, subst, ◌∙◌, arith, ℕ, suc, ◌+◌, ◌-◌, ◌*◌, ◌^◌, ◌≤◌, ◌<◌, Bool, inl, inr, List, [], ◌∷◌, Option, Some, None, length, map}
 use Rattle.std.specs.Prelude.{All, Result, Ok, Err, if◌then◌else◌, is_some, true}
 use Rattle.std.proofs.lemmas.List.{length-map}
-use Rattle.cell_num.specs.Lists.{numbered_from}
+use Rattle.cell_num.specs.Lists.{numbered_from, In}
 use Rattle.cell_num.specs.declared.ids.CellId.{CellId}
 use Rattle.cell_world.specs.Kept.{Holding, holding_of}
 use Rattle.cell_world.specs.Outcome.{Outcome, ◌>>=◌, ◌>>◌, refused_by}
@@ -22,12 +22,11 @@ use Rattle.cell_world.specs.declared.state.NewCell.{NewCell}
 use Rattle.cell_world.specs.declared.transfer.NameAddr.{NameAddr}
 use Rattle.cell_world.specs.declared.transfer.Routine.{Routine}
 use Rattle.cell_world.specs.World.{Alias}
-use Rattle.cell_coherent.specs.Grown.{In}
 use Rattle.cell_coherent.proofs.Appended.{ok_same}
-use Rattle.cell_coherent.proofs.Elements.{In-All}
+use Rattle.cell_num.proofs.Elements.{In-All}
 use Rattle.cell_load_law.specs.Loading.{Taken, placed_cells}
 use Rattle.cell_world.specs.Pages.{filled}
-use Rattle.cell_coherent.proofs.Lists.{In-fixed}
+use Rattle.cell_num.proofs.Sublists.{In-fixed}
 use Rattle.cell_commit.specs.Commit.{IsLaidOut, all_mapped, field_patched, fields_patched}
 use Rattle.cell_commit.proofs.Mapping.{mapped_spare}
 use Rattle.cell_commit.proofs.Writing.{written_spare}

@@ -32,9 +32,8 @@ use Rattle.cell_swap.specs.Swapped.{CanFinish, Exchanges, Finishes, HasBegun, Ha
 use Rattle.cell_swap.specs.declared.swapping.Options.{Options}
 use Rattle.cell_swap.specs.Transferring.{stacks_for}
 use Rattle.cell_routines.specs.declared.entries.Begin.{Begin}
-use Rattle.cell_num.specs.Lists.{each_pair}
-use Rattle.cell_coherent.specs.Grown.{In}
-use Rattle.cell_coherent.proofs.Elements.{In-All, In-map, In-right, pairs-map}
+use Rattle.cell_num.specs.Lists.{each_pair, In}
+use Rattle.cell_num.proofs.Elements.{In-All, In-map, In-right, pairs-map}
 use Rattle.cell_load_law.specs.Loading.{placed_after, placed_cells}
 use Rattle.cell_machine.proofs.Low.{is_low}
 use Rattle.cell_machine.proofs.StagedWorld.{numbers_rise}

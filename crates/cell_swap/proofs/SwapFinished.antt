@@ -2,7 +2,7 @@
 use Rattle.std.proofs.Common.{◌≡◌, refl, sym, ◌∙◌, ap, ap₂, subst, arith, ℕ, ◌+◌, ◌<◌, ◌≤◌, List, [], ◌∷◌, ◌++◌, map, length}
 use Rattle.std.specs.Prelude.{filter, flat_map, not}
 use Rattle.std.proofs.lemmas.List.{length-append, length-map}
-use Rattle.cell_num.specs.Lists.{holds}
+use Rattle.cell_num.specs.Lists.{holds, In}
 use Rattle.cell_num.specs.declared.ids.CellId.{CellId}
 use Rattle.cell_world.specs.declared.reply.Reply.{Reply}
 use Rattle.cell_world.specs.declared.reply.Reply.TheVariants.{Purge as PurgeDone, Swap as SwapDone}
@@ -14,8 +14,8 @@ use Rattle.cell_world.specs.SwapCommand.{swap_reply}
 use Rattle.cell_world.specs.UnloadCommand.{detached_of, garbage_of, next_purge, purged}
 use Rattle.cell_world.specs.World.{World, Cell, Attached}
 use Rattle.cell_coherent.proofs.Appended.{ok_same}
-use Rattle.cell_coherent.proofs.Elements.{In, In-map, map-In}
-use Rattle.cell_coherent.proofs.Lists.{length-filter_le}
+use Rattle.cell_num.proofs.Elements.{In-map, map-In}
+use Rattle.cell_num.proofs.Sublists.{length-filter_le}
 use Rattle.cell_coherent.proofs.Relinked.{map_twice}
 use Rattle.cell_load_law.proofs.Loads.{older}
 use Rattle.cell_commit.specs.Cells.{arrived}

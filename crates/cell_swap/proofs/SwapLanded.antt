@@ -3,7 +3,7 @@ use Rattle.std.proofs.Common.{◌≡◌, refl, ◌∙◌, ap, subst, ℕ, ◌+�
 use Rattle.std.specs.Prelude.{Option, Some, None, Ok, Err, filter, nat_le, option_map}
 use Rattle.std.specs.List.{list_all}
 use Rattle.std.proofs.lemmas.Bool.{and_from, and_parts}
-use Rattle.cell_num.specs.Lists.{holds}
+use Rattle.cell_num.specs.Lists.{holds, In}
 use Rattle.cell_world.specs.declared.command.SwapItem.{SwapItem}
 use Rattle.cell_world.specs.declared.layout.Starts.{Starts}
 use Rattle.cell_world.specs.declared.refusal.Refusal.{Refusal}
@@ -23,7 +23,7 @@ use Rattle.cell_world.specs.Place.{page_table, place_all}
 use Rattle.cell_world.specs.Relink.{relink}
 use Rattle.cell_world.specs.SwapCommand.{Plan, Wanted, all_wanted, first_uncovered, gather_swap, old_numbers, plan_placed, plan_swap, set_aside}
 use Rattle.cell_world.specs.Torn.{first_torn}
-use Rattle.cell_coherent.specs.Grown.{In, links_from, patch_at, with_changes}
+use Rattle.cell_coherent.specs.Grown.{links_from, patch_at, with_changes}
 use Rattle.cell_coherent.proofs.Gathered.{Extends, Ranks, extends_grows}
 use Rattle.cell_coherent.proofs.LoadCoherent.{fresh_is}
 use Rattle.cell_coherent.proofs.Ready.{IsBase, append_same}

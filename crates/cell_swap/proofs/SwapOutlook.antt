@@ -3,7 +3,7 @@ use Rattle.std.proofs.Common.{◌≡◌, refl, sym, ◌∙◌, ap, ap₂, ℕ, s
 use Rattle.std.specs.Prelude.{flat_map, is_some}
 use Rattle.std.specs.List.{list_all}
 use Rattle.std.proofs.lemmas.Grind.{flat_map-append}
-use Rattle.cell_num.specs.Lists.{holds}
+use Rattle.cell_num.specs.Lists.{holds, In}
 use Rattle.cell_num.specs.declared.ids.CellId.{CellId}
 use Rattle.cell_hold.specs.declared.roots.Root.{Root}
 use Rattle.cell_hold.specs.declared.roots.Root.TheVariants.{Attached as AttachedRoot}
@@ -15,7 +15,7 @@ use Rattle.cell_world.specs.MapCommand.{group_of}
 use Rattle.cell_world.specs.UnloadCommand.{put_aside}
 use Rattle.cell_world.specs.World.{World, Cell, Region, Standing, Attached, Detached, attached}
 use Rattle.cell_world.specs.declared.state.NewCell.{NewCell}
-use Rattle.cell_coherent.proofs.Elements.{In, all-In, In-all, In-append, In-left, In-right}
+use Rattle.cell_num.proofs.Elements.{all-In, In-all, In-append, In-left, In-right}
 use Rattle.cell_space.specs.Joined.{placed_of}
 use Rattle.cell_machine.specs.declared.machine.Machine.{Machine}
 use Rattle.cell_machine.specs.Machine.{IsSound, world_of}

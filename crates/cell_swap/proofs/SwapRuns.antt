@@ -5,14 +5,14 @@ use Rattle.std.proofs.lemmas.Bool.{eq-eqb}
 use Rattle.std.proofs.lemmas.Grind.{flat_map-append}
 use Rattle.std.proofs.lemmas.List.{length-append}
 use Rattle.std.proofs.lemmas.List.Elements.{filter-append}
-use Rattle.cell_num.specs.Lists.{holds}
+use Rattle.cell_num.specs.Lists.{holds, In}
 use Rattle.cell_world.specs.Answer.{numbers_of}
 use Rattle.cell_world.specs.Coherent.{IsCoherent, Shape}
 use Rattle.cell_world.specs.Kept.{holding_of, kept_in}
 use Rattle.cell_world.specs.UnloadCommand.{detached_of, garbage_of}
 use Rattle.cell_world.specs.World.{World, Cell, Standing, Attached, attached, is_attached}
 use Rattle.cell_world.specs.declared.state.NewCell.{NewCell}
-use Rattle.cell_coherent.proofs.Elements.{In, In-append, In-filtered, In-map, any-In, filter-Passes, filter_all, filter_none, map-In}
+use Rattle.cell_num.proofs.Elements.{In-append, In-filtered, In-map, any-In, filter-Passes, filter_all, filter_none, map-In}
 use Rattle.cell_removal.proofs.KeptPaths.{holds-In}
 use Rattle.cell_space.specs.Joined.{placed_of}
 use Rattle.cell_machine.specs.Does.{cell_shapes}

@@ -14,7 +14,7 @@ use Rattle.cell_world.specs.World.{World, Cell}
 use Rattle.cell_coherent.proofs.Appended.{ok_same}
 use Rattle.cell_coherent.proofs.Relinked.{map_twice}
 use Rattle.cell_machine.proofs.Counts.{counts_stand}
-use Rattle.cell_coherent.proofs.Lists.{In-fixed}
+use Rattle.cell_num.proofs.Sublists.{In-fixed}
 use Rattle.cell_world.specs.Following.{FailsAs}
 use Rattle.cell_world.specs.declared.fail.Fail.{Fail}
 use Rattle.cell_world.specs.declared.fail.Fail.TheVariants.{Refused, OutOfMemory}

@@ -5,12 +5,12 @@ use Rattle.std.specs.List.{list_all}
 use Rattle.std.proofs.lemmas.Bool.{and_parts, cases_lt, eqb-true, eq-eqb}
 use Rattle.std.proofs.lemmas.List.Sums.{fold-append}
 use Rattle.cell_coherent.proofs.Distinct.{pairs_first}
-use Rattle.cell_coherent.proofs.Elements.{In, In-filtered, In-left, all-In, filter-In, filter_all, find_there, found-In, some_has}
+use Rattle.cell_num.specs.Lists.{In, each_pair, holds}
+use Rattle.cell_num.proofs.Elements.{In-filtered, In-left, all-In, filter-In, filter_all, find_there, found-In, some_has}
 use Rattle.cell_mem.specs.Index.{IsLaid}
 use Rattle.cell_mem.specs.State.{MemoryState, region_from, size_of, unmapped}
 use Rattle.cell_mem.proofs.Filling.{filled_above, filled_below, filled_inside, length-filled}
 use Rattle.cell_mem.proofs.Laid.{Lies, covers_from, covers_high, covers_low}
-use Rattle.cell_num.specs.Lists.{each_pair, holds}
 use Rattle.cell_world.specs.Memory.{covers}
 use Rattle.cell_world.specs.World.{Region}
 use Rattle.cell_swap.specs.Unmapped.{CanLeave, differs, without_regions}

@@ -2,14 +2,13 @@
 use Rattle.std.proofs.Common.{◌≡◌, refl, sym, ◌∙◌, ap, ap₂, ℕ, suc, inl, inr, Bool, true, false, cond, List, [], ◌∷◌, map}
 use Rattle.std.specs.Prelude.{IsSome, Option, Some, None, filter, find, option_map, unwrap_or, ◌==◌}
 use Rattle.std.specs.List.{list_any}
-use Rattle.cell_num.specs.Lists.{holds}
+use Rattle.cell_num.specs.Lists.{holds, In}
 use Rattle.cell_world.specs.declared.file.File.{File}
 use Rattle.cell_world.specs.declared.state.LinkRow.{LinkRow}
 use Rattle.cell_world.specs.declared.state.NewCell.{NewCell}
 use Rattle.cell_world.specs.Relink.{links_of}
 use Rattle.cell_world.specs.World.{Cell, Standing, Attached, Detached, World}
-use Rattle.cell_coherent.specs.Grown.{In}
-use Rattle.cell_coherent.proofs.Elements.{map-In}
+use Rattle.cell_num.proofs.Elements.{map-In}
 use Rattle.cell_turns.proofs.Fixed.{links_fixed}
 use Rattle.cell_swaps_law.proofs.Detached.{put, put_same}
 use Rattle.cell_swaps_law.proofs.SetAside.{aside_ranks}

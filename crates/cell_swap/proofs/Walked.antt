@@ -7,14 +7,14 @@ use Rattle.std.proofs.lemmas.Bool.Decides.{nat_tests}
 use Rattle.std.proofs.lemmas.List.{drop_more, map-append, take_more}
 use Rattle.std.proofs.lemmas.List.Elements.{filter-append}
 use Rattle.cell_num.specs.declared.ids.CellId.{CellId}
-use Rattle.cell_num.specs.Lists.{each_pair, holds}
+use Rattle.cell_num.specs.Lists.{each_pair, holds, In}
 use Rattle.cell_world.specs.declared.state.NewCell.{NewCell}
 use Rattle.cell_world.specs.Answer.{numbers_of}
 use Rattle.cell_world.specs.Kept.{Holding}
 use Rattle.cell_world.specs.UnloadCommand.{garbage_of}
 use Rattle.cell_world.specs.World.{Cell}
-use Rattle.cell_coherent.proofs.Elements.{In, all-In, In-filtered, pairs-map}
-use Rattle.cell_coherent.proofs.Lists.{and_left, and_right}
+use Rattle.cell_num.proofs.Elements.{all-In, In-filtered, pairs-map}
+use Rattle.cell_num.proofs.Sublists.{and_left, and_right}
 use Rattle.cell_removal.proofs.KeptPaths.{kept_order}
 use Rattle.cell_space.specs.Joined.{placed_of}
 use Rattle.cell_machine.specs.declared.machine.Machine.{Machine}

@@ -15,7 +15,7 @@ use Rattle.cell_world.specs.UnloadCommand.{attached_cell}
 use Rattle.cell_world.specs.declared.state.NewCell.{NewCell}
 use Rattle.cell_world.specs.SwapCommand.{Wanted, all_wanted, old_numbers, wanted_of}
 use Rattle.cell_world.specs.World.{World}
-use Rattle.cell_coherent.specs.Grown.{In}
+use Rattle.cell_num.specs.Lists.{In}
 use Rattle.cell_gather.specs.declared.want.Want.{Want}
 use Rattle.cell_swap.specs.declared.asked.Asked.{Asked}
 

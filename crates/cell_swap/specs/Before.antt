@@ -3,7 +3,7 @@
 --     AreAsTheyWere rows moves back   the links that are moved, as they lead among the rows
 use Rattle.std.specs.Prelude.{◌≡◌, ℕ, List}
 use Rattle.cell_world.specs.declared.state.LinkRow.{LinkRow}
-use Rattle.cell_coherent.specs.Grown.{In}
+use Rattle.cell_num.specs.Lists.{In}
 use Rattle.cell_graph.specs.Moves.{AreApart}
 use Rattle.cell_mem.specs.State.{begun_at}
 use Rattle.cell_machine.specs.declared.machine.Machine.{Machine}

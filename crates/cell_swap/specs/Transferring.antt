@@ -14,8 +14,7 @@ use Rattle.cell_world.specs.declared.refusal.Refusal.{Refusal}
 use Rattle.cell_world.specs.declared.state.NewCell.{NewCell}
 use Rattle.cell_world.specs.World.{Alias, stack_size}
 use Rattle.cell_mem.specs.State.{MemoryState}
-use Rattle.cell_num.specs.Lists.{each_pair}
-use Rattle.cell_coherent.specs.Grown.{In}
+use Rattle.cell_num.specs.Lists.{each_pair, In}
 use Rattle.cell_placed.specs.Low.{IsLow}
 use Rattle.cell_space.specs.Spaces.{HasCell}
 use Rattle.cell_space.specs.Named.{cell_numbered}

@@ -6,8 +6,7 @@
 --     lost_starts cells numbers  where the regions of the cells of these numbers start
 use Rattle.std.specs.Prelude.{ℕ, ◌≡◌, ◌≤◌, ◌+◌, ◌*◌, ◌%◌, ◌==◌, not, Bool, true, List, [], filter, flat_map, fold, is_some, map}
 use Rattle.std.specs.List.{cons_option, list_any}
-use Rattle.cell_num.specs.Lists.{each_pair, holds, upto}
-use Rattle.cell_coherent.specs.Grown.{In}
+use Rattle.cell_num.specs.Lists.{each_pair, holds, upto, In}
 use Rattle.cell_mem.specs.State.{MemoryState, region_from, unmapped}
 use Rattle.cell_place.specs.Space.{SpaceState}
 use Rattle.cell_world.specs.Memory.{covers}

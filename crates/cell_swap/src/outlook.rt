@@ -1,8 +1,7 @@
 //! Where holding is read from.
 
 ghost use Rattle.std.specs.Prelude.{◌≡◌, ◌++◌, IfOk, IsTrue, OnOk, flat_map, map, nat_lt};
-ghost use Rattle.cell_coherent.specs.Grown.{In};
-ghost use Rattle.cell_num.specs.Lists.{each_pair};
+ghost use Rattle.cell_num.specs.Lists.{In, each_pair};
 ghost use Rattle.cell_machine.specs.Machine.{IsSound};
 ghost use Rattle.cell_world.specs.Kept.{placed_in};
 ghost use Rattle.cell_world.specs.World.{attached};

@@ -1,8 +1,7 @@
 //! The sections of cells.
 
 ghost use Rattle.std.specs.Prelude.{◌≡◌, ◌++◌, IfOk, IsTrue, OnOk, flat_map, nat_lt};
-ghost use Rattle.cell_num.specs.Lists.{each_pair};
-ghost use Rattle.cell_coherent.specs.Grown.{In};
+ghost use Rattle.cell_num.specs.Lists.{each_pair, In};
 ghost use Rattle.cell_world.specs.Kept.{placed_at, placed_in};
 ghost use Rattle.cell_world.specs.World.{attached};
 ghost use Rattle.cell_world.specs.declared.state.NewCell.{NewCell};

@@ -1,7 +1,7 @@
 //! The plan of a swap: all is decided before the first cell is added.
 
 ghost use Rattle.std.specs.Prelude.{◌++◌, All, map};
-ghost use Rattle.cell_coherent.specs.Grown.{In};
+ghost use Rattle.cell_num.specs.Lists.{In};
 ghost use Rattle.cell_plan.specs.Exchanged.{Change, MayChange};
 ghost use Rattle.cell_swap.specs.Planning.{FindsNew, GathersFor, IsAffected, IsBegun, Plans, numbers_in, view_with};
 ghost use Rattle.cell_target.specs.Scene.{AreCells};

@@ -1,8 +1,7 @@
 //! Where holding begins in a machine.
 
 ghost use Rattle.std.specs.Prelude.{◌≡◌, ◌++◌, IfOk, IsTrue, OnOk, flat_map, map, nat_lt};
-ghost use Rattle.cell_coherent.specs.Grown.{In};
-ghost use Rattle.cell_num.specs.Lists.{each_pair};
+ghost use Rattle.cell_num.specs.Lists.{In, each_pair};
 ghost use Rattle.cell_machine.specs.Machine.{IsSound, world_of};
 ghost use Rattle.cell_swap.specs.Begun.{is_aside, root_of, root_of_task};
 ghost use Rattle.cell_task.specs.State.{seen_as};

@@ -2,7 +2,7 @@
 use Rattle.std.proofs.Common.{◌≡◌, refl, sym, ◌∙◌, ap, subst, ℕ, ◌+◌, ◌<◌, inl, inr, ◌⊎◌, Bool, true, false, ◌&&◌, List, [], ◌∷◌, ◌++◌, length, Option, Some, None, Ok}
 use Rattle.std.specs.Prelude.{All, ◌%◌, ◌==◌, nat_le, option_and_then, option_map, unwrap_or}
 use Rattle.std.proofs.lemmas.Bool.{and_parts, eqb-true, leb-true}
-use Rattle.cell_num.specs.Lists.{numbered, where_true}
+use Rattle.cell_num.specs.Lists.{numbered, where_true, In}
 use Rattle.cell_object.specs.declared.object.Object.{Object}
 use Rattle.cell_object.specs.declared.object.Section.{Section as ObjectSection}
 use Rattle.cell_object.specs.Parts.{section_of, symbol_at}
@@ -20,7 +20,7 @@ use Rattle.cell_world.specs.SwapCommand.{Plan, plan_swap}
 use Rattle.cell_world.specs.Outcome.{◌>>=◌, found, each}
 use Rattle.cell_world.specs.Coherent.{AreSound, IsCoherent, IsReady}
 use Rattle.cell_coherent.proofs.Appended.{ok_same}
-use Rattle.cell_coherent.proofs.Elements.{In, In-All, In-append, In-filtered, In-map, In-numbered, filter-In, filter-Passes, first-In, found-In, get-In}
+use Rattle.cell_num.proofs.Elements.{In-All, In-append, In-filtered, In-map, In-numbered, filter-In, filter-Passes, first-In, found-In, get-In}
 use Rattle.cell_coherent.proofs.Outcomes.{bind_ok, found_ok}
 use Rattle.cell_coherent.proofs.Present.{In-filter_map, some_same}
 use Rattle.cell_coherent.proofs.Renamed.{In-bare}

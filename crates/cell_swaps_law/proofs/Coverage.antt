@@ -3,7 +3,7 @@
 use Rattle.std.proofs.Common.{◌≡◌, refl, sym, ◌∙◌, ap, subst, ℕ, suc, ◌⊎◌, inl, inr, Bool, true, false, cond, not, List, [], ◌∷◌, map, length, Option, Some, None, true≢false}
 use Rattle.std.specs.Prelude.{filter, filter_map, is_some, is_none, nat_lt, option_and_then}
 use Rattle.std.specs.List.{list_any}
-use Rattle.cell_num.specs.Lists.{first, holds, numbered, or_else}
+use Rattle.cell_num.specs.Lists.{first, holds, numbered, or_else, In}
 use Rattle.cell_num.specs.declared.ids.SecKey.{SecKey}
 use Rattle.cell_object.specs.declared.object.Entry.{Entry}
 use Rattle.cell_world.specs.declared.state.LinkRow.{LinkRow}
@@ -14,7 +14,7 @@ use Rattle.cell_world.specs.Target.{provided_target, target_of}
 use Rattle.cell_world.specs.Relink.{link_of, link_to}
 use Rattle.cell_world.specs.Gather.{Need, first_lack, lacks_of}
 use Rattle.cell_world.specs.Coherent.{IsCoherent, is_known_cell, is_supplied}
-use Rattle.cell_coherent.proofs.Elements.{In, all-In, none-In, some_has, filter_none}
+use Rattle.cell_num.proofs.Elements.{all-In, none-In, some_has, filter_none}
 use Rattle.cell_coherent.proofs.Attach.{Grows, provider_grown}
 use Rattle.cell_coherent.proofs.Known.{known_parts}
 use Rattle.cell_removal.proofs.NeedsLeft.{Names, need_named, target_is}

@@ -2,7 +2,7 @@
 use Rattle.std.proofs.Common.{◌≡◌, refl, sym, ◌∙◌, ap, subst, ℕ, zero, suc, inl, inr, Bool, true, false, cond, List, [], ◌∷◌, map, length, true≢false, Option, Some, None}
 use Rattle.std.specs.Prelude.{filter, filter_map, find, option_map, option_and_then, slice_get, nat_lt, ◌==◌}
 use Rattle.std.proofs.lemmas.Bool.{eqb-true, eq-eqb, ltb-true, and_parts}
-use Rattle.cell_num.specs.Lists.{holds, or_else}
+use Rattle.cell_num.specs.Lists.{holds, or_else, In}
 use Rattle.cell_object.specs.declared.object.Symbol.{Symbol}
 use Rattle.cell_object.specs.declared.object.Entry.{Entry}
 use Rattle.cell_object.specs.declared.object.Home.{Home}
@@ -14,7 +14,7 @@ use Rattle.cell_world.specs.Names.{Provider, chain, symbol_named, first_provider
 use Rattle.cell_world.specs.Target.{own_target, provided_target, symbol_target, numbered_target, naming_entry, target_of}
 use Rattle.cell_world.specs.UnloadCommand.{put_aside, detach}
 use Rattle.cell_world.specs.Coherent.{IsCoherent, is_known_cell}
-use Rattle.cell_coherent.proofs.Elements.{In, all-In, In-map, map-In, filter-In, In-filtered, filter-Passes, first-In, first_has}
+use Rattle.cell_num.proofs.Elements.{all-In, In-map, map-In, filter-In, In-filtered, filter-Passes, first-In, first_has}
 use Rattle.cell_coherent.proofs.Known.{known_parts}
 use Rattle.cell_coherent.proofs.Chains.{Lower, lower_parents}
 use Rattle.cell_coherent.proofs.Targets.{provides}

@@ -1,7 +1,7 @@
 -- Where cells have come and others have changed, each entry that doesn't differ names what it named, and has the link that it had.
 use Rattle.std.proofs.Common.{◌≡◌, ◌∙◌, ap, ℕ, false, List, [], Option, Some, None}
 use Rattle.std.specs.Prelude.{All}
-use Rattle.cell_num.specs.Lists.{numbered}
+use Rattle.cell_num.specs.Lists.{numbered, In}
 use Rattle.cell_object.specs.declared.object.Entry.{Entry}
 use Rattle.cell_world.specs.declared.state.LinkRow.{LinkRow}
 use Rattle.cell_world.specs.declared.state.NewCell.{NewCell}
@@ -12,7 +12,7 @@ use Rattle.cell_world.specs.Relink.{link_to, link_of}
 use Rattle.cell_world.specs.Changed.{now_in, differs}
 use Rattle.cell_world.specs.Coherent.{IsReady, IsCoherent}
 use Rattle.cell_coherent.specs.Grown.{IsRegrown}
-use Rattle.cell_coherent.proofs.Elements.{In, In-All}
+use Rattle.cell_num.proofs.Elements.{In-All}
 use Rattle.cell_coherent.proofs.FreshLinks.{link_with}
 use Rattle.cell_coherent.proofs.Inside.{ready_linkable}
 use Rattle.cell_swaps_law.specs.Targets.{FollowsTargets}

@@ -1,7 +1,7 @@
 -- What an accepted swap leaves: its last step is a purge of the machine after the routines.
 use Rattle.std.proofs.Common.{◌≡◌, refl, sym, ◌∙◌, subst, ℕ, ◌<◌, Bool, false, List, length, Ok, ◌↔◌}
 use Rattle.std.specs.Prelude.{All}
-use Rattle.cell_num.specs.Lists.{holds}
+use Rattle.cell_num.specs.Lists.{holds, In}
 use Rattle.cell_object.specs.declared.object.Entry.{Entry}
 use Rattle.cell_world.specs.declared.command.SwapItem.{SwapItem}
 use Rattle.cell_world.specs.declared.reply.Reply.TheVariants.{Purge as PurgeDone}
@@ -13,7 +13,7 @@ use Rattle.cell_world.specs.SwapCommand.{Plan, Wanted, all_wanted, old_numbers, 
 use Rattle.cell_world.specs.Kept.{IsKept, holding_of}
 use Rattle.cell_world.specs.Answer.{Done, ids, numbers_of}
 use Rattle.cell_world.specs.Coherent.{AreSound, IsCoherent}
-use Rattle.cell_coherent.proofs.Elements.{In, In-All}
+use Rattle.cell_num.proofs.Elements.{In-All}
 use Rattle.cell_coherent.proofs.Appended.{ok_same}
 use Rattle.cell_removal.specs.Left.{IsFree, IsUnreached, LeavesTargets, LeavesFields}
 use Rattle.cell_removal.proofs.AllKept.{purge_keeps, purge_unreached}

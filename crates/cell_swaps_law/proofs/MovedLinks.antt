@@ -3,7 +3,7 @@ use Rattle.std.proofs.Common.{◌≡◌, refl, sym, ◌∙◌, ap, subst, ℕ, z
 use Rattle.std.specs.Prelude.{filter_map, flat_map, option_map, option_and_then, slice_get, unwrap_or}
 use Rattle.std.specs.List.{cons_option}
 use Rattle.std.proofs.lemmas.List.Folds.{flat_map-map}
-use Rattle.cell_num.specs.Lists.{numbered}
+use Rattle.cell_num.specs.Lists.{numbered, In}
 use Rattle.cell_object.specs.declared.object.Object.{Object}
 use Rattle.cell_object.specs.declared.object.Symbol.{Symbol}
 use Rattle.cell_object.specs.declared.object.Entry.{Entry}
@@ -21,7 +21,7 @@ use Rattle.cell_world.specs.Relink.{link_of, relink}
 use Rattle.cell_world.specs.Changed.{now_in}
 use Rattle.cell_world.specs.Coherent.{IsReady, IsCoherent, is_supplied}
 use Rattle.cell_coherent.specs.Grown.{links_from, IsRegrown}
-use Rattle.cell_coherent.proofs.Elements.{In, Has, all-In, In-numbered, get-In}
+use Rattle.cell_num.proofs.Elements.{Has, all-In, In-numbered, get-In}
 use Rattle.cell_coherent.proofs.Known.{object_sound}
 use Rattle.cell_coherent.proofs.Targets.{In-find, provides, target_has}
 use Rattle.cell_coherent.proofs.FreshLinks.{link_with}

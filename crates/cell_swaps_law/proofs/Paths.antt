@@ -4,10 +4,10 @@ use Rattle.std.specs.Prelude.{slice_get}
 use Rattle.std.proofs.lemmas.Bool.{or_left}
 use Rattle.std.proofs.lemmas.List.{append-nil}
 use Rattle.std.proofs.Math.Bool.{or-true}
-use Rattle.cell_num.specs.Lists.{holds}
+use Rattle.cell_num.specs.Lists.{holds, In}
 use Rattle.cell_world.specs.declared.state.Namespace.{Namespace}
 use Rattle.cell_world.specs.Names.{chain, chain_within, are_on_one_path}
-use Rattle.cell_coherent.proofs.Elements.{In, below_there, some_has}
+use Rattle.cell_num.proofs.Elements.{below_there, some_has}
 use Rattle.cell_coherent.proofs.Chains.{Lower, chain_same}
 use Rattle.cell_removal.proofs.KeptPaths.{In-holds, holds-In}
 

@@ -5,19 +5,19 @@ use Rattle.std.specs.List.{list_any}
 use Rattle.std.proofs.lemmas.Bool.{and_from, eqb-true, ltb-true}
 use Rattle.std.proofs.lemmas.List.{length-map, map-append}
 use Rattle.std.proofs.lemmas.Slice.Eq.{bytes_eq-Decides}
-use Rattle.cell_num.specs.Lists.{equals, holds, holds_name, each_pair}
+use Rattle.cell_num.specs.Lists.{equals, holds, holds_name, each_pair, In}
 use Rattle.cell_world.specs.World.{World, Cell, Alias, Standing, Attached, Detached, cell_of, is_attached}
 use Rattle.cell_world.specs.Names.{chain, rivals, clash_name, has_name, names_of, definitions_of, are_on_one_path}
 use Rattle.cell_world.specs.Reexport.{with_alias}
 use Rattle.cell_world.specs.Coherent.{IsLoadable, all_names, may_both_stand, has_each_name_once, is_known_cell, is_sound_standing}
-use Rattle.cell_coherent.proofs.Elements.{In, all-In, In-all, All-In, In-All, In-none, none-In, unfound-In, filter-In, In-append, In-map, found-In, pairs-map, pairs_same, pairs_push, all_push}
+use Rattle.cell_num.proofs.Elements.{all-In, In-all, All-In, In-All, In-none, none-In, unfound-In, filter-In, In-append, In-map, found-In, pairs-map, pairs_same, pairs_push, all_push}
 use Rattle.cell_coherent.proofs.Known.{KnownParts, has_own_aliases, known_parts, known_from}
 use Rattle.cell_coherent.proofs.Appended.{unmapped}
 use Rattle.cell_coherent.proofs.Chains.{Lower}
 use Rattle.cell_coherent.proofs.Gathered.{Ranks}
 use Rattle.cell_coherent.proofs.Present.{some_same}
 use Rattle.cell_coherent.proofs.Targets.{In-find}
-use Rattle.cell_coherent.proofs.Lists.{pairs_kept}
+use Rattle.cell_num.proofs.Sublists.{pairs_kept}
 use Rattle.cell_swaps_law.proofs.Paths.{in_own_chain}
 
 -- the test of two cells goes on to hold where stems and names stay apart

@@ -2,7 +2,7 @@
 use Rattle.std.proofs.Common.{◌≡◌, refl, sym, ◌∙◌, ap, subst, ℕ, ◌+◌, ◌*◌, ◌<◌, Bool, ◌&&◌, ◌||◌, false, List, [], ◌∷◌, map, length, Result, Option, Some, None, Ok, Err}
 use Rattle.std.specs.Prelude.{nat_lt, nat_le}
 use Rattle.std.specs.List.{list_any}
-use Rattle.cell_num.specs.Lists.{upto}
+use Rattle.cell_num.specs.Lists.{upto, In}
 use Rattle.cell_world.specs.declared.command.SwapItem.{SwapItem}
 use Rattle.cell_world.specs.declared.refusal.Refusal.TheVariants.{Exhausted}
 use Rattle.cell_world.specs.World.{World, Region}
@@ -18,7 +18,7 @@ use Rattle.cell_world.specs.Transfer.{after_turns, transfer}
 use Rattle.cell_world.specs.SwapTransfer.{stack_for, transferred_by}
 use Rattle.cell_world.specs.SwapCommand.{Plan, plan_swap, addresses_of, with_transfer}
 use Rattle.cell_world.specs.Coherent.{AreSound, IsReady, IsCoherent, Shape, shape_of}
-use Rattle.cell_coherent.proofs.Elements.{In, In-All, map_same}
+use Rattle.cell_num.proofs.Elements.{In-All, map_same}
 use Rattle.cell_coherent.proofs.Appended.{ok_same}
 use Rattle.cell_coherent.proofs.Outcomes.{bind_ok}
 use Rattle.cell_coherent.proofs.Reshaped.{shapes_relinked}

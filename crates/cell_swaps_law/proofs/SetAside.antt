@@ -5,12 +5,12 @@ use Rattle.std.specs.List.{list_all, list_any}
 use Rattle.std.proofs.lemmas.Bool.{and_parts, and_from, leb-true, le-leb}
 use Rattle.std.proofs.lemmas.List.{length-map}
 use Rattle.std.proofs.lemmas.List.Folds.{flat_map-map}
-use Rattle.cell_num.specs.Lists.{holds}
+use Rattle.cell_num.specs.Lists.{holds, In}
 use Rattle.cell_world.specs.World.{World, Cell, Task, Standing, Attached, Detached, cell_of}
 use Rattle.cell_world.specs.Names.{definitions_of}
 use Rattle.cell_world.specs.UnloadCommand.{detach}
 use Rattle.cell_world.specs.Coherent.{IsLoadable, IsCoherent, Shape, with_shape, stack_shape, may_both_stand, has_each_name_once, is_known_cell, is_sound_standing, is_placed, is_sound_task, wanted_shapes}
-use Rattle.cell_coherent.proofs.Elements.{In, all-In, In-all, All-In, In-All, In-map, pairs-map, pairs_same, flat_same}
+use Rattle.cell_num.proofs.Elements.{all-In, In-all, All-In, In-All, In-map, pairs-map, pairs_same, flat_same}
 use Rattle.cell_coherent.proofs.Known.{KnownParts, known_parts, known_from}
 use Rattle.cell_coherent.proofs.Gathered.{Ranks}
 use Rattle.cell_coherent.proofs.Ready.{IsBase, ready_base}

@@ -1,7 +1,7 @@
 -- What the entries of cells that stay name after a whole swap: what they named when all was linked.
 use Rattle.std.proofs.Common.{◌≡◌, sym, ◌∙◌, ap, subst, ℕ, ◌<◌, Bool, List, [], ◌∷◌, inl, inr, map, length, Option}
 use Rattle.std.specs.Prelude.{All, IsTrue, unwrap_or}
-use Rattle.cell_num.specs.Lists.{holds}
+use Rattle.cell_num.specs.Lists.{holds, In}
 use Rattle.cell_object.specs.declared.object.Entry.{Entry}
 use Rattle.cell_object.specs.declared.object.Object.{Object}
 use Rattle.cell_world.specs.declared.command.SwapItem.{SwapItem}
@@ -13,7 +13,7 @@ use Rattle.cell_world.specs.Changed.{now_in}
 use Rattle.cell_world.specs.SwapCommand.{Plan}
 use Rattle.cell_world.specs.Answer.{Done, numbers_of}
 use Rattle.cell_world.specs.Coherent.{AreSound, IsCoherent}
-use Rattle.cell_coherent.proofs.Elements.{In, In-All, All-In, In-map}
+use Rattle.cell_num.proofs.Elements.{In-All, All-In, In-map}
 use Rattle.cell_coherent.proofs.Targets.{In-find}
 use Rattle.cell_removal.proofs.KeptPaths.{holds-In}
 use Rattle.cell_swaps_law.specs.Swapping.{HasSwapped}

@@ -1,14 +1,14 @@
 -- Attaching, detaching and removing, one by one.
 use Rattle.std.proofs.Common.{◌≡◌, sym, ◌∙◌, ap, ℕ, suc, true, false, List}
 use Rattle.std.specs.Prelude.{All, IsTrue}
-use Rattle.cell_num.specs.Lists.{holds}
+use Rattle.cell_num.specs.Lists.{holds, In}
 use Rattle.cell_object.specs.declared.object.Entry.{Entry}
 use Rattle.cell_world.specs.World.{World, Cell, is_attached}
 use Rattle.cell_world.specs.Target.{target_of}
 use Rattle.cell_world.specs.UnloadCommand.{put_aside, detach}
 use Rattle.cell_world.specs.Coherent.{IsCoherent}
 use Rattle.cell_coherent.specs.Linkable.{IsLinkable}
-use Rattle.cell_coherent.proofs.Elements.{In, All-In, In-All}
+use Rattle.cell_num.proofs.Elements.{All-In, In-All}
 use Rattle.cell_coherent.proofs.Supplied.{same_target}
 use Rattle.cell_swaps_law.specs.Targets.{without_in}
 use Rattle.cell_swaps_law.proofs.Detached.{put_out, own_same, others_lose}

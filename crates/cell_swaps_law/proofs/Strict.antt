@@ -2,7 +2,7 @@
 use Rattle.std.proofs.Common.{◌≡◌, refl, sym, ◌∙◌, ap, subst, arith, ℕ, suc, ◌<◌, inl, inr, ◌⊎◌, Bool, true, false, List, map, true≢false, Option, None, Ok, ◌↔◌}
 use Rattle.std.specs.Prelude.{All, filter, nat_le}
 use Rattle.std.proofs.lemmas.Bool.{leb-true, ltb-true}
-use Rattle.cell_num.specs.Lists.{holds}
+use Rattle.cell_num.specs.Lists.{holds, In}
 use Rattle.cell_world.specs.declared.command.SwapItem.{SwapItem}
 use Rattle.cell_world.specs.declared.refusal.Refusal.{Refusal}
 use Rattle.cell_world.specs.World.{World, Cell, is_attached}
@@ -13,7 +13,7 @@ use Rattle.cell_world.specs.Kept.{IsKept, holding_of}
 use Rattle.cell_world.specs.Outcome.{Outcome, ◌>>=◌, ◌>>◌, refused_by}
 use Rattle.cell_world.specs.Answer.{Done, done, numbers_of}
 use Rattle.cell_world.specs.Coherent.{AreSound, IsCoherent, is_known_cell}
-use Rattle.cell_coherent.proofs.Elements.{In, In-All, In-map, In-append, In-filtered, filter-Passes, all-In}
+use Rattle.cell_num.proofs.Elements.{In-All, In-map, In-append, In-filtered, filter-Passes, all-In}
 use Rattle.cell_coherent.proofs.Known.{known_parts}
 use Rattle.cell_coherent.proofs.Appended.{ok_same}
 use Rattle.cell_removal.proofs.KeptPaths.{In-holds, holds-In}

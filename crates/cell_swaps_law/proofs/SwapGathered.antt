@@ -4,7 +4,7 @@ use Rattle.std.specs.Prelude.{filter, fold, option_and_then, slice_get, is_some,
 use Rattle.std.specs.List.{list_all, list_any}
 use Rattle.std.proofs.lemmas.Bool.{and_parts, eqb-true, eq-eqb, ltb-true}
 use Rattle.std.proofs.lemmas.List.{map-append}
-use Rattle.cell_num.specs.Lists.{equals}
+use Rattle.cell_num.specs.Lists.{equals, In}
 use Rattle.cell_world.specs.declared.command.SwapItem.{SwapItem}
 use Rattle.cell_world.specs.declared.refusal.Refusal.TheVariants.{Unknown}
 use Rattle.cell_world.specs.World.{World, Cell, Alias, cell_of, is_attached}
@@ -15,7 +15,7 @@ use Rattle.cell_world.specs.Reexport.{symbol_of_one, successor_of, heir_of, take
 use Rattle.cell_world.specs.SwapCommand.{Wanted, wanted_of, all_wanted, old_numbers, append_wanted, exchanges_from, renamed as renamed_all, gather_swap}
 use Rattle.cell_world.specs.Outcome.{◌>>=◌, each, found}
 use Rattle.cell_world.specs.Coherent.{AreSound, IsCoherent, is_known_cell}
-use Rattle.cell_coherent.proofs.Elements.{In, all-In, In-all, In-append, In-filtered, found-In, any-In, In-map, below_there}
+use Rattle.cell_num.proofs.Elements.{all-In, In-all, In-append, In-filtered, found-In, any-In, In-map, below_there}
 use Rattle.cell_coherent.proofs.Known.{known_parts}
 use Rattle.cell_coherent.proofs.Outcomes.{bind_ok, found_ok}
 use Rattle.cell_coherent.proofs.Appended.{Appended, append_ok, ok_same}
@@ -23,7 +23,7 @@ use Rattle.cell_coherent.proofs.Brought.{brought}
 use Rattle.cell_coherent.proofs.Chains.{Lower, lower_parents}
 use Rattle.cell_coherent.proofs.Gathered.{Ranks, Extends, extends_none, good_append}
 use Rattle.cell_coherent.proofs.Present.{and_then_ok}
-use Rattle.cell_coherent.proofs.Lists.{In-fixed}
+use Rattle.cell_num.proofs.Sublists.{In-fixed}
 use Rattle.cell_swaps_law.proofs.SetAside.{aside, aside_ranks, aside_base}
 use Rattle.cell_swaps_law.proofs.Reexported.{renamed, renamed_same, renamed_out, renamed_ranks}
 

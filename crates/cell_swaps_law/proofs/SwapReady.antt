@@ -3,7 +3,7 @@ use Rattle.std.proofs.Common.{◌≡◌, refl, sym, ◌∙◌, ap, subst, arith,
 use Rattle.std.specs.Prelude.{find, filter, is_some, is_none, unwrap_or, nat_lt, ◌==◌}
 use Rattle.std.specs.List.{list_all}
 use Rattle.std.proofs.lemmas.Bool.{and_from, eqb-true, eq-eqb, leb-true}
-use Rattle.cell_num.specs.Lists.{holds}
+use Rattle.cell_num.specs.Lists.{holds, In}
 use Rattle.cell_object.specs.declared.object.Entry.{Entry}
 use Rattle.cell_world.specs.declared.command.SwapItem.{SwapItem}
 use Rattle.cell_world.specs.World.{World, Cell, Standing, Attached, Detached, cell_of, is_attached, is_of_group}
@@ -17,7 +17,7 @@ use Rattle.cell_world.specs.Changed.{now_in, differs, is_changed, changed_misfit
 use Rattle.cell_world.specs.SwapCommand.{Wanted, old_numbers, is_bystander}
 use Rattle.cell_world.specs.Coherent.{AreSound, IsReady, IsCoherent, is_known_cell, is_sound_standing, is_supplied, is_fitting}
 use Rattle.cell_coherent.specs.Linkable.{IsLinkable}
-use Rattle.cell_coherent.proofs.Elements.{In, all-In, In-all, In-All, In-left, In-map, map-In, filter-In, none-In, unfound-In, map_same, some_has, none_is, or_else_parts}
+use Rattle.cell_num.proofs.Elements.{all-In, In-all, In-All, In-left, In-map, map-In, filter-In, none-In, unfound-In, map_same, some_has, none_is, or_else_parts}
 use Rattle.cell_coherent.proofs.Known.{known_parts}
 use Rattle.cell_coherent.proofs.Appended.{unmapped}
 use Rattle.cell_coherent.proofs.Attach.{Grows, provider_grown}

@@ -3,7 +3,7 @@ use Rattle.std.proofs.Common.{◌≡◌, refl, sym, ◌∙◌, ap, subst, arith,
 use Rattle.std.specs.Prelude.{filter, option_and_then, slice_get, nat_lt, nat_le, ◌==◌}
 use Rattle.std.specs.List.{list_any}
 use Rattle.std.proofs.lemmas.Bool.{and_parts, eqb-true, eq-eqb, leb-true, ltb-true}
-use Rattle.cell_num.specs.Lists.{holds, or_else}
+use Rattle.cell_num.specs.Lists.{holds, or_else, In}
 use Rattle.cell_object.specs.declared.object.Symbol.{Symbol}
 use Rattle.cell_object.specs.declared.object.Entry.{Entry}
 use Rattle.cell_object.specs.declared.object.Home.{Home}
@@ -21,12 +21,12 @@ use Rattle.cell_world.specs.Changed.{FieldAt, is_same_key, is_same_target, is_ot
 use Rattle.cell_world.specs.SwapCommand.{Wanted, old_numbers}
 use Rattle.cell_world.specs.Coherent.{AreSound, IsCoherent, is_known_cell, is_supplied}
 use Rattle.cell_coherent.specs.Linkable.{IsLinkable}
-use Rattle.cell_coherent.proofs.Elements.{In, Has, all-In, In-append, In-map, found-In, In-filtered, filter-Passes, first-In, flat_same}
+use Rattle.cell_num.proofs.Elements.{Has, all-In, In-append, In-map, found-In, In-filtered, filter-Passes, first-In, flat_same}
 use Rattle.cell_coherent.proofs.Known.{known_parts, object_sound}
 use Rattle.cell_coherent.proofs.Attach.{target_grown}
 use Rattle.cell_coherent.proofs.Targets.{target_has}
 use Rattle.cell_coherent.proofs.Present.{In-filter_map}
-use Rattle.cell_coherent.proofs.Lists.{filter_same}
+use Rattle.cell_num.proofs.Sublists.{filter_same}
 use Rattle.cell_removal.proofs.KeptPaths.{holds-In}
 use Rattle.cell_swaps_law.specs.Targets.{is_target_in, loses, is_replaced, replaced_in, replaced_fields}
 use Rattle.cell_swaps_law.specs.Swapping.{HasSwapPlaced}

@@ -3,11 +3,11 @@ use Rattle.std.proofs.Common.{◌≡◌, refl, sym, ◌∙◌, ap, ℕ, ◌<◌,
 use Rattle.std.specs.Prelude.{filter_map, find, option_map}
 use Rattle.std.specs.List.{list_any, cons_option}
 use Rattle.std.proofs.lemmas.Slice.Eq.{bytes_eq-Decides}
-use Rattle.cell_num.specs.Lists.{equals, holds, holds_name, first, each_pair}
+use Rattle.cell_num.specs.Lists.{equals, holds, holds_name, first, each_pair, In}
 use Rattle.cell_world.specs.World.{World, Cell, Alias, is_attached}
 use Rattle.cell_world.specs.Names.{Provider, chain, names_of, symbol_named, are_on_one_path}
 use Rattle.cell_world.specs.Coherent.{all_names, may_both_stand}
-use Rattle.cell_coherent.proofs.Elements.{In, any-In, map-In, found-In, pairs-In}
+use Rattle.cell_num.proofs.Elements.{any-In, map-In, found-In, pairs-In}
 use Rattle.cell_coherent.proofs.Chains.{Lower}
 use Rattle.cell_swaps_law.proofs.Paths.{on_one_path}
 

@@ -5,7 +5,7 @@ use Rattle.std.proofs.lemmas.Bool.{and_parts, ltb-true, not-true}
 use Rattle.std.proofs.lemmas.List.{length-map}
 use Rattle.std.proofs.lemmas.List.Elements.{All-map, All-weaker}
 use Rattle.std.proofs.lemmas.Slice.Eq.{bytes_eq-Decides}
-use Rattle.cell_num.specs.Lists.{each_pair, equals, holds}
+use Rattle.cell_num.specs.Lists.{each_pair, equals, holds, In}
 use Rattle.cell_script.specs.Script.{is_said}
 use Rattle.cell_world.specs.declared.command.Command.{Command}
 use Rattle.cell_world.specs.declared.command.Command.TheVariants.{Deps, Dump, Find, Kill, Load, Map, Ns, Purge, Run, Spawn, Step, Swap, Tasks, Unload, Users}
@@ -33,7 +33,7 @@ use Rattle.cell_world.specs.declared.command.SwapItem.{SwapItem}
 use Rattle.cell_world.specs.World.{Alias, Cell, Detached, World, cell_of}
 use Rattle.cell_coherent.proofs.Appended.{Appended, append_ok, ok_same}
 use Rattle.cell_coherent.proofs.Brought.{In-depot, brought, one_file-In}
-use Rattle.cell_coherent.proofs.Elements.{In, All-In, In-All, In-append, In-filtered, all-In}
+use Rattle.cell_num.proofs.Elements.{All-In, In-All, In-append, In-filtered, all-In}
 use Rattle.cell_coherent.proofs.NamespaceAdded.{Added, ns_ok}
 use Rattle.cell_coherent.proofs.NextCoherent.{dump_same, find_same, map_same}
 use Rattle.cell_coherent.proofs.Outcomes.{bind_ok, then_ok}

@@ -2,7 +2,7 @@
 use Rattle.std.proofs.Common.{◌≡◌, refl, sym, ◌∙◌, ap, ap₂, subst, ℕ, List, [], map}
 use Rattle.std.specs.Prelude.{Result, Ok, Err, decimal, not, true, unwrap_or}
 use Rattle.cell_num.specs.Lists.{equals}
-use Rattle.cell_coherent.proofs.Elements.{pairs-map}
+use Rattle.cell_num.proofs.Elements.{pairs-map}
 use Rattle.cell_depot.specs.Files.{are_apart}
 use Rattle.cell_script.specs.Script.{is_said}
 use Rattle.cell_world.specs.declared.command.Command.{Command}

@@ -9,7 +9,7 @@ use Rattle.cell_world.specs.declared.state.Target.{Target}
 use Rattle.cell_world.specs.Target.{provided_target}
 use Rattle.cell_world.specs.World.{World, cell_of}
 use Rattle.cell_world.specs.Names.{Provider, chain, provider_for as provider_in}
-use Rattle.cell_coherent.specs.Grown.{In}
+use Rattle.cell_num.specs.Lists.{In}
 use Rattle.cell_space.specs.declared.cell.CellState.{CellState}
 use Rattle.cell_space.specs.declared.cell.CellState.TheVariants.{Attached, Detached}
 use Rattle.cell_space.specs.declared.cell.SpaceCell.{SpaceCell}

@@ -3,11 +3,10 @@
 --     in_state c state              the cell in that state, under its own names
 --     AreCells known cells          places and names are those of the same cells, which stand in the order of their numbers, far below the numbers of 64 bits
 use Rattle.std.specs.Prelude.{nat_lt, IsTrue, List, []}
-use Rattle.cell_num.specs.Lists.{each_pair}
+use Rattle.cell_num.specs.Lists.{each_pair, In}
 use Rattle.cell_world.specs.declared.state.NewCell.{NewCell}
 use Rattle.cell_world.specs.declared.state.Namespace.{Namespace}
 use Rattle.cell_world.specs.World.{World, Cell, empty_world}
-use Rattle.cell_coherent.specs.Grown.{In}
 use Rattle.cell_space.specs.declared.cell.SpaceCell.{SpaceCell}
 use Rattle.cell_placed.specs.Low.{IsLow}
 use Rattle.cell_space.specs.declared.cell.CellState.{CellState}

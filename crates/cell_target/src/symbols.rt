@@ -2,7 +2,7 @@
 
 ghost use Rattle.std.specs.Prelude.{◌≡◌, ◌<◌, ◌++◌, IfOk, length};
 ghost use Rattle.cell_world.specs.Target.{symbol_target as target_with};
-ghost use Rattle.cell_coherent.specs.Grown.{In};
+ghost use Rattle.cell_num.specs.Lists.{In};
 ghost use Rattle.cell_target.specs.Entries.{symbol_targets as targets_with};
 ghost use Rattle.cell_target.specs.Named.{IsNamed, world_of};
 ghost use Rattle.cell_target.specs.Scene.{in_state, seen};

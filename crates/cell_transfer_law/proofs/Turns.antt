@@ -13,7 +13,8 @@ use Rattle.cell_world.specs.declared.transfer.Routine.{Routine}
 use Rattle.cell_world.specs.declared.transfer.Failure.{Failure}
 use Rattle.cell_world.specs.Transfer.{Addresses, routine_column, transferred, transfer, after_turns}
 use Rattle.cell_world.specs.Turn.{without_region}
-use Rattle.cell_coherent.proofs.Elements.{In, In-All, filter_all}
+use Rattle.cell_num.specs.Lists.{In}
+use Rattle.cell_num.proofs.Elements.{In-All, filter_all}
 use Rattle.cell_coherent.proofs.Places.{Disjoint}
 use Rattle.cell_turns.specs.Kept.{KeepsFields, KeepsReadOnly, KeepsSealed, KeepsShapes}
 use Rattle.cell_turns.proofs.Executed.{good_move}

@@ -2,17 +2,17 @@
 use Rattle.std.proofs.Common.{◌≡◌, refl, sym, ◌∙◌, ap, subst, ℕ, ◌+◌, inl, inr, Bool, true, false, cond, not, ◌&&◌, List, [], ◌∷◌, length, map, true≢false, Option, Some, None}
 use Rattle.std.specs.Prelude.{filter, find, nat_le, ◌==◌}
 use Rattle.std.proofs.lemmas.Bool.{eqb-true, eq-eqb}
-use Rattle.cell_num.specs.Lists.{each_pair}
+use Rattle.cell_num.specs.Lists.{each_pair, In}
 use Rattle.cell_world.specs.World.{World, Region}
 use Rattle.cell_world.specs.Memory.{covers, end_of, region_in, written}
 use Rattle.cell_world.specs.Coherent.{IsCoherent, ends_before}
 use Rattle.cell_world.specs.Execute.{allows, seen_in}
 use Rattle.cell_world.specs.Turn.{without_region}
-use Rattle.cell_coherent.proofs.Elements.{In, found-In, In-filtered, filter-Passes}
+use Rattle.cell_num.proofs.Elements.{found-In, In-filtered, filter-Passes}
 use Rattle.cell_turns.proofs.Executed.{Stored}
 use Rattle.cell_turns.specs.Kept.{KeepsSealed}
 use Rattle.cell_turns.proofs.Kept.{Kept, kept_then}
-use Rattle.cell_coherent.proofs.Lists.{In-fixed, filter_same, map_filter}
+use Rattle.cell_num.proofs.Sublists.{In-fixed, filter_same, map_filter}
 use Rattle.cell_turns.proofs.Memory.{seen_memory, stored_sealed}
 use Rattle.cell_turns.proofs.Stores.{keeps_apart, one_covers}
 use Rattle.cell_turns.proofs.TurnKept.{kept_by}

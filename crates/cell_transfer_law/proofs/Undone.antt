@@ -6,7 +6,7 @@ use Rattle.std.proofs.lemmas.Bool.{leb-true, le-leb}
 use Rattle.std.proofs.lemmas.Nat.{mod-mul-add, div-mul-add, mod_below}
 use Rattle.std.proofs.lemmas.List.{length-take-le, take-append-drop}
 use Rattle.cell_num.specs.Bits.{bytes_of, little}
-use Rattle.cell_num.specs.Lists.{each_pair, where_true}
+use Rattle.cell_num.specs.Lists.{each_pair, where_true, In}
 use Rattle.cell_world.specs.World.{Region}
 use Rattle.cell_world.specs.Memory.{covers, end_of, part_of, pasted, region_in, written}
 use Rattle.cell_world.specs.Coherent.{Shape, ends_before, shape_of}
@@ -15,13 +15,13 @@ use Rattle.cell_world.specs.Place.{with_region}
 use Rattle.cell_world.specs.Turn.{without_region}
 use Rattle.cell_world.specs.declared.transfer.Record.{Record}
 use Rattle.cell_world.specs.Undo.{Write, put_in, put_back, put_back_in, record_of, undone, puts, journal_of, IsPut, ArePuts, AreBytes}
-use Rattle.cell_coherent.proofs.Elements.{In, In-All, All-In, In-append, In-filtered, In-map, all-In, filter-In, filter-Passes, found-In, map-In, map_same}
+use Rattle.cell_num.proofs.Elements.{In-All, All-In, In-append, In-filtered, In-map, all-In, filter-In, filter-Passes, found-In, map-In, map_same}
 use Rattle.cell_coherent.proofs.FieldsInside.{length-bytes_of}
 use Rattle.cell_coherent.proofs.Patches.{length-pasted}
 use Rattle.cell_coherent.proofs.Relinked.{map_twice}
 use Rattle.cell_turns.specs.Kept.{KeepsShapes}
 use Rattle.cell_transfer_law.specs.Undo.{GivesBack}
-use Rattle.cell_coherent.proofs.Lists.{In-fixed, and_left, and_right, filter_same, map_filter, pairs_kept}
+use Rattle.cell_num.proofs.Sublists.{In-fixed, and_left, and_right, filter_same, map_filter, pairs_kept}
 use Rattle.cell_coherent.proofs.Pastes.{over}
 use Rattle.cell_turns.proofs.Stores.{one_covers, shape_apart}
 use Rattle.cell_coherent.proofs.Writes.{begins_below, written_in, written_out}

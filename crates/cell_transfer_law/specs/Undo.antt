@@ -3,7 +3,7 @@ use Rattle.std.specs.Prelude.{All, List}
 use Rattle.cell_world.specs.World.{Region}
 use Rattle.cell_world.specs.declared.transfer.Record.{Record}
 use Rattle.cell_world.specs.Undo.{undone}
-use Rattle.cell_coherent.specs.Grown.{In}
+use Rattle.cell_num.specs.Lists.{In}
 
 -- going back by the records leaves each region of `saved` as it is there
 abbrev pub GivesBack : List Region → List Region → List Record → Type 0

@@ -2,7 +2,7 @@
 use Rattle.std.proofs.Common.{◌≡◌, refl, sym, ◌∙◌, ap, subst, arith, ℕ, ◌+◌, ◌⊎◌, inl, inr, Bool, true, false, List, [], ◌++◌, length, map, true≢false, Option, Some, None}
 use Rattle.std.specs.Prelude.{filter, ◌==◌}
 use Rattle.std.proofs.lemmas.Bool.{eqb-true, leb-true}
-use Rattle.cell_num.specs.Lists.{first}
+use Rattle.cell_num.specs.Lists.{first, In}
 use Rattle.cell_world.specs.World.{World, Cell, Region, Permission}
 use Rattle.cell_world.specs.Memory.{covers}
 use Rattle.cell_world.specs.Relink.{class_start, is_region_of, images_for, restored}
@@ -10,7 +10,7 @@ use Rattle.cell_world.specs.Layout.{image_of, sections_in, permission_of}
 use Rattle.cell_world.specs.declared.layout.Class.TheVariants.{Text, ReadOnly}
 use Rattle.cell_world.specs.declared.layout.Class.{Class}
 use Rattle.cell_world.specs.Coherent.{IsCoherent, Shape, shape_of, ends_before}
-use Rattle.cell_coherent.proofs.Elements.{In, In-map, filter_none, pairs-In}
+use Rattle.cell_num.proofs.Elements.{In-map, filter_none, pairs-In}
 use Rattle.cell_coherent.proofs.FieldsInside.{shape-In}
 use Rattle.cell_coherent.proofs.Relinked.{own_image, restore, restored_is}
 use Rattle.cell_turns.proofs.Stacks.{long}

@@ -6,11 +6,12 @@ use Rattle.std.proofs.lemmas.List.{length-map}
 use Rattle.cell_world.specs.World.{World, Task, cell_of}
 use Rattle.cell_world.specs.Coherent.{IsCoherent, Shape, stack_shape, is_sound_task}
 use Rattle.cell_world.specs.Turn.{with_task}
-use Rattle.cell_coherent.proofs.Elements.{In, all-In, In-all, In-map, map_same}
+use Rattle.cell_num.specs.Lists.{In}
+use Rattle.cell_num.proofs.Elements.{all-In, In-all, In-map, map_same}
 use Rattle.cell_coherent.proofs.Distinct.{cell_shapes}
 use Rattle.cell_coherent.proofs.PlacedAll.{Put}
 use Rattle.cell_coherent.proofs.Relinked.{map_twice}
-use Rattle.cell_coherent.proofs.Lists.{pairs_kept}
+use Rattle.cell_num.proofs.Sublists.{pairs_kept}
 use Rattle.cell_turns.proofs.Stacks.{same_task}
 use Rattle.cell_turns.proofs.Fixed.{remade_fixed, links_fixed, relinked}
 

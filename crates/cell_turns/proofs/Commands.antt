@@ -9,7 +9,8 @@ use Rattle.cell_world.specs.Answer.{Done, live_task}
 use Rattle.cell_world.specs.Coherent.{IsCoherent}
 use Rattle.cell_world.specs.Turn.{Ran, ran, standing, turn, turns_from}
 use Rattle.cell_world.specs.TaskCommands.{next_step, next_run, next_kill, next_tasks, run_task, Round, can_run}
-use Rattle.cell_coherent.proofs.Elements.{In, found-In}
+use Rattle.cell_num.specs.Lists.{In}
+use Rattle.cell_num.proofs.Elements.{found-In}
 use Rattle.cell_coherent.proofs.Outcomes.{bind_ok, then_ok, found_ok}
 use Rattle.cell_coherent.proofs.Appended.{ok_same}
 use Rattle.cell_turns.specs.Kept.{KeepsCells}

@@ -3,8 +3,8 @@ use Rattle.std.proofs.Common.{◌≡◌, ◌∙◌, ap, List, map}
 use Rattle.cell_world.specs.declared.state.LinkRow.{LinkRow}
 use Rattle.cell_world.specs.World.{World, Region}
 use Rattle.cell_world.specs.Relink.{remade, links_of, relink}
-use Rattle.cell_coherent.proofs.Elements.{In}
-use Rattle.cell_coherent.proofs.Lists.{fixed-In, In-fixed}
+use Rattle.cell_num.specs.Lists.{In}
+use Rattle.cell_num.proofs.Sublists.{fixed-In, In-fixed}
 
 pub remade_fixed : (w : World) → relink w ≡ w → (r : Region) → In r w.regions → remade w r ≡ r
 remade_fixed w e = fixed-In (remade w) w.regions (ap (λ (v : World). v.regions) e)

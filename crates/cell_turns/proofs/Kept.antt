@@ -3,7 +3,7 @@ use Rattle.std.proofs.Common.{◌≡◌, refl, sym, ◌∙◌, ap, subst, ℕ, �
 use Rattle.std.specs.Prelude.{All, nat_le, ◌==◌, slice_range, option_and_then}
 use Rattle.std.proofs.lemmas.Bool.{eqb-true}
 use Rattle.cell_num.specs.Kinds.{width_of}
-use Rattle.cell_num.specs.Lists.{where_true}
+use Rattle.cell_num.specs.Lists.{where_true, In}
 use Rattle.cell_object.specs.declared.object.Entry.{Entry}
 use Rattle.cell_world.specs.World.{World, Cell, Region, Permission, Task}
 use Rattle.cell_world.specs.Memory.{covers, end_of, written, read}
@@ -12,7 +12,7 @@ use Rattle.cell_world.specs.Coherent.{IsCoherent}
 use Rattle.cell_world.specs.Execute.{allows, seen_in}
 use Rattle.cell_world.specs.Turn.{without_task}
 use Rattle.cell_coherent.specs.Present.{IsInside}
-use Rattle.cell_coherent.proofs.Elements.{In, All-In, found-In, filter-In, In-filtered}
+use Rattle.cell_num.proofs.Elements.{All-In, found-In, filter-In, In-filtered}
 use Rattle.cell_coherent.proofs.FieldsInside.{among-In}
 use Rattle.cell_coherent.proofs.Inside.{fields_lie, ready_linkable}
 use Rattle.cell_turns.proofs.Bare.{covers_once, region_once}

@@ -6,10 +6,11 @@ use Rattle.std.proofs.lemmas.List.Elements.{filter-append}
 use Rattle.cell_world.specs.World.{World, Task}
 use Rattle.cell_world.specs.Coherent.{IsCoherent, Shape, shape_of, stack_shape, wanted_shapes, is_in_space, ends_before, is_sound_task}
 use Rattle.cell_world.specs.Turn.{without_task, without_region}
-use Rattle.cell_coherent.proofs.Elements.{In, In-filtered, filter_all}
+use Rattle.cell_num.specs.Lists.{In}
+use Rattle.cell_num.proofs.Elements.{In-filtered, filter_all}
 use Rattle.cell_coherent.proofs.Distinct.{cell_shapes}
 use Rattle.cell_coherent.proofs.PlacedAll.{Put}
-use Rattle.cell_coherent.proofs.Lists.{all-filter, pairs-filter, filter_same, length-filter_le, map_filter}
+use Rattle.cell_num.proofs.Sublists.{all-filter, pairs-filter, filter_same, length-filter_le, map_filter}
 use Rattle.cell_turns.proofs.Shapes.{filter_put}
 use Rattle.cell_turns.proofs.Stacks.{cells_elsewhere, same_test}
 use Rattle.cell_turns.proofs.Fixed.{remade_fixed, links_fixed, relinked}

@@ -3,7 +3,7 @@ use Rattle.std.proofs.Common.{◌≡◌, refl, sym, ◌∙◌, ap, subst, arith,
 use Rattle.std.specs.Prelude.{nat_le, nat_lt}
 use Rattle.std.proofs.lemmas.Bool.{and_from, leb-true, leb-false, ltb-true, ltb-false, lt-ltb}
 use Rattle.cell_num.specs.Kinds.{width_of}
-use Rattle.cell_num.specs.Lists.{each_pair}
+use Rattle.cell_num.specs.Lists.{each_pair, In}
 use Rattle.cell_object.specs.declared.object.Entry.{Entry}
 use Rattle.cell_world.specs.World.{World, Cell, Region}
 use Rattle.cell_world.specs.Memory.{read_in}
@@ -11,9 +11,9 @@ use Rattle.cell_world.specs.Field.{fields_of, place_of}
 use Rattle.cell_world.specs.Coherent.{IsCoherent, shape_of, ends_before}
 use Rattle.cell_world.specs.Execute.{Seen, is_field_at, seen_in}
 use Rattle.cell_world.specs.Move.{Hart, Column, move}
-use Rattle.cell_coherent.proofs.Elements.{In, In-All, any-In, any-Has}
+use Rattle.cell_num.proofs.Elements.{In-All, any-In, any-Has}
 use Rattle.cell_turns.specs.Kept.{IsMemory, KeepsReadOnly, KeepsSealed, KeepsShapes}
-use Rattle.cell_coherent.proofs.Lists.{and_left, and_right}
+use Rattle.cell_num.proofs.Sublists.{and_left, and_right}
 use Rattle.cell_turns.proofs.Executed.{Stored, good_move}
 use Rattle.cell_turns.proofs.Stores.{keeps_apart, keeps_bytes, keeps_read_only, keeps_shapes}
 

@@ -3,11 +3,11 @@ use Rattle.std.proofs.Common.{◌≡◌, refl, sym, ◌∙◌, ap, subst, arith,
 use Rattle.std.specs.Prelude.{filter, nat_lt, nat_le}
 use Rattle.std.specs.List.{list_all}
 use Rattle.std.proofs.lemmas.Bool.{and_from}
-use Rattle.cell_num.specs.Lists.{each_pair}
+use Rattle.cell_num.specs.Lists.{each_pair, In}
 use Rattle.cell_world.specs.Coherent.{Shape, with_shape}
-use Rattle.cell_coherent.proofs.Elements.{In, all-In, In-all, In-filtered}
+use Rattle.cell_num.proofs.Elements.{all-In, In-all, In-filtered}
 use Rattle.cell_coherent.proofs.PlacedAll.{Put}
-use Rattle.cell_coherent.proofs.Lists.{and_left, and_right}
+use Rattle.cell_num.proofs.Sublists.{and_left, and_right}
 
 abbrev pub Rise : List Shape → Type 0
 Rise ts = each_pair (λ (a b : Shape). nat_le a.start b.start) ts ≡ true

@@ -20,7 +20,8 @@ use Rattle.cell_world.specs.declared.reply.Reply.TheVariants.{Spawn as SpawnDone
 use Rattle.cell_world.specs.Answer.{Done, done, space_of}
 use Rattle.cell_world.specs.Coherent.{IsCoherent, Shape, shape_of, with_shape, stack_shape, wanted_shapes, is_in_space, is_sound_task}
 use Rattle.cell_world.specs.SpawnCommand.{with_stack, new_task, next_spawn, entry_named, entry_address}
-use Rattle.cell_coherent.proofs.Elements.{In, all-In, In-all, In-map, In-flat_map, found-In, find_there, all_push, pairs_push}
+use Rattle.cell_num.specs.Lists.{In}
+use Rattle.cell_num.proofs.Elements.{all-In, In-all, In-map, In-flat_map, found-In, find_there, all_push, pairs_push}
 use Rattle.cell_coherent.proofs.Outcomes.{bind_ok, then_ok, need_ok, found_ok}
 use Rattle.cell_coherent.proofs.Appended.{ok_same}
 use Rattle.cell_coherent.proofs.Relinked.{patches, own_image}

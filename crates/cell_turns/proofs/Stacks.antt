@@ -6,7 +6,8 @@ use Rattle.cell_world.specs.World.{World, Region, Task}
 use Rattle.cell_world.specs.Layout.{permission_of}
 use Rattle.cell_world.specs.declared.layout.Class.TheVariants.{Writable}
 use Rattle.cell_world.specs.Coherent.{IsCoherent, Shape, shape_of, stack_shape, wanted_shapes}
-use Rattle.cell_coherent.proofs.Elements.{In, all-In, map-In, In-map, In-right, pairs-In, pairs-map}
+use Rattle.cell_num.specs.Lists.{In}
+use Rattle.cell_num.proofs.Elements.{all-In, map-In, In-map, In-right, pairs-In, pairs-map}
 use Rattle.cell_coherent.proofs.FieldsInside.{In-fold_shape}
 use Rattle.cell_coherent.proofs.Distinct.{start_apart, apart_not, cell_shapes, all_apart, pairs_across, pairs_second}
 use Rattle.cell_coherent.proofs.Places.{whole_region}

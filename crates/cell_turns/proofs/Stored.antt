@@ -11,10 +11,11 @@ use Rattle.cell_world.specs.Field.{fields_of, field_value_of, place_of}
 use Rattle.cell_world.specs.Relink.{Patch, patch_of, patched, patches_of, bound_entries, remade, restored}
 use Rattle.cell_world.specs.Coherent.{IsCoherent, Shape, shape_of, is_in_space}
 use Rattle.cell_world.specs.Execute.{allows, is_field_at, seen_in}
-use Rattle.cell_coherent.proofs.Elements.{In, all-In, In-all, none-In, In-map, In-flat_map}
+use Rattle.cell_num.specs.Lists.{In}
+use Rattle.cell_num.proofs.Elements.{all-In, In-all, none-In, In-map, In-flat_map}
 use Rattle.cell_coherent.proofs.FieldsInside.{length-bytes_of}
 use Rattle.cell_coherent.proofs.Relinked.{patches, own_image}
-use Rattle.cell_coherent.proofs.Lists.{fold_commutes}
+use Rattle.cell_num.proofs.Sublists.{fold_commutes}
 use Rattle.cell_turns.proofs.Fixed.{remade_fixed, links_fixed, relinked}
 use Rattle.cell_coherent.proofs.Writes.{Holds, written_in, written_out, written_exchanged}
 use Rattle.cell_turns.proofs.Bare.{writable_bare, restored_bare}

@@ -2,14 +2,14 @@
 use Rattle.std.proofs.Common.{◌≡◌, refl, sym, ◌∙◌, ap, subst, arith, ℕ, ◌+◌, ◌-◌, ◌≤◌, ◌⊎◌, inl, inr, Bool, true, false, cond, ◌&&◌, List, [], ◌∷◌, length, map, true≢false, Option, Some, None}
 use Rattle.std.specs.Prelude.{find, nat_le, nat_lt, slice_range, option_map, option_and_then}
 use Rattle.std.proofs.lemmas.Bool.{leb-true}
-use Rattle.cell_num.specs.Lists.{each_pair, where_true}
+use Rattle.cell_num.specs.Lists.{each_pair, where_true, In}
 use Rattle.cell_world.specs.World.{Region}
 use Rattle.cell_world.specs.Memory.{covers, end_of, pasted, part_of, read_in, region_in, written}
 use Rattle.cell_world.specs.Coherent.{Shape, shape_of, ends_before}
 use Rattle.cell_world.specs.Execute.{allows}
-use Rattle.cell_coherent.proofs.Elements.{In, found-In, map-In, map_same, pairs-In}
+use Rattle.cell_num.proofs.Elements.{found-In, map-In, map_same, pairs-In}
 use Rattle.cell_coherent.proofs.Relinked.{map_twice}
-use Rattle.cell_coherent.proofs.Lists.{and_left, and_right, pairs_kept}
+use Rattle.cell_num.proofs.Sublists.{and_left, and_right, pairs_kept}
 use Rattle.cell_turns.proofs.Slices.{range_untouched}
 use Rattle.cell_coherent.proofs.Writes.{Holds, begins_below, ends_above, written_in, written_out, same_length}
 

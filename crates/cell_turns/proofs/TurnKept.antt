@@ -12,9 +12,10 @@ use Rattle.cell_world.specs.Coherent.{IsCoherent, Shape, shape_of}
 use Rattle.cell_world.specs.Execute.{seen_in}
 use Rattle.cell_world.specs.Move.{Move, move}
 use Rattle.cell_world.specs.Turn.{hart_of, standing, task_column, turn, turned, without_region}
-use Rattle.cell_coherent.proofs.Elements.{In, In-All, found-In}
+use Rattle.cell_num.specs.Lists.{In}
+use Rattle.cell_num.proofs.Elements.{In-All, found-In}
 use Rattle.cell_turns.specs.Kept.{KeepsCells, KeepsFields, KeepsReadOnly, KeepsShapes, regions_left}
-use Rattle.cell_coherent.proofs.Lists.{map_filter}
+use Rattle.cell_num.proofs.Sublists.{map_filter}
 use Rattle.cell_turns.proofs.Kept.{Kept, kept_tasks, kept_same, kept_then, kept_killed, kept_stored}
 use Rattle.cell_turns.proofs.Memory.{move_shapes, seen_memory}
 use Rattle.cell_turns.proofs.Turned.{stored_coherent}

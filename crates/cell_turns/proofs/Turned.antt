@@ -8,7 +8,8 @@ use Rattle.cell_world.specs.Coherent.{IsCoherent}
 use Rattle.cell_world.specs.Execute.{seen_in}
 use Rattle.cell_world.specs.Move.{Move}
 use Rattle.cell_world.specs.Turn.{hart_of, standing, task_column, turn, turned}
-use Rattle.cell_coherent.proofs.Elements.{In, found-In}
+use Rattle.cell_num.specs.Lists.{In}
+use Rattle.cell_num.proofs.Elements.{found-In}
 use Rattle.cell_turns.proofs.Killed.{kill_coherent}
 use Rattle.cell_turns.proofs.Changed.{TaskParts, live_parts, task_coherent}
 use Rattle.cell_turns.proofs.Stored.{store_coherent}

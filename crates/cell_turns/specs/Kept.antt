@@ -8,7 +8,7 @@
 --     other_tasks number       the tasks of other numbers
 use Rattle.std.specs.Prelude.{ℕ, ◌≡◌, ◌<◌, ◌+◌, ◌==◌, true, false, not, All, IsTrue, List, filter, map}
 use Rattle.cell_num.specs.Kinds.{width_of}
-use Rattle.cell_num.specs.Lists.{each_pair}
+use Rattle.cell_num.specs.Lists.{each_pair, In}
 use Rattle.cell_world.specs.declared.reply.TaskState.{TaskState}
 use Rattle.cell_world.specs.declared.reply.TaskState.TheVariants.{Ready, Done, Fault as Faulted}
 use Rattle.cell_world.specs.World.{World, Region, Task}
@@ -17,7 +17,6 @@ use Rattle.cell_world.specs.Field.{place_of, fields_of}
 use Rattle.cell_world.specs.Coherent.{shape_of, ends_before}
 use Rattle.cell_world.specs.Execute.{Seen}
 use Rattle.cell_world.specs.Turn.{without_region}
-use Rattle.cell_coherent.specs.Grown.{In}
 
 -- w with the regions and tasks of v is v: cells, links, namespaces, space and numbers are the same
 abbrev pub KeepsCells : World → World → Type 0

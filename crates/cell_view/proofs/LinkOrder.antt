@@ -9,7 +9,7 @@ use Rattle.std.proofs.lemmas.Bool.{and_parts, and_from, ltb-true, eqb-true, eq-e
 use Rattle.std.proofs.lemmas.Bool.Decides.{nat_tests}
 use Rattle.std.proofs.lemmas.List.Sorted.{IsPermutation-trans}
 use Rattle.cell_num.specs.declared.ids.SecKey.{SecKey}
-use Rattle.cell_num.specs.Lists.{each_pair, numbered_from}
+use Rattle.cell_num.specs.Lists.{each_pair, numbered_from, In}
 use Rattle.cell_object.specs.declared.object.Section.{Section as ObjectSection}
 use Rattle.cell_object.specs.declared.object.Entry.{Entry}
 use Rattle.cell_object.specs.Parts.{section_of}
@@ -20,12 +20,11 @@ use Rattle.cell_world.specs.World.{World, Cell, cell_of, key_of}
 use Rattle.cell_world.specs.Coherent.{IsCoherent}
 use Rattle.cell_world.specs.Relink.{link_of, link_to}
 use Rattle.cell_world.specs.Target.{target_of}
-use Rattle.cell_coherent.specs.Grown.{In}
 use Rattle.cell_coherent.specs.Present.{HasSection, JoinsPresent}
-use Rattle.cell_coherent.proofs.Elements.{all-In, In-all, All-In, In-append, found-In, any-In, any-Has, map-In, In-map, In-flat_map, pairs-map, pairs_same}
+use Rattle.cell_num.proofs.Elements.{all-In, In-all, All-In, In-append, found-In, any-In, any-Has, map-In, In-map, In-flat_map, pairs-map, pairs_same}
 use Rattle.cell_coherent.proofs.Known.{object_sound}
 use Rattle.cell_coherent.proofs.Present.{links_present, some_same}
-use Rattle.cell_load_law.proofs.Elements.{pairs-filter}
+use Rattle.cell_num.proofs.Sublists.{pairs-filter}
 use Rattle.cell_graph.specs.Links.{is_same}
 use Rattle.cell_machine.specs.Machine.{section_keys}
 use Rattle.cell_machine.specs.LinkOrder.{is_before}

@@ -11,8 +11,8 @@ use Rattle.cell_world.specs.declared.state.NewCell.{NewCell}
 use Rattle.cell_world.specs.Answer.{done, present_cell}
 use Rattle.cell_world.specs.LinkCommands.{link_line, next_deps, next_users}
 use Rattle.cell_world.specs.World.{World, Cell, cell_of}
-use Rattle.cell_coherent.specs.Grown.{In}
-use Rattle.cell_coherent.proofs.Elements.{flat_map-In}
+use Rattle.cell_num.specs.Lists.{In}
+use Rattle.cell_num.proofs.Elements.{flat_map-In}
 use Rattle.cell_load_law.proofs.Binds.{bind_is}
 use Rattle.cell_machine.specs.declared.machine.Machine.{Machine}
 use Rattle.cell_machine.specs.Machine.{IsSound, keys_of, section_keys, world_of}

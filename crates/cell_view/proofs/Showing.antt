@@ -17,8 +17,8 @@ use Rattle.cell_world.specs.Gather.{name_of_ns}
 use Rattle.cell_world.specs.MapCommand.{group_of, map_cell}
 use Rattle.cell_world.specs.Outcome.{found}
 use Rattle.cell_world.specs.Target.{start_of}
-use Rattle.cell_coherent.specs.Grown.{In}
-use Rattle.cell_load_law.proofs.Elements.{found-In}
+use Rattle.cell_num.specs.Lists.{In}
+use Rattle.cell_num.proofs.Elements.{found-In}
 use Rattle.cell_load_law.proofs.Binds.{bind_is}
 use Rattle.cell_machine.specs.declared.machine.Machine.{Machine}
 use Rattle.cell_space.specs.Joined.{placed_of}

@@ -7,9 +7,8 @@ use Rattle.std.specs.Cmp.{IsStrictWeakOrder}
 use Rattle.std.proofs.lemmas.Bool.{and_parts}
 use Rattle.std.proofs.lemmas.List.Recursion.{is_sum_by}
 use Rattle.std.proofs.lemmas.List.Sorted.{All-permutation, sum_by-IsPermutation}
-use Rattle.cell_num.specs.Lists.{each_pair}
-use Rattle.cell_coherent.specs.Grown.{In}
-use Rattle.cell_coherent.proofs.Elements.{all-In, All-In, In-All, pairs-In}
+use Rattle.cell_num.specs.Lists.{each_pair, In}
+use Rattle.cell_num.proofs.Elements.{all-In, All-In, In-All, pairs-In}
 
 abbrev one_if : Bool → ℕ
 one_if b = cond b 1 0

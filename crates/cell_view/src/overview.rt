@@ -1,10 +1,9 @@
 //! All cells with their sections.
 
 ghost use Rattle.std.specs.Prelude.{◌≡◌, IfOk, IsTrue, map, nat_lt};
-ghost use Rattle.cell_num.specs.Lists.{each_pair};
+ghost use Rattle.cell_num.specs.Lists.{each_pair, In};
 ghost use Rattle.cell_world.specs.MapCommand.{map_cell as shown_cell, next_map};
 ghost use Rattle.cell_world.specs.World.{Cell};
-ghost use Rattle.cell_coherent.specs.Grown.{In};
 ghost use Rattle.cell_machine.specs.Machine.{IsSound, world_of};
 ghost use Rattle.cell_world.specs.Following.{Follows};
 ghost use Rattle.cell_view.specs.Shows.{section_shown};

@@ -3,7 +3,7 @@ use Rattle.std.proofs.Common.{◌≡◌, refl, sym, ap, ap₂, subst, ◌∙◌,
 use Rattle.std.specs.Prelude.{All, Result, Err, find, nat_le, nat_lt, replicate, ◌==◌, ◌||◌}
 use Rattle.std.proofs.lemmas.Bool.{eqb-true, eq-eqb, leb-true}
 use Rattle.std.proofs.lemmas.List.{append_assoc, length-replicate}
-use Rattle.cell_num.specs.Lists.{each_pair}
+use Rattle.cell_num.specs.Lists.{each_pair, In}
 use Rattle.cell_world.specs.declared.refusal.Refusal.{Refusal}
 use Rattle.cell_world.specs.declared.transfer.Failure.{Failure}
 use Rattle.cell_world.specs.declared.transfer.Record.{Record}
@@ -20,7 +20,7 @@ use Rattle.cell_world.specs.SpawnCommand.{first_registers}
 use Rattle.cell_world.specs.Transfer.{Addresses, Transferred, is_success, routine_from, transferred}
 use Rattle.cell_world.specs.Turn.{without_region}
 use Rattle.cell_world.specs.Undo.{AreBytes, Write, journal_of, put_back, put_in, puts, record_of, undone}
-use Rattle.cell_coherent.proofs.Elements.{All-In, In, all-In, filter_all}
+use Rattle.cell_num.proofs.Elements.{All-In, all-In, filter_all}
 use Rattle.cell_transfer_law.proofs.Turns.{without_new}
 use Rattle.cell_transfer_law.proofs.Undone.{In-with_region, undo_all, undo_shapes, undone_unmapped}
 use Rattle.cell_hart.specs.Step.{seen_of}

@@ -2,13 +2,13 @@
 use Rattle.std.proofs.Common.{◌≡◌, refl, sym, ◌∙◌, ap, subst, arith, ℕ, inl, inr, Bool, true, false, cond, List, [], ◌∷◌, Some, ℕ, length, map}
 use Rattle.std.specs.Prelude.{filter, find, is_some, ◌==◌}
 use Rattle.cell_mem.specs.State.{size_of}
-use Rattle.cell_coherent.proofs.Elements.{In, In-all}
+use Rattle.cell_num.specs.Lists.{In, each_pair}
+use Rattle.cell_num.proofs.Elements.{In-all}
 use Rattle.cell_mem.specs.Index.{IsLaid}
 use Rattle.cell_mem.proofs.Laid.{Lies, covers_high, covers_low, laid_low, laid_lower}
 use Rattle.cell_world.specs.Memory.{covers, end_of}
 use Rattle.cell_world.specs.World.{Region}
 use Rattle.cell_world.specs.Coherent.{Shape, ends_before, shape_of}
-use Rattle.cell_num.specs.Lists.{each_pair}
 use Rattle.std.specs.List.{list_all}
 use Rattle.std.proofs.lemmas.Bool.{and_from, le-leb}
 

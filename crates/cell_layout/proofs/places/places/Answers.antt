@@ -1,6 +1,6 @@
 use Rattle.std.proofs.Common.{◌∙◌, ap, sym, subst, length, get_or, arith}
 use Rattle.cell_object.specs.declared.object.Section.{Section}
-use Rattle.cell_coherent.specs.Grown.{In}
+use Rattle.cell_num.specs.Lists.{In}
 use Rattle.cell_layout.proofs.Runs.{in_get}
 use Rattle.cell_layout.proofs.places.places.Goals as goal
 

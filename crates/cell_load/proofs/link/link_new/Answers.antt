@@ -1,8 +1,8 @@
 use Rattle.std.proofs.Common.{subst, sym, ◌++◌}
 use Rattle.std.proofs.lemmas.Result.{err_from_is_err_and}
 use Rattle.cell_world.specs.declared.state.NewCell.{NewCell}
-use Rattle.cell_coherent.specs.Grown.{In}
-use Rattle.cell_coherent.proofs.Elements.{In-right}
+use Rattle.cell_num.specs.Lists.{In}
+use Rattle.cell_num.proofs.Elements.{In-right}
 use Rattle.cell_layout.proofs.Runs.{in_get}
 use Rattle.cell_target.specs.Scene.{seen}
 use Rattle.cell_load.proofs.Linked.{linked_more, none_linked, refused}

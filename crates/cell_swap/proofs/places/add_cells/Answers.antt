@@ -1,6 +1,6 @@
 use Rattle.std.proofs.Common.{subst, sym}
 use Rattle.cell_world.specs.declared.state.NewCell.{NewCell}
-use Rattle.cell_coherent.specs.Grown.{In}
+use Rattle.cell_num.specs.Lists.{In}
 use Rattle.cell_machine.proofs.Lists.{in_get}
 use Rattle.cell_swap.proofs.places.add_cells.Goals as goal
 

@@ -5,7 +5,7 @@ use Rattle.cell_world.specs.declared.state.NewCell.{NewCell}
 use Rattle.cell_world.specs.declared.state.Placed.{Placed}
 use Rattle.cell_world.specs.Kept.{placed_in}
 use Rattle.cell_world.specs.World.{attached}
-use Rattle.cell_coherent.proofs.Elements.{In-left, In-right}
+use Rattle.cell_num.proofs.Elements.{In-left, In-right}
 use Rattle.cell_swap.proofs.places.places_of.Goals as goal
 
 pub add_cells-requires : goal.add_cells-requires

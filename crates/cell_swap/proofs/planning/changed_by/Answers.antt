@@ -2,8 +2,8 @@ use Rattle.std.specs.Prelude.{All, ◌++◌}
 use Rattle.std.proofs.Common.{Bor, List, subst, sym}
 use Rattle.std.proofs.lemmas.List.Elements.{All-weaker}
 use Rattle.cell_world.specs.declared.state.NewCell.{NewCell}
-use Rattle.cell_coherent.specs.Grown.{In}
-use Rattle.cell_coherent.proofs.Elements.{In-left}
+use Rattle.cell_num.specs.Lists.{In}
+use Rattle.cell_num.proofs.Elements.{In-left}
 use Rattle.cell_swap.proofs.planning.changed_by.Goals as goal
 
 pub changed-requires-clause-there : goal.changed-requires-clause-there

@@ -3,7 +3,7 @@ use Rattle.std.specs.Prelude.{flat_map}
 use Rattle.std.proofs.lemmas.Grind.{flat_map-append}
 use Rattle.cell_world.specs.declared.state.NewCell.{NewCell}
 use Rattle.cell_world.specs.World.{World}
-use Rattle.cell_coherent.specs.Grown.{In}
+use Rattle.cell_num.specs.Lists.{In}
 use Rattle.cell_hold.specs.declared.roots.Root.{Root}
 use Rattle.cell_machine.specs.Machine.{world_of}
 use Rattle.cell_machine.proofs.Joined.{cell_at, placed_in}

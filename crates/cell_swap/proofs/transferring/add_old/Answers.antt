@@ -1,6 +1,6 @@
 use Rattle.std.proofs.Common.{◌≡◌, ◌∙◌, ap, sym, subst, ℕ, List, ◌++◌, Some}
 use Rattle.std.specs.Prelude.{◌==◌, OnOk, find}
-use Rattle.cell_coherent.proofs.Elements.{found-In}
+use Rattle.cell_num.proofs.Elements.{found-In}
 use Rattle.cell_world.specs.declared.state.NewCell.{NewCell}
 use Rattle.cell_xfer.specs.Named.{AnswersAs}
 use Rattle.cell_swap.proofs.Rows.{rows_found}

@@ -4,7 +4,7 @@ use Rattle.cell_world.specs.declared.reply.MapCell.{MapCell}
 use Rattle.cell_world.specs.declared.state.NewCell.{NewCell}
 use Rattle.cell_world.specs.MapCommand.{map_cell}
 use Rattle.cell_world.specs.World.{World}
-use Rattle.cell_coherent.specs.Grown.{In}
+use Rattle.cell_num.specs.Lists.{In}
 use Rattle.cell_machine.specs.Machine.{world_of}
 use Rattle.cell_machine.proofs.Joined.{cell_at, placed_in}
 use Rattle.cell_view.proofs.overview.map_cells.Goals as goal

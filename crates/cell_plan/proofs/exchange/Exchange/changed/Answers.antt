@@ -2,7 +2,7 @@ use Rattle.std.proofs.Common.{subst, sym, map, arith, ◌++◌, Bor}
 use Rattle.cell_world.specs.declared.state.NewCell.{NewCell}
 use Rattle.std.proofs.lemmas.List.{length-map}
 use Rattle.std.proofs.lemmas.Result.{err_from_is_err_and}
-use Rattle.cell_coherent.specs.Grown.{In}
+use Rattle.cell_num.specs.Lists.{In}
 use Rattle.cell_plan.specs.Viewed.{view_of}
 use Rattle.cell_plan.proofs.Exchanging.{all_added, one_added, one_refused}
 use Rattle.cell_plan.proofs.Lists.{referred}

@@ -1,7 +1,7 @@
 use Rattle.std.proofs.Common.{ap, ◌∙◌, subst, suc, List, append-nil}
 use Rattle.std.specs.Prelude.{flat_map}
 use Rattle.cell_world.specs.declared.state.NewCell.{NewCell}
-use Rattle.cell_coherent.specs.Grown.{In}
+use Rattle.cell_num.specs.Lists.{In}
 use Rattle.cell_world.specs.Kept.{placed_in}
 use Rattle.cell_world.specs.World.{attached}
 use Rattle.cell_machine.specs.Machine.{world_of}

@@ -1,10 +1,10 @@
 -- What filters, maps and folds leave of tests over a list.
-use Rattle.std.proofs.Common.{◌≡◌, refl, sym, ◌∙◌, ap, subst, arith, ◌≤◌, inl, inr, Bool, true, false, cond, List, [], ◌∷◌, length, map, true≢false}
+use Rattle.std.proofs.Common.{◌≡◌, refl, sym, ◌∙◌, ap, subst, arith, ◌≤◌, inl, inr, Bool, true, false, cond, List, [], ◌∷◌, ◌++◌, length, map, true≢false}
 use Rattle.std.specs.Prelude.{filter, ◌&&◌, fold}
 use Rattle.std.specs.List.{list_all}
 use Rattle.std.proofs.lemmas.Bool.{and_parts, and_from}
 use Rattle.cell_num.specs.Lists.{each_pair}
-use Rattle.cell_coherent.proofs.Elements.{In, all-In, In-all, In-filtered, In-map}
+use Rattle.cell_num.proofs.Elements.{In, all-In, In-all, In-filtered, In-map}
 
 pub and_left : (a b : Bool) → (a && b) ≡ true → a ≡ true
 and_left a b h = (and_parts a b h).0
@@ -41,6 +41,20 @@ module _ {X : Type 0} where
       go : (b : Bool) → length (filter p xs) ≤ length xs → length (cond b (x ∷ filter p xs) (filter p xs)) ≤ length (x ∷ xs)
       go true h = omega (arith, h)
       go false h = omega (arith, h)
+
+  pub all-append : (p : X → Bool) (xs ys : List X) → list_all p xs ≡ true → list_all p ys ≡ true → list_all p (xs ++ ys) ≡ true
+  all-append p [] ys h k = k
+  all-append p (x ∷ xs) ys h k =
+      let both = and_parts (p x) (list_all p xs) h in and_from (p x) (list_all p (xs ++ ys)) both.0 (all-append p xs ys both.1 k)
+
+  -- a test of pairs, of one list behind another
+  pub pairs-append : (t : X → X → Bool) (xs ys : List X) → each_pair t xs ≡ true → each_pair t ys ≡ true → ((x y : X) → In x xs → In y ys → t x y ≡ true) → each_pair t (xs ++ ys) ≡ true
+  pairs-append t [] ys h k f = k
+  pairs-append t (x ∷ xs) ys h k f =
+      let both = and_parts (list_all (t x) xs) (each_pair t xs) h in
+      and_from (list_all (t x) (xs ++ ys)) (each_pair t (xs ++ ys))
+      (all-append (t x) xs ys both.0 (In-all (t x) ys (λ y i. f x y (inl refl) i)))
+      (pairs-append t xs ys both.1 k (λ a y i j. f a y (inr i) j))
 
   -- a map that leaves each element leaves the list
   pub In-fixed : (f : X → X) (xs : List X) → ((x : X) → In x xs → f x ≡ x) → map f xs ≡ xs

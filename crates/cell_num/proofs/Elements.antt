@@ -2,15 +2,11 @@
 use Rattle.std.proofs.Common.{◌≡◌, refl, sym, ◌∙◌, ap, subst, arith, ℕ, zero, suc, ◌+◌, ◌<◌, ◌⊎◌, inl, inr, Bool, true, false, cond, not, ◌&&◌, ◌||◌, List, [], ◌∷◌, ◌++◌, map, length, true≢false}
 use Rattle.std.specs.Prelude.{Option, Some, None, All, find, filter, filter_map, flat_map, fold, position, nat_lt, slice_get, is_some, is_none}
 use Rattle.std.specs.List.{list_any, list_all, cons_option, slice_index_or, prefix_len}
-use Rattle.std.proofs.lemmas.Bool.{and_parts, and_from, or_cases, or_left, ltb-true}
+use Rattle.std.proofs.lemmas.Bool.{and_parts, and_from, or_parts, or_cases, or_left, ltb-true}
 use Rattle.std.proofs.lemmas.List.Folds.{list_all-map}
 use Rattle.std.proofs.Math.Bool.{or-true}
 use Rattle.cell_num.specs.Lists.{each_pair, numbered_from, first, or_else}
-pub use Rattle.cell_coherent.specs.Grown.{In}
-
-or_parts : (a b : Bool) → (a || b) ≡ false → (a ≡ false) × (b ≡ false)
-or_parts true b h = absurd (true≢false h)
-or_parts false b h = (refl, h)
+pub use Rattle.cell_num.specs.Lists.{In}
 
 none_cons : (a b : Bool) → a ≡ false → b ≡ false → (a || b) ≡ false
 none_cons true b h k = h
