@@ -297,10 +297,8 @@ module _ (object : Object) (w : IsWritable object) where
   entry_ruled n s there k e at =
       let of : Entry → Bool = λ x. x.section == n + 1 in
       let all : List Entry = filter of object.entries in
-      let at_all = get-In all k e at in
-      let among = (In-filtered of object.entries e at_all, filter-Passes of object.entries e at_all) in
-      let own : e.section ≡ n + 1 = eqb-true e.section (n + 1) among.1 in
-      let h : is_sound_entry object e ≡ true = all-In (is_sound_entry object) object.entries w.sound.entries e among.0 in
+      let own : e.section ≡ n + 1 = eqb-true e.section (n + 1) (filter-Passes of object.entries e (get-In all k e at)) in
+      let h : is_sound_entry object e ≡ true = all-In (is_sound_entry object) object.entries w.sound.entries e (In-filtered of object.entries e (get-In all k e at)) in
       let known : Bool = is_known_kind e.kind in
       let inside : Bool = unwrap_or (option_map (is_sound_entry_in e) (section_of object e.section)) false in
       let named : Bool = (e.symbol == 0 || unwrap_or (option_map (λ s. is_nameable s s.home) (symbol_at object e.symbol)) false) in
