@@ -12,3 +12,4 @@ pub mod Noting
 pub mod Writes
 pub mod Back
 pub mod Small
+pub mod LaidApart

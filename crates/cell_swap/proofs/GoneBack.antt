@@ -43,8 +43,8 @@ use Rattle.cell_swap.specs.Back.{CanGoBack}
 use Rattle.cell_swap.specs.Before.{begun_in}
 use Rattle.cell_swap.specs.Swapped.{IsPlanned, IsReadyFor}
 use Rattle.cell_swap.specs.declared.swapping.Options.{Options}
-use Rattle.cell_swap.proofs.AllRemoved.{all_named, can_leave, keys_left, known_left, numbers, places_rise, starts_are, stay, tabled}
-use Rattle.cell_swap.proofs.Leftovers.{filter_mapped}
+use Rattle.cell_unload.proofs.AllRemoved.{all_named, can_leave, keys_left, known_left, numbers, places_rise, starts_are, stay, tabled}
+use Rattle.cell_unload.proofs.Leftovers.{filter_mapped}
 use Rattle.cell_space.specs.Machine.{called}
 use Rattle.cell_commit.specs.Seals.{seal_table}
 use Rattle.cell_mem.specs.Index.{IsLaid}
@@ -54,10 +54,10 @@ use Rattle.cell_swap.proofs.Suspended.{committable_begun, committed_without, sus
 use Rattle.cell_swap.proofs.Journals.{end_base, end_pages, gone_back, mid, still_begun, writes_left}
 use Rattle.cell_swap.proofs.LinksBack.{bound_still, links_of_cells, rows_back, rows_left, unused}
 use Rattle.cell_swap.proofs.MemoryBack.{memory_back, other}
-use Rattle.cell_xfer.proofs.LaidApart.{laid_apart}
+use Rattle.cell_mem.proofs.LaidApart.{laid_apart}
 use Rattle.cell_swap.proofs.TableBack.{leave_by, tabled_by}
-use Rattle.cell_swap.specs.Removed.{CanGo, IsTaken}
-use Rattle.cell_swap.specs.Unmapped.{CanLeave, IsTabled, lost_starts, table_of, without_regions}
+use Rattle.cell_unload.specs.Removed.{CanGo, IsTaken}
+use Rattle.cell_unload.specs.Unmapped.{CanLeave, IsTabled, lost_starts, table_of, without_regions}
 use Rattle.cell_swap.proofs.SwapFinished.{HasAdded, after, committable, below, cells_are, fresh_are, new, old_placed}
 
 -- cells of which some are new, by their numbers

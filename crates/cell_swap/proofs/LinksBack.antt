@@ -27,8 +27,8 @@ use Rattle.cell_graph.specs.Removal.{is_listed, is_outside_use, is_used_outside,
 use Rattle.cell_machine.specs.LinkOrder.{is_before}
 use Rattle.cell_machine.proofs.LinksRise.{links_rise}
 use Rattle.cell_swap.specs.Before.{AreAsTheyWere}
-use Rattle.cell_swap.proofs.AllRemoved.{numbers}
-use Rattle.cell_swap.proofs.Leftovers.{holds_numbers}
+use Rattle.cell_unload.proofs.AllRemoved.{numbers}
+use Rattle.cell_unload.proofs.Leftovers.{holds_numbers}
 use Rattle.cell_removal.proofs.KeptPaths.{In-holds, holds-In}
 use Rattle.cell_swap.proofs.RowsBack.{AreOnce, all_back, itself, others_stay}
 

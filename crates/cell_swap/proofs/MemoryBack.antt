@@ -16,11 +16,11 @@ use Rattle.cell_mem.specs.Undo.{UndoState}
 use Rattle.cell_machine.specs.declared.machine.Machine.{Machine}
 use Rattle.cell_machine.specs.Machine.{IsSound, field_bytes, world_of}
 use Rattle.cell_machine.specs.Staged.{all_attached}
-use Rattle.cell_swap.specs.Unmapped.{CanLeave, lost_starts, without_regions}
-use Rattle.cell_swap.proofs.AllRemoved.{can_leave, numbers, stay}
-use Rattle.cell_xfer.proofs.LaidApart.{laid_apart, laid_some, lies_in, same_sizes}
-use Rattle.cell_swap.proofs.SealsLeft.{seals_after, table_long}
-use Rattle.cell_swap.proofs.Unmapping.{IsWell, regions_left, same_base, same_maps, same_pages, same_patches, same_undo}
+use Rattle.cell_unload.specs.Unmapped.{CanLeave, lost_starts, without_regions}
+use Rattle.cell_unload.proofs.AllRemoved.{can_leave, numbers, stay}
+use Rattle.cell_mem.proofs.LaidApart.{laid_apart, laid_some, lies_in, same_sizes}
+use Rattle.cell_unload.proofs.SealsLeft.{seals_after, table_long}
+use Rattle.cell_unload.proofs.Unmapping.{IsWell, regions_left, same_base, same_maps, same_pages, same_patches, same_undo}
 
 -- what hangs on the shapes of regions alone
 other_shapes : (start : ℕ) (xs ys : List Region) → map shape_of xs ≡ map shape_of ys

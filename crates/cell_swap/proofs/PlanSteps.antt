@@ -30,7 +30,7 @@ use Rattle.cell_task.specs.State.{TasksState}
 use Rattle.cell_load_law.specs.Loading.{placed_cells}
 use Rattle.cell_world.specs.Fit.{first_misfit}
 use Rattle.cell_world.specs.Kept.{placed_in}
-use Rattle.cell_swap.specs.declared.outlook.Outlook.{Outlook}
+use Rattle.cell_unload.specs.declared.outlook.Outlook.{Outlook}
 use Rattle.cell_space.specs.Ahead.{AheadState}
 use Rattle.cell_space.specs.Joined.{placed_of}
 use Rattle.cell_space.specs.Spaces.{HasCell}

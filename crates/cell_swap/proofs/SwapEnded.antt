@@ -48,11 +48,11 @@ use Rattle.cell_xfer.specs.Named.{addresses_as}
 use Rattle.cell_xfer.specs.declared.carrying.Transfer.{Transfer}
 use Rattle.cell_swap.specs.declared.planning.Plan.{Plan}
 use Rattle.cell_swap.specs.declared.swapping.Ready.{Ready}
-use Rattle.cell_swap.specs.declared.survey.Survey.{Survey}
+use Rattle.cell_unload.specs.declared.survey.Survey.{Survey}
 use Rattle.cell_swap.specs.Back.{CanGoBack, CanUndo}
 use Rattle.cell_swap.specs.Before.{AreAsTheyWere, begun_in}
 use Rattle.cell_swap.specs.Swapped.{CanFinish, ended}
-use Rattle.cell_swap.specs.Sweep.{IsSurvey, IsSwept, Removes, aside_in, holding_in}
+use Rattle.cell_unload.specs.Sweep.{IsSurvey, IsSwept, Removes, aside_in, holding_in}
 use Rattle.cell_swap.specs.Transferring.{CanRun, Gives, HasRun, IsGiven, new_rows, old_rows, pages_for, stacks_for, turns_in}
 use Rattle.cell_swap.proofs.AddressesSaid.{new_said, old_said}
 use Rattle.cell_swap.proofs.Began.{sources, v, wants}

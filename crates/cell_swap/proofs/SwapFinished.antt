@@ -40,10 +40,10 @@ use Rattle.cell_swap.specs.declared.planning.Plan.{Plan}
 use Rattle.cell_swap.specs.declared.swapping.Ready.{Ready}
 use Rattle.cell_swap.specs.Swapped.{HasSwapped, IsPlanned, IsReadyFor}
 use Rattle.cell_swap.specs.declared.swapping.Options.{Options}
-use Rattle.cell_swap.specs.Sweep.{IsOutlook, IsSwept}
+use Rattle.cell_unload.specs.Sweep.{IsOutlook, IsSwept}
 use Rattle.cell_swap.proofs.SwapOutlook.{outlook_after}
 use Rattle.cell_swap.proofs.SwapRuns.{came, stay_all}
-use Rattle.cell_swap.proofs.Swept.{purge_done}
+use Rattle.cell_unload.proofs.Swept.{purge_done}
 
 abbrev removed_by : Reply → List CellId
 removed_by (PurgeDone removed) = removed

@@ -19,15 +19,15 @@ use Rattle.cell_num.proofs.Elements.{all-In, In-all, In-append, In-left, In-righ
 use Rattle.cell_space.specs.Joined.{placed_of}
 use Rattle.cell_machine.specs.declared.machine.Machine.{Machine}
 use Rattle.cell_machine.specs.Machine.{IsSound, world_of}
-use Rattle.cell_swap.specs.declared.outlook.Outlook.{Outlook}
-use Rattle.cell_swap.specs.Begun.{is_aside, root_of, root_of_task}
+use Rattle.cell_unload.specs.declared.outlook.Outlook.{Outlook}
+use Rattle.cell_unload.specs.Begun.{is_aside, root_of, root_of_task}
 use Rattle.cell_swap.specs.OldCells.{IsAside}
 use Rattle.cell_swap.specs.Swapped.{roots_without}
-use Rattle.cell_swap.specs.Sweep.{IsOutlook}
-use Rattle.cell_swap.proofs.Aside.{listed_numbers}
-use Rattle.cell_swap.proofs.Beginnings.{all_named, attached_are, claims_are}
+use Rattle.cell_unload.specs.Sweep.{IsOutlook}
+use Rattle.cell_unload.proofs.Aside.{listed_numbers}
+use Rattle.cell_unload.proofs.Beginnings.{all_named, attached_are, claims_are}
 use Rattle.cell_swap.proofs.OldStates.{aside_world}
-use Rattle.cell_swap.proofs.Ordered.{all_there}
+use Rattle.cell_unload.proofs.Ordered.{all_there}
 
 module _ (k : ℕ) (old : List CellId) where
   abbrev numbers : List ℕ

@@ -8,7 +8,7 @@ use Rattle.cell_world.specs.Memory.{covers}
 use Rattle.cell_world.specs.Coherent.{Shape, shape_of}
 use Rattle.cell_mem.specs.State.{MemoryState}
 use Rattle.cell_place.specs.Space.{SpaceState}
-use Rattle.cell_swap.specs.Unmapped.{CanLeave, IsTabled, table_of}
+use Rattle.cell_unload.specs.Unmapped.{CanLeave, IsTabled, table_of}
 
 covers_by : (x y : Region) (addr : ℕ) → shape_of x ≡ shape_of y → covers x addr ≡ covers y addr
 covers_by x y addr e = ap (λ (s : Shape). nat_le s.start addr && nat_lt addr (s.start + s.size)) e

@@ -1,7 +1,3 @@
-pub mod Sweep
-pub mod Removed
-pub mod Begun
-pub mod Unmapped
 pub mod Asking
 pub mod OldCells
 pub mod Transferring

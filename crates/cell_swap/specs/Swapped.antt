@@ -35,7 +35,7 @@ use Rattle.cell_swap.specs.declared.swapping.Ready.{Ready}
 use Rattle.cell_swap.specs.declared.swapping.Options.{Options}
 use Rattle.cell_swap.specs.Transferring.{Gives, stacks_for, turns_in}
 use Rattle.cell_swap.specs.Before.{AreAsTheyWere, begun_in}
-use Rattle.cell_swap.specs.Begun.{root_of, root_of_task}
+use Rattle.cell_unload.specs.Begun.{root_of, root_of_task}
 use Rattle.cell_swap.specs.Planning.{IsBegun, IsPlan, planned}
 
 abbrev pub roots_without : Machine → List CellId → List Root

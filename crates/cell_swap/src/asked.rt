@@ -8,11 +8,11 @@ ghost use Rattle.cell_world.specs.Outcome.{found};
 ghost use Rattle.cell_world.specs.declared.refusal.Refusal.TheVariants.{Unknown};
 ghost use Rattle.cell_swap.specs.Asking.{AddsWant, Asks, old_placed};
 
-use crate::named::named_cell;
 use cell_depot::Depot;
 use cell_load::Want;
 use cell_machine::{Machine, unknown};
 use cell_num::{CellId, Name};
+use cell_unload::named_cell;
 use cell_world::{CellName, Fail, File, NewCell, SwapItem};
 use std::alloc::{AllocError, Global};
 

@@ -3,10 +3,10 @@
 ghost use Rattle.cell_machine.specs.Same.{IsSame};
 ghost use Rattle.cell_swap.specs.Back.{CanUndo};
 
-use crate::removal::take_away;
 use cell_commit::move_rows;
 use cell_machine::Machine;
 use cell_num::CellId;
+use cell_unload::take_away;
 use cell_world::LinkRow;
 
 /// Gives the fields and the links of other cells and all that routines wrote back, and takes the new

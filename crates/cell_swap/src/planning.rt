@@ -8,7 +8,6 @@ ghost use Rattle.cell_target.specs.Scene.{AreCells};
 
 use crate::affected::Affected;
 use crate::asked::Asked;
-use crate::outlook::Outlook;
 use crate::standing::check_torn;
 use crate::transferring::stack_pages;
 use cell_depot::Depot;
@@ -21,6 +20,7 @@ use cell_num::Name;
 use cell_plan::{Changed, Exchange, check_coverage};
 use cell_routines::{Begin, begins_of};
 use cell_target::Scene;
+use cell_unload::Outlook;
 use cell_world::{Fail, LinkRow};
 use std::alloc::Global;
 

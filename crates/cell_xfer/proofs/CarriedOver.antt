@@ -33,7 +33,7 @@ use Rattle.cell_xfer.specs.Transfers.{Transfers, failure_of}
 use Rattle.cell_xfer.specs.Written.{HasWritten, all_written}
 use Rattle.cell_xfer.specs.declared.carrying.Transfer.{Transfer}
 use Rattle.cell_xfer.proofs.Answering.{answers_itself}
-use Rattle.cell_xfer.proofs.LaidApart.{laid_apart, lies_in, same_found, same_sizes}
+use Rattle.cell_mem.proofs.LaidApart.{laid_apart, lies_in, same_found, same_sizes}
 
 -- writes leave all but the regions and the undo, which notes them
 all_puts : (m : MemoryState) (xs : List Write) → (all_written m xs).regions ≡ puts m.regions xs

@@ -7,5 +7,4 @@ mod Running
 mod Turning
 mod Unrolled
 pub mod Writing
-pub mod LaidApart
 mod CarriedOver

@@ -6,7 +6,7 @@ use Rattle.cell_world.specs.Gather.{file_named, source_of}
 use Rattle.cell_world.specs.Outcome.{found}
 use Rattle.std.specs.Prelude.{map}
 use Rattle.cell_swap.proofs.ItemLemmas.{the_file}
-use Rattle.cell_swap.proofs.Naming.{unknown_is}
+use Rattle.cell_unload.proofs.Naming.{unknown_is}
 use Rattle.cell_swap.proofs.asked.file_named.Goals as goal
 
 pub returns-in-Some : goal.returns-in-Some

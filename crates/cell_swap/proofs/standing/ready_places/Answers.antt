@@ -4,7 +4,7 @@ use Rattle.std.proofs.lemmas.List.{length_push}
 use Rattle.cell_world.specs.World.{Task}
 use Rattle.cell_task.specs.State.{seen_as}
 use Rattle.cell_swap.specs.Planning.{place_if_ready}
-use Rattle.cell_swap.proofs.LiveTasks.{left_more, never_missing, parts_more}
+use Rattle.cell_unload.proofs.LiveTasks.{left_more, never_missing, parts_more}
 use Rattle.cell_swap.proofs.ReadyPlaces.{all_ready}
 use Rattle.cell_swap.proofs.standing.ready_places.Goals as goal
 

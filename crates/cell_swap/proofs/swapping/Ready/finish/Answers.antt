@@ -8,7 +8,7 @@ use Rattle.cell_mem.specs.Undo.{UndoState}
 use Rattle.cell_machine.specs.declared.machine.Machine.{Machine}
 use Rattle.cell_machine.specs.Machine.{IsSound, world_of}
 use Rattle.cell_swap.specs.Swapped.{HasSwapped}
-use Rattle.cell_swap.specs.Sweep.{IsOutlook, IsSurvey, Removes, holding_in}
+use Rattle.cell_unload.specs.Sweep.{IsOutlook, IsSurvey, Removes, holding_in}
 use Rattle.cell_swap.specs.Transferring.{stacks_for}
 use Rattle.cell_swap.proofs.Suspended.{suspended, with_undo}
 use Rattle.cell_swap.proofs.SwapEnded.{all_added, can_commit, can_run, can_undo, ended_so, failed_so, ran, swept_is}

@@ -1,0 +1,17 @@
+pub mod Naming
+pub mod Ordered
+pub mod LiveTasks
+pub mod Beginnings
+pub mod Leftovers
+pub mod GivenBack
+pub mod Unmapping
+pub mod CellStarts
+pub mod OneByOne
+pub mod Leaving
+pub mod SealsLeft
+pub mod AllRemoved
+pub mod Aside
+pub mod Firsts
+pub mod Surveyed
+pub mod Walked
+pub mod Swept

@@ -1,0 +1,4 @@
+pub mod Sweep
+pub mod Removed
+pub mod Begun
+pub mod Unmapped

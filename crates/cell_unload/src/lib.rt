@@ -1,0 +1,20 @@
+//! Which cells are kept, and taking away those that nobody keeps: first the whole decision, then steps that take no memory.
+#![tactic(auto)]
+
+mod holding;
+mod named;
+mod outlook;
+mod places;
+mod regions;
+mod removal;
+mod survey;
+mod sweep;
+mod unloading;
+
+pub use holding::roots;
+pub use named::named_cell;
+pub use outlook::Outlook;
+pub use removal::take_away;
+pub use survey::Survey;
+pub use sweep::remove_unkept;
+pub use unloading::{purge, unload};
