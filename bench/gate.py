@@ -1,10 +1,12 @@
 #!/usr/bin/env python3
 """Where the minutes of the gate go, crate by crate: proof, tests, edits.
 
-    bench/gate.py run FILE      runs `rt ci`, shows what it prints, writes to FILE how long each of its checks took, and
-                                prints the table
-    bench/gate.py table FILE    prints the table of such a FILE: minutes of one processor for each crate, and the chain
-                                of crates that stand on each other whose proofs take longest
+    bench/gate.py run FILE            runs `rt ci`, shows what it prints, writes to FILE how long each of its checks took,
+                                      and prints the table
+    bench/gate.py table FILE          prints the table of such a FILE: minutes of one processor for each crate, the chain of
+                                      crates that stand on each other whose proofs take longest, and the ten dearest edits
+    bench/gate.py functions CRATE..   proves these crates from nothing in a copy, with their tests, and prints the ten
+                                      functions of each, tests among them, that took longest
 
 The gate says no times by itself, so this looks once a second at the processes that it starts. The first check of a crate's
 edits, which proves it as it stands, counts among the edits.
@@ -12,10 +14,14 @@ edits, which proves it as it stands, counts among the edits.
 import collections
 import json
 import os
+import re
+import shutil
 import subprocess
 import sys
+import tempfile
 import time
 
+TOP = os.path.join(os.path.dirname(os.path.abspath(__file__)), "..")
 TICKS = os.sysconf("SC_CLK_TCK")
 KINDS = ["proof", "tests", "edits"]
 
@@ -87,12 +93,48 @@ def table(path):
     print(f"from the first check to the last: {(max(c['ended'] for c in seen) - min(c['began'] for c in seen)) / 60:.1f} minutes")
     minutes, crates = longest_chain({crate: row["proof"] for crate, row in spent.items()})
     print(f"the longest chain of proofs: {minutes:.1f} minutes, {len(crates)} crates: {' '.join(crates)}")
+    print("the dearest edits, in seconds of one processor; the first of a crate pays for the proof of the whole crate:")
+    for edit, seconds in sorted(edits(seen), key=lambda pair: -pair[1])[:10]:
+        print(f"{seconds:9.1f} {edit}")
+
+
+def edits(seen):
+    """The edits of each crate with the processor time of their checks. They are tried in the order of their names, and the
+    crate as it stands comes last."""
+    tried = collections.defaultdict(list)
+    for check in sorted(seen, key=lambda check: check["began"]):
+        if check["kind"] == "edits":
+            tried[check["crate"]].append(check["used"])
+    for crate, times in tried.items():
+        names = sorted(name for name in os.listdir(os.path.join(TOP, "crates", crate, "must-fail")) if name.endswith(".edit"))
+        yield from ((f"{crate}/{name}", used) for name, used in zip(names, times))
+
+
+def functions(crate):
+    """Proves a crate with its tests in a copy that has no more than the libraries below, and prints which functions are dear."""
+    with tempfile.TemporaryDirectory(prefix="cells-functions-") as room:
+        kept = lambda folder, names: [name for name in names if name == "incremental"] if os.path.basename(folder) == "out" else []
+        shutil.copytree(os.path.join(TOP, "crates"), os.path.join(room, "crates"), ignore=kept)
+        for name in ("crates.txt", "HANDLES"):
+            shutil.copy(os.path.join(TOP, name), room)
+        words = ["rt", "check", "--test", "--progress", "--jobs", "1"]
+        check = subprocess.Popen(words, cwd=os.path.join(room, "crates", crate), stdout=subprocess.PIPE, stderr=subprocess.STDOUT, text=True)
+        took, last = {}, None
+        for line in check.stdout:
+            now, found = time.monotonic(), re.match(r"checked (\S+), \d+ of \d+", line)
+            if found and last:
+                took[found[1]] = now - last
+            if found or line.startswith("ahead"):
+                last = now
+        print(f"{crate}: {sum(took.values()):.0f} seconds for {len(took)} functions" + (", NOT PROVED" if check.wait() else ""))
+        for name, seconds in sorted(took.items(), key=lambda pair: -pair[1])[:10]:
+            print(f"{seconds:9.1f} {name}")
 
 
 def libraries():
     """The crates that each crate stands on, by crates.txt."""
     found = {}
-    with open(os.path.join(os.path.dirname(os.path.abspath(__file__)), "..", "crates.txt")) as file:
+    with open(os.path.join(TOP, "crates.txt")) as file:
         for line in file:
             name, _, below = line.partition("#")[0].partition(":")
             if name.split():
@@ -113,6 +155,10 @@ def longest_chain(proofs):
 
 
 def main():
+    if len(sys.argv) > 2 and sys.argv[1] == "functions":
+        for crate in sys.argv[2:]:
+            functions(crate)
+        return
     if len(sys.argv) != 3 or sys.argv[1] not in ("run", "table"):
         sys.exit(__doc__)
     status = run(sys.argv[2]) if sys.argv[1] == "run" else 0
