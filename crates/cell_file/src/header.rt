@@ -9,7 +9,7 @@ ghost use Rattle.cell_file.specs.Outcome.{Passes};
 use crate::ReadFail;
 use crate::file::{ends_within, file_header, refuse_where, section_header_at};
 use crate::strings::Strings;
-use cell_bytes::Shared;
+use cell_num::Shared;
 use cell_object::elf::{EM_RISCV, ET_REL, EV_CURRENT, HEADER_LEN, IDENTIFICATION, SHT_STRTAB};
 use cell_object::{FileHeader, SectionHeader};
 

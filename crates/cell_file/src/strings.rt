@@ -7,7 +7,7 @@ ghost use Rattle.cell_file.specs.Ends.{last_end as end_of};
 ghost use Rattle.cell_file.specs.Outcome.{Passes};
 
 use crate::ReadFail;
-use cell_bytes::{Bytes, Shared};
+use cell_num::{Bytes, Shared};
 use cell_object::elf::LONGEST_NAME;
 
 fn first_zero(bytes: &[u8]) -> Option<usize>

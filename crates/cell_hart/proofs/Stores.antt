@@ -7,9 +7,9 @@ use Rattle.cell_isa.specs.declared.insn.Insn.{Insn}
 use Rattle.cell_isa.specs.declared.insn.Op.{Op}
 use Rattle.cell_isa.specs.declared.insn.Op.TheVariants.{Fence, Ecall, Ebreak}
 use Rattle.cell_isa.specs.Instruction.{decode}
-use Rattle.cell_alu.specs.declared.memory.Access.{Access}
-use Rattle.cell_alu.specs.declared.memory.Access.TheVariants.{Untouched, Loads, Stores}
-use Rattle.cell_alu.specs.Meaning.{result_of, is_taken, aim_of, access_of}
+use Rattle.cell_isa.specs.declared.memory.Access.{Access}
+use Rattle.cell_isa.specs.declared.memory.Access.TheVariants.{Untouched, Loads, Stores}
+use Rattle.cell_isa.specs.Meaning.{result_of, is_taken, aim_of, access_of}
 use Rattle.cell_world.specs.Memory.{Write}
 use Rattle.cell_world.specs.Execute.{Seen, Effect, Goes, Calls, Traps, with_register, allows, number_read, extended, computed, jumped, loaded, stored, accessed, stepped, performed, execute_word, execute}
 

@@ -2,8 +2,8 @@
 --     seen_of memory                               the memory as an instruction sees it
 --     Steps stop effect before after old new       the hart was `before` and is `after`, the memory was `old` and is `new`
 use Rattle.std.specs.Prelude.{◌≡◌, Option, Some, None, true}
-use Rattle.cell_alu.specs.declared.memory.Access.{Access}
-use Rattle.cell_alu.specs.declared.memory.Access.TheVariants.{Untouched, Loads, Stores}
+use Rattle.cell_isa.specs.declared.memory.Access.{Access}
+use Rattle.cell_isa.specs.declared.memory.Access.TheVariants.{Untouched, Loads, Stores}
 use Rattle.cell_hart.specs.declared.hart.Hart.{Hart}
 use Rattle.cell_hart.specs.declared.stop.Stop.{Stop}
 use Rattle.cell_hart.specs.declared.stop.Stop.TheVariants.{Next, Call, Trap}

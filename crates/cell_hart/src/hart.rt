@@ -8,8 +8,7 @@ ghost use Rattle.cell_world.specs.Execute.{with_register as register_with, exten
 
 use crate::causes::{load_cause, store_cause};
 use crate::stop::Stop;
-use cell_alu::{Access, access, address, aim, is_taken, result};
-use cell_isa::{Insn, Op, decode};
+use cell_isa::{Access, Insn, Op, access, address, aim, decode, is_taken, result};
 use cell_mem::Memory;
 use cell_num::{Cause, sign_extend};
 

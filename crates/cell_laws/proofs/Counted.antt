@@ -14,8 +14,8 @@ use Rattle.cell_world.specs.Answer.{Done, ids, numbers_of}
 use Rattle.cell_world.specs.Coherent.{IsCoherent}
 use Rattle.cell_num.proofs.Elements.{In-all, In-map, all-In, all_push, filter_none, map_same, pairs-map, pairs_push}
 use Rattle.cell_num.proofs.Sublists.{map_filter}
-use Rattle.cell_coherent.proofs.Relinked.{map_twice}
-use Rattle.cell_load_law.proofs.Loads.{older}
+use Rattle.cell_lemmas.proofs.Relinked.{map_twice}
+use Rattle.cell_lemmas.proofs.Loads.{older}
 use Rattle.cell_machine.specs.Does.{fresh_by}
 use Rattle.cell_laws.specs.Counts.{removed_by}
 

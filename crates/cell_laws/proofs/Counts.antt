@@ -20,9 +20,9 @@ use Rattle.cell_world.specs.Place.{start_of_run}
 use Rattle.cell_world.specs.SpawnCommand.{entry_named, next_spawn}
 use Rattle.cell_world.specs.TaskCommands.{can_run, next_run, next_step}
 use Rattle.cell_object.specs.Parts.{section_of}
-use Rattle.cell_coherent.proofs.Appended.{ok_same}
-use Rattle.cell_coherent.proofs.Outcomes.{bind_ok, then_ok}
-use Rattle.cell_turns.proofs.Commands.{run_cells, step_cells}
+use Rattle.cell_lemmas.proofs.Appended.{ok_same}
+use Rattle.cell_lemmas.proofs.Outcomes.{bind_ok, then_ok}
+use Rattle.cell_lemmas.proofs.Commands.{run_cells, step_cells}
 use Rattle.cell_machine.specs.Does.{fresh_by}
 use Rattle.cell_laws.specs.Counts.{removed_by}
 use Rattle.cell_laws.proofs.Counted.{CountsCells}

@@ -12,11 +12,11 @@ use Rattle.cell_world.specs.LoadCommand.{append_named, next_load}
 use Rattle.cell_world.specs.Outcome.{refused_by}
 use Rattle.cell_world.specs.Place.{place_all, place_cell}
 use Rattle.cell_world.specs.declared.refusal.Refusal.TheVariants.{NoObject}
-use Rattle.cell_coherent.proofs.Appended.{Appended, append_ok, ok_same}
-use Rattle.cell_coherent.proofs.Brought.{brought}
-use Rattle.cell_coherent.proofs.Outcomes.{bind_ok, then_ok}
-use Rattle.cell_coherent.proofs.PlacedAll.{CellRuns, cell_runs, each_keeps}
-use Rattle.cell_coherent.proofs.Renamed.{bare_with_places}
+use Rattle.cell_lemmas.proofs.Appended.{Appended, append_ok, ok_same}
+use Rattle.cell_lemmas.proofs.Brought.{brought}
+use Rattle.cell_lemmas.proofs.Outcomes.{bind_ok, then_ok}
+use Rattle.cell_lemmas.proofs.PlacedAll.{CellRuns, cell_runs, each_keeps}
+use Rattle.cell_lemmas.proofs.Renamed.{bare_with_places}
 use Rattle.cell_laws.proofs.Counted.{Counted, CountedIn, CountsCells, all_counted, begins, few_counted, numbers_mapped, one_more}
 
 module _ {from had : ℕ} where

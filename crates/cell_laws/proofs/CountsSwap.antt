@@ -13,13 +13,13 @@ use Rattle.cell_world.specs.Outcome.{each, refused_by}
 use Rattle.cell_world.specs.Reexport.{heir_of, take_on, with_alias}
 use Rattle.cell_world.specs.SwapCommand.{Plan, Wanted, append_wanted, exchanges_from, first_held_old, gather_swap, next_swap, old_numbers, plan_swap, renamed, set_aside, with_transfer}
 use Rattle.cell_world.specs.UnloadCommand.{put_aside}
-use Rattle.cell_coherent.proofs.Appended.{ok_same}
-use Rattle.cell_coherent.proofs.Outcomes.{bind_ok, then_ok}
-use Rattle.cell_coherent.proofs.PlacedAll.{each_keeps}
-use Rattle.cell_removal.proofs.PutAside.{put_number}
-use Rattle.cell_swaps_law.proofs.Reexported.{renamed_same}
-use Rattle.cell_swaps_law.proofs.Second.{second_parts}
-use Rattle.cell_swaps_law.proofs.SwapSteps.{Planned, planned}
+use Rattle.cell_lemmas.proofs.Appended.{ok_same}
+use Rattle.cell_lemmas.proofs.Outcomes.{bind_ok, then_ok}
+use Rattle.cell_lemmas.proofs.PlacedAll.{each_keeps}
+use Rattle.cell_lemmas.proofs.PutAside.{put_number}
+use Rattle.cell_lemmas.proofs.Reexported.{renamed_same}
+use Rattle.cell_lemmas.proofs.Second.{second_parts}
+use Rattle.cell_lemmas.proofs.SwapSteps.{Planned, planned}
 use Rattle.cell_laws.proofs.Counted.{Counted, CountedIn, CountsCells, all_counted, begins, cells_rise, few_counted, numbers_mapped}
 use Rattle.cell_laws.proofs.CountsLoad.{append_counted, bring_counted, placed_counted}
 use Rattle.cell_laws.proofs.CountsRemoval.{purged_counted}

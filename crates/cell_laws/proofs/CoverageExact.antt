@@ -12,16 +12,16 @@ use Rattle.cell_world.specs.Place.{place_all}
 use Rattle.cell_world.specs.SwapCommand.{Plan, Wanted, all_wanted, first_uncovered, gather_swap, old_numbers, plan_placed, plan_swap, set_aside}
 use Rattle.cell_world.specs.SwapTransfer.{begins_of, stack_for}
 use Rattle.cell_world.specs.World.{Attached, Cell, Detached, Standing, World, is_attached, is_of_group}
-use Rattle.cell_coherent.proofs.Attach.{Grows}
+use Rattle.cell_lemmas.proofs.Attach.{Grows}
 use Rattle.cell_num.proofs.Elements.{all-In, filter_all, filter_none, some_has}
-use Rattle.cell_coherent.proofs.Gathered.{Extends, Ranks}
-use Rattle.cell_coherent.proofs.Known.{known_parts}
-use Rattle.cell_coherent.proofs.LoadCoherent.{fresh_is}
-use Rattle.cell_coherent.proofs.Ready.{IsBase}
-use Rattle.cell_swaps_law.proofs.Detached.{other_provider, without}
-use Rattle.cell_swaps_law.proofs.SetAside.{aside_base}
-use Rattle.cell_swaps_law.proofs.SwapGathered.{IsWanted, swap_gathered, wanted_all}
-use Rattle.cell_swaps_law.proofs.SwapReady.{new_group, wanted_attached}
+use Rattle.cell_lemmas.proofs.Gathered.{Extends, Ranks}
+use Rattle.cell_lemmas.proofs.Known.{known_parts}
+use Rattle.cell_lemmas.proofs.LoadCoherent.{fresh_is}
+use Rattle.cell_lemmas.proofs.Ready.{IsBase}
+use Rattle.cell_lemmas.proofs.Detached.{other_provider, without}
+use Rattle.cell_lemmas.proofs.SetAside.{aside_base}
+use Rattle.cell_lemmas.proofs.SwapGathered.{IsWanted, swap_gathered, wanted_all}
+use Rattle.cell_lemmas.proofs.SwapReady.{new_group, wanted_attached}
 use Rattle.cell_laws.specs.Lost.{IsLost}
 
 first_both : {X : Type 0} (xs ys : List X) → first (xs ++ ys) ≡ or_else (first xs) (first ys)

@@ -16,14 +16,14 @@ use Rattle.cell_world.specs.Layout.{own_bytes}
 use Rattle.cell_world.specs.Memory.{pasted}
 use Rattle.cell_world.specs.Target.{start_of}
 use Rattle.cell_num.proofs.Elements.{In-All, all-In, In-filtered, filter-Passes}
-use Rattle.cell_coherent.proofs.FieldsApart.{AreFieldsApart, fields_apart}
-use Rattle.cell_coherent.proofs.FieldsInside.{among-In, length-bytes_of, own_length}
-use Rattle.cell_coherent.proofs.Known.{object_sound}
+use Rattle.cell_lemmas.proofs.FieldsApart.{AreFieldsApart, fields_apart}
+use Rattle.cell_lemmas.proofs.FieldsInside.{among-In, length-bytes_of, own_length}
+use Rattle.cell_lemmas.proofs.Known.{object_sound}
 use Rattle.cell_num.proofs.Sublists.{pairs-filter}
-use Rattle.cell_coherent.proofs.Offsets.{Apart}
-use Rattle.cell_coherent.proofs.Patches.{length-pasted}
-use Rattle.cell_coherent.proofs.Regrown.{among_apart, is_elsewhere}
-use Rattle.cell_turns.proofs.Slices.{slice, slice_length, untouched}
+use Rattle.cell_lemmas.proofs.Offsets.{Apart}
+use Rattle.cell_lemmas.proofs.Patches.{length-pasted}
+use Rattle.cell_lemmas.proofs.Regrown.{among_apart, is_elsewhere}
+use Rattle.cell_lemmas.proofs.Slices.{slice, slice_length, untouched}
 use Rattle.cell_laws.proofs.Windows.{paste_inside}
 use Rattle.cell_laws.proofs.Parts.{paste_whole}
 use Rattle.cell_laws.proofs.Fresh.{ends_here}

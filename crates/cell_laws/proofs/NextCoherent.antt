@@ -8,16 +8,16 @@ use Rattle.cell_world.specs.Answer.{Done, present_cell}
 use Rattle.cell_world.specs.LinkCommands.{next_deps, next_users}
 use Rattle.cell_world.specs.Next.{outcome_of, next}
 use Rattle.cell_world.specs.Coherent.{AreSound, IsCoherent}
-use Rattle.cell_coherent.proofs.Appended.{ok_same}
-use Rattle.cell_coherent.proofs.LoadCoherent.{load_coherent}
-use Rattle.cell_coherent.proofs.NamespaceAdded.{ns_coherent}
-use Rattle.cell_coherent.proofs.NextCoherent.{answered, dump_same, find_same, map_same}
-use Rattle.cell_coherent.proofs.Outcomes.{bind_ok}
-use Rattle.cell_turns.proofs.Spawned.{spawn_keeps}
-use Rattle.cell_turns.proofs.Commands.{step_keeps, run_keeps, kill_keeps, tasks_keeps}
-use Rattle.cell_removal.proofs.Removals.{removed_coherent, purge_removed, unload_removed}
+use Rattle.cell_lemmas.proofs.Appended.{ok_same}
+use Rattle.cell_lemmas.proofs.LoadCoherent.{load_coherent}
+use Rattle.cell_lemmas.proofs.NamespaceAdded.{ns_coherent}
+use Rattle.cell_lemmas.proofs.NextCoherent.{answered, dump_same, find_same, map_same}
+use Rattle.cell_lemmas.proofs.Outcomes.{bind_ok}
+use Rattle.cell_lemmas.proofs.Spawned.{spawn_keeps}
+use Rattle.cell_lemmas.proofs.Commands.{step_keeps, run_keeps, kill_keeps, tasks_keeps}
+use Rattle.cell_lemmas.proofs.Removals.{removed_coherent, purge_removed, unload_removed}
 use Rattle.cell_laws.specs.Commands.{HasItems}
-use Rattle.cell_swaps_law.proofs.Left.{swap_coherent}
+use Rattle.cell_lemmas.proofs.Left.{swap_coherent}
 
 pub deps_same : (w : World) (cell : ℕ) (d : Done) → next_deps w cell ≡ Ok d → w ≡ d.world
 deps_same w cell d h = let a = bind_ok (present_cell w cell) _ d h in ap (λ (x : Done). x.world) (ok_same _ d a.2)

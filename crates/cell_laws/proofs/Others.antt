@@ -21,26 +21,26 @@ use Rattle.cell_world.specs.Outcome.{found, need, refused_by}
 use Rattle.cell_world.specs.Answer.{Done, numbers_of, space_of}
 use Rattle.cell_world.specs.Next.{outcome_of}
 use Rattle.cell_world.specs.Coherent.{AreSound, IsCoherent}
-use Rattle.cell_coherent.specs.Grown.{HasAttached}
-use Rattle.cell_coherent.proofs.Appended.{ok_same}
+use Rattle.cell_lemmas.specs.Grown.{HasAttached}
+use Rattle.cell_lemmas.proofs.Appended.{ok_same}
 use Rattle.cell_num.proofs.Elements.{In-All, All-In, In-left, In-map, In-filtered}
-use Rattle.cell_coherent.proofs.Inside.{ready_linkable}
-use Rattle.cell_coherent.proofs.LoadGrown.{load_attached}
-use Rattle.cell_coherent.proofs.NamespaceAdded.{Added, ns_ok}
-use Rattle.cell_coherent.proofs.NextCoherent.{dump_same, find_same, map_same}
-use Rattle.cell_coherent.proofs.Outcomes.{bind_ok, then_ok}
-use Rattle.cell_coherent.proofs.Spaces.{space_grows}
-use Rattle.cell_coherent.proofs.Supplied.{same_target}
-use Rattle.cell_turns.specs.Kept.{KeepsCells}
-use Rattle.cell_turns.proofs.Commands.{step_cells, run_cells, kill_cells, tasks_same}
-use Rattle.cell_removal.proofs.KeptPaths.{holds-In}
-use Rattle.cell_removal.proofs.Removals.{Removed, removed_targets, purge_removed, unload_removed}
+use Rattle.cell_lemmas.proofs.Inside.{ready_linkable}
+use Rattle.cell_lemmas.proofs.LoadGrown.{load_attached}
+use Rattle.cell_lemmas.proofs.NamespaceAdded.{Added, ns_ok}
+use Rattle.cell_lemmas.proofs.NextCoherent.{dump_same, find_same, map_same}
+use Rattle.cell_lemmas.proofs.Outcomes.{bind_ok, then_ok}
+use Rattle.cell_lemmas.proofs.Spaces.{space_grows}
+use Rattle.cell_lemmas.proofs.Supplied.{same_target}
+use Rattle.cell_lemmas.specs.Kept.{KeepsCells}
+use Rattle.cell_lemmas.proofs.Commands.{step_cells, run_cells, kill_cells, tasks_same}
+use Rattle.cell_lemmas.proofs.KeptPaths.{holds-In}
+use Rattle.cell_lemmas.proofs.Removals.{Removed, removed_targets, purge_removed, unload_removed}
 use Rattle.cell_laws.specs.Commands.{HasItems, IsNoSwap}
 use Rattle.cell_laws.specs.KeepsTargets.{KeepsTargets}
 use Rattle.cell_laws.proofs.NextCoherent.{deps_same, users_same, outcome_coherent}
-use Rattle.cell_swaps_law.proofs.Settled.{found_now, mapped_same}
-use Rattle.cell_swaps_law.proofs.Steps.{attached_targets}
-use Rattle.cell_swaps_law.proofs.SwapReady.{one_number}
+use Rattle.cell_lemmas.proofs.Settled.{found_now, mapped_same}
+use Rattle.cell_lemmas.proofs.Steps.{attached_targets}
+use Rattle.cell_lemmas.proofs.SwapReady.{one_number}
 
 module _ (w u : World) (h : IsCoherent w) (k : IsCoherent u) where
   -- where a cell is still present it is the one that it was

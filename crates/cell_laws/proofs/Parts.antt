@@ -16,20 +16,20 @@ use Rattle.cell_world.specs.declared.layout.Class.TheVariants.{Text, ReadOnly, W
 use Rattle.cell_world.specs.Memory.{covers, pasted, part_of, read, region_at}
 use Rattle.cell_world.specs.Relink.{Patch, patch_of, patches_of, bound_entries, class_start, is_region_of, images_for, restored}
 use Rattle.cell_num.proofs.Elements.{all-In, In-left, In-right, In-append, In-map, In-flat_map, In-filtered, filter-In, filter_none, filter-Passes, find_there, found-In, first-In, first_has, map-In}
-use Rattle.cell_coherent.proofs.Distinct.{one_class}
-use Rattle.cell_coherent.proofs.FieldsInside.{fields_end_in, length-bytes_of}
-use Rattle.cell_coherent.proofs.ImagesInside.{images_fit}
-use Rattle.cell_coherent.proofs.Inside.{wide}
-use Rattle.cell_coherent.proofs.Regions.{starts_at}
-use Rattle.cell_coherent.proofs.Patches.{HasShape}
-use Rattle.cell_coherent.proofs.Relinked.{patches, own_image, restore, restored_is}
-use Rattle.cell_turns.proofs.Bare.{covers_once}
-use Rattle.cell_turns.proofs.Fixed.{remade_fixed}
+use Rattle.cell_lemmas.proofs.Distinct.{one_class}
+use Rattle.cell_lemmas.proofs.FieldsInside.{fields_end_in, length-bytes_of}
+use Rattle.cell_lemmas.proofs.ImagesInside.{images_fit}
+use Rattle.cell_lemmas.proofs.Inside.{wide}
+use Rattle.cell_lemmas.proofs.Regions.{starts_at}
+use Rattle.cell_lemmas.proofs.Patches.{HasShape}
+use Rattle.cell_lemmas.proofs.Relinked.{patches, own_image, restore, restored_is}
+use Rattle.cell_lemmas.proofs.Bare.{covers_once}
+use Rattle.cell_lemmas.proofs.Fixed.{remade_fixed}
 use Rattle.cell_num.proofs.Sublists.{map_filter}
-use Rattle.cell_coherent.proofs.Pastes.{over}
-use Rattle.cell_turns.proofs.Slices.{slice}
-use Rattle.cell_coherent.proofs.Offsets.{Apart}
-use Rattle.cell_coherent.proofs.Regrown.{filter_flat}
+use Rattle.cell_lemmas.proofs.Pastes.{over}
+use Rattle.cell_lemmas.proofs.Slices.{slice}
+use Rattle.cell_lemmas.proofs.Offsets.{Apart}
+use Rattle.cell_lemmas.proofs.Regrown.{filter_flat}
 use Rattle.cell_laws.proofs.Windows.{window, begins_in, IsIn, IsOut, pasted_here, window_by}
 
 -- where all other elements give nothing, only the one's list is left

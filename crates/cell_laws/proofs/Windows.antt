@@ -7,10 +7,10 @@ use Rattle.cell_world.specs.World.{Region}
 use Rattle.cell_world.specs.Memory.{covers, pasted}
 use Rattle.cell_world.specs.Relink.{Patch, patched}
 use Rattle.cell_num.specs.Lists.{In}
-use Rattle.cell_coherent.proofs.Patches.{HasShape, AllEndIn, shape_by, length-pasted, pasted_before, pasted_in, pasted_after}
-use Rattle.cell_turns.proofs.Slices.{slice, slice_length, slice_at, untouched}
-use Rattle.cell_coherent.proofs.Writes.{written_in}
-use Rattle.cell_coherent.proofs.Offsets.{Apart}
+use Rattle.cell_lemmas.proofs.Patches.{HasShape, AllEndIn, shape_by, length-pasted, pasted_before, pasted_in, pasted_after}
+use Rattle.cell_lemmas.proofs.Slices.{slice, slice_length, slice_at, untouched}
+use Rattle.cell_lemmas.proofs.Writes.{written_in}
+use Rattle.cell_lemmas.proofs.Offsets.{Apart}
 
 -- a write that lies in the slice is the same write in it
 pub paste_inside : (bytes new : List ℕ) (j i n : ℕ) → i ≤ j → j + length new ≤ i + n → i + n ≤ length bytes → slice (pasted bytes j new) i n ≡ pasted (slice bytes i n) (j - i) new

@@ -6,8 +6,8 @@ ghost use Rattle.cell_world.specs.Coherent.{IsCoherent, IsReady};
 ghost use Rattle.cell_world.specs.Field.{place_of};
 ghost use Rattle.cell_world.specs.Target.{start_of};
 ghost use Rattle.cell_world.specs.World.{World};
-ghost use Rattle.cell_coherent.specs.Linkable.{IsLinkable};
-ghost use Rattle.cell_coherent.specs.Present.{IsInside, JoinsPresent, NamesPresent};
+ghost use Rattle.cell_lemmas.specs.Linkable.{IsLinkable};
+ghost use Rattle.cell_lemmas.specs.Present.{IsInside, JoinsPresent, NamesPresent};
 
 /// A machine that is ready can be linked.
 pub fn ready_is_linkable()

@@ -12,11 +12,11 @@ ghost use Rattle.cell_world.specs.Relink.{relink, link_of};
 ghost use Rattle.cell_world.specs.World.{Cell, World};
 ghost use Rattle.cell_world.specs.declared.refusal.Refusal.{Refusal};
 ghost use Rattle.cell_world.specs.declared.reply.Reply.TheVariants.{Load as LoadDone};
-ghost use Rattle.cell_coherent.specs.Grown.{HasAttached, IsRegrown, links_from, with_changes, with_fields};
-ghost use Rattle.cell_coherent.specs.Linkable.{IsLinkable};
-ghost use Rattle.cell_coherent.specs.Loading.{HasPlaced};
-ghost use Rattle.cell_swaps_law.specs.Moved.{moved};
-ghost use Rattle.cell_swaps_law.specs.Targets.{FollowsTargets};
+ghost use Rattle.cell_lemmas.specs.Grown.{HasAttached, IsRegrown, links_from, with_changes, with_fields};
+ghost use Rattle.cell_lemmas.specs.Linkable.{IsLinkable};
+ghost use Rattle.cell_lemmas.specs.Loading.{HasPlaced};
+ghost use Rattle.cell_lemmas.specs.Moved.{moved};
+ghost use Rattle.cell_lemmas.specs.Targets.{FollowsTargets};
 
 /// Linking makes a ready machine coherent.
 pub fn relinked_is_coherent()

@@ -11,8 +11,8 @@ ghost use Rattle.cell_world.specs.UnloadCommand.{first_held, garbage_of, named_c
 ghost use Rattle.cell_world.specs.World.{Cell, World};
 ghost use Rattle.cell_world.specs.declared.command.CellName.{CellName};
 ghost use Rattle.cell_world.specs.declared.command.SwapItem.{SwapItem};
-ghost use Rattle.cell_removal.specs.Left.{IsFree, IsUnreached, LeavesFields, with_aside};
-ghost use Rattle.cell_swaps_law.specs.Swapping.{HasSwapped};
+ghost use Rattle.cell_lemmas.specs.Left.{IsFree, IsUnreached, LeavesFields, with_aside};
+ghost use Rattle.cell_lemmas.specs.Swapping.{HasSwapped};
 
 /// The kept cells that are computed are those that a path keeps, in the order of all cells.
 pub fn kept_is_by_paths()

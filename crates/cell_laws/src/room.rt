@@ -9,7 +9,7 @@ ghost use Rattle.cell_world.specs.Pages.{filled, lowest_run};
 ghost use Rattle.cell_world.specs.Place.{Placing, page_table, place_class, with_region};
 ghost use Rattle.cell_world.specs.World.{Region, World};
 ghost use Rattle.cell_world.specs.declared.layout.Class.{Class};
-ghost use Rattle.cell_coherent.specs.Clear.{IsClear};
+ghost use Rattle.cell_lemmas.specs.Clear.{IsClear};
 
 /// A region of n whole pages from a page on takes these pages of the table, and no others change.
 pub fn region_fills_table()

@@ -18,11 +18,11 @@ ghost use Rattle.cell_world.specs.Transfer.{after_turns};
 ghost use Rattle.cell_world.specs.UnloadCommand.{put_aside, purged};
 ghost use Rattle.cell_world.specs.World.{Cell, World, is_attached};
 ghost use Rattle.cell_world.specs.declared.command.SwapItem.{SwapItem};
-ghost use Rattle.cell_coherent.specs.Linkable.{IsLinkable};
-ghost use Rattle.cell_turns.specs.Kept.{KeepsFields, KeepsReadOnly, KeepsSealed, KeepsShapes};
-ghost use Rattle.cell_swaps_law.specs.Begins.{BeginsIn};
-ghost use Rattle.cell_coherent.specs.Grown.{IsRegrown};
-ghost use Rattle.cell_swaps_law.specs.Swapping.{HasSwapPlaced};
+ghost use Rattle.cell_lemmas.specs.Linkable.{IsLinkable};
+ghost use Rattle.cell_lemmas.specs.Kept.{KeepsFields, KeepsReadOnly, KeepsSealed, KeepsShapes};
+ghost use Rattle.cell_lemmas.specs.Begins.{BeginsIn};
+ghost use Rattle.cell_lemmas.specs.Grown.{IsRegrown};
+ghost use Rattle.cell_lemmas.specs.Swapping.{HasSwapPlaced};
 ghost use Rattle.cell_laws.specs.Lost.{IsLost};
 
 /// Once the new cells of a swap have their places, the machine has grown by them, the old ones stand aside, and it can be

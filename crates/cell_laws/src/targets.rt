@@ -17,11 +17,11 @@ ghost use Rattle.cell_world.specs.World.{Cell, World, is_attached};
 ghost use Rattle.cell_world.specs.declared.command.CellName.{CellName};
 ghost use Rattle.cell_world.specs.declared.command.Command.{Command};
 ghost use Rattle.cell_world.specs.declared.command.SwapItem.{SwapItem};
-ghost use Rattle.cell_coherent.specs.Grown.{HasAttached};
-ghost use Rattle.cell_coherent.specs.Linkable.{IsLinkable};
-ghost use Rattle.cell_removal.specs.Left.{LeavesTargets};
-ghost use Rattle.cell_swaps_law.specs.Swapping.{HasSwapped};
-ghost use Rattle.cell_swaps_law.specs.Targets.{FollowsTargets, loses, replaced_fields, without_in};
+ghost use Rattle.cell_lemmas.specs.Grown.{HasAttached};
+ghost use Rattle.cell_lemmas.specs.Linkable.{IsLinkable};
+ghost use Rattle.cell_lemmas.specs.Left.{LeavesTargets};
+ghost use Rattle.cell_lemmas.specs.Swapping.{HasSwapped};
+ghost use Rattle.cell_lemmas.specs.Targets.{FollowsTargets, loses, replaced_fields, without_in};
 ghost use Rattle.cell_laws.specs.Commands.{IsNoSwap};
 ghost use Rattle.cell_laws.specs.KeepsTargets.{KeepsTargets};
 

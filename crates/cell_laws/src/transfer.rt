@@ -10,7 +10,7 @@ ghost use Rattle.cell_world.specs.declared.transfer.Routine.{Routine};
 ghost use Rattle.cell_world.specs.Transfer.{Addresses, after_turns, transfer, transferred};
 ghost use Rattle.cell_world.specs.Undo.{undone};
 ghost use Rattle.cell_world.specs.World.{World};
-ghost use Rattle.cell_turns.specs.Kept.{KeepsFields, KeepsReadOnly, KeepsSealed, KeepsShapes};
+ghost use Rattle.cell_lemmas.specs.Kept.{KeepsFields, KeepsReadOnly, KeepsSealed, KeepsShapes};
 ghost use Rattle.cell_laws.specs.NextTurn.{IsNextTurn};
 ghost use Rattle.cell_laws.specs.Worked.{asking, displaced, failed, holding, stores, storing};
 

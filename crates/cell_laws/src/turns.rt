@@ -8,7 +8,7 @@ ghost use Rattle.cell_world.specs.Move.{Hart, Column, move};
 ghost use Rattle.cell_world.specs.TaskCommands.{next_step, next_run, next_kill};
 ghost use Rattle.cell_world.specs.Turn.{turn};
 ghost use Rattle.cell_world.specs.World.{World, Task, task_of};
-ghost use Rattle.cell_turns.specs.Kept.{IsMemory, KeepsCells, KeepsFields, KeepsReadOnly, KeepsSealed, KeepsShapes, other_tasks, regions_left};
+ghost use Rattle.cell_lemmas.specs.Kept.{IsMemory, KeepsCells, KeepsFields, KeepsReadOnly, KeepsSealed, KeepsShapes, other_tasks, regions_left};
 
 /// A turn of a hart, whatever its calls do, changes no region's start, length or permission, adds none and takes none away, and changes no byte that is sealed or stands in a region that isn't writable. So what was asked of the memory holds for the next turn, and at first it is that of a coherent machine.
 pub fn move_keeps_memory()

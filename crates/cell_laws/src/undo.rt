@@ -8,8 +8,8 @@ ghost use Rattle.cell_world.specs.Turn.{without_region};
 ghost use Rattle.cell_world.specs.declared.transfer.Record.{Record};
 ghost use Rattle.cell_world.specs.Undo.{AreBytes, ArePuts, IsPut, Write, journal_of, put_back, put_in, puts, record_of, undone};
 ghost use Rattle.cell_world.specs.World.{Region};
-ghost use Rattle.cell_turns.specs.Kept.{KeepsShapes};
-ghost use Rattle.cell_transfer_law.specs.Undo.{GivesBack};
+ghost use Rattle.cell_lemmas.specs.Kept.{KeepsShapes};
+ghost use Rattle.cell_lemmas.specs.Undo.{GivesBack};
 
 /// An undo over the records of any stores and patches, from the last to the first, gives every byte back, and it changes no region's start, length or permission whatever the records are.
 pub fn undo_gives_back()

@@ -15,7 +15,7 @@ use Rattle.cell_world.specs.declared.layout.Class.TheVariants.{Text, ReadOnly, W
 use Rattle.cell_world.specs.declared.layout.Class.{Class}
 use Rattle.cell_num.proofs.Elements.{all-In, In-filtered, In-right}
 use Rattle.cell_num.proofs.Sublists.{all-filter}
-use Rattle.cell_load_law.proofs.Offsets.{running_offset}
+use Rattle.cell_lemmas.proofs.LoadOffsets.{running_offset}
 use Rattle.cell_layout.specs.declared.layout.Ends.{Ends}
 use Rattle.cell_layout.specs.Layout.{in_class, end_for, with_end, end_of, AreEnds, AreSmall, next_in, offset_among, offset_place}
 use Rattle.cell_layout.proofs.Bounds.{laid_small, gap_small, size_small, filter_shorter}

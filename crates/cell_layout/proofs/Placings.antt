@@ -11,11 +11,11 @@ use Rattle.cell_world.specs.declared.layout.Class.TheVariants.{Text, ReadOnly, W
 use Rattle.cell_world.specs.declared.layout.Class.{Class}
 use Rattle.cell_world.specs.declared.layout.Starts.{Starts}
 use Rattle.cell_num.specs.Lists.{In}
-use Rattle.cell_load_law.specs.Loading.{Taken, AllTaken, take_run, take_for, take_class, take_runs}
-use Rattle.cell_load_law.proofs.Binds.{bind_same}
+use Rattle.cell_lemmas.specs.Loads.{Taken, AllTaken, take_run, take_for, take_class, take_runs}
+use Rattle.cell_lemmas.proofs.Binds.{bind_same}
 use Rattle.cell_num.proofs.Sublists.{all-filter, pairs-filter}
 use Rattle.cell_num.proofs.Elements.{filter-In}
-use Rattle.cell_load_law.proofs.Offsets.{run_rounded, run_within}
+use Rattle.cell_lemmas.proofs.LoadOffsets.{run_rounded, run_within}
 use Rattle.cell_layout.specs.declared.layout.Ends.{Ends}
 use Rattle.cell_layout.specs.Layout.{in_class, end_for, end_of, AreEnds, AreSmall}
 use Rattle.cell_layout.specs.Placing.{taken_by, all_taken_by}

@@ -7,7 +7,7 @@ use Rattle.cell_world.specs.World.{Region, Permission}
 use Rattle.cell_world.specs.Layout.{is_in_class, image_of, permission_of}
 use Rattle.cell_world.specs.declared.layout.Class.{Class}
 use Rattle.cell_num.specs.Lists.{In}
-use Rattle.cell_load_law.specs.Loading.{run_region}
+use Rattle.cell_lemmas.specs.Loads.{run_region}
 
 abbrev pub run : ℕ → Class → List ObjectSection → List Region
 run start class sections = run_region start class (filter (is_in_class class) sections)

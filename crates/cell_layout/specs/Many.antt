@@ -11,7 +11,7 @@ use Rattle.cell_world.specs.declared.state.SecPlace.{SecPlace}
 use Rattle.cell_world.specs.declared.layout.Starts.{Starts}
 use Rattle.cell_world.specs.Outcome.{Outcome, ◌>>=◌}
 use Rattle.cell_world.specs.Layout.{places_in}
-use Rattle.cell_load_law.specs.Loading.{take_all, all_regions}
+use Rattle.cell_lemmas.specs.Loads.{take_all, all_regions}
 use Rattle.cell_place.specs.Space.{SpaceState}
 use Rattle.cell_layout.specs.declared.cells.TakenRuns.{TakenRuns}
 use Rattle.cell_layout.specs.declared.placements.Placements.{Placements}

@@ -5,7 +5,7 @@ use Rattle.std.proofs.lemmas.List.{length-map}
 use Rattle.cell_world.specs.declared.state.LinkRow.{LinkRow}
 use Rattle.cell_world.specs.World.{World, Region}
 use Rattle.cell_world.specs.Relink.{Patch, patched}
-use Rattle.cell_load_law.specs.Loading.{objects_of}
+use Rattle.cell_lemmas.specs.Loads.{objects_of}
 use Rattle.cell_mem.specs.State.{MemoryState}
 use Rattle.cell_graph.specs.Moves.{moved}
 use Rattle.cell_link.specs.declared.value.FieldValue.{FieldValue}

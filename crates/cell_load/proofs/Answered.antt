@@ -12,8 +12,8 @@ use Rattle.cell_world.specs.Answer.{done, ids, numbers_of}
 use Rattle.cell_world.specs.Coherent.{AreSound}
 use Rattle.cell_world.specs.Gather.{source_of}
 use Rattle.cell_world.specs.LoadCommand.{field_count, next_load}
-use Rattle.cell_load_law.specs.Loading.{ManyTaken}
-use Rattle.cell_load_law.proofs.Loads.{load_refused, older}
+use Rattle.cell_lemmas.specs.Loads.{ManyTaken}
+use Rattle.cell_lemmas.proofs.Loads.{load_refused, older}
 use Rattle.cell_space.specs.Joined.{placed_of}
 use Rattle.cell_task.specs.State.{TasksState}
 use Rattle.cell_gather.specs.declared.gathering.Gathered.{Gathered}

@@ -14,7 +14,7 @@ use Rattle.cell_world.specs.World.{Alias, World, Cell, Region, Standing, is_atta
 use Rattle.cell_world.specs.Coherent.{IsLoadable, ends_before, is_in_space, is_known_cell}
 use Rattle.cell_world.specs.Relink.{Patch}
 use Rattle.cell_num.proofs.Elements.{all-In, All-In, In-map, In-right}
-use Rattle.cell_load_law.specs.Loading.{objects_of}
+use Rattle.cell_lemmas.specs.Loads.{objects_of}
 use Rattle.cell_link.specs.declared.value.FieldValue.{FieldValue}
 use Rattle.cell_graph.specs.Moves.{moved}
 use Rattle.cell_graph.specs.Order.{Rises, below_link}

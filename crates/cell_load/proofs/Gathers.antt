@@ -13,8 +13,8 @@ use Rattle.cell_num.specs.Lists.{In}
 use Rattle.cell_num.proofs.Elements.{In-All, In-map}
 use Rattle.cell_depot.specs.Files.{are_apart}
 use Rattle.cell_depot.specs.Found.{IsOnly}
-use Rattle.cell_load_law.specs.Loading.{gathered_by}
-use Rattle.cell_load_law.proofs.Loads.{older}
+use Rattle.cell_lemmas.specs.Loads.{gathered_by}
+use Rattle.cell_lemmas.proofs.Loads.{older}
 use Rattle.cell_space.specs.Machine.{called}
 use Rattle.cell_space.specs.Joined.{placed_of}
 use Rattle.cell_space.proofs.Joined.{cells_are}

@@ -15,7 +15,7 @@ use Rattle.cell_world.specs.Field.{bound_by, misfit_of}
 use Rattle.cell_world.specs.Fit.{first_misfit, misfit_in, overflow_at}
 use Rattle.cell_world.specs.Relink.{link_of, link_to}
 use Rattle.cell_world.specs.Target.{target_of, targets_of}
-use Rattle.cell_coherent.specs.Grown.{links_from}
+use Rattle.cell_lemmas.specs.Grown.{links_from}
 use Rattle.cell_link.specs.declared.value.FieldValue.{FieldValue}
 use Rattle.cell_link.specs.Linked.{field_values}
 use Rattle.cell_machine.specs.Staged.{all_attached, all_fields}

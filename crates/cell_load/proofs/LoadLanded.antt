@@ -12,12 +12,12 @@ use Rattle.cell_world.specs.LoadCommand.{field_count, next_load}
 use Rattle.cell_world.specs.Outcome.{Outcome, ◌>>=◌, refused_by}
 use Rattle.cell_world.specs.Place.{page_table}
 use Rattle.cell_world.specs.Relink.{relink}
-use Rattle.cell_coherent.specs.Grown.{links_from, with_fields}
-use Rattle.cell_coherent.specs.Loading.{HasPlaced}
-use Rattle.cell_coherent.proofs.LoadLinks.{is_linkable, is_ready, links, relinks}
-use Rattle.cell_coherent.proofs.Relinks.{coherent_relinked}
-use Rattle.cell_load_law.specs.Loading.{ManyTaken, gathered_by, objects_of, placed_after, placed_cells, take_all}
-use Rattle.cell_load_law.proofs.Loads.{fresh_placed, has_placed as placed_of, load_full}
+use Rattle.cell_lemmas.specs.Grown.{links_from, with_fields}
+use Rattle.cell_lemmas.specs.Loading.{HasPlaced}
+use Rattle.cell_lemmas.proofs.LoadLinks.{is_linkable, is_ready, links, relinks}
+use Rattle.cell_lemmas.proofs.Relinks.{coherent_relinked}
+use Rattle.cell_lemmas.specs.Loads.{ManyTaken, gathered_by, objects_of, placed_after, placed_cells, take_all}
+use Rattle.cell_lemmas.proofs.Loads.{fresh_placed, has_placed as placed_of, load_full}
 use Rattle.cell_machine.specs.Staged.{AreNewIn, ComesTo}
 use Rattle.cell_load.specs.Stages.{placing}
 use Rattle.cell_load.proofs.Refusals.{load_overflows}

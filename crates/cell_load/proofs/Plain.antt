@@ -7,7 +7,7 @@ use Rattle.cell_world.specs.World.{World, Cell, Standing, Attached, attached}
 use Rattle.cell_world.specs.Fit.{first_misfit, misfit_in}
 use Rattle.cell_world.specs.Relink.{link_of}
 use Rattle.cell_world.specs.Target.{targets_of}
-use Rattle.cell_coherent.specs.Grown.{links_from}
+use Rattle.cell_lemmas.specs.Grown.{links_from}
 use Rattle.cell_link.specs.declared.value.FieldValue.{FieldValue}
 use Rattle.cell_link.specs.Linked.{field_values}
 use Rattle.cell_space.specs.Joined.{placed_of}

@@ -9,7 +9,7 @@ use Rattle.cell_world.specs.LoadCommand.{field_count, link_fresh, next_load}
 use Rattle.cell_world.specs.Outcome.{◌>>=◌, ◌>>◌, refused_by}
 use Rattle.cell_world.specs.Relink.{relink}
 use Rattle.cell_world.specs.World.{World}
-use Rattle.cell_coherent.specs.Loading.{HasPlaced}
+use Rattle.cell_lemmas.specs.Loading.{HasPlaced}
 
 pub load_overflows : (sources : List Source) (v : World) (ns stem : List ℕ) (w : World) → HasPlaced sources v ns stem w → (refusal : Refusal)
     → first_misfit w (fresh_cells v.next_cell w) ≡ Some refusal → next_load sources v ns stem ≡ Err refusal

@@ -15,9 +15,9 @@ use Rattle.cell_world.specs.Outcome.{Outcome, ◌>>=◌, ◌>>◌, refused_by}
 use Rattle.cell_world.specs.Layout.{places_in}
 use Rattle.cell_world.specs.Place.{page_table}
 use Rattle.cell_world.specs.Target.{targets_of}
-use Rattle.cell_coherent.specs.Grown.{links_from}
+use Rattle.cell_lemmas.specs.Grown.{links_from}
 use Rattle.cell_num.proofs.Elements.{All-In, In-All, In-map, In-right}
-use Rattle.cell_load_law.specs.Loading.{ManyTaken, all_regions, objects_of, placed_after, placed_cells, take_all}
+use Rattle.cell_lemmas.specs.Loads.{ManyTaken, all_regions, objects_of, placed_after, placed_cells, take_all}
 use Rattle.cell_place.specs.Space.{SpaceState}
 use Rattle.cell_space.specs.declared.cell.SpaceCell.{SpaceCell}
 use Rattle.cell_space.specs.Ahead.{AheadState}

@@ -13,7 +13,7 @@ use Rattle.cell_world.specs.declared.state.NewCell.{NewCell}
 use Rattle.cell_world.specs.World.{Alias, World, Cell, Region}
 use Rattle.cell_world.specs.Coherent.{IsCoherent}
 use Rattle.cell_world.specs.Relink.{Patch}
-use Rattle.cell_load_law.specs.Loading.{placed_after, placed_cells}
+use Rattle.cell_lemmas.specs.Loads.{placed_after, placed_cells}
 use Rattle.cell_space.specs.declared.cell.SpaceCell.{SpaceCell}
 use Rattle.cell_commit.specs.Cells.{AreAbove, AreFree, arrived, name_count, section_count}
 use Rattle.cell_commit.specs.Commit.{AreRoom, IsMapped, all_mapped, fields_patched}

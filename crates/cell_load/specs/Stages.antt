@@ -16,7 +16,7 @@ use Rattle.cell_world.specs.Fit.{first_misfit}
 use Rattle.cell_world.specs.Outcome.{Outcome, ◌>>=◌, ◌>>◌, refused_by}
 use Rattle.cell_layout.specs.Placing.{extra_start}
 use Rattle.cell_world.specs.Place.{page_table}
-use Rattle.cell_load_law.specs.Loading.{ManyTaken, objects_of, placed_after, placed_cells, take_all}
+use Rattle.cell_lemmas.specs.Loads.{ManyTaken, objects_of, placed_after, placed_cells, take_all}
 use Rattle.cell_space.specs.Joined.{cells_of, placed_of}
 use Rattle.cell_space.specs.Machine.{called}
 use Rattle.cell_space.specs.Spaces.{SpacesState}

@@ -6,7 +6,7 @@ use Rattle.cell_world.specs.declared.state.LinkRow.{LinkRow}
 use Rattle.cell_world.specs.World.{empty_world}
 use Rattle.cell_world.specs.Coherent.{IsCoherent}
 use Rattle.cell_world.specs.Place.{is_taken, page_table}
-use Rattle.cell_coherent.proofs.NextCoherent.{empty_coherent}
+use Rattle.cell_lemmas.proofs.NextCoherent.{empty_coherent}
 use Rattle.cell_mem.specs.State.{MemoryState, empty_memory}
 use Rattle.cell_place.specs.Space.{SpaceState}
 use Rattle.cell_world.specs.declared.state.NewCell.{NewCell}

@@ -15,11 +15,11 @@ use Rattle.cell_world.specs.Memory.{covers}
 use Rattle.cell_world.specs.Relink.{Patch, patches_of}
 use Rattle.cell_world.specs.Target.{targets_of}
 use Rattle.cell_num.specs.Lists.{In}
-use Rattle.cell_coherent.specs.Linkable.{IsLinkable}
-use Rattle.cell_coherent.specs.Present.{IsInside}
+use Rattle.cell_lemmas.specs.Linkable.{IsLinkable}
+use Rattle.cell_lemmas.specs.Present.{IsInside}
 use Rattle.cell_num.proofs.Elements.{All-In, In-All, In-flat_map, In-map, all-In, found-In}
-use Rattle.cell_coherent.proofs.FieldsInside.{among-In}
-use Rattle.cell_coherent.proofs.Inside.{fields_lie}
+use Rattle.cell_lemmas.proofs.FieldsInside.{among-In}
+use Rattle.cell_lemmas.proofs.Inside.{fields_lie}
 use Rattle.cell_link.specs.Linked.{field_values, value_at}
 use Rattle.cell_commit.specs.Commit.{patch_from, patches_from}
 use Rattle.cell_commit.specs.Seals.{IsInSpace, span_of, spans_of}

@@ -14,7 +14,7 @@ use Rattle.cell_world.specs.Layout.{sections_in}
 use Rattle.cell_world.specs.declared.layout.Starts.{Starts}
 use Rattle.cell_world.specs.declared.layout.Class.TheVariants.{Text, ReadOnly, Writable}
 use Rattle.cell_world.specs.declared.layout.Class.{Class}
-use Rattle.cell_load_law.specs.Loading.{all_regions, regions_at, run_region, with_all, with_class, with_classes, with_run_of}
+use Rattle.cell_lemmas.specs.Loads.{all_regions, regions_at, run_region, with_all, with_class, with_classes, with_run_of}
 use Rattle.cell_num.proofs.Elements.{map_same}
 
 -- regions put in one after another

@@ -17,13 +17,13 @@ use Rattle.cell_world.specs.Layout.{image_of, laid_out, sections_in}
 use Rattle.cell_world.specs.declared.layout.Starts.{Starts}
 use Rattle.cell_world.specs.declared.layout.Class.TheVariants.{Text, ReadOnly, Writable}
 use Rattle.cell_world.specs.declared.layout.Class.{Class}
-use Rattle.cell_coherent.specs.Clear.{IsClear}
+use Rattle.cell_lemmas.specs.Clear.{IsClear}
 use Rattle.cell_num.proofs.Elements.{All-In, In-all}
-use Rattle.cell_coherent.proofs.Tables.{class_spaced, run_clear, run_inside}
-use Rattle.cell_load_law.specs.Loading.{AllTaken, ManyTaken, Taken, all_regions, regions_at, run_region, take_all, take_class, take_for, take_runs, with_all, with_classes, with_run_of}
-use Rattle.cell_load_law.proofs.Binds.{bind_ok, ok_same}
-use Rattle.cell_load_law.proofs.Offsets.{image_pages}
-use Rattle.cell_load_law.proofs.Placing.{class_is, class_table, runs_table, with_class_in}
+use Rattle.cell_lemmas.proofs.Tables.{class_spaced, run_clear, run_inside}
+use Rattle.cell_lemmas.specs.Loads.{AllTaken, ManyTaken, Taken, all_regions, regions_at, run_region, take_all, take_class, take_for, take_runs, with_all, with_classes, with_run_of}
+use Rattle.cell_lemmas.proofs.Binds.{bind_ok, ok_same}
+use Rattle.cell_lemmas.proofs.LoadOffsets.{image_pages}
+use Rattle.cell_lemmas.proofs.Placing.{class_is, class_table, runs_table, with_class_in}
 use Rattle.cell_mem.specs.State.{IsRoom, MemoryState}
 use Rattle.cell_commit.specs.Commit.{AreRoom, all_mapped, mapped_one}
 use Rattle.cell_commit.proofs.Mapping.{mapped_base, mapped_pages, mapped_spare}

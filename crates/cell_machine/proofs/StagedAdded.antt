@@ -12,9 +12,9 @@ use Rattle.cell_world.specs.Coherent.{IsCoherent, wanted_shapes}
 use Rattle.cell_world.specs.Place.{page_table}
 use Rattle.cell_world.specs.Relink.{Patch, patched, patches_of}
 use Rattle.cell_num.specs.Lists.{In}
-use Rattle.cell_load_law.specs.Loading.{objects_of, with_all}
+use Rattle.cell_lemmas.specs.Loads.{objects_of, with_all}
 use Rattle.cell_num.proofs.Elements.{In-right}
-use Rattle.cell_load_law.proofs.Placing.{all_table}
+use Rattle.cell_lemmas.proofs.Placing.{all_table}
 use Rattle.cell_link.specs.declared.value.FieldValue.{FieldValue}
 use Rattle.cell_mem.specs.State.{MemoryState}
 use Rattle.cell_place.specs.Space.{SpaceState}

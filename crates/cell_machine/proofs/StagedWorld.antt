@@ -8,7 +8,7 @@ use Rattle.cell_world.specs.World.{World, Cell, Standing, Attached}
 use Rattle.cell_world.specs.Names.{names_of}
 use Rattle.cell_world.specs.declared.layout.Starts.{Starts}
 use Rattle.cell_num.proofs.Elements.{All-In, filter-Passes}
-use Rattle.cell_load_law.specs.Loading.{ManyTaken, placed_after, placed_cell, placed_cells}
+use Rattle.cell_lemmas.specs.Loads.{ManyTaken, placed_after, placed_cell, placed_cells}
 use Rattle.cell_num.proofs.Sublists.{pairs-filter}
 use Rattle.cell_space.specs.Machine.{called, state_of}
 use Rattle.cell_space.specs.Joined.{placed_of}

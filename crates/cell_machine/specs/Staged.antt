@@ -21,9 +21,9 @@ use Rattle.cell_world.specs.Names.{names_of}
 use Rattle.cell_world.specs.Place.{page_table}
 use Rattle.cell_world.specs.Relink.{Patch, patched, patches_of}
 use Rattle.cell_world.specs.Target.{targets_of}
-use Rattle.cell_coherent.specs.Grown.{links_from}
-use Rattle.cell_coherent.specs.Linkable.{IsLinkable}
-use Rattle.cell_load_law.specs.Loading.{all_regions, objects_of, placed_after, placed_cells, take_all}
+use Rattle.cell_lemmas.specs.Grown.{links_from}
+use Rattle.cell_lemmas.specs.Linkable.{IsLinkable}
+use Rattle.cell_lemmas.specs.Loads.{all_regions, objects_of, placed_after, placed_cells, take_all}
 use Rattle.cell_link.specs.declared.value.FieldValue.{FieldValue}
 use Rattle.cell_link.specs.Linked.{field_values}
 use Rattle.cell_mem.specs.State.{MemoryState}

@@ -11,12 +11,12 @@ use Rattle.cell_world.specs.Gather.{first_lack}
 use Rattle.cell_world.specs.SwapCommand.{first_uncovered, is_bystander}
 use Rattle.cell_world.specs.Coherent.{IsCoherent, is_known_cell}
 use Rattle.cell_num.proofs.Elements.{all-In, In-filtered, filter-Passes, filter_none}
-use Rattle.cell_coherent.proofs.Attach.{Grows}
-use Rattle.cell_coherent.proofs.Known.{known_parts}
-use Rattle.cell_swaps_law.proofs.Coverage.{lacks_among, lacks_nothing}
-use Rattle.cell_swaps_law.proofs.Detached.{put, put_in, put_out}
-use Rattle.cell_swaps_law.proofs.SetAside.{aside}
-use Rattle.cell_swaps_law.proofs.SwapReady.{new_group}
+use Rattle.cell_lemmas.proofs.Attach.{Grows}
+use Rattle.cell_lemmas.proofs.Known.{known_parts}
+use Rattle.cell_lemmas.proofs.Coverage.{lacks_among, lacks_nothing}
+use Rattle.cell_lemmas.proofs.Detached.{put, put_in, put_out}
+use Rattle.cell_lemmas.proofs.SetAside.{aside}
+use Rattle.cell_lemmas.proofs.SwapReady.{new_group}
 use Rattle.cell_plan.specs.Staying.{is_user}
 
 -- the machine with old cells of v put aside, and new ones behind them

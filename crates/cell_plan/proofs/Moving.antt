@@ -15,8 +15,8 @@ use Rattle.cell_world.specs.World.{World, Cell, cell_of, key_of}
 use Rattle.cell_world.specs.Relink.{link_of, link_to}
 use Rattle.cell_world.specs.Target.{target_of, targets_of}
 use Rattle.cell_world.specs.Changed.{differs, now_in}
-use Rattle.cell_swaps_law.specs.Moved.{led_to, moved}
-use Rattle.cell_swaps_law.specs.Targets.{is_target_in, loses}
+use Rattle.cell_lemmas.specs.Moved.{led_to, moved}
+use Rattle.cell_lemmas.specs.Targets.{is_target_in, loses}
 use Rattle.cell_plan.specs.Changes.{lost_links}
 use Rattle.cell_plan.specs.Lost.{is_lost}
 use Rattle.cell_plan.specs.Staying.{links_in, StaysBy}

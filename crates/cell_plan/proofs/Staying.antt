@@ -20,7 +20,7 @@ use Rattle.cell_world.specs.Relink.{bound_entries, link_of, link_to}
 use Rattle.cell_world.specs.Target.{target_of, targets_of}
 use Rattle.cell_world.specs.Changed.{changed_in, changed_misfit, differs, first_changed_misfit, is_changed, now_in}
 use Rattle.cell_link.specs.Applied.{spot_of}
-use Rattle.cell_swaps_law.specs.Targets.{is_target_in, loses}
+use Rattle.cell_lemmas.specs.Targets.{is_target_in, loses}
 use Rattle.cell_plan.specs.Changes.{lost_fields}
 use Rattle.cell_plan.specs.Firsts.{is_entry_at}
 use Rattle.cell_plan.specs.Lost.{is_lost_at, is_lost_spot}

@@ -12,12 +12,12 @@ use Rattle.cell_world.specs.SwapCommand.{old_numbers}
 use Rattle.cell_world.specs.Coherent.{AreSound, IsCoherent}
 use Rattle.cell_num.specs.Lists.{In}
 use Rattle.cell_num.proofs.Elements.{All-In, In-All, In-map}
-use Rattle.cell_coherent.proofs.Unchanged.{bound_now, named_in}
-use Rattle.cell_coherent.proofs.Values.{bind}
-use Rattle.cell_swaps_law.specs.Swapping.{HasSwapPlaced}
-use Rattle.cell_swaps_law.specs.Targets.{loses}
-use Rattle.cell_swaps_law.proofs.SwapReady.{swap_linkable, swap_regrown, unchanged_fits}
-use Rattle.cell_swaps_law.proofs.SwapTargets.{differs_where_lost}
+use Rattle.cell_lemmas.proofs.Unchanged.{bound_now, named_in}
+use Rattle.cell_lemmas.proofs.Values.{bind}
+use Rattle.cell_lemmas.specs.Swapping.{HasSwapPlaced}
+use Rattle.cell_lemmas.specs.Targets.{loses}
+use Rattle.cell_lemmas.proofs.SwapReady.{swap_linkable, swap_regrown, unchanged_fits}
+use Rattle.cell_lemmas.proofs.SwapTargets.{differs_where_lost}
 use Rattle.cell_plan.specs.Staying.{StaysBy}
 
 module _ (sources : List Source) (sound : AreSound sources) (v : World) (h : IsCoherent v) (items : List SwapItem) (reexport : Bool) (w : World) (p : HasSwapPlaced sources v items reexport w) where

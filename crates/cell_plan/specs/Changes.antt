@@ -12,7 +12,7 @@ use Rattle.cell_link.specs.declared.value.FieldValue.{FieldValue}
 use Rattle.cell_link.specs.Linked.{bound_in, value_at}
 use Rattle.cell_link.specs.LinksBy.{LinksBy}
 use Rattle.cell_link.specs.Applied.{spot_of}
-use Rattle.cell_swaps_law.specs.Moved.{led_to}
+use Rattle.cell_lemmas.specs.Moved.{led_to}
 use Rattle.cell_plan.specs.declared.changes.Change.{Change}
 use Rattle.cell_plan.specs.declared.changes.Changes.{Changes}
 use Rattle.cell_plan.specs.Lost.{is_lost, is_lost_spot}

@@ -10,7 +10,7 @@ use Rattle.cell_object.specs.declared.object.Entry.{Entry}
 use Rattle.cell_world.specs.declared.state.LinkRow.{LinkRow}
 use Rattle.cell_world.specs.declared.state.Target.{Target}
 use Rattle.cell_link.specs.Tables.{spot_cmp}
-use Rattle.cell_swaps_law.specs.Targets.{is_target_in}
+use Rattle.cell_lemmas.specs.Targets.{is_target_in}
 use Rattle.cell_plan.specs.Firsts.{is_entry_at}
 
 abbrev pub is_lost : List ℕ → List Target → LinkRow → Bool

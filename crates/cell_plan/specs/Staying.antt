@@ -10,7 +10,7 @@ use Rattle.cell_world.specs.World.{World, Cell}
 use Rattle.cell_world.specs.Field.{fits}
 use Rattle.cell_world.specs.Relink.{bound_entries, link_of}
 use Rattle.cell_world.specs.Changed.{differs, now_in}
-use Rattle.cell_swaps_law.specs.Targets.{loses}
+use Rattle.cell_lemmas.specs.Targets.{loses}
 
 abbrev pub links_in : World → Cell → List LinkRow
 links_in v c = filter_map (link_of v c) (numbered c.object.entries)

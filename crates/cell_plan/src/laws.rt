@@ -8,7 +8,7 @@ ghost use Rattle.cell_world.specs.Relink.{links_of};
 ghost use Rattle.cell_world.specs.Target.{target_of, targets_of};
 ghost use Rattle.cell_num.specs.Lists.{In, each_pair};
 ghost use Rattle.cell_world.specs.World.{Cell, World, cell_of};
-ghost use Rattle.cell_swaps_law.specs.Moved.{moved};
+ghost use Rattle.cell_lemmas.specs.Moved.{moved};
 ghost use Rattle.cell_plan.specs.Changes.{lost_fields, lost_links};
 ghost use Rattle.cell_plan.specs.Lost.{is_lost};
 ghost use Rattle.cell_plan.specs.Staying.{StaysBy, is_user, links_in};

@@ -1,7 +1,7 @@
 //! The entries of a table whose links move, by a mark for each.
 
 ghost use Rattle.std.specs.Prelude.{◌≡◌, ◌++◌, ◌∷◌, [], ◌||◌, ◌==◌, ◌<◌, ℕ, Bool, IfOk, OnOk, false, true, filter, length, map, replicate, slice_get, slice_index_or};
-ghost use Rattle.cell_swaps_law.specs.Moved.{led_to as led};
+ghost use Rattle.cell_lemmas.specs.Moved.{led_to as led};
 ghost use Rattle.cell_plan.specs.Changes.{lost_links};
 ghost use Rattle.cell_plan.specs.Lost.{is_lost as lost};
 ghost use Rattle.cell_plan.specs.Taking.{IsMarkedAfter, is_lost_entry};

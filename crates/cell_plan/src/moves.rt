@@ -1,7 +1,7 @@
 //! The links that lead somewhere else after a swap.
 
 ghost use Rattle.std.specs.Prelude.{◌≡◌, ◌++◌, IfOk, OnOk, List, [], ◌∷◌, map, filter, slice_get};
-ghost use Rattle.cell_swaps_law.specs.Moved.{led_to as led};
+ghost use Rattle.cell_lemmas.specs.Moved.{led_to as led};
 ghost use Rattle.cell_plan.specs.Lost.{is_lost as lost};
 
 use crate::old::Old;

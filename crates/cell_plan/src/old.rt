@@ -5,7 +5,7 @@ ghost use Rattle.std.specs.List.{list_any};
 ghost use Rattle.std.specs.Ordering.{nat_cmp};
 ghost use Rattle.std.specs.BTreeSet.{contains};
 ghost use Rattle.cell_num.specs.Lists.{holds};
-ghost use Rattle.cell_swaps_law.specs.Targets.{is_target_in};
+ghost use Rattle.cell_lemmas.specs.Targets.{is_target_in};
 
 use cell_num::CellId;
 use cell_world::Target;

@@ -15,17 +15,17 @@ use Rattle.cell_world.specs.Layout.{permission_of}
 use Rattle.cell_world.specs.declared.layout.Class.TheVariants.{Writable}
 use Rattle.cell_world.specs.SpawnCommand.{new_task}
 use Rattle.cell_world.specs.World.{World, Region, cell_of}
-use Rattle.cell_coherent.specs.Clear.{IsClear}
+use Rattle.cell_lemmas.specs.Clear.{IsClear}
 use Rattle.cell_num.proofs.Elements.{All-In, In-all}
-use Rattle.cell_coherent.proofs.Places.{FreeAt, run_at, table_length}
-use Rattle.cell_coherent.proofs.Tables.{run_clear, table_filled}
+use Rattle.cell_lemmas.proofs.Places.{FreeAt, run_at, table_length}
+use Rattle.cell_lemmas.proofs.Tables.{run_clear, table_filled}
 use Rattle.cell_mem.specs.State.{IsRoom, MemoryState, mapped, one_more, reserved}
 use Rattle.cell_place.specs.declared.search.NoRun.{NoRun}
 use Rattle.cell_place.specs.declared.search.Run.{Run}
 use Rattle.cell_place.specs.Runs.{run_of}
 use Rattle.cell_place.specs.Space.{SpaceState, with_run}
 use Rattle.cell_task.specs.State.{TasksState, with_new}
-use Rattle.cell_turns.proofs.Spawned.{spawn_coherent}
+use Rattle.cell_lemmas.proofs.Spawned.{spawn_coherent}
 use Rattle.cell_machine.specs.declared.machine.Machine.{Machine}
 use Rattle.cell_machine.specs.Machine.{IsSound, world_of}
 use Rattle.cell_machine.proofs.Counts.{one_stack}

@@ -19,8 +19,8 @@ use Rattle.cell_space.specs.declared.cell.SpaceCell.{SpaceCell}
 use Rattle.cell_space.specs.Joined.{AreJoined, cells_of}
 use Rattle.cell_task.specs.State.{TasksState, without}
 use Rattle.cell_commit.specs.Seals.{seal_table}
-use Rattle.cell_turns.proofs.Bare.{region_once}
-use Rattle.cell_turns.proofs.Killed.{kill_coherent}
+use Rattle.cell_lemmas.proofs.Bare.{region_once}
+use Rattle.cell_lemmas.proofs.Killed.{kill_coherent}
 use Rattle.cell_machine.specs.declared.machine.Machine.{Machine}
 use Rattle.cell_machine.specs.Machine.{IsSound, field_bytes, keys_of, world_by, world_of}
 use Rattle.cell_schedule.specs.Ends.{IsEnded}

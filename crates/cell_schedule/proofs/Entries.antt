@@ -21,7 +21,7 @@ use Rattle.cell_world.specs.SpawnCommand.{entry_address, entry_named, inside_of,
 use Rattle.cell_world.specs.Target.{own_target, provided_target, start_of}
 use Rattle.cell_world.specs.World.{World, Cell, cell_of}
 use Rattle.cell_num.proofs.Elements.{find_there, found-In}
-use Rattle.cell_coherent.proofs.TextPlaces.{text_rest}
+use Rattle.cell_lemmas.proofs.TextPlaces.{text_rest}
 use Rattle.cell_machine.specs.declared.machine.Machine.{Machine}
 use Rattle.cell_machine.specs.Machine.{IsSound, world_of}
 use Rattle.cell_schedule.specs.Starts.{entry_at, entry_in, is_entry_at}

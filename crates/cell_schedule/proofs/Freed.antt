@@ -11,13 +11,13 @@ use Rattle.cell_world.specs.Pages.{filled, is_taken_run}
 use Rattle.cell_world.specs.Place.{is_taken, page_table}
 use Rattle.cell_world.specs.Coherent.{IsCoherent, Shape, shape_of, stack_shape, wanted_shapes, is_in_space}
 use Rattle.cell_world.specs.Turn.{without_task}
-use Rattle.cell_coherent.proofs.Distinct.{cell_shapes}
+use Rattle.cell_lemmas.proofs.Distinct.{cell_shapes}
 use Rattle.cell_num.proofs.Elements.{all-In, none-In, In-none, any-In, any-Has, filter-In, filter-Passes, In-filtered, In-map, In-right, map-In}
-use Rattle.cell_coherent.proofs.FieldsInside.{In-fold_shape}
-use Rattle.cell_coherent.proofs.Places.{table_length, taken_at, whole_region}
+use Rattle.cell_lemmas.proofs.FieldsInside.{In-fold_shape}
+use Rattle.cell_lemmas.proofs.Places.{table_length, taken_at, whole_region}
 use Rattle.cell_mem.proofs.Filling.{filled_above, filled_below, filled_inside, length-filled}
-use Rattle.cell_turns.proofs.Bare.{covers_once, region_once}
-use Rattle.cell_coherent.proofs.Writes.{begins_below, covered, ends_above}
+use Rattle.cell_lemmas.proofs.Bare.{covers_once, region_once}
+use Rattle.cell_lemmas.proofs.Writes.{begins_below, covered, ends_above}
 
 not_equal : (a b : ℕ) → not (a == b) ≡ true → a ≡ b → ⊥
 not_equal a b h e = true≢false (sym h ∙ ap not (eq-eqb a b e))

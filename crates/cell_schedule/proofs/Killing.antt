@@ -8,7 +8,7 @@ use Rattle.cell_world.specs.Outcome.{◌>>=◌}
 use Rattle.cell_world.specs.TaskCommands.{next_kill}
 use Rattle.cell_world.specs.Turn.{without_task}
 use Rattle.cell_world.specs.World.{Task, task_of}
-use Rattle.cell_coherent.proofs.Outcomes.{found_ok}
+use Rattle.cell_lemmas.proofs.Outcomes.{found_ok}
 use Rattle.cell_world.specs.Following.{FailsAs}
 use Rattle.cell_world.specs.declared.fail.Fail.{Fail}
 use Rattle.cell_world.specs.declared.fail.Fail.TheVariants.{Refused, OutOfMemory}

@@ -9,7 +9,7 @@ use Rattle.cell_world.specs.Outcome.{Outcome, ◌>>=◌, ◌>>◌}
 use Rattle.cell_world.specs.TaskCommands.{can_run, next_step}
 use Rattle.cell_world.specs.Turn.{turns_of}
 use Rattle.cell_world.specs.World.{Fault, Task, task_of}
-use Rattle.cell_coherent.proofs.Outcomes.{found_ok}
+use Rattle.cell_lemmas.proofs.Outcomes.{found_ok}
 use Rattle.cell_world.specs.Following.{FailsAs}
 use Rattle.cell_world.specs.declared.fail.Fail.{Fail}
 use Rattle.cell_world.specs.declared.fail.Fail.TheVariants.{Refused, OutOfMemory}

@@ -12,10 +12,10 @@ use Rattle.cell_world.specs.Execute.{allows, seen_in}
 use Rattle.cell_world.specs.Place.{is_taken, page_table}
 use Rattle.cell_mem.specs.State.{size_of}
 use Rattle.cell_num.proofs.Elements.{all-In, found-In, map_same}
-use Rattle.cell_turns.proofs.Executed.{Stored}
+use Rattle.cell_lemmas.proofs.Executed.{Stored}
 use Rattle.cell_num.proofs.Sublists.{and_left, and_right}
-use Rattle.cell_turns.proofs.Stored.{stored_shape}
-use Rattle.cell_coherent.proofs.Writes.{begins_below}
+use Rattle.cell_lemmas.proofs.Stored.{stored_shape}
+use Rattle.cell_lemmas.proofs.Writes.{begins_below}
 use Rattle.cell_schedule.proofs.Marks.{any_map}
 
 -- the shapes are the same, one by one

@@ -3,7 +3,7 @@ use Rattle.std.proofs.Common.{◌≡◌, refl, sym, ◌∙◌, ap, subst, ◌≤
 use Rattle.std.specs.Prelude.{◌==◌, ◌-◌}
 use Rattle.std.proofs.lemmas.Bool.{eqb-true}
 use Rattle.cell_world.specs.Pages.{filled, is_taken_run}
-use Rattle.cell_turns.proofs.TurnKept.{turn_cells}
+use Rattle.cell_lemmas.proofs.TurnKept.{turn_cells}
 use Rattle.cell_mem.specs.State.{MemoryState, is_sealed, unmapped}
 use Rattle.cell_hart.specs.Step.{seen_of}
 use Rattle.cell_hart.proofs.Alike.{execute_alike}
@@ -17,8 +17,8 @@ use Rattle.cell_world.specs.Move.{Move, move, moved_by}
 use Rattle.cell_world.specs.Turn.{Turned, hart_of, task_column, turn, turned, without_task}
 use Rattle.cell_num.specs.Lists.{In}
 use Rattle.cell_num.proofs.Elements.{found-In}
-use Rattle.cell_turns.proofs.Executed.{Stored, good_move}
-use Rattle.cell_turns.proofs.Turned.{stored_coherent, turn_coherent}
+use Rattle.cell_lemmas.proofs.Executed.{Stored, good_move}
+use Rattle.cell_lemmas.proofs.Turned.{stored_coherent, turn_coherent}
 use Rattle.cell_task.specs.declared.turned.Turned.{Turned as Answer}
 use Rattle.cell_task.specs.State.{IsReady, TasksState, live_in}
 use Rattle.cell_task.specs.Turns.{IsTurn, answer_of, memory_after, turned_in}

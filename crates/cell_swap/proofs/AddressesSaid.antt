@@ -13,12 +13,12 @@ use Rattle.cell_world.specs.UnloadCommand.{put_aside}
 use Rattle.cell_world.specs.World.{Alias, Cell, Detached, World}
 use Rattle.cell_num.specs.Lists.{holds, In, each_pair}
 use Rattle.cell_num.proofs.Elements.{In-All, In-map, map-In, pairs-map}
-use Rattle.cell_coherent.proofs.Inside.{ready_linkable}
-use Rattle.cell_coherent.proofs.Relinked.{map_twice}
+use Rattle.cell_lemmas.proofs.Inside.{ready_linkable}
+use Rattle.cell_lemmas.proofs.Relinked.{map_twice}
 use Rattle.cell_machine.proofs.Low.{is_low}
 use Rattle.cell_placed.specs.Low.{IsLow}
 use Rattle.cell_space.specs.Spaces.{HasCell}
-use Rattle.cell_swaps_law.proofs.SwapGathered.{wanted_all}
+use Rattle.cell_lemmas.proofs.SwapGathered.{wanted_all}
 use Rattle.cell_swap.proofs.PlanSteps.{low_before}
 use Rattle.cell_space.specs.declared.cell.SpaceCell.{SpaceCell}
 use Rattle.cell_space.specs.Joined.{placed_of}

@@ -14,10 +14,10 @@ use Rattle.cell_world.specs.SwapCommand.{Wanted, old_numbers, set_aside}
 use Rattle.cell_world.specs.UnloadCommand.{detach}
 use Rattle.cell_world.specs.World.{Cell, Detached, World}
 use Rattle.cell_num.proofs.Elements.{In-All, In-map, all-In, find_there, map-In}
-use Rattle.cell_coherent.proofs.Known.{known_parts}
-use Rattle.cell_removal.proofs.KeptPaths.{In-holds}
-use Rattle.cell_swaps_law.proofs.Detached.{put, put_in}
-use Rattle.cell_swaps_law.proofs.SetAside.{aside_base}
+use Rattle.cell_lemmas.proofs.Known.{known_parts}
+use Rattle.cell_lemmas.proofs.KeptPaths.{In-holds}
+use Rattle.cell_lemmas.proofs.Detached.{put, put_in}
+use Rattle.cell_lemmas.proofs.SetAside.{aside_base}
 use Rattle.cell_space.specs.Joined.{placed_of}
 use Rattle.cell_space.specs.Machine.{called}
 use Rattle.cell_space.specs.Named.{is_in, is_numbered}

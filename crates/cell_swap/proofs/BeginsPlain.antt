@@ -12,11 +12,11 @@ use Rattle.cell_world.specs.World.{Cell, Detached, World, attached}
 use Rattle.cell_world.specs.declared.refusal.Refusal.TheVariants.{NoEntry}
 use Rattle.cell_world.specs.declared.state.NewCell.{NewCell}
 use Rattle.cell_world.specs.declared.transfer.Routine.{Routine}
-use Rattle.cell_coherent.proofs.Appended.{ok_same}
+use Rattle.cell_lemmas.proofs.Appended.{ok_same}
 use Rattle.cell_num.proofs.Elements.{In-map}
 use Rattle.std.proofs.lemmas.List.{length-append}
-use Rattle.cell_load_law.specs.Loading.{placed_cells}
-use Rattle.cell_load_law.proofs.Loads.{older}
+use Rattle.cell_lemmas.specs.Loads.{placed_cells}
+use Rattle.cell_lemmas.proofs.Loads.{older}
 use Rattle.cell_world.specs.UnloadCommand.{put_aside}
 use Rattle.cell_world.specs.declared.file.File.{File}
 use Rattle.cell_world.specs.declared.layout.Starts.{Starts}

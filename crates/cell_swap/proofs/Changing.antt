@@ -17,12 +17,12 @@ use Rattle.cell_world.specs.Place.{page_table}
 use Rattle.cell_world.specs.SwapCommand.{first_uncovered}
 use Rattle.cell_world.specs.Target.{targets_of}
 use Rattle.cell_world.specs.World.{Cell, World, attached}
-use Rattle.cell_coherent.specs.Grown.{patch_at}
+use Rattle.cell_lemmas.specs.Grown.{patch_at}
 use Rattle.cell_num.proofs.Elements.{In-All, In-filtered}
-use Rattle.cell_coherent.proofs.Relinked.{map_twice}
-use Rattle.cell_load_law.specs.Loading.{ManyTaken, objects_of, placed_after, take_all}
-use Rattle.cell_swaps_law.specs.Swapping.{HasSwapPlaced}
-use Rattle.cell_swaps_law.proofs.SwapReady.{now_is}
+use Rattle.cell_lemmas.proofs.Relinked.{map_twice}
+use Rattle.cell_lemmas.specs.Loads.{ManyTaken, objects_of, placed_after, take_all}
+use Rattle.cell_lemmas.specs.Swapping.{HasSwapPlaced}
+use Rattle.cell_lemmas.proofs.SwapReady.{now_is}
 use Rattle.cell_space.specs.Ahead.{AheadState}
 use Rattle.cell_space.specs.Joined.{placed_of}
 use Rattle.cell_commit.specs.Commit.{patch_from, patches_from}

@@ -11,9 +11,9 @@ use Rattle.cell_world.specs.Names.{needs_of, provider_of}
 use Rattle.cell_world.specs.SwapCommand.{first_uncovered}
 use Rattle.cell_world.specs.World.{Cell, World}
 use Rattle.cell_num.proofs.Elements.{In-filtered, filter-Passes, map_same}
-use Rattle.cell_coherent.proofs.Relinked.{map_twice}
-use Rattle.cell_removal.proofs.Lookups.{filter_swap}
-use Rattle.cell_swaps_law.proofs.Detached.{put_out}
+use Rattle.cell_lemmas.proofs.Relinked.{map_twice}
+use Rattle.cell_lemmas.proofs.Lookups.{filter_swap}
+use Rattle.cell_lemmas.proofs.Detached.{put_out}
 use Rattle.cell_space.specs.Joined.{placed_of}
 use Rattle.cell_space.specs.Machine.{called}
 use Rattle.cell_space.specs.declared.cell.SpaceCell.{SpaceCell}

@@ -12,10 +12,10 @@ use Rattle.cell_world.specs.Coherent.{Shape, ends_before, shape_of, stack_shape,
 use Rattle.cell_world.specs.UnloadCommand.{without_cells}
 use Rattle.cell_world.specs.declared.state.LinkRow.{LinkRow}
 use Rattle.cell_world.specs.declared.state.NewCell.{NewCell}
-use Rattle.cell_coherent.proofs.Distinct.{cell_shapes}
+use Rattle.cell_lemmas.proofs.Distinct.{cell_shapes}
 use Rattle.cell_num.proofs.Elements.{All-In, In-All, In-map, In-right, filter_all, filter_none, map-In, pairs-map}
-use Rattle.cell_removal.proofs.KeptPaths.{In-holds, holds-In}
-use Rattle.cell_removal.proofs.ShapesLeft.{shapes_left}
+use Rattle.cell_lemmas.proofs.KeptPaths.{In-holds, holds-In}
+use Rattle.cell_lemmas.proofs.ShapesLeft.{shapes_left}
 use Rattle.cell_space.specs.Joined.{placed_of}
 use Rattle.cell_commit.specs.Cells.{arrived}
 use Rattle.cell_graph.specs.Moves.{moved}
@@ -35,7 +35,7 @@ use Rattle.cell_graph.specs.Links.{is_bound}
 use Rattle.cell_graph.specs.Removal.{is_used_outside, links_without, sections_without}
 use Rattle.cell_space.specs.Named.{cell_numbered}
 use Rattle.cell_space.specs.declared.cell.SpaceCell.{SpaceCell}
-use Rattle.cell_transfer_law.proofs.Undone.{In-with_region, undo_shapes}
+use Rattle.cell_lemmas.proofs.Undone.{In-with_region, undo_shapes}
 use Rattle.cell_world.specs.declared.state.SecPlace.{SecPlace}
 use Rattle.cell_swap.specs.declared.planning.Plan.{Plan}
 use Rattle.cell_swap.specs.declared.swapping.Ready.{Ready}

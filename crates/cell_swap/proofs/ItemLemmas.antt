@@ -24,7 +24,7 @@ use Rattle.cell_world.specs.declared.command.CellName.{CellName}
 use Rattle.cell_world.specs.Names.{cell_at, namespace_named}
 use Rattle.cell_num.specs.Lists.{each_pair, equals, In}
 use Rattle.cell_num.proofs.Elements.{found-In}
-use Rattle.cell_coherent.proofs.Targets.{In-find}
+use Rattle.cell_lemmas.proofs.Targets.{In-find}
 use Rattle.cell_unload.specs.Sweep.{cell_numbered}
 use Rattle.cell_swap.specs.Asking.{old_placed, AddsWant, AreAsked, AreWantsOf, Asks, HasWant, IsWantOf}
 

@@ -4,7 +4,7 @@ use Rattle.std.specs.Prelude.{All, IfSome, fold, is_some, option_and_then, slice
 use Rattle.std.specs.List.{find}
 use Rattle.std.proofs.lemmas.Bool.{leb-true}
 use Rattle.cell_num.specs.Bits.{bytes_of}
-use Rattle.cell_num.specs.Lists.{where_true}
+use Rattle.cell_num.specs.Lists.{where_true, each_pair}
 use Rattle.cell_world.specs.Memory.{covers, end_of, part_of}
 use Rattle.cell_mem.specs.Index.{IsLaid}
 use Rattle.cell_mem.proofs.Writes.{laid_written, length-bytes_of}
@@ -12,7 +12,6 @@ use Rattle.cell_commit.proofs.Mapping.{mapped_base, mapped_pages, mapped_undo}
 use Rattle.cell_commit.proofs.Writing.{patched_base, patched_pages, written_base, written_pages}
 use Rattle.cell_commit.proofs.FieldsLeft.{patched_kept, written_kept}
 use Rattle.std.proofs.lemmas.List.{append_assoc, length-map}
-use Rattle.cell_num.specs.Lists.{each_pair}
 use Rattle.cell_world.specs.declared.transfer.Record.{Record}
 use Rattle.cell_world.specs.World.{Region}
 use Rattle.cell_world.specs.Coherent.{ends_before}
@@ -21,7 +20,7 @@ use Rattle.cell_mem.specs.State.{HasWrites, MemoryState, begun_at, region_with, 
 use Rattle.cell_mem.specs.Undo.{UndoState, begun, noted, noted_in}
 use Rattle.cell_link.specs.declared.value.FieldValue.{FieldValue}
 use Rattle.cell_commit.specs.Commit.{IsLaidOut, all_mapped, IsMapped, field_patched, field_written, fields_patched, fields_written}
-use Rattle.cell_transfer_law.proofs.Undone.{undo_all}
+use Rattle.cell_lemmas.proofs.Undone.{undo_all}
 
 abbrev pub write_of : FieldValue → Write
 write_of f = write_at f.addr f.width f.value

@@ -16,11 +16,11 @@ use Rattle.cell_world.specs.Target.{target_of}
 use Rattle.cell_world.specs.declared.state.LinkRow.{LinkRow}
 use Rattle.cell_world.specs.declared.state.Target.{Target}
 use Rattle.cell_world.specs.declared.state.Target.TheVariants.{Section, Number}
-use Rattle.cell_coherent.specs.Grown.{links_from}
-use Rattle.cell_coherent.specs.Present.{JoinsPresent}
+use Rattle.cell_lemmas.specs.Grown.{links_from}
+use Rattle.cell_lemmas.specs.Present.{JoinsPresent}
 use Rattle.cell_num.proofs.Elements.{All-In, In-append, In-flat_map, In-map, In-none, any-In, filter_all, filter_none, found-In, map-In, pairs-In, In-left}
-use Rattle.cell_coherent.proofs.Present.{In-filter_map, links_present}
-use Rattle.cell_load_law.proofs.Loads.{older}
+use Rattle.cell_lemmas.proofs.Present.{In-filter_map, links_present}
+use Rattle.cell_lemmas.proofs.Loads.{older}
 use Rattle.cell_graph.specs.Links.{is_bound}
 use Rattle.cell_graph.specs.Moves.{is_link_of, moved, moved_row}
 use Rattle.cell_graph.specs.Removal.{is_listed, is_outside_use, is_used_outside, links_without}
@@ -29,7 +29,7 @@ use Rattle.cell_machine.proofs.LinksRise.{links_rise}
 use Rattle.cell_swap.specs.Before.{AreAsTheyWere}
 use Rattle.cell_unload.proofs.AllRemoved.{numbers}
 use Rattle.cell_unload.proofs.Leftovers.{holds_numbers}
-use Rattle.cell_removal.proofs.KeptPaths.{In-holds, holds-In}
+use Rattle.cell_lemmas.proofs.KeptPaths.{In-holds, holds-In}
 use Rattle.cell_swap.proofs.RowsBack.{AreOnce, all_back, itself, others_stay}
 
 -- each link is of a cell whose number was given, and leads to one

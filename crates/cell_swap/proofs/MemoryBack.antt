@@ -8,7 +8,7 @@ use Rattle.cell_world.specs.Pages.{filled}
 use Rattle.cell_world.specs.Coherent.{Shape, shape_of}
 use Rattle.cell_num.proofs.Elements.{In-All, In-map, filter-In, filter-Passes, map-In}
 use Rattle.cell_num.proofs.Sublists.{map_filter}
-use Rattle.cell_transfer_law.proofs.Undone.{undo_ended}
+use Rattle.cell_lemmas.proofs.Undone.{undo_ended}
 use Rattle.cell_commit.specs.Seals.{seal_table}
 use Rattle.cell_mem.specs.Index.{IsLaid}
 use Rattle.cell_mem.specs.State.{MemoryState, region_from, size_of, unmapped}

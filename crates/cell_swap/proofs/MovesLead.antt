@@ -21,12 +21,12 @@ use Rattle.cell_world.specs.Coherent.{AreSound, IsCoherent}
 use Rattle.cell_world.specs.Gather.{Source, fresh_cells}
 use Rattle.cell_world.specs.SwapCommand.{old_numbers}
 use Rattle.cell_world.specs.Target.{target_of, targets_of}
-use Rattle.cell_coherent.specs.Linkable.{IsLinkable}
+use Rattle.cell_lemmas.specs.Linkable.{IsLinkable}
 use Rattle.cell_num.proofs.Elements.{All-In, In-All, In-filtered, In-flat_map, In-left, In-map, In-none, any-In, filter-In, filter-Passes, filter_none, find_there, found-In, map-In, map_same, none-In, all-In, pairs-In, pairs-map, pairs_same}
 use Rattle.cell_num.proofs.Sublists.{filter_same, pairs-filter}
-use Rattle.cell_coherent.proofs.Targets.{In-find}
-use Rattle.cell_coherent.proofs.Unchanged.{now_There, placed_same, target_same}
-use Rattle.cell_turns.proofs.Fixed.{links_fixed}
+use Rattle.cell_lemmas.proofs.Targets.{In-find}
+use Rattle.cell_lemmas.proofs.Unchanged.{now_There, placed_same, target_same}
+use Rattle.cell_lemmas.proofs.Fixed.{links_fixed}
 use Rattle.cell_graph.specs.Links.{is_bound, is_same}
 use Rattle.cell_graph.specs.Moves.{AreApart, is_link_of, moved_row, moved as moved_by}
 use Rattle.cell_graph.proofs.Apart.{link_entry, link_user}
@@ -36,10 +36,10 @@ use Rattle.cell_machine.specs.Machine.{keys_of}
 use Rattle.cell_machine.proofs.LinksRise.{links_rise}
 use Rattle.cell_machine.proofs.Presence.{rows_present}
 use Rattle.cell_space.specs.Joined.{placed_of}
-use Rattle.cell_swaps_law.specs.Moved.{led_to, moved}
-use Rattle.cell_swaps_law.specs.Swapping.{HasSwapPlaced}
-use Rattle.cell_swaps_law.proofs.SwapReady.{swap_linkable, swap_regrown}
-use Rattle.cell_swaps_law.specs.Targets.{is_target_in}
+use Rattle.cell_lemmas.specs.Moved.{led_to, moved}
+use Rattle.cell_lemmas.specs.Swapping.{HasSwapPlaced}
+use Rattle.cell_lemmas.proofs.SwapReady.{swap_linkable, swap_regrown}
+use Rattle.cell_lemmas.specs.Targets.{is_target_in}
 use Rattle.cell_plan.specs.Changes.{lost_links}
 use Rattle.cell_plan.specs.Lost.{is_lost}
 use Rattle.cell_plan.specs.Staying.{is_user, links_in}

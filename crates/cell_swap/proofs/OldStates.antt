@@ -5,7 +5,7 @@ use Rattle.cell_world.specs.declared.state.Namespace.{Namespace}
 use Rattle.cell_world.specs.UnloadCommand.{detach, put_aside}
 use Rattle.cell_world.specs.World.{World, Cell, Detached}
 use Rattle.cell_num.proofs.Elements.{map_same}
-use Rattle.cell_coherent.proofs.Relinked.{map_twice}
+use Rattle.cell_lemmas.proofs.Relinked.{map_twice}
 use Rattle.cell_mem.specs.State.{MemoryState}
 use Rattle.cell_space.specs.Joined.{placed_of}
 use Rattle.cell_space.specs.Machine.{called}

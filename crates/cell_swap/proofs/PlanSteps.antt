@@ -18,16 +18,16 @@ use Rattle.cell_world.specs.Gather.{missing}
 use Rattle.cell_world.specs.SwapCommand.{first_uncovered}
 use Rattle.cell_world.specs.Torn.{first_torn}
 use Rattle.cell_world.specs.World.{Cell, World, attached, is_ready}
-use Rattle.cell_coherent.specs.Grown.{patch_at}
-use Rattle.cell_coherent.proofs.Appended.{unmapped}
+use Rattle.cell_lemmas.specs.Grown.{patch_at}
+use Rattle.cell_lemmas.proofs.Appended.{unmapped}
 use Rattle.cell_num.proofs.Elements.{All-In, In-All, In-filtered, In-map, all-In, map-In}
-use Rattle.cell_coherent.proofs.Known.{known_parts}
-use Rattle.cell_coherent.proofs.Inside.{ready_linkable}
+use Rattle.cell_lemmas.proofs.Known.{known_parts}
+use Rattle.cell_lemmas.proofs.Inside.{ready_linkable}
 use Rattle.cell_machine.proofs.Low.{is_low, place_low}
 use Rattle.cell_hold.specs.declared.roots.Root.{Root}
 use Rattle.cell_hold.specs.declared.roots.Root.TheVariants.{Attached}
 use Rattle.cell_task.specs.State.{TasksState}
-use Rattle.cell_load_law.specs.Loading.{placed_cells}
+use Rattle.cell_lemmas.specs.Loads.{placed_cells}
 use Rattle.cell_world.specs.Fit.{first_misfit}
 use Rattle.cell_world.specs.Kept.{placed_in}
 use Rattle.cell_unload.specs.declared.outlook.Outlook.{Outlook}

@@ -18,13 +18,13 @@ use Rattle.cell_world.specs.Relink.{Patch, relink}
 use Rattle.cell_world.specs.SwapCommand.{first_uncovered}
 use Rattle.cell_world.specs.Target.{targets_of}
 use Rattle.cell_world.specs.World.{Cell, Region, World}
-use Rattle.cell_coherent.specs.Grown.{links_from, patch_at}
+use Rattle.cell_lemmas.specs.Grown.{links_from, patch_at}
 use Rattle.cell_num.specs.Lists.{In}
 use Rattle.cell_num.proofs.Elements.{In-All, In-filtered, In-flat_map, In-map, In-left}
-use Rattle.cell_coherent.proofs.FieldsInside.{among-In}
-use Rattle.cell_load_law.specs.Loading.{ManyTaken, all_regions, objects_of, placed_after, placed_cells, take_all}
-use Rattle.cell_swaps_law.specs.Moved.{moved as led}
-use Rattle.cell_swaps_law.proofs.SwapReady.{now_is, swap_linkable}
+use Rattle.cell_lemmas.proofs.FieldsInside.{among-In}
+use Rattle.cell_lemmas.specs.Loads.{ManyTaken, all_regions, objects_of, placed_after, placed_cells, take_all}
+use Rattle.cell_lemmas.specs.Moved.{moved as led}
+use Rattle.cell_lemmas.proofs.SwapReady.{now_is, swap_linkable}
 use Rattle.cell_graph.specs.Links.{is_bound}
 use Rattle.cell_graph.specs.Moves.{AreApart, moved}
 use Rattle.cell_space.specs.Joined.{placed_of}

@@ -7,7 +7,7 @@ use Rattle.std.proofs.lemmas.List.{take_all, take_more}
 use Rattle.std.proofs.Math.Bool.{or_assoc, or-false}
 use Rattle.cell_num.specs.declared.ids.CellId.{CellId}
 use Rattle.cell_num.proofs.Elements.{All-In, find_there, found-In, map_same}
-use Rattle.cell_coherent.proofs.Relinked.{map_twice}
+use Rattle.cell_lemmas.proofs.Relinked.{map_twice}
 use Rattle.cell_space.specs.declared.cell.CellState.{CellState}
 use Rattle.cell_space.specs.declared.cell.CellState.TheVariants.{Attached, Detached}
 use Rattle.cell_space.specs.declared.cell.SpaceCell.{SpaceCell}

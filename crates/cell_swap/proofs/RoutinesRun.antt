@@ -26,19 +26,19 @@ use Rattle.cell_world.specs.SpawnCommand.{with_stack}
 use Rattle.cell_world.specs.SwapTransfer.{transferred_by}
 use Rattle.cell_world.specs.Transfer.{Addresses, Transferred, after_turns, routine_column, transfer, transferred}
 use Rattle.cell_world.specs.Turn.{without_region}
-use Rattle.cell_coherent.specs.Clear.{IsClear}
-use Rattle.cell_coherent.specs.Present.{IsInside}
+use Rattle.cell_lemmas.specs.Clear.{IsClear}
+use Rattle.cell_lemmas.specs.Present.{IsInside}
 use Rattle.cell_num.proofs.Elements.{All-In, In-all, In-flat_map, In-map, In-none, all-In, found-In}
-use Rattle.cell_coherent.proofs.FieldsInside.{among-In}
-use Rattle.cell_coherent.proofs.Inside.{fields_lie, ready_linkable}
-use Rattle.cell_coherent.proofs.Places.{FreeAt, run_at}
-use Rattle.cell_coherent.proofs.Tables.{run_clear}
-use Rattle.cell_coherent.proofs.Writes.{begins_below}
+use Rattle.cell_lemmas.proofs.FieldsInside.{among-In}
+use Rattle.cell_lemmas.proofs.Inside.{fields_lie, ready_linkable}
+use Rattle.cell_lemmas.proofs.Places.{FreeAt, run_at}
+use Rattle.cell_lemmas.proofs.Tables.{run_clear}
+use Rattle.cell_lemmas.proofs.Writes.{begins_below}
 use Rattle.cell_num.proofs.Sublists.{and_left, and_right}
-use Rattle.cell_turns.proofs.Executed.{Stored, good_move}
-use Rattle.cell_turns.proofs.Stores.{keeps_apart, keeps_shape}
-use Rattle.cell_turns.proofs.Spawned.{spaced}
-use Rattle.cell_transfer_law.proofs.Turns.{turns_coherent, turns_shapes}
+use Rattle.cell_lemmas.proofs.Executed.{Stored, good_move}
+use Rattle.cell_lemmas.proofs.Stores.{keeps_apart, keeps_shape}
+use Rattle.cell_lemmas.proofs.Spawned.{spaced}
+use Rattle.cell_lemmas.proofs.Turns.{turns_coherent, turns_shapes}
 use Rattle.cell_hart.proofs.Alike.{seen}
 use Rattle.cell_hart.specs.Step.{seen_of}
 use Rattle.cell_commit.specs.Seals.{is_in_span, seal_table}

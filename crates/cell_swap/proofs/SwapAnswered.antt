@@ -30,7 +30,7 @@ use Rattle.cell_machine.specs.Machine.{IsSound, world_of}
 use Rattle.cell_machine.specs.Same.{IsSame, raised}
 use Rattle.cell_machine.proofs.States.{known_at}
 use Rattle.cell_machine.proofs.Unchanged.{same_itself}
-use Rattle.cell_swaps_law.proofs.SwapGathered.{IsWanted, wanted_all}
+use Rattle.cell_lemmas.proofs.SwapGathered.{IsWanted, wanted_all}
 use Rattle.cell_swap.specs.declared.asked.Asked.{Asked}
 use Rattle.cell_swap.specs.Asking.{AreAsked}
 use Rattle.cell_swap.specs.OldCells.{AreThere, CanReturn, IsAside}

@@ -22,9 +22,9 @@ use Rattle.cell_world.specs.declared.state.NewCell.{NewCell}
 use Rattle.cell_world.specs.declared.transfer.NameAddr.{NameAddr}
 use Rattle.cell_world.specs.declared.transfer.Routine.{Routine}
 use Rattle.cell_world.specs.World.{Alias}
-use Rattle.cell_coherent.proofs.Appended.{ok_same}
+use Rattle.cell_lemmas.proofs.Appended.{ok_same}
 use Rattle.cell_num.proofs.Elements.{In-All}
-use Rattle.cell_load_law.specs.Loading.{Taken, placed_cells}
+use Rattle.cell_lemmas.specs.Loads.{Taken, placed_cells}
 use Rattle.cell_world.specs.Pages.{filled}
 use Rattle.cell_num.proofs.Sublists.{In-fixed}
 use Rattle.cell_commit.specs.Commit.{IsLaidOut, all_mapped, field_patched, fields_patched}
@@ -42,7 +42,7 @@ use Rattle.cell_mem.specs.State.{HasWrites, MemoryState, begun_at, undone_at}
 use Rattle.cell_place.specs.Space.{SpaceState}
 use Rattle.cell_routines.specs.Begins.{begin_as}
 use Rattle.cell_routines.specs.Placed.{entry_among, routines_among}
-use Rattle.cell_swaps_law.proofs.SwapGathered.{wanted_all}
+use Rattle.cell_lemmas.proofs.SwapGathered.{wanted_all}
 use Rattle.cell_xfer.specs.Carried.{CanCarry, IsCarried}
 use Rattle.cell_xfer.specs.Named.{addresses_as}
 use Rattle.cell_xfer.specs.declared.carrying.Transfer.{Transfer}

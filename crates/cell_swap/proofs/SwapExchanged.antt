@@ -34,7 +34,7 @@ use Rattle.cell_swap.specs.Transferring.{stacks_for}
 use Rattle.cell_routines.specs.declared.entries.Begin.{Begin}
 use Rattle.cell_num.specs.Lists.{each_pair, In}
 use Rattle.cell_num.proofs.Elements.{In-All, In-map, In-right, pairs-map}
-use Rattle.cell_load_law.specs.Loading.{placed_after, placed_cells}
+use Rattle.cell_lemmas.specs.Loads.{placed_after, placed_cells}
 use Rattle.cell_machine.proofs.Low.{is_low}
 use Rattle.cell_machine.proofs.StagedWorld.{numbers_rise}
 use Rattle.cell_placed.specs.Low.{IsLow}

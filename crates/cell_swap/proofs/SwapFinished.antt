@@ -13,11 +13,11 @@ use Rattle.cell_world.specs.LoadCommand.{field_count}
 use Rattle.cell_world.specs.SwapCommand.{swap_reply}
 use Rattle.cell_world.specs.UnloadCommand.{detached_of, garbage_of, next_purge, purged}
 use Rattle.cell_world.specs.World.{World, Cell, Attached}
-use Rattle.cell_coherent.proofs.Appended.{ok_same}
+use Rattle.cell_lemmas.proofs.Appended.{ok_same}
 use Rattle.cell_num.proofs.Elements.{In-map, map-In}
 use Rattle.cell_num.proofs.Sublists.{length-filter_le}
-use Rattle.cell_coherent.proofs.Relinked.{map_twice}
-use Rattle.cell_load_law.proofs.Loads.{older}
+use Rattle.cell_lemmas.proofs.Relinked.{map_twice}
+use Rattle.cell_lemmas.proofs.Loads.{older}
 use Rattle.cell_commit.specs.Cells.{arrived}
 use Rattle.cell_graph.specs.Moves.{moved}
 use Rattle.cell_link.specs.declared.value.FieldValue.{FieldValue}

@@ -23,23 +23,23 @@ use Rattle.cell_world.specs.Place.{page_table, place_all}
 use Rattle.cell_world.specs.Relink.{relink}
 use Rattle.cell_world.specs.SwapCommand.{Plan, Wanted, all_wanted, first_uncovered, gather_swap, old_numbers, plan_placed, plan_swap, set_aside}
 use Rattle.cell_world.specs.Torn.{first_torn}
-use Rattle.cell_coherent.specs.Grown.{links_from, patch_at, with_changes}
-use Rattle.cell_coherent.proofs.Gathered.{Extends, Ranks, extends_grows}
-use Rattle.cell_coherent.proofs.LoadCoherent.{fresh_is}
-use Rattle.cell_coherent.proofs.Ready.{IsBase, append_same}
-use Rattle.cell_coherent.proofs.Regrown.{relinked_writes}
-use Rattle.cell_coherent.proofs.Relinks.{coherent_relinked}
-use Rattle.cell_load_law.specs.Loading.{ManyTaken, Taken, objects_of, placed_after, placed_cells, take_all}
-use Rattle.cell_load_law.proofs.Placing.{all_is, all_table}
+use Rattle.cell_lemmas.specs.Grown.{links_from, patch_at, with_changes}
+use Rattle.cell_lemmas.proofs.Gathered.{Extends, Ranks, extends_grows}
+use Rattle.cell_lemmas.proofs.LoadCoherent.{fresh_is}
+use Rattle.cell_lemmas.proofs.Ready.{IsBase, append_same}
+use Rattle.cell_lemmas.proofs.Regrown.{relinked_writes}
+use Rattle.cell_lemmas.proofs.Relinks.{coherent_relinked}
+use Rattle.cell_lemmas.specs.Loads.{ManyTaken, Taken, objects_of, placed_after, placed_cells, take_all}
+use Rattle.cell_lemmas.proofs.Placing.{all_is, all_table}
 use Rattle.cell_machine.specs.Staged.{AreNewIn, ComesTo}
 use Rattle.cell_load.specs.Stages.{placing}
 use Rattle.cell_plan.proofs.Covering.{HasNewBehind}
-use Rattle.cell_swaps_law.specs.Moved.{moved}
-use Rattle.cell_swaps_law.specs.Swapping.{HasSwapPlaced}
-use Rattle.cell_swaps_law.proofs.MovedLinks.{links_move}
-use Rattle.cell_swaps_law.proofs.SetAside.{aside_base}
-use Rattle.cell_swaps_law.proofs.SwapGathered.{IsWanted, swap_gathered, wanted_all}
-use Rattle.cell_swaps_law.proofs.SwapReady.{swap_linkable, swap_ready, swap_regrown, wanted_attached}
+use Rattle.cell_lemmas.specs.Moved.{moved}
+use Rattle.cell_lemmas.specs.Swapping.{HasSwapPlaced}
+use Rattle.cell_lemmas.proofs.MovedLinks.{links_move}
+use Rattle.cell_lemmas.proofs.SetAside.{aside_base}
+use Rattle.cell_lemmas.proofs.SwapGathered.{IsWanted, swap_gathered, wanted_all}
+use Rattle.cell_lemmas.proofs.SwapReady.{swap_linkable, swap_ready, swap_regrown, wanted_attached}
 
 -- places don't change numbers
 numbers_placed : (n : ℕ) (starts : List Starts) (cells : List Cell) → list_all (λ (c : Cell). nat_le n c.id.0) cells ≡ true → list_all (λ (c : Cell). nat_le n c.id.0) (placed_cells starts cells) ≡ true

@@ -13,7 +13,7 @@ use Rattle.cell_world.specs.UnloadCommand.{detached_of, garbage_of}
 use Rattle.cell_world.specs.World.{World, Cell, Standing, Attached, attached, is_attached}
 use Rattle.cell_world.specs.declared.state.NewCell.{NewCell}
 use Rattle.cell_num.proofs.Elements.{In-append, In-filtered, In-map, any-In, filter-Passes, filter_all, filter_none, map-In}
-use Rattle.cell_removal.proofs.KeptPaths.{holds-In}
+use Rattle.cell_lemmas.proofs.KeptPaths.{holds-In}
 use Rattle.cell_space.specs.Joined.{placed_of}
 use Rattle.cell_machine.specs.Does.{cell_shapes}
 use Rattle.cell_load.proofs.NewRegions.{regions_counted}

@@ -9,9 +9,9 @@ use Rattle.cell_world.specs.declared.state.NewCell.{NewCell}
 use Rattle.cell_world.specs.Relink.{links_of}
 use Rattle.cell_world.specs.World.{Cell, Standing, Attached, Detached, World}
 use Rattle.cell_num.proofs.Elements.{map-In}
-use Rattle.cell_turns.proofs.Fixed.{links_fixed}
-use Rattle.cell_swaps_law.proofs.Detached.{put, put_same}
-use Rattle.cell_swaps_law.proofs.SetAside.{aside_ranks}
+use Rattle.cell_lemmas.proofs.Fixed.{links_fixed}
+use Rattle.cell_lemmas.proofs.Detached.{put, put_same}
+use Rattle.cell_lemmas.proofs.SetAside.{aside_ranks}
 use Rattle.cell_space.specs.Joined.{placed_of}
 use Rattle.cell_space.specs.Machine.{called, state_of}
 use Rattle.cell_space.specs.Named.{cell_numbered}

@@ -12,11 +12,11 @@ use Rattle.cell_world.specs.Reexport.{Exchange, take_on, with_reexports}
 use Rattle.cell_world.specs.SwapCommand.{Wanted, append_wanted, exchanges_from, gather_swap, old_numbers, renamed, set_aside}
 use Rattle.cell_world.specs.World.{Alias, Cell, World, cell_of}
 use Rattle.cell_num.proofs.Elements.{map-In}
-use Rattle.cell_coherent.proofs.Targets.{In-find}
+use Rattle.cell_lemmas.proofs.Targets.{In-find}
 use Rattle.cell_gather.specs.declared.want.Want.{Want}
 use Rattle.cell_gather.specs.Gathering.{append_wanted as append_want, exchange_of, exchanges_from as exchanges_by, gather, renamed as renamed_by}
-use Rattle.cell_swaps_law.proofs.Detached.{put, put_same}
-use Rattle.cell_swaps_law.proofs.SetAside.{aside_ranks}
+use Rattle.cell_lemmas.proofs.Detached.{put, put_same}
+use Rattle.cell_lemmas.proofs.SetAside.{aside_ranks}
 use Rattle.cell_swap.specs.Asking.{AreWantsOf, IsWantOf}
 
 -- exchanges whose old cells have the same names

@@ -20,7 +20,7 @@ use Rattle.cell_world.specs.Outcome.{Outcome}
 use Rattle.cell_world.specs.Relink.{Patch}
 use Rattle.cell_world.specs.SwapCommand.{Plan as SwapPlan, first_uncovered, gather_swap, plan_swap, set_aside}
 use Rattle.cell_world.specs.World.{Task, attached, is_ready}
-use Rattle.cell_load_law.specs.Loading.{placed_cells}
+use Rattle.cell_lemmas.specs.Loads.{placed_cells}
 use Rattle.cell_hold.specs.declared.roots.Root.{Root}
 use Rattle.cell_hold.specs.declared.roots.Root.TheVariants.{Attached}
 use Rattle.cell_graph.specs.Moves.{moved}

@@ -12,9 +12,9 @@ use Rattle.cell_world.specs.NsCommand.{next_ns, with_namespace}
 use Rattle.cell_world.specs.Outcome.{Outcome, ◌>>◌, found}
 use Rattle.cell_world.specs.Place.{page_table}
 use Rattle.cell_world.specs.World.{World, Cell}
-use Rattle.cell_coherent.proofs.NextCoherent.{answered}
-use Rattle.cell_coherent.proofs.NamespaceAdded.{ns_coherent}
-use Rattle.cell_load_law.proofs.Binds.{bind_err, bind_is}
+use Rattle.cell_lemmas.proofs.NextCoherent.{answered}
+use Rattle.cell_lemmas.proofs.NamespaceAdded.{ns_coherent}
+use Rattle.cell_lemmas.proofs.Binds.{bind_err, bind_is}
 use Rattle.cell_commit.specs.Seals.{seal_table}
 use Rattle.cell_space.specs.declared.cell.SpaceCell.{SpaceCell}
 use Rattle.cell_space.specs.Joined.{AreJoined, cells_of}

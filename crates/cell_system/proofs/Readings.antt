@@ -31,19 +31,19 @@ use Rattle.cell_world.specs.SwapCommand.{Plan, Wanted, append_wanted, exchanges_
 use Rattle.cell_world.specs.UnloadCommand.{purged, put_aside}
 use Rattle.cell_world.specs.declared.command.SwapItem.{SwapItem}
 use Rattle.cell_world.specs.World.{Alias, Cell, Detached, World, cell_of}
-use Rattle.cell_coherent.proofs.Appended.{Appended, append_ok, ok_same}
-use Rattle.cell_coherent.proofs.Brought.{In-depot, brought, one_file-In}
+use Rattle.cell_lemmas.proofs.Appended.{Appended, append_ok, ok_same}
+use Rattle.cell_lemmas.proofs.Brought.{In-depot, brought, one_file-In}
 use Rattle.cell_num.proofs.Elements.{All-In, In-All, In-append, In-filtered, all-In}
-use Rattle.cell_coherent.proofs.NamespaceAdded.{Added, ns_ok}
-use Rattle.cell_coherent.proofs.NextCoherent.{dump_same, find_same, map_same}
-use Rattle.cell_coherent.proofs.Outcomes.{bind_ok, then_ok}
-use Rattle.cell_coherent.proofs.PlacedAll.{CellRuns, cell_runs, each_keeps}
-use Rattle.cell_turns.specs.Kept.{KeepsCells}
-use Rattle.cell_turns.proofs.Commands.{kill_cells, run_cells, step_cells, tasks_same}
-use Rattle.cell_swaps_law.proofs.Second.{second_parts}
-use Rattle.cell_swaps_law.proofs.SwapGathered.{IsWanted, wanted_all}
-use Rattle.cell_swaps_law.proofs.SwapSteps.{Planned, Swapped, planned, swapped}
-use Rattle.cell_removal.proofs.Removals.{Removed, purge_removed, unload_removed}
+use Rattle.cell_lemmas.proofs.NamespaceAdded.{Added, ns_ok}
+use Rattle.cell_lemmas.proofs.NextCoherent.{dump_same, find_same, map_same}
+use Rattle.cell_lemmas.proofs.Outcomes.{bind_ok, then_ok}
+use Rattle.cell_lemmas.proofs.PlacedAll.{CellRuns, cell_runs, each_keeps}
+use Rattle.cell_lemmas.specs.Kept.{KeepsCells}
+use Rattle.cell_lemmas.proofs.Commands.{kill_cells, run_cells, step_cells, tasks_same}
+use Rattle.cell_lemmas.proofs.Second.{second_parts}
+use Rattle.cell_lemmas.proofs.SwapGathered.{IsWanted, wanted_all}
+use Rattle.cell_lemmas.proofs.SwapSteps.{Planned, Swapped, planned, swapped}
+use Rattle.cell_lemmas.proofs.Removals.{Removed, purge_removed, unload_removed}
 use Rattle.cell_system.specs.Readings.{AreRead, IsRead}
 
 abbrev pub Apart : List Source → Type 0

@@ -64,7 +64,7 @@ impl System {
     }
 
     /// Between any two commands the machine is coherent, and the object of each cell is the reading of its file.
-    /// A turn keeps it coherent, by the law `turn_keeps_coherent` of `cell_turns`: it is so after each turn inside
+    /// A turn keeps it coherent, by the law `turn_keeps_coherent` of `cell_laws`: it is so after each turn inside
     /// a command too.
     pub fn coherent(&self)
         ensures coherent { IsCoherent self.now.machine.world }

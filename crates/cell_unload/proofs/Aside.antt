@@ -14,12 +14,12 @@ use Rattle.cell_world.specs.Kept.{Holding, holding_of, is_claimed_by, kept_in, p
 use Rattle.cell_world.specs.UnloadCommand.{detach, garbage_of, put_aside}
 use Rattle.cell_world.specs.World.{World, Cell, Detached, is_attached}
 use Rattle.cell_num.proofs.Elements.{In-All, In-none, In-filtered, filter-In, map-In, map_same, pairs-map}
-use Rattle.cell_coherent.proofs.Relinked.{map_twice}
+use Rattle.cell_lemmas.proofs.Relinked.{map_twice}
 use Rattle.cell_num.proofs.Sublists.{pairs-filter}
 use Rattle.cell_graph.specs.Removal.{is_listed, is_outside_use}
-use Rattle.cell_removal.proofs.Freed.{number_holds}
-use Rattle.cell_removal.proofs.KeptPaths.{In-holds, directly_kept, kept_complete}
-use Rattle.cell_removal.proofs.PutAside.{closed_aside, put_number}
+use Rattle.cell_lemmas.proofs.Freed.{number_holds}
+use Rattle.cell_lemmas.proofs.KeptPaths.{In-holds, directly_kept, kept_complete}
+use Rattle.cell_lemmas.proofs.PutAside.{closed_aside, put_number}
 
 -- a cell is listed where its number is
 pub listed_numbers : (cells : List CellId) (n : ℕ) → list_any (λ c. c.0 == n) cells ≡ holds (map (λ c. c.0) cells) n

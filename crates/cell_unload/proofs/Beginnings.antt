@@ -16,7 +16,7 @@ use Rattle.cell_world.specs.Kept.{Claim, claim_of}
 use Rattle.cell_world.specs.UnloadCommand.{put_aside}
 use Rattle.cell_world.specs.World.{Cell, Standing, Attached, Detached, Task, World, cell_of, is_attached}
 use Rattle.cell_num.proofs.Elements.{all-In, In-all, In-append, In-flat_map, In-map, some_has}
-use Rattle.cell_removal.proofs.Freed.{number_holds, present_holds}
+use Rattle.cell_lemmas.proofs.Freed.{number_holds, present_holds}
 use Rattle.cell_unload.specs.Begun.{is_aside, root_of, root_of_task}
 
 holds-map : (aside : List CellId) (n : ℕ) → holds (map (λ c. c.0) aside) n ≡ list_any (λ c. c.0 == n) aside

@@ -6,7 +6,7 @@ use Rattle.std.proofs.lemmas.Bool.{cases_lt, eqb-true, eq-eqb}
 use Rattle.std.proofs.lemmas.List.{ext_get_or}
 use Rattle.cell_num.specs.Lists.{In, from_on}
 use Rattle.cell_num.proofs.Elements.{In-filtered, In-none, any-Has, any-In, filter-In, filter-Passes, found-In, none-In, some_has}
-use Rattle.cell_coherent.proofs.Places.{table_length, taken_at}
+use Rattle.cell_lemmas.proofs.Places.{table_length, taken_at}
 use Rattle.cell_mem.specs.Index.{IsLaid}
 use Rattle.cell_mem.specs.State.{MemoryState, region_from, size_of, unmapped}
 use Rattle.cell_mem.proofs.Filling.{filled_above, filled_below, filled_inside, length-filled}

@@ -11,15 +11,15 @@ use Rattle.cell_world.specs.Kept.{holding_of}
 use Rattle.cell_world.specs.Outcome.{Outcome, ◌>>=◌, ◌>>◌, refused_by}
 use Rattle.cell_world.specs.UnloadCommand.{detach, first_held, garbage_of, named_cells, next_purge, next_unload, purged, put_aside, without_cells}
 use Rattle.cell_world.specs.World.{World, Cell}
-use Rattle.cell_coherent.proofs.Appended.{ok_same}
-use Rattle.cell_coherent.proofs.Relinked.{map_twice}
+use Rattle.cell_lemmas.proofs.Appended.{ok_same}
+use Rattle.cell_lemmas.proofs.Relinked.{map_twice}
 use Rattle.cell_machine.proofs.Counts.{counts_stand}
 use Rattle.cell_num.proofs.Sublists.{In-fixed}
 use Rattle.cell_world.specs.Following.{FailsAs}
 use Rattle.cell_world.specs.declared.fail.Fail.{Fail}
 use Rattle.cell_world.specs.declared.fail.Fail.TheVariants.{Refused, OutOfMemory}
-use Rattle.cell_removal.proofs.PutAside.{aside_left, closed_aside, roots_aside}
-use Rattle.cell_removal.proofs.RemoveCoherent.{remove_coherent}
+use Rattle.cell_lemmas.proofs.PutAside.{aside_left, closed_aside, roots_aside}
+use Rattle.cell_lemmas.proofs.RemoveCoherent.{remove_coherent}
 use Rattle.cell_machine.specs.declared.machine.Machine.{Machine}
 use Rattle.cell_machine.specs.Does.{Does, HasDone, fresh_by, patched_by}
 use Rattle.cell_machine.specs.Machine.{IsSound, world_of}

@@ -4,7 +4,7 @@ use Rattle.std.specs.Prelude.{◌==◌, filter, is_some}
 use Rattle.std.specs.List.{list_all}
 use Rattle.std.proofs.lemmas.Bool.{and_parts, cases_lt, eqb-true, eq-eqb}
 use Rattle.std.proofs.lemmas.List.Sums.{fold-append}
-use Rattle.cell_coherent.proofs.Distinct.{pairs_first}
+use Rattle.cell_lemmas.proofs.Distinct.{pairs_first}
 use Rattle.cell_num.specs.Lists.{In, each_pair, holds}
 use Rattle.cell_num.proofs.Elements.{In-filtered, In-left, all-In, filter-In, filter_all, find_there, found-In, some_has}
 use Rattle.cell_mem.specs.Index.{IsLaid}

@@ -20,10 +20,10 @@ use Rattle.cell_world.specs.World.{World, Cell, cell_of, key_of}
 use Rattle.cell_world.specs.Coherent.{IsCoherent}
 use Rattle.cell_world.specs.Relink.{link_of, link_to}
 use Rattle.cell_world.specs.Target.{target_of}
-use Rattle.cell_coherent.specs.Present.{HasSection, JoinsPresent}
+use Rattle.cell_lemmas.specs.Present.{HasSection, JoinsPresent}
 use Rattle.cell_num.proofs.Elements.{all-In, In-all, All-In, In-append, found-In, any-In, any-Has, map-In, In-map, In-flat_map, pairs-map, pairs_same}
-use Rattle.cell_coherent.proofs.Known.{object_sound}
-use Rattle.cell_coherent.proofs.Present.{links_present, some_same}
+use Rattle.cell_lemmas.proofs.Known.{object_sound}
+use Rattle.cell_lemmas.proofs.Present.{links_present, some_same}
 use Rattle.cell_num.proofs.Sublists.{pairs-filter}
 use Rattle.cell_graph.specs.Links.{is_same}
 use Rattle.cell_machine.specs.Machine.{section_keys}

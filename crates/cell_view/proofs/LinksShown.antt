@@ -13,7 +13,7 @@ use Rattle.cell_world.specs.LinkCommands.{link_line, next_deps, next_users}
 use Rattle.cell_world.specs.World.{World, Cell, cell_of}
 use Rattle.cell_num.specs.Lists.{In}
 use Rattle.cell_num.proofs.Elements.{flat_map-In}
-use Rattle.cell_load_law.proofs.Binds.{bind_is}
+use Rattle.cell_lemmas.proofs.Binds.{bind_is}
 use Rattle.cell_machine.specs.declared.machine.Machine.{Machine}
 use Rattle.cell_machine.specs.Machine.{IsSound, keys_of, section_keys, world_of}
 use Rattle.cell_space.specs.Joined.{placed_of}

@@ -19,7 +19,7 @@ use Rattle.cell_world.specs.Outcome.{found}
 use Rattle.cell_world.specs.Target.{start_of}
 use Rattle.cell_num.specs.Lists.{In}
 use Rattle.cell_num.proofs.Elements.{found-In}
-use Rattle.cell_load_law.proofs.Binds.{bind_is}
+use Rattle.cell_lemmas.proofs.Binds.{bind_is}
 use Rattle.cell_machine.specs.declared.machine.Machine.{Machine}
 use Rattle.cell_space.specs.Joined.{placed_of}
 use Rattle.cell_machine.specs.Machine.{world_of}

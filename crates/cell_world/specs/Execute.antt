@@ -14,9 +14,9 @@ use Rattle.cell_isa.specs.declared.insn.Insn.{Insn}
 use Rattle.cell_isa.specs.declared.insn.Op.{Op}
 use Rattle.cell_isa.specs.declared.insn.Op.TheVariants.{Fence, Ecall, Ebreak}
 use Rattle.cell_isa.specs.Instruction.{decode}
-use Rattle.cell_alu.specs.declared.memory.Access.{Access}
-use Rattle.cell_alu.specs.declared.memory.Access.TheVariants.{Untouched, Loads, Stores}
-use Rattle.cell_alu.specs.Meaning.{result_of, is_taken, aim_of, access_of}
+use Rattle.cell_isa.specs.declared.memory.Access.{Access}
+use Rattle.cell_isa.specs.declared.memory.Access.TheVariants.{Untouched, Loads, Stores}
+use Rattle.cell_isa.specs.Meaning.{result_of, is_taken, aim_of, access_of}
 use Rattle.cell_world.specs.World.{World, Cell, Region, Permission}
 use Rattle.cell_world.specs.Memory.{Write, region_in, end_of}
 use Rattle.cell_world.specs.Field.{place_of, fields_of}

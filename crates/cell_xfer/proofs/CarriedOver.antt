@@ -21,8 +21,8 @@ use Rattle.cell_world.specs.Transfer.{Addresses, Transferred, is_success, routin
 use Rattle.cell_world.specs.Turn.{without_region}
 use Rattle.cell_world.specs.Undo.{AreBytes, Write, journal_of, put_back, put_in, puts, record_of, undone}
 use Rattle.cell_num.proofs.Elements.{All-In, all-In, filter_all}
-use Rattle.cell_transfer_law.proofs.Turns.{without_new}
-use Rattle.cell_transfer_law.proofs.Undone.{In-with_region, undo_all, undo_shapes, undone_unmapped}
+use Rattle.cell_lemmas.proofs.Turns.{without_new}
+use Rattle.cell_lemmas.proofs.Undone.{In-with_region, undo_all, undo_shapes, undone_unmapped}
 use Rattle.cell_hart.specs.Step.{seen_of}
 use Rattle.cell_mem.specs.Index.{IsLaid}
 use Rattle.cell_mem.specs.State.{MemoryState, mapped, one_more, region_from, size_of, undone_at, undone_by, unmapped, written_at}

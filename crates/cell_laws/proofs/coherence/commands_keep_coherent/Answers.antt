@@ -1,9 +1,9 @@
-use Rattle.cell_coherent.proofs.LoadCoherent.{load_coherent}
-use Rattle.cell_coherent.proofs.NamespaceAdded.{ns_coherent}
-use Rattle.cell_turns.proofs.Spawned.{spawn_keeps}
-use Rattle.cell_turns.proofs.Commands.{step_keeps, run_keeps, kill_keeps}
-use Rattle.cell_removal.proofs.Removals.{purge_removed, removed_coherent, unload_removed}
-use Rattle.cell_swaps_law.proofs.Left.{swap_coherent}
+use Rattle.cell_lemmas.proofs.LoadCoherent.{load_coherent}
+use Rattle.cell_lemmas.proofs.NamespaceAdded.{ns_coherent}
+use Rattle.cell_lemmas.proofs.Spawned.{spawn_keeps}
+use Rattle.cell_lemmas.proofs.Commands.{step_keeps, run_keeps, kill_keeps}
+use Rattle.cell_lemmas.proofs.Removals.{purge_removed, removed_coherent, unload_removed}
+use Rattle.cell_lemmas.proofs.Left.{swap_coherent}
 use Rattle.cell_laws.proofs.coherence.commands_keep_coherent.Goals as goal
 
 pub returns-clause-ns : goal.returns-clause-ns

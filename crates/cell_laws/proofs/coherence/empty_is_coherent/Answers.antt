@@ -1,4 +1,4 @@
-use Rattle.cell_coherent.proofs.NextCoherent.{empty_coherent}
+use Rattle.cell_lemmas.proofs.NextCoherent.{empty_coherent}
 use Rattle.cell_laws.proofs.coherence.empty_is_coherent.Goals as goal
 
 pub returns : goal.returns

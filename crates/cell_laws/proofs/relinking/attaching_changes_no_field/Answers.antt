@@ -1,4 +1,4 @@
-use Rattle.cell_coherent.proofs.Attaching.{attached_changes_none, relinked_attached}
+use Rattle.cell_lemmas.proofs.Attaching.{attached_changes_none, relinked_attached}
 use Rattle.cell_laws.proofs.relinking.attaching_changes_no_field.Goals as goal
 
 pub returns-clause-none : goal.returns-clause-none

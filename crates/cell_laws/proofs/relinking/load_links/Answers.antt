@@ -1,4 +1,4 @@
-use Rattle.cell_coherent.proofs.LoadLinks.{links}
+use Rattle.cell_lemmas.proofs.LoadLinks.{links}
 use Rattle.cell_laws.proofs.relinking.load_links.Goals as goal
 
 pub returns-clause-links : goal.returns-clause-links

@@ -1,4 +1,4 @@
-use Rattle.cell_coherent.proofs.LoadLinks.{has_attached, has_regrown, is_linkable, is_ready}
+use Rattle.cell_lemmas.proofs.LoadLinks.{has_attached, has_regrown, is_linkable, is_ready}
 use Rattle.cell_laws.proofs.relinking.load_regrows.Goals as goal
 
 pub returns-clause-attached : goal.returns-clause-attached

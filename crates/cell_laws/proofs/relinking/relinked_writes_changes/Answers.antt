@@ -1,6 +1,6 @@
-use Rattle.cell_coherent.proofs.Regrown.{relinked_writes}
-use Rattle.cell_swaps_law.proofs.Growths.{targets_follow, links_follow}
-use Rattle.cell_swaps_law.proofs.MovedLinks.{links_move}
+use Rattle.cell_lemmas.proofs.Regrown.{relinked_writes}
+use Rattle.cell_lemmas.proofs.Growths.{targets_follow, links_follow}
+use Rattle.cell_lemmas.proofs.MovedLinks.{links_move}
 use Rattle.cell_laws.proofs.relinking.relinked_writes_changes.Goals as goal
 
 pub returns-clause-writes : goal.returns-clause-writes

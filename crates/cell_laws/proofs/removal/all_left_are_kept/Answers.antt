@@ -1,5 +1,5 @@
-use Rattle.cell_removal.proofs.AllKept.{purge_keeps, unload_keeps}
-use Rattle.cell_swaps_law.proofs.Left.{swap_all_kept}
+use Rattle.cell_lemmas.proofs.AllKept.{purge_keeps, unload_keeps}
+use Rattle.cell_lemmas.proofs.Left.{swap_all_kept}
 use Rattle.cell_laws.proofs.removal.all_left_are_kept.Goals as goal
 
 pub returns-clause-purge : goal.returns-clause-purge

@@ -1,5 +1,5 @@
-use Rattle.cell_removal.proofs.AllKept.{purge_unreached, unload_unreached}
-use Rattle.cell_swaps_law.proofs.Left.{swap_unreached}
+use Rattle.cell_lemmas.proofs.AllKept.{purge_unreached, unload_unreached}
+use Rattle.cell_lemmas.proofs.Left.{swap_unreached}
 use Rattle.cell_laws.proofs.removal.nothing_leads_to_removed.Goals as goal
 
 pub returns-clause-purge : goal.returns-clause-purge

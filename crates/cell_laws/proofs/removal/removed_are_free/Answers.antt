@@ -1,5 +1,5 @@
-use Rattle.cell_removal.proofs.Removals.{garbage_all, purge_leaves, unload_leaves, unloaded_by}
-use Rattle.cell_swaps_law.proofs.Left.{swap_left}
+use Rattle.cell_lemmas.proofs.Removals.{garbage_all, purge_leaves, unload_leaves, unloaded_by}
+use Rattle.cell_lemmas.proofs.Left.{swap_left}
 use Rattle.cell_laws.proofs.removal.removed_are_free.Goals as goal
 
 pub returns-clause-garbage : goal.returns-clause-garbage

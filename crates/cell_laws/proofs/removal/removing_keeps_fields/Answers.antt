@@ -1,5 +1,5 @@
-use Rattle.cell_removal.proofs.Removals.{purge_removed, removed_fields, unload_removed}
-use Rattle.cell_swaps_law.proofs.Left.{swap_fields_left}
+use Rattle.cell_lemmas.proofs.Removals.{purge_removed, removed_fields, unload_removed}
+use Rattle.cell_lemmas.proofs.Left.{swap_fields_left}
 use Rattle.cell_laws.proofs.removal.removing_keeps_fields.Goals as goal
 
 pub returns-clause-unload : goal.returns-clause-unload

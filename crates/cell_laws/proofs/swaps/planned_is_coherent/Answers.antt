@@ -1,4 +1,4 @@
-use Rattle.cell_swaps_law.proofs.SwapSteps.{plan_coherent}
+use Rattle.cell_lemmas.proofs.SwapSteps.{plan_coherent}
 use Rattle.cell_laws.proofs.swaps.planned_is_coherent.Goals as goal
 
 pub returns : goal.returns

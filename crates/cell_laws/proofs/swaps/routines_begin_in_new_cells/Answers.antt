@@ -1,4 +1,4 @@
-use Rattle.cell_swaps_law.proofs.Begins.{routines_begin}
+use Rattle.cell_lemmas.proofs.Begins.{routines_begin}
 use Rattle.cell_laws.proofs.swaps.routines_begin_in_new_cells.Goals as goal
 
 pub returns : goal.returns

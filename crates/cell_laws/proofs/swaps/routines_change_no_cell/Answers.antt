@@ -1,4 +1,4 @@
-use Rattle.cell_swaps_law.proofs.Second.{stack_lowest, second_turns, no_routines, second_parts, second_shapes, second_read_only, second_fields, second_sealed, second_coherent}
+use Rattle.cell_lemmas.proofs.Second.{stack_lowest, second_turns, no_routines, second_parts, second_shapes, second_read_only, second_fields, second_sealed, second_coherent}
 use Rattle.cell_laws.proofs.swaps.routines_change_no_cell.Goals as goal
 
 pub returns-clause-stack : goal.returns-clause-stack

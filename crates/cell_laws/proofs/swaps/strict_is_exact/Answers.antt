@@ -1,4 +1,4 @@
-use Rattle.cell_swaps_law.proofs.Strict.{strict_accepted, lenient_accepted, is_accepted}
+use Rattle.cell_lemmas.proofs.Strict.{strict_accepted, lenient_accepted, is_accepted}
 use Rattle.cell_laws.proofs.swaps.strict_is_exact.Goals as goal
 
 pub returns-clause-strict : goal.returns-clause-strict

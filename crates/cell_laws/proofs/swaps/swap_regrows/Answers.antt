@@ -4,8 +4,8 @@ use Rattle.cell_world.specs.SwapCommand.{old_numbers}
 use Rattle.cell_world.specs.UnloadCommand.{put_aside}
 use Rattle.cell_world.specs.World.{Cell}
 use Rattle.cell_num.proofs.Elements.{In-All}
-use Rattle.cell_swaps_law.proofs.SwapSteps.{plan_is}
-use Rattle.cell_swaps_law.proofs.SwapReady.{behind, now_is, swap_regrown, swap_linkable, swap_ready}
+use Rattle.cell_lemmas.proofs.SwapSteps.{plan_is}
+use Rattle.cell_lemmas.proofs.SwapReady.{behind, now_is, swap_regrown, swap_linkable, swap_ready}
 use Rattle.cell_laws.proofs.swaps.swap_regrows.Goals as goal
 
 pub returns-clause-regrown : goal.returns-clause-regrown

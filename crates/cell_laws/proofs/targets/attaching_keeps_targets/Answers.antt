@@ -1,4 +1,4 @@
-use Rattle.cell_swaps_law.proofs.Steps.{attached_targets}
+use Rattle.cell_lemmas.proofs.Steps.{attached_targets}
 use Rattle.cell_laws.proofs.targets.attaching_keeps_targets.Goals as goal
 
 pub returns : goal.returns

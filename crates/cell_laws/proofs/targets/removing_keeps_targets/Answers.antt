@@ -1,5 +1,5 @@
-use Rattle.cell_removal.proofs.Removals.{purge_removed, removed_targets, unload_removed}
-use Rattle.cell_swaps_law.proofs.Left.{swap_targets_left}
+use Rattle.cell_lemmas.proofs.Removals.{purge_removed, removed_targets, unload_removed}
+use Rattle.cell_lemmas.proofs.Left.{swap_targets_left}
 use Rattle.cell_laws.proofs.targets.removing_keeps_targets.Goals as goal
 
 pub returns-clause-unload : goal.returns-clause-unload

@@ -1,4 +1,4 @@
-use Rattle.cell_swaps_law.proofs.Left.{swap_loses, swap_replaces, swap_follows}
+use Rattle.cell_lemmas.proofs.Left.{swap_loses, swap_replaces, swap_follows}
 use Rattle.cell_laws.proofs.targets.swap_changes_lost_targets.Goals as goal
 
 pub returns-clause-entries : goal.returns-clause-entries

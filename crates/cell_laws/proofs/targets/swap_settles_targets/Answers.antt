@@ -1,4 +1,4 @@
-use Rattle.cell_swaps_law.proofs.Settled.{swap_settles}
+use Rattle.cell_lemmas.proofs.Settled.{swap_settles}
 use Rattle.cell_laws.proofs.targets.swap_settles_targets.Goals as goal
 
 pub returns : goal.returns

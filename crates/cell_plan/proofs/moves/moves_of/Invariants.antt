@@ -1,6 +1,6 @@
 use Rattle.std.proofs.Common.{◌≡◌, map, take}
 use Rattle.std.specs.Prelude.{filter, slice_get}
-use Rattle.cell_swaps_law.specs.Moved.{led_to}
+use Rattle.cell_lemmas.specs.Moved.{led_to}
 use Rattle.cell_plan.specs.Lost.{is_lost}
 use Rattle.cell_plan.proofs.moves.moves_of.Given as goal
 

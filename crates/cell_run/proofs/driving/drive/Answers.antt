@@ -1,5 +1,5 @@
 use Rattle.std.proofs.Common.{rules, List, refl, sym, subst}
-use Rattle.cell_coherent.proofs.NextCoherent.{empty_coherent}
+use Rattle.cell_lemmas.proofs.NextCoherent.{empty_coherent}
 use Rattle.cell_script.specs.declared.line.Line.{Line}
 use Rattle.cell_world.specs.Pages.{IsSpace}
 use Rattle.cell_run.specs.declared.job.Shows.{Shows}

@@ -1,5 +1,5 @@
 use Rattle.std.proofs.lemmas.Result.{err_from_is_err_and}
-use Rattle.cell_coherent.proofs.Outcomes.{found_ok}
+use Rattle.cell_lemmas.proofs.Outcomes.{found_ok}
 use Rattle.cell_world.specs.declared.refusal.Refusal.TheVariants.{NoEntry}
 use Rattle.cell_world.specs.SpawnCommand.{entry_named}
 use Rattle.cell_machine.specs.Machine.{world_of}

@@ -1,0 +1,13 @@
+pub mod Clear
+pub mod Present
+pub mod Linkable
+pub mod Grown
+pub mod Loading
+pub mod Loads
+pub mod Kept
+pub mod Undo
+pub mod Left
+pub mod Targets
+pub mod Swapping
+pub mod Moved
+pub mod Begins

@@ -1,4 +1,0 @@
-pub mod Targets
-pub mod Swapping
-pub mod Moved
-pub mod Begins

@@ -1,4 +1,0 @@
-pub mod Runs
-pub mod Under
-pub mod Turns
-pub mod Undone
