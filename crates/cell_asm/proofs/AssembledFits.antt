@@ -1,6 +1,6 @@
 -- The lines of a source that is assembled.
 --     read_lines source o      the object is that of its lines, of which none refers to a label that is none
-use Rattle.std.proofs.Common.{◌≡◌, ℕ, List, Result, Ok, Err, Some, None, refl, ◌≤◌, ◌<◌, ◌^◌, [], length, sym, subst, arith, ◌+◌, zero, suc, true, false, ◌∷◌, inl, inr}
+use Rattle.std.proofs.Common.{◌≡◌, ℕ, List, Result, Ok, Err, Some, None, refl, ◌≤◌, ◌<◌, ◌^◌, [], length, sym, subst, arith, ◌+◌, true, false}
 use Rattle.std.proofs.lemmas.Bool.{and_parts}
 use Rattle.std.specs.Prelude.{Option, find, IfOk, All, is_none}
 use Rattle.std.specs.declared.result.Result.{}
@@ -13,13 +13,13 @@ use Rattle.cell_object.specs.Image.{image}
 use Rattle.cell_object.specs.Sound.{IsSoundObject}
 use Rattle.cell_object.specs.Writable.{IsWritable}
 use Rattle.cell_asm.specs.Assembled.{has_lost, object_unless, object_from, placed_lines, assembled, Assembles}
-use Rattle.cell_asm.specs.Making.{HasRoom}
+use Rattle.cell_asm.specs.Numberings.{HasRoom}
 use Rattle.cell_asm.specs.Objects.{object_of, symbols, marks_in}
 use Rattle.cell_asm.specs.Places.{taken, is_long, may_stand, lays_nothing}
 use Rattle.cell_asm.specs.Types.{Object, AsmKind, Laid, Fill, Prog, Note, Zero, Part, Bss, Line, AsmFail}
 use Rattle.cell_asm.proofs.EntriesFit.{not_past, IsStanding, all_stand}
 use Rattle.cell_asm.proofs.GoodBlocks.{IsGoodStatement, statement_marks, none_laid}
-use Rattle.cell_asm.proofs.ListLemmas.{In}
+use Rattle.cell_num.proofs.Elements.{In-All}
 use Rattle.cell_asm.proofs.SectionsFit.{sections_fit}
 use Rattle.cell_asm.proofs.SizesFit.{few_symbols, headers_fit, locals_fit, texts_fit, names_fit, size_fits}
 use Rattle.cell_asm.proofs.SymbolsFit.{symbols_fit}
@@ -92,11 +92,6 @@ assembled_fits source o e h =
 -- The offsets of the entries to come are numbers of 32 bits.
 --     rooms source lines
 
-all_of : {X : Type 0} (P : X → Type 0) (xs : List X) → ((x : X) → In x xs → P x) → All P xs
-all_of P [] h k d lt = absurd (omega (arith, lt))
-all_of P (x ∷ xs) h zero d lt = h x (inl refl)
-all_of P (x ∷ xs) h (suc k) d lt = all_of P xs (λ y i. h y (inr i)) k d (omega (arith, lt))
-
 not_long : (part : Part) (n : ℕ) → is_long (Some part) n ≡ false → n ≤ 16777216
 not_long Bss n e = not_past 16777216 n e
 not_long _ n e = let h : n ≤ 1048576 = not_past 1048576 n e in omega (arith, h)
@@ -106,13 +101,13 @@ near o a w t h k = omega (arith, h, k)
 
 room_by : (part : Option Part) (offset : ℕ) (line : Line) → may_stand part line ≡ true → is_long part (offset + taken line.statement offset) ≡ false → IsGoodStatement line.statement
     → All (λ m. offset + m.at < 2 ^ 32) (marks_in line.statement)
-room_by None offset line s l g = all_of (λ m. offset + m.at < 2 ^ 32) (marks_in line.statement) (λ m k. absurd (none_laid line.statement m (and_parts (is_none line.label) (lays_nothing line.statement) s).1 k))
+room_by None offset line s l g = In-All (λ m. offset + m.at < 2 ^ 32) (marks_in line.statement) (λ m k. absurd (none_laid line.statement m (and_parts (is_none line.label) (lays_nothing line.statement) s).1 k))
 room_by (Some part) offset line s l g =
-    all_of (λ m. offset + m.at < 2 ^ 32) (marks_in line.statement)
-    (λ m k. near offset m.at (width_of m.fix.kind) (taken line.statement offset) ((statement_marks line.statement offset g).inside m k) (not_long part (offset + taken line.statement offset) l))
+    In-All (λ m. offset + m.at < 2 ^ 32) (marks_in line.statement)
+    (λ m k. near offset m.at (width_of m.fix.kind) (taken line.statement offset) ((statement_marks line.statement offset g).stand.0 m k).inside (not_long part (offset + taken line.statement offset) l))
 
 pub rooms : (source : List ℕ) (lines : List Laid) → placed_lines source ≡ Ok lines → All HasRoom lines
-rooms source lines e = all_of HasRoom lines (λ l k. let s : IsStanding l = all_stand source lines e l k in room_by l.part l.offset l.line s.stands s.room s.good)
+rooms source lines e = In-All HasRoom lines (λ l k. let s : IsStanding l = all_stand source lines e l k in room_by l.part l.offset l.line s.stands s.room s.good)
 
 -- the object of a source can be written
 pub writable_all : (r : Result Object AsmFail) (source : List ℕ) → Assembles r (assembled source) → length source < 2 ^ 31 → IfOk r IsWritable

@@ -1,12 +1,12 @@
 -- What holds of each line in its place.
 --     all_stand source lines        each line of a source has a good statement, which may stand there and has room
-use Rattle.std.proofs.Common.{◌≡◌, ℕ, ◌+◌, Bool, true, false, not, List, Ok, None, refl, zero, suc, ◌-◌, ◌*◌, ◌/◌, ◌%◌, ◌^◌, ◌≤◌, ◌==◌, cond, [], ◌∷◌, ◌++◌, Some, sym, ap, ◌∙◌, zero-add, div-add-mod', pow-suc, arith, subst, add_assoc, append-nil, ◌||◌, ◌⊎◌, inl, inr, take, slice_get, true≢false, length, length-append, mul-suc}
+use Rattle.std.proofs.Common.{◌≡◌, ℕ, ◌+◌, Bool, true, false, not, List, Ok, None, refl, zero, suc, ◌-◌, ◌*◌, ◌/◌, ◌%◌, ◌^◌, ◌≤◌, ◌==◌, cond, [], ◌∷◌, ◌++◌, Some, sym, ap, ◌∙◌, div-add-mod', pow-suc, arith, subst, add_assoc, append-nil, ◌||◌, ◌⊎◌, inl, inr, take, slice_get, true≢false, length, length-append, mul-suc}
 use Rattle.std.proofs.Math.Nat.{mul_left_comm}
 use Rattle.std.proofs.lemmas.Bool.Decides.{nat_tests}
 use Rattle.std.proofs.lemmas.List.Elements.{filter-append}
-use Rattle.std.proofs.lemmas.List.Sums.{sum_by-append, sum_by-cons}
+use Rattle.std.proofs.lemmas.List.Sums.{sum_by-cons}
 use Rattle.std.specs.List.{list_any}
-use Rattle.std.specs.Prelude.{Option, if◌then◌else◌, nat_le, filter, sum_by, flat_map, nat_lt}
+use Rattle.std.specs.Prelude.{Option, if◌then◌else◌, filter, sum_by, flat_map, nat_lt}
 use Rattle.cell_num.specs.Kinds.{width_of}
 use Rattle.cell_num.specs.Lists.{last, or_else, where_true}
 use Rattle.cell_object.specs.Relocations.{is_clash}
@@ -17,9 +17,10 @@ use Rattle.cell_asm.specs.Objects.{entries_of, entries_in, parts_of, entry_of, e
 use Rattle.cell_asm.specs.Places.{choices, size_at, taken, is_long, is_twice, may_stand, placed, fault_at, fault_by, is_at, is_in, gap, takes, size_in, largest}
 use Rattle.cell_asm.specs.Types.{AsmKindSection as Section, Twice, Long, Part, Line, Laid, Text, Code, Narrow, Wide, Statement, StatementZeros as Zeros, StatementAlign as Align, Bytes, Entry, Bss}
 use Rattle.cell_asm.proofs.GoodBlocks.{IsGoodStatement, IsFrom, line_origin, Apart, behind, line_apart, statement_marks}
-use Rattle.cell_asm.proofs.ListLemmas.{In, In-append, In-flat, In-filtered, filter_passes, get-In, mapped_length}
+use Rattle.cell_num.proofs.Elements.{In, In-append, In-flat_map, In-filtered, filter-Passes, get-In}
+use Rattle.cell_asm.proofs.ListLemmas.{mapped_length, le_of, le_trans, least}
 use Rattle.cell_asm.proofs.ObjectLemmas.{same_part, few}
-use Rattle.cell_asm.proofs.PlacingLemmas.{each_line, Goes, grows, pushed}
+use Rattle.cell_asm.proofs.PlacingLemmas.{each_line, Goes, grows, pushed, size_more}
 use Rattle.cell_asm.proofs.ReadLines.{read_line}
 
 -- a line that has no fault
@@ -96,9 +97,6 @@ gap_fours unit offset m h e = gap_by (offset % unit == 0) unit (offset % unit) m
 four_zeros : (n : ℕ) → (n % 4 == 0) ≡ true → n % 4 ≡ 0
 four_zeros n e = grind (arith, nat_tests)
 
-le_of : (m n : ℕ) → nat_le m n ≡ true → m ≤ n
-le_of m n e = grind (arith, nat_tests)
-
 pub taken_fours : (s : Statement) (offset : ℕ) → takes Text s ≡ true → IsGoodStatement s → offset % 4 ≡ 0 → taken s offset % 4 ≡ 0
 taken_fours (Zeros n) offset t g h = four_zeros n t
 taken_fours (Align unit) offset t g h =
@@ -110,17 +108,6 @@ taken_fours (Bytes Wide b) offset t g h = g.sound.whole (λ e. absurd cc)
 taken_fours _ offset t g h = refl
 
 -- LINE BY LINE
-
-size_of_one : (b : Bool) (l : Laid) → sum_by (λ m. taken m.line.statement m.offset) (cond b (l ∷ []) []) ≡ cond b (taken l.line.statement l.offset) 0
-size_of_one true l = zero-add (taken l.line.statement l.offset)
-size_of_one false l = refl
-
--- one line more, and the size of a section
-pub size_push : (part : Part) (lines : List Laid) (l : Laid) → size_in part (lines ++ l ∷ []) ≡ size_in part lines + cond (is_in part l) (taken l.line.statement l.offset) 0
-size_push part lines l =
-    ap (sum_by (λ m. taken m.line.statement m.offset)) (filter-append (is_in part) lines (l ∷ []))
-    ∙ sum_by-append (λ m. taken m.line.statement m.offset) (filter (is_in part) lines) (cond (is_in part l) (l ∷ []) [])
-    ∙ ap (λ n. size_in part lines + n) (size_of_one (is_in part l) l)
 
 record AreFours (lines : List Laid) : Type 0 where
   size : size_in Text lines % 4 ≡ 0
@@ -141,7 +128,7 @@ offset_by _ before h e = absurd cc
 
 goes : Goes AreFours
 goes before n text line h e f = record {
-  size = ap (λ k. k % 4) (size_push Text before (placed before n line)) ∙ size_by (last (choices before)) before line (allowed before line f).stands (read_line text line e).good h.size;
+  size = ap (λ k. k % 4) (size_more Text before (placed before n line)) ∙ size_by (last (choices before)) before line (allowed before line f).stands (read_line text line e).good h.size;
   offsets = pushed (λ l. is_in Text l ≡ true → l.offset % 4 ≡ 0) before (placed before n line) h.offsets (offset_by (last (choices before)) before h.size);
 }
 
@@ -288,8 +275,8 @@ module _ (source : List ℕ) (lines : List Laid) (read : placed_lines source ≡
 
   pub entry_origin : (e : Entry) → In e (entries_in lines part) → Origin e
   entry_origin e k =
-      let r : (l : Laid) × In l (filter (is_in part) lines) × In e (entries_of lines part l) = In-flat (entries_of lines part) (filter (is_in part) lines) e k in
-      record { l = r.0; in_lines = In-filtered (is_in part) lines r.0 r.1; in_part = filter_passes (is_in part) lines r.0 r.1; comes = line_origin lines part r.0 e (good_in r.0 r.1) r.2 }
+      let r : (l : Laid) × In l (filter (is_in part) lines) × In e (entries_of lines part l) = In-flat_map (entries_of lines part) (filter (is_in part) lines) e k in
+      record { l = r.0; in_lines = In-filtered (is_in part) lines r.0 r.1; in_part = filter-Passes (is_in part) lines r.0 r.1; comes = line_origin lines part r.0 e (good_in r.0 r.1) r.2 }
 
 -- none before the k-th clashes with it
 pub apart_take : (es : List Entry) (k : ℕ) (e : Entry) → Apart es → slice_get es k ≡ Some e → list_any (is_clash e) (take k es) ≡ false
@@ -324,11 +311,8 @@ fits_goes : (part : Part) → Goes (Fits part)
 fits_goes part before n text line h e f =
     let o = last (choices before) in
     let l = placed before n line in
-    subst (λ k. k ≤ largest part) (sym (size_push part before l))
+    subst (λ k. k ≤ largest part) (sym (size_more part before l))
     (fits_by part o before (taken line.statement (size_at o before)) (is_in part l) refl h (allowed before line f).room)
-
-least : (n : ℕ) → 0 ≤ n
-least n = omega arith
 
 pub section_fits : (source : List ℕ) (lines : List Laid) (part : Part) → placed_lines source ≡ Ok lines → size_in part lines ≤ largest part
 section_fits source lines part e = grows (Fits part) (fits_goes part) (lines_in source) lines (least (largest part)) e
@@ -337,11 +321,8 @@ pub largest_most : (part : Part) → largest part ≤ 16777216
 largest_most Bss = omega arith
 largest_most _ = omega arith
 
-through : (a b c : ℕ) → a ≤ b → b ≤ c → a ≤ c
-through a b c h k = omega arith
-
 pub section_small : (source : List ℕ) (lines : List Laid) (part : Part) → placed_lines source ≡ Ok lines → size_in part lines ≤ 16777216
-section_small source lines part e = through _ _ _ (section_fits source lines part e) (largest_most part)
+section_small source lines part e = le_trans _ _ _ (section_fits source lines part e) (largest_most part)
 
 -- THE ENTRIES OF A SECTION
 

@@ -1,29 +1,42 @@
 -- What the bytes of a statement are, and the entries for them.
---     AreMarks Q content size marks    entries for so many bytes, of each of which Q holds
+--     AreMarks content size marks      good entries for so many bytes
 --     IsGoodBlock content b            instructions, or numbers
 --     IsGoodStatement s                a statement has such bytes
---     block_sound                      the bytes of good pieces are sound
-use Rattle.std.proofs.Common.{◌≡◌, ◌≤◌, ◌+◌, ◌*◌, ◌^◌, ◌%◌, ◌/◌, ℕ, zero, suc, Bool, true, false, List, [], ◌∷◌, ◌++◌, length, ◌⊎◌, inl, inr, pos, Some, None, refl, sym, subst, ap, ◌∙◌, length-append, arith, ◌&&◌, ◌==◌, not, map, true≢false}
-use Rattle.std.proofs.lemmas.Bool.Decides.{nat_tests}
+--     piece_sound                      bytes stay sound with a good piece more
+use Rattle.std.proofs.Common.{◌≡◌, ◌≤◌, ◌+◌, ◌*◌, ◌^◌, ◌%◌, ◌/◌, ℕ, zero, suc, Bool, true, false, List, [], ◌∷◌, ◌++◌, length, ◌⊎◌, inl, inr, pos, Some, None, refl, sym, subst, ap, ◌∙◌, length-append, arith, ◌&&◌, ◌||◌, ◌==◌, not, map, true≢false}
 use Rattle.std.specs.Int.{w64}
 use Rattle.std.specs.List.{list_any}
-use Rattle.std.specs.Prelude.{Option, FitsSigned, fold, nat_lt}
+use Rattle.std.specs.Prelude.{Option, FitsSigned, nat_lt}
 use Rattle.cell_num.specs.Bits.{bytes_of}
 use Rattle.cell_num.specs.Kinds.{width_of, is_instruction, is_stacking, is_pcrel_lo12, is_pcrel_hi20}
 use Rattle.cell_object.specs.Relocations.{is_shared, is_stack, is_clash}
 use Rattle.cell_object.specs.Sound.{is_known_kind}
-use Rattle.cell_asm.specs.Blocks.{marks_at, appended, empty, block}
+use Rattle.cell_asm.specs.Blocks.{marks_at, marks_of, appended, empty}
 use Rattle.cell_asm.specs.Names.{is_name}
 use Rattle.cell_asm.specs.Objects.{target_names, part_number, symbol_number, target_key, marks_in, entry_of, entries_of}
 use Rattle.cell_asm.specs.Places.{is_made, taken, takes, lays_nothing}
-use Rattle.cell_asm.specs.Types.{Mark, Block, Content, Code, Narrow, Wide, Fix, Piece, Statement, Nothing, StatementChoose as Choose, StatementGlobal as Global, StatementZeros as Zeros, StatementAlign as Align, Bytes, Entry, Part, Text, Rodata, Data, Bss, Laid}
-use Rattle.cell_asm.proofs.ListLemmas.{In, In-append, In-map}
+use Rattle.cell_asm.specs.Types.{RelKind, PcrelHi20, PcrelLo12I, PcrelLo12S, Mark, Block, Content, Code, Narrow, Wide, Fix, Piece, Statement, Nothing, StatementChoose as Choose, StatementGlobal as Global, StatementZeros as Zeros, StatementAlign as Align, Bytes, Entry, Part, Text, Rodata, Data, Bss, Laid}
+use Rattle.cell_num.proofs.Elements.{In, In-append, In-map}
+use Rattle.cell_asm.proofs.ListLemmas.{or_second, itself, le_trans, least, not_less, same_test}
 use Rattle.cell_asm.proofs.NamesFit.{AreNames}
 
 abbrev pub is_code : Content → Bool
 is_code Code = true
 is_code Narrow = false
 is_code Wide = false
+
+-- the kinds that name the label of another entry, and that entry's, are of instructions
+label_code : (kind : RelKind) → (is_pcrel_lo12 kind || is_pcrel_hi20 kind) ≡ true → is_instruction kind ≡ true
+label_code PcrelHi20 e = refl
+label_code PcrelLo12I e = refl
+label_code PcrelLo12S e = refl
+label_code _ e = absurd cc
+
+pub lo12_code : (kind : RelKind) → is_pcrel_lo12 kind ≡ true → is_instruction kind ≡ true
+lo12_code kind e = label_code kind (ap (λ b. b || is_pcrel_hi20 kind) e)
+
+pub hi20_code : (kind : RelKind) → is_pcrel_hi20 kind ≡ true → is_instruction kind ≡ true
+hi20_code kind e = label_code kind (or_second (is_pcrel_lo12 kind) (is_pcrel_hi20 kind) e)
 
 -- an entry of a name
 pub record IsGoodFix (content : Content) (f : Fix) : Type 0 where
@@ -33,6 +46,7 @@ pub record IsGoodFix (content : Content) (f : Fix) : Type 0 where
   pub code : is_instruction f.kind ≡ is_code content
   pub plain : is_pcrel_lo12 f.kind ≡ true → f.addend ≡ pos 0
   pub named : AreNames (target_names f.target)
+  pub made : is_made f.target ≡ true → is_pcrel_lo12 f.kind ≡ true
 
 -- two kinds that add to a field of one width
 pub record AreStacking (f s : Fix) : Type 0 where
@@ -48,22 +62,33 @@ abbrev pub AllApart : List Mark → Type 0
 AllApart [] = Unit {0}
 AllApart (m ∷ marks) = ((n : Mark) → In n marks → AreApart m n) × AllApart marks
 
-pub record AreMarks (Q : Fix → Type 0) (content : Content) (size : ℕ) (marks : List Mark) : Type 0 where
-  pub fixes : (m : Mark) → In m marks → Q m.fix
-  pub inside : (m : Mark) → In m marks → m.at + width_of m.fix.kind ≤ size
-  pub fours : (content ≡ Narrow → ⊥) → (m : Mark) → In m marks → m.at % 4 ≡ 0
-  pub apart : AllApart marks
+abbrev pub InFours : Content → ℕ → Type 0
+InFours content n = (content ≡ Narrow → ⊥) → n % 4 ≡ 0
+
+-- a good entry for bytes between two places
+pub record IsWithin (content : Content) (low high : ℕ) (m : Mark) : Type 0 where
+  pub fix : IsGoodFix content m.fix
+  pub from : low ≤ m.at
+  pub inside : m.at + width_of m.fix.kind ≤ high
+  pub fours : InFours content m.at
+
+abbrev pub AreWithin : Content → ℕ → ℕ → List Mark → Type 0
+AreWithin content low high marks = ((m : Mark) → In m marks → IsWithin content low high m) × AllApart marks
+
+-- entries for so many bytes
+pub record AreMarks (content : Content) (size : ℕ) (marks : List Mark) : Type 0 where
+  pub stand : AreWithin content 0 size marks
   pub few : length marks ≤ 2 * size
 
-pub record IsSound (Q : Fix → Type 0) (content : Content) (b : Block) : Type 0 where
-  pub marks_are : AreMarks Q content (length b.bytes) b.marks
-  pub whole : (content ≡ Narrow → ⊥) → length b.bytes % 4 ≡ 0
+pub record IsSound (content : Content) (b : Block) : Type 0 where
+  pub marks_are : AreMarks content (length b.bytes) b.marks
+  pub whole : InFours content (length b.bytes)
 
 abbrev pub any_upper : List Mark → Bool
 any_upper marks = list_any (λ m. is_pcrel_hi20 m.fix.kind) marks
 
 pub record IsGoodBlock (content : Content) (b : Block) : Type 0 where
-  pub sound : IsSound (IsGoodFix content) content b
+  pub sound : IsSound content b
   -- a %pcrel_hi stands first
   pub headed : any_upper b.marks ≡ true → (m : Mark) × In m b.marks × (m.at ≡ 0) × (is_pcrel_hi20 m.fix.kind ≡ true)
   -- where a label is made, there is one
@@ -81,134 +106,91 @@ IsGoodStatement (Zeros n) = Unit {0}
 IsGoodStatement (Align unit) = IsUnit unit
 IsGoodStatement (Bytes content b) = IsGoodBlock content b
 
--- PIECES
+-- ENTRIES BETWEEN TWO PLACES
 
-abbrev pub Fits : (Fix → Type 0) → ℕ → Option Fix → Type 0
-Fits Q width None = Unit {0}
-Fits Q width (Some f) = Q f × (width_of f.kind ≤ width)
-
--- the second entry, and the first, which is there where the second is
-abbrev pub ArePaired : Option Fix → Option Fix → Type 0
-ArePaired first None = Unit {0}
-ArePaired None (Some s) = ⊥
-ArePaired (Some f) (Some s) = AreStacking f s
-
-pub record IsGoodPiece (Q : Fix → Type 0) (content : Content) (p : Piece) : Type 0 where
-  pub low : 1 ≤ p.width
-  pub in_fours : (content ≡ Narrow → ⊥) → p.width % 4 ≡ 0
-  pub first : Fits Q p.width p.fix
-  pub second : Fits Q p.width p.second
-  pub pair : ArePaired p.fix p.second
-
-pub bytes_count : (k n : ℕ) → length (bytes_of k n) ≡ k
+bytes_count : (k n : ℕ) → length (bytes_of k n) ≡ k
 bytes_count zero n = refl
 bytes_count (suc k) n = ap suc (bytes_count k (n / 256))
 
-module _ (Q : Fix → Type 0) (content : Content) where
-  record IsNew (at width : ℕ) (m : Mark) : Type 0 where
-    placed : m.at ≡ at
-    said : Q m.fix
-    fits : width_of m.fix.kind ≤ width
+more : (n w : ℕ) → n ≤ n + w
+more n w = omega arith
 
-  new_mark : (at width : ℕ) (o : Option Fix) (m : Mark) → Fits Q width o → In m (marks_at at o) → IsNew at width m
-  new_mark at width None m f k = absurd k
-  new_mark at width (Some f) m g (inl e) = record {
-    placed = ap (λ x. x.at) e;
-    said = subst (λ x. Q x.fix) (sym e) g.0;
-    fits = subst (λ x. width_of x.fix.kind ≤ width) (sym e) g.1;
-  }
-  new_mark at width (Some f) m g (inr k) = absurd k
+apart_join : (xs ys : List Mark) → AllApart xs → AllApart ys → ((m : Mark) → In m xs → (n : Mark) → In n ys → AreApart m n) → AllApart (xs ++ ys)
+apart_join [] ys h k c = k
+apart_join (m ∷ xs) ys h k c = (λ n i. go n (In-append xs ys n i), apart_join xs ys h.1 k (λ g j. c g (inr j)))
+  where
+    go : (n : Mark) → In n xs ⊎ In n ys → AreApart m n
+    go n (inl i) = h.0 n i
+    go n (inr i) = c m (inl refl) n i
 
-  apart_join : (xs ys : List Mark) → AllApart xs → AllApart ys → ((m : Mark) → In m xs → (n : Mark) → In n ys → AreApart m n) → AllApart (xs ++ ys)
-  apart_join [] ys h k c = k
-  apart_join (m ∷ xs) ys h k c = (λ n i. go n (In-append xs ys n i), apart_join xs ys h.1 k (λ g j. c g (inr j)))
+module _ (content : Content) where
+  widen : (a b c d : ℕ) (m : Mark) → c ≤ a → b ≤ d → IsWithin content a b m → IsWithin content c d m
+  widen a b c d m l h g = record { fix = g.fix; from = le_trans c a m.at l g.from; inside = le_trans (m.at + width_of m.fix.kind) b d g.inside h; fours = g.fours }
+
+  pub join : (a b d : ℕ) (xs ys : List Mark) → a ≤ b → b ≤ d → AreWithin content a b xs → AreWithin content b d ys → AreWithin content a d (xs ++ ys)
+  join a b d xs ys l h f g =
+      (λ m k. go m (In-append xs ys m k), apart_join xs ys f.1 g.1 (λ m i n j. inl (le_trans (m.at + width_of m.fix.kind) b n.at (f.0 m i).inside (g.0 n j).from)))
     where
-      go : (n : Mark) → In n xs ⊎ In n ys → AreApart m n
-      go n (inl i) = h.0 n i
-      go n (inr i) = c m (inl refl) n i
+      go : (m : Mark) → In m xs ⊎ In m ys → IsWithin content a d m
+      go m (inl i) = widen a b a d m (itself a) h (f.0 m i)
+      go m (inr j) = widen b d a d m l (itself d) (g.0 m j)
 
-  two_apart : (at : ℕ) (first second : Option Fix) → ArePaired first second → AllApart (marks_at at first ++ marks_at at second)
-  two_apart at None None p = tt
-  two_apart at None (Some s) p = absurd p
-  two_apart at (Some f) None p = (λ n k. absurd k, tt)
-  two_apart at (Some f) (Some s) p = (pair, (λ n k. absurd k, tt))
+  pub one_there : (low high : ℕ) (m : Mark) → IsWithin content low high m → AreWithin content low high (m ∷ [])
+  one_there low high m g = (go, (λ n k. absurd k, tt))
     where
-      pair : (n : Mark) → In n (record { at = at; fix = s } ∷ []) → AreApart (record { at = at; fix = f }) n
-      pair n (inl e) = inr (ap (λ x. x.at) e, subst (λ x. AreStacking f x.fix) (sym e) p)
-      pair n (inr k) = absurd k
+      go : (n : Mark) → In n (m ∷ []) → IsWithin content low high n
+      go n (inl e) = subst (IsWithin content low high) (sym e) g
+      go n (inr k) = absurd k
 
-  one_most : (at : ℕ) (o : Option Fix) → length (marks_at at o) ≤ 1
-  one_most at None = omega arith
-  one_most at (Some f) = omega arith
+  pub both_there : (low high : ℕ) (m n : Mark) → IsWithin content low high m → IsWithin content low high n → AreApart m n → AreWithin content low high (m ∷ n ∷ [])
+  both_there low high m n f g a = (all, (second, (λ x k. absurd k, tt)))
+    where
+      all : (x : Mark) → In x (m ∷ n ∷ []) → IsWithin content low high x
+      all x (inl e) = subst (IsWithin content low high) (sym e) f
+      all x (inr (inl e)) = subst (IsWithin content low high) (sym e) g
+      all x (inr (inr k)) = absurd k
 
-  -- what stands for the piece behind the bytes
-  abbrev new_marks : Block → Piece → List Mark
-  new_marks b p = marks_at (length b.bytes) p.fix ++ marks_at (length b.bytes) p.second
+      second : (x : Mark) → In x (n ∷ []) → AreApart m x
+      second x (inl e) = subst (AreApart m) (sym e) a
+      second x (inr k) = absurd k
 
-  module _ (b : Block) (p : Piece) (h : IsSound Q content b) (g : IsGoodPiece Q content p) where
-    is_new : (m : Mark) → In m (new_marks b p) → IsNew (length b.bytes) p.width m
-    is_new m k = go (In-append (marks_at (length b.bytes) p.fix) (marks_at (length b.bytes) p.second) m k)
-      where
-        go : In m (marks_at (length b.bytes) p.fix) ⊎ In m (marks_at (length b.bytes) p.second) → IsNew (length b.bytes) p.width m
-        go (inl i) = new_mark (length b.bytes) p.width p.fix m g.first i
-        go (inr i) = new_mark (length b.bytes) p.width p.second m g.second i
+-- PIECES
 
-    size : length (appended b p).bytes ≡ length b.bytes + p.width
-    size = length-append b.bytes (bytes_of p.width p.value) ∙ ap (λ n. length b.bytes + n) (bytes_count p.width p.value)
+pub record IsGoodPiece (content : Content) (p : Piece) : Type 0 where
+  pub low : 1 ≤ p.width
+  pub in_fours : InFours content p.width
+  pub stands : (n : ℕ) → InFours content n → AreWithin content n (n + p.width) (marks_of n p)
 
-    by_part : (P : Mark → Type 0) → ((m : Mark) → In m b.marks → P m) → ((m : Mark) → In m (new_marks b p) → P m) → (m : Mark) → In m (appended b p).marks → P m
-    by_part P old new m k = go (In-append b.marks (new_marks b p) m k)
-      where
-        go : In m b.marks ⊎ In m (new_marks b p) → P m
-        go (inl i) = old m i
-        go (inr i) = new m i
+one_most : (base at : ℕ) (o : Option Fix) → length (marks_at base at o) ≤ 1
+one_most base at None = omega arith
+one_most base at (Some f) = omega arith
 
-    further : (a w n m : ℕ) → a + w ≤ n → m ≡ n + p.width → a + w ≤ m
-    further a w n m l e = omega (arith, l, e)
+sum_fours : (n w m : ℕ) → n % 4 ≡ 0 → w % 4 ≡ 0 → m ≡ n + w → m % 4 ≡ 0
+sum_fours n w m x y e = omega arith
 
-    at_end : (a w n m : ℕ) → a ≡ n → w ≤ p.width → m ≡ n + p.width → a + w ≤ m
-    at_end a w n m is l e = omega (arith, is, l, e)
+two_more : (a c d e n w m : ℕ) → a ≤ 2 * n → c ≤ 1 → d ≤ 1 → e ≡ a + (c + d) → 1 ≤ w → m ≡ n + w → e ≤ 2 * m
+two_more a c d e n w m x y z q l is = omega arith
 
-    sum_fours : (n w m : ℕ) → n % 4 ≡ 0 → w % 4 ≡ 0 → m ≡ n + w → m % 4 ≡ 0
-    sum_fours n w m x y e = omega (arith, x, y, e)
-
-    two_more : (a c d e n w m : ℕ) → a ≤ 2 * n → c ≤ 1 → d ≤ 1 → e ≡ a + (c + d) → 1 ≤ w → m ≡ n + w → e ≤ 2 * m
-    two_more a c d e n w m x y z q l is = omega (arith, x, y, z, q, l, is)
-
-    lengths : length (appended b p).marks ≡ length b.marks + (length (marks_at (length b.bytes) p.fix) + length (marks_at (length b.bytes) p.second))
-    lengths = length-append b.marks (new_marks b p) ∙ ap (λ n. length b.marks + n) (length-append (marks_at (length b.bytes) p.fix) (marks_at (length b.bytes) p.second))
-
-    pub piece_sound : IsSound Q content (appended b p)
-    piece_sound = record {
+pub piece_sound : (content : Content) (b : Block) (p : Piece) → IsSound content b → IsGoodPiece content p → IsSound content (appended b p)
+piece_sound content b p h g =
+    let n : ℕ = length b.bytes in
+    let size : length (appended b p).bytes ≡ n + p.width = length-append b.bytes (bytes_of p.width p.value) ∙ ap (λ k. n + k) (bytes_count p.width p.value) in
+    let one : List Mark = marks_at n 0 p.fix in
+    let two : List Mark = marks_at n p.apart p.second in
+    record {
       marks_are = record {
-        fixes = by_part (λ m. Q m.fix) h.marks_are.fixes (λ m k. (is_new m k).said);
-        inside = by_part (λ m. m.at + width_of m.fix.kind ≤ length (appended b p).bytes)
-            (λ m k. further m.at (width_of m.fix.kind) (length b.bytes) (length (appended b p).bytes) (h.marks_are.inside m k) size)
-            (λ m k. at_end m.at (width_of m.fix.kind) (length b.bytes) (length (appended b p).bytes) (is_new m k).placed (is_new m k).fits size);
-        fours = λ wide. by_part (λ m. m.at % 4 ≡ 0) (h.marks_are.fours wide) (λ m k. ap (λ n. n % 4) (is_new m k).placed ∙ h.whole wide);
-        apart = apart_join b.marks (new_marks b p) h.marks_are.apart (two_apart (length b.bytes) p.fix p.second g.pair)
-            (λ m i n j. inl (subst (λ x. m.at + width_of m.fix.kind ≤ x) (sym (is_new n j).placed) (h.marks_are.inside m i)));
-        few = two_more (length b.marks) (length (marks_at (length b.bytes) p.fix)) (length (marks_at (length b.bytes) p.second)) (length (appended b p).marks) (length b.bytes) p.width (length (appended b p).bytes)
-            h.marks_are.few (one_most (length b.bytes) p.fix) (one_most (length b.bytes) p.second) lengths g.low size;
+        stand = subst (λ k. AreWithin content 0 k (appended b p).marks) (sym size) (join content 0 n (n + p.width) b.marks (marks_of n p) (least n) (more n p.width) h.marks_are.stand (g.stands n h.whole));
+        few = two_more (length b.marks) (length one) (length two) (length (appended b p).marks) n p.width (length (appended b p).bytes)
+            h.marks_are.few (one_most n 0 p.fix) (one_most n p.apart p.second) (length-append b.marks (marks_of n p) ∙ ap (λ k. length b.marks + k) (length-append one two)) g.low size;
       };
-      whole = λ wide. sum_fours (length b.bytes) p.width (length (appended b p).bytes) (h.whole wide) (g.in_fours wide) size;
+      whole = λ wide. sum_fours n p.width (length (appended b p).bytes) (h.whole wide) (g.in_fours wide) size;
     }
 
-  none_many : (n : ℕ) → 0 ≤ 2 * n
-  none_many n = omega arith
+no_marks : (content : Content) (n : ℕ) → AreMarks content n []
+no_marks content n = record { stand = (λ m k. absurd k, tt); few = least (2 * n) }
 
-  pub no_marks : (n : ℕ) → AreMarks Q content n []
-  no_marks n = record { fixes = λ m k. absurd k; inside = λ m k. absurd k; fours = λ wide m k. absurd k; apart = tt; few = none_many n }
-
-  empty_sound : IsSound Q content empty
-  empty_sound = record { marks_are = no_marks 0; whole = λ wide. refl }
-
-  from : (b : Block) (ps : List Piece) → IsSound Q content b → ((p : Piece) → In p ps → IsGoodPiece Q content p) → IsSound Q content (fold appended b ps)
-  from b [] h g = h
-  from b (p ∷ ps) h g = from (appended b p) ps (piece_sound b p h (g p (inl refl))) (λ q k. g q (inr k))
-
-  pub block_sound : (ps : List Piece) → ((p : Piece) → In p ps → IsGoodPiece Q content p) → IsSound Q content (block ps)
-  block_sound ps g = from empty ps empty_sound g
+pub empty_sound : (content : Content) → IsSound content empty
+empty_sound content = record { marks_are = no_marks content 0; whole = λ wide. refl }
 
 -- The entries of a line, which are those of its marks.
 --     line_origin       each is one of a mark, within the bytes of the line
@@ -218,11 +200,11 @@ abbrev pub content_of : Statement → Content
 content_of (Bytes content b) = content
 content_of _ = Code
 
-pub statement_marks : (s : Statement) (offset : ℕ) → IsGoodStatement s → AreMarks (IsGoodFix (content_of s)) (content_of s) (taken s offset) (marks_in s)
-statement_marks (Zeros n) offset g = no_marks (IsGoodFix Code) Code n
-statement_marks (Align unit) offset g = no_marks (IsGoodFix Code) Code (taken (Align unit) offset)
+pub statement_marks : (s : Statement) (offset : ℕ) → IsGoodStatement s → AreMarks (content_of s) (taken s offset) (marks_in s)
+statement_marks (Zeros n) offset g = no_marks Code n
+statement_marks (Align unit) offset g = no_marks Code (taken (Align unit) offset)
 statement_marks (Bytes content b) offset g = g.sound.marks_are
-statement_marks _ offset g = no_marks (IsGoodFix Code) Code 0
+statement_marks _ offset g = no_marks Code 0
 
 -- what a section takes: instructions only .text, one or two bytes not .text, and .bss none
 pub record IsTaken (part : Part) (content : Content) : Type 0 where
@@ -275,7 +257,7 @@ inside_base base at w size offset v h e f = omega (arith, h, e, f)
 pub line_origin : (lines : List Laid) (part : Part) (l : Laid) (e : Entry) → IsGoodStatement l.line.statement → In e (entries_of lines part l) → IsFrom lines part l e
 line_origin lines part l e g k =
     let r : (m : Mark) × In m (marks_in l.line.statement) × (e ≡ entry_of lines part l m) = In-map (entry_of lines part l) (marks_in l.line.statement) e k in
-    let a : AreMarks (IsGoodFix (content_of l.line.statement)) (content_of l.line.statement) (taken l.line.statement l.offset) (marks_in l.line.statement) = statement_marks l.line.statement l.offset g in
+    let a : IsWithin (content_of l.line.statement) 0 (taken l.line.statement l.offset) r.0 = (statement_marks l.line.statement l.offset g).stand.0 r.0 r.1 in
     let at : e.offset ≡ l.offset + r.0.at = ap (λ x. x.offset) r.2 in
     record {
       m = r.0;
@@ -284,10 +266,10 @@ line_origin lines part l e g k =
       kind_is = ap (λ x. x.kind) r.2;
       symbol_is = ap (λ x. x.symbol) r.2;
       addend_is = ap (λ x. x.addend) r.2;
-      good = a.fixes r.0 r.1;
-      fours = λ wide. same_fours l.offset r.0.at e.offset (a.fours wide r.0 r.1) at;
+      good = a.fix;
+      fours = λ wide. same_fours l.offset r.0.at e.offset (a.fours wide) at;
       low = behind_base l.offset r.0.at e.offset at;
-      high = inside_base l.offset r.0.at (width_of r.0.fix.kind) (taken l.line.statement l.offset) e.offset (width_of e.kind) (a.inside r.0 r.1) at (ap (λ x. width_of x.kind) r.2);
+      high = inside_base l.offset r.0.at (width_of r.0.fix.kind) (taken l.line.statement l.offset) e.offset (width_of e.kind) a.inside at (ap (λ x. width_of x.kind) r.2);
     }
 
 -- APART
@@ -295,9 +277,6 @@ line_origin lines part l e g k =
 abbrev pub Apart : List Entry → Type 0
 Apart [] = Unit {0}
 Apart (e ∷ es) = ((f : Entry) → In f es → is_clash f e ≡ false) × Apart es
-
-not_less : (m n : ℕ) → n ≤ m → nat_lt m n ≡ false
-not_less m n h = grind (arith, nat_tests)
 
 no_clash : (a b c : Bool) → a ≡ false → (a && b && c) ≡ false
 no_clash true b c e = absurd (true≢false e)
@@ -311,9 +290,6 @@ behind e f mid h k =
   where
     past : (a b c : ℕ) → a ≤ b → b ≤ c → a ≤ c
     past a b c p q = omega arith
-
-same_test : (m n : ℕ) → m ≡ n → (m == n) ≡ true
-same_test m n e = grind (arith, nat_tests)
 
 stacked_free : (a b c d e : Bool) → b ≡ true → c ≡ true → d ≡ true → e ≡ true → (a && not (b && c && d && e)) ≡ false
 stacked_free true true true true true p q r s = refl
@@ -349,4 +325,4 @@ module _ (lines : List Laid) (part : Part) (l : Laid) where
           subst (λ x. is_clash x (entry_of lines part l m) ≡ false) (sym r.2) (never_clash m r.0 (h.0 r.0 r.1))
 
   pub line_apart : IsGoodStatement l.line.statement → Apart (entries_of lines part l)
-  line_apart g = marks_apart (marks_in l.line.statement) (statement_marks l.line.statement l.offset g).apart
+  line_apart g = marks_apart (marks_in l.line.statement) (statement_marks l.line.statement l.offset g).stand.1

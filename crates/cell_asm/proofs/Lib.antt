@@ -6,8 +6,7 @@ pub mod SymbolLemmas
 mod Rows
 pub mod NamesFit
 pub mod GoodBlocks
-pub mod InstructionPieces
-pub mod NumberPieces
+pub mod StatementBlocks
 pub mod EntriesFit
 pub mod SymbolPlaces
 pub mod WritableEntries

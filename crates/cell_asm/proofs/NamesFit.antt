@@ -1,34 +1,29 @@
 -- What is read, where it is read.
 --     Yields P r        P holds of the value, where there is one
 --     Finds P o         the same of an option
-use Rattle.std.proofs.Common.{◌≡◌, Bool, true, false, Result, Ok, Err, Some, None, refl, subst, ℕ, zero, suc, ◌+◌, ◌/◌, ◌%◌, ◌<◌, ◌≤◌, not, ◌&&◌, ◌||◌, ◌==◌, List, [], ◌∷◌, ◌++◌, length, codes, decimal, nat_le, nat_lt, ◌⊎◌, inl, inr, arith, ◌-◌, cond, map, take, drop, sym, ap, ◌∙◌, length-append, take-append-drop}
+use Rattle.std.proofs.Common.{◌≡◌, Bool, true, false, Result, Ok, Err, Some, None, refl, subst, ℕ, zero, suc, ◌+◌, ◌/◌, ◌%◌, ◌<◌, ◌≤◌, not, ◌&&◌, ◌||◌, ◌==◌, List, [], ◌∷◌, ◌++◌, length, codes, decimal, nat_le, nat_lt, ◌⊎◌, inl, inr, arith, ◌-◌, cond, map, take, drop, sym, ap, ◌∙◌, length-append, take-append-drop, add_assoc, append-nil}
 use Rattle.std.proofs.lemmas.Bool.{leb-true, ltb-true, eqb-true, le-leb, ne_eqb, and_parts, and_from, or_cases, or_from}
+use Rattle.std.proofs.lemmas.List.Concat.{flat_map-append}
 use Rattle.std.specs.Char.{is_ascii_digit}
 use Rattle.std.specs.Fmt.{digits, digits_onto, digit_glyph}
 use Rattle.std.specs.List.{list_any, list_all, position_or_len, prefix_len, suffix_len, after_last, slice_split, onto_first}
-use Rattle.std.specs.Prelude.{Option, option_map, option_and_then, if◌then◌else◌, ok_or, neg_ℤ, flat_map}
+use Rattle.std.specs.Prelude.{Option, option_map, option_and_then, if◌then◌else◌, ok_or, neg_ℤ, flat_map, fold}
 use Rattle.cell_num.specs.Lists.{where_true, or_else}
 use Rattle.cell_object.specs.Bytes.{is_zero}
 use Rattle.cell_object.specs.Symbols.{is_global_name}
 use Rattle.cell_object.specs.Symbols as object_names
-use Rattle.cell_object.specs.Symbols.{is_global_name}
-use Rattle.cell_object.specs.Symbols as object_names
 use Rattle.cell_object.specs.Writable.{IsPlain}
-use Rattle.cell_asm.specs.Faults.{both, with_value, each}
-use Rattle.cell_asm.specs.Lines.{is_blank, trimmed, operand_texts, spelled}
-use Rattle.cell_asm.specs.Names.{is_name, is_name_byte, is_letter, begins_with_digit, ends}
+use Rattle.cell_asm.specs.Faults.{joined, with_value}
+use Rattle.cell_asm.specs.Lines.{is_blank, trimmed, operand_texts, spelled, operands as operands_of}
+use Rattle.cell_asm.specs.Names.{is_name, is_name_byte, is_letter, begins_with_digit, ends, begins, number}
 use Rattle.cell_asm.specs.Names as names
-use Rattle.cell_asm.specs.Names.{is_name, is_name_byte, is_letter, begins_with_digit, ends}
-use Rattle.cell_asm.specs.Names as names
-use Rattle.cell_asm.specs.Numbers.{begins, number}
 use Rattle.cell_asm.specs.Objects.{key_name}
 use Rattle.cell_asm.specs.Operands.{is_sign, less, with_rest, expression, modifier, is_open, front, inside, modified, immediate, operand}
 use Rattle.cell_asm.specs.Operands as operands
-use Rattle.cell_asm.specs.Operands.{is_sign, less, with_rest, expression, modifier, is_open, front, inside, modified, immediate, operand}
-use Rattle.cell_asm.specs.Operands as operands
-use Rattle.cell_asm.specs.Types.{AsmKind, Key, KeyNamed as Named, KeyMade as Made, Expression, ExpressionName as Name, Sum, Difference, Immediate, Number, Modified, Operand, OperandValue as Value, Plain, OperandMemory as Memory}
+use Rattle.cell_asm.specs.Types.{AsmKind, Key, KeyNamed as Named, KeyMade as Made, Expression, ExpressionName as Name, Sum, Difference, Whole, Immediate, Number, ImmediatePart as Part, Operand, OperandValue as Value, OperandMemory as Memory}
 use Rattle.cell_asm.specs.declared.kind.AsmKind.TheVariants as faults
-use Rattle.cell_asm.proofs.ListLemmas.{In, In-append, take_le, drop_le, total, total-append, total_le, total-map}
+use Rattle.cell_num.proofs.Elements.{In, In-append}
+use Rattle.cell_asm.proofs.ListLemmas.{take_le, drop_le, total, total-append, total_le, total-map, le_trans}
 
 abbrev pub Any : {A : Type 0} → A → Type 0
 Any a = Unit {0}
@@ -42,11 +37,24 @@ pub yields_value : {A B : Type 0} (P : A → Type 0) (Q : B → Type 0) (f : A �
 yields_value P Q f (Ok a) go h = go a h
 yields_value P Q f (Err k) go h = tt
 
-pub yields_both : {A B : Type 0} (P : A → Type 0) (Q : B → Type 0) (a : Result A AsmKind) (b : Result B AsmKind) → Yields P a → Yields Q b → Yields (λ p. P p.0 × Q p.1) (both a b)
-yields_both P Q (Ok a) (Ok b) h k = (h, k)
-yields_both P Q (Ok a) (Err l) h k = tt
-yields_both P Q (Err j) (Ok b) h k = tt
-yields_both P Q (Err j) (Err l) h k = tt
+pub yields_joined : {A B : Type 0} (P : A → Type 0) (Q : B → Type 0) (R : A → Type 0) (f : A → B → A) (a : Result A AsmKind) (b : Result B AsmKind)
+    → ((x : A) (y : B) → P x → Q y → R (f x y)) → Yields P a → Yields Q b → Yields R (joined f a b)
+yields_joined P Q R f (Ok a) (Ok b) go h k = go a b h k
+yields_joined P Q R f (Ok a) (Err l) go h k = tt
+yields_joined P Q R f (Err j) (Ok b) go h k = tt
+yields_joined P Q R f (Err j) (Err l) go h k = tt
+
+-- what is gathered, with the sum of what the values take
+pub yields_gathered : {X A B : Type 0} (P : ℕ → A → Type 0) (Q : X → B → Type 0) (w : X → ℕ) (f : A → B → A) (g : X → Result B AsmKind)
+    → ((n : ℕ) (x : X) (a : A) (b : B) → P n a → Q x b → P (n + w x) (f a b)) → (xs : List X) (n : ℕ) (r : Result A AsmKind) → ((x : X) → In x xs → Yields (Q x) (g x)) → Yields (P n) r
+    → Yields (P (n + total w xs)) (fold (joined f) r (map g xs))
+yields_gathered P Q w f g more [] n r q h = subst (λ k. Yields (P k) r) (sym (none_more n)) h
+  where
+    none_more : (n : ℕ) → n + 0 ≡ n
+    none_more n = omega arith
+yields_gathered P Q w f g more (x ∷ xs) n r q h =
+    subst (λ k. Yields (P k) (fold (joined f) (joined f r (g x)) (map g xs))) (add_assoc n (w x) (total w xs))
+    (yields_gathered P Q w f g more xs (n + w x) (joined f r (g x)) (λ y k. q y (inr k)) (yields_joined (P n) (Q x) (P (n + w x)) f r (g x) (more n x) h (q x (inl refl))))
 
 pub yields_any : {A : Type 0} (r : Result A AsmKind) → Yields Any r
 yields_any (Ok a) = tt
@@ -276,6 +284,10 @@ more_named m n ns l h = record { named = h.named; few = let f : cost ns ≤ m = 
 pub cost-append : (ms ns : List (List ℕ)) → cost (ms ++ ns) ≡ cost ms + cost ns
 cost-append ms ns = total-append (λ n. suc (length n)) ms ns
 
+pub cost_flat : {X : Type 0} (g : X → List (List ℕ)) (xs : List X) → cost (flat_map g xs) ≡ total (λ x. cost (g x)) xs
+cost_flat g [] = refl
+cost_flat g (x ∷ xs) = cost-append (g x) (flat_map g xs) ∙ ap (λ n. cost (g x) + n) (cost_flat g xs)
+
 pub join_named : (m n : ℕ) (ms ns : List (List ℕ)) → IsNamed m ms → IsNamed n ns → IsNamed (m + n) (ms ++ ns)
 join_named m n ms ns h k = record {
   named = join_names ms ns h.named k.named;
@@ -291,11 +303,10 @@ expression_names (Difference m n) = m ∷ n ∷ []
 
 abbrev pub immediate_names : Immediate → List (List ℕ)
 immediate_names (Number n) = []
-immediate_names (Modified m e) = expression_names e
+immediate_names (Part m e) = expression_names e
 
 abbrev pub operand_names : Operand → List (List ℕ)
 operand_names (Value i) = immediate_names i
-operand_names (Plain e) = expression_names e
 operand_names (Memory i base) = immediate_names i
 
 abbrev NamesExpression : ℕ → Expression → Type 0
@@ -333,9 +344,6 @@ expression_named text =
     finds_if (NamesExpression (room text)) (is_name (take end text)) (with_rest (take end text) (drop end text)) None
     (λ h. rest_named (length text) (take end text) (drop end text) h (split_length end text)) tt
 
-pub le_trans : (a b c : ℕ) → a ≤ b → b ≤ c → a ≤ c
-le_trans a b c h k = omega (arith, h, k)
-
 suc_le : (a b : ℕ) → a ≤ b → suc a ≤ suc b
 suc_le a b h = omega (arith, h)
 
@@ -355,8 +363,8 @@ NamesOperand m o = IsNamed m (operand_names o)
 
 modified_named : (text : List ℕ) → Finds (NamesImmediate (room text)) (modified text)
 modified_named text =
-    finds_if (NamesImmediate (room text)) (ends text (codes ")")) (option_and_then (λ x. option_map (λ y. Modified x y) (expression (inside text))) (modifier (front text))) None
-    (λ b. finds_both Any (NamesExpression (room (inside text))) (NamesImmediate (room text)) (λ m e. Modified m e) (modifier (front text)) (expression (inside text))
+    finds_if (NamesImmediate (room text)) (ends text (codes ")")) (option_and_then (λ x. option_map (λ y. Part x y) (expression (inside text))) (modifier (front text))) None
+    (λ b. finds_both Any (NamesExpression (room (inside text))) (NamesImmediate (room text)) (λ m e. Part m e) (modifier (front text)) (expression (inside text))
     (λ m e u h. more_named (room (inside text)) (room text) (expression_names e) (inside_room text) h) (finds_any (modifier (front text))) (expression_named (inside text)))
     tt
 
@@ -375,10 +383,10 @@ memory_named text =
 
 operand_named : (text : List ℕ) → Finds (NamesOperand (room text)) (operand text)
 operand_named text =
-    finds_else (NamesOperand (room text)) (option_map (λ i. Value i) (immediate text)) (or_else (option_map (λ e. Plain e) (expression text)) (operands.memory text))
+    finds_else (NamesOperand (room text)) (option_map (λ i. Value i) (immediate text)) (or_else (option_map (λ e. Value (Part Whole e)) (expression text)) (operands.memory text))
     (finds_map (NamesImmediate (room text)) (NamesOperand (room text)) (λ i. Value i) (immediate text) (λ i h. h) (immediate_named text))
-    (finds_else (NamesOperand (room text)) (option_map (λ e. Plain e) (expression text)) (operands.memory text)
-    (finds_map (NamesExpression (room text)) (NamesOperand (room text)) (λ e. Plain e) (expression text) (λ e h. h) (expression_named text))
+    (finds_else (NamesOperand (room text)) (option_map (λ e. Value (Part Whole e)) (expression text)) (operands.memory text)
+    (finds_map (NamesExpression (room text)) (NamesOperand (room text)) (λ e. Value (Part Whole e)) (expression text) (λ e h. h) (expression_named text))
     (memory_named text))
 
 spelled_by : (m : ℕ) (o : Option Operand) → Finds (NamesOperand m) o → Yields (NamesOperand m) (ok_or o faults.Word)
@@ -393,12 +401,15 @@ all_names os = flat_map operand_names os
 abbrev pub NamesAll : ℕ → List Operand → Type 0
 NamesAll m os = IsNamed m (all_names os)
 
-texts_named : (texts : List (List ℕ)) → Yields (NamesAll (total room texts)) (each (map spelled texts))
-texts_named [] = none_named 0
-texts_named (t ∷ texts) =
-    yields_value (λ (p : Operand × List Operand). NamesOperand (room t) p.0 × NamesAll (total room texts) p.1) (NamesAll (room t + total room texts)) (λ p. p.0 ∷ p.1)
-    (both (spelled t) (each (map spelled texts))) (λ p h. join_named (room t) (total room texts) (operand_names p.0) (all_names p.1) h.0 h.1)
-    (yields_both (NamesOperand (room t)) (NamesAll (total room texts)) (spelled t) (each (map spelled texts)) (spelled_by (room t) (operand t) (operand_named t)) (texts_named texts))
+named_more : (n : ℕ) (text : List ℕ) (os : List Operand) (o : Operand) → NamesAll n os → NamesOperand (room text) o → NamesAll (n + room text) (os ++ o ∷ [])
+named_more n text os o h k =
+    subst (IsNamed (n + room text)) (sym (flat_map-append operand_names os (o ∷ []) ∙ ap (λ ns. all_names os ++ ns) (append-nil (operand_names o))))
+    (join_named n (room text) (all_names os) (operand_names o) h k)
+
+texts_named : (texts : List (List ℕ)) → Yields (NamesAll (0 + total room texts)) (operands_of (map spelled texts))
+texts_named texts =
+    yields_gathered NamesAll (λ text o. NamesOperand (room text) o) room (λ os o. os ++ o ∷ []) spelled named_more texts 0 (Ok [])
+    (λ text k. spelled_by (room text) (operand text) (operand_named text)) (none_named 0)
 
 onto_total : (b : ℕ) (parts : List (List ℕ)) (n : ℕ) → total room parts ≤ suc n → total room (onto_first b parts) ≤ suc (suc n)
 onto_total b [] n h = omega arith
@@ -424,8 +435,11 @@ operands_total (b ∷ bs) =
     le_trans (total room (map trimmed parts)) (total room parts) (room (b ∷ bs))
     (subst (λ n. n ≤ total room parts) (sym (total-map room trimmed parts)) (total_le (λ t. room (trimmed t)) room parts (λ t k. suc_le _ _ (trimmed_le t)))) (split_total (λ c. c == 44) (b ∷ bs))
 
-pub operands_named : (text : List ℕ) (m : ℕ) → suc (length text) ≤ m → Yields (NamesAll m) (each (map spelled (operand_texts text)))
+pub operands_named : (text : List ℕ) (m : ℕ) → suc (length text) ≤ m → Yields (NamesAll m) (operands_of (map spelled (operand_texts text)))
 operands_named text m l =
-    yields_weaker (NamesAll (total room (operand_texts text))) (NamesAll m) (each (map spelled (operand_texts text)))
-    (λ os h. more_named (total room (operand_texts text)) m (all_names os) (le_trans _ _ m (operands_total text) l) h)
+    yields_weaker (NamesAll (0 + total room (operand_texts text))) (NamesAll m) (operands_of (map spelled (operand_texts text)))
+    (λ os h. more_named (0 + total room (operand_texts text)) m (all_names os) (within (total room (operand_texts text)) (room text) (operands_total text) l) h)
     (texts_named (operand_texts text))
+  where
+    within : (a b : ℕ) → a ≤ b → b ≤ m → 0 + a ≤ m
+    within a b h k = omega arith

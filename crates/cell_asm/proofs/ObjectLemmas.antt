@@ -17,12 +17,12 @@ use Rattle.std.specs.Prelude.{fold, if◌then◌else◌, flat_map, Option, optio
 use Rattle.cell_num.specs.Bits.{bytes_of}
 use Rattle.cell_num.specs.Kinds.{is_pcrel_lo12}
 use Rattle.cell_asm.specs.Assembled.{has_upper, is_upper_label, is_lost, is_lost_mark, has_lost}
-use Rattle.cell_asm.specs.Known.{about, spot_at, about_in}
-use Rattle.cell_asm.specs.Making.{Numbered, mark_entry, line_entries, part_entries}
+use Rattle.cell_asm.specs.Progress.{about, spot_at, about_in, is_upper_spot, target_lost_by, mark_lost_by, lost_by}
+use Rattle.cell_asm.specs.Numberings.{Numbered, mark_entry, line_entries, part_entries}
 use Rattle.cell_asm.specs.Objects.{adds_part, parts_of, adds_choice, marks_in, label_named, part_number, target_key, entry_of, entries_of, entries_in, entries}
 use Rattle.cell_asm.specs.Places.{is_same_part, choices, choice, is_in, labels, labels_at, keys_of}
 use Rattle.cell_asm.specs.Types.{Part, Text, Rodata, Data, Bss, Laid, Target, TargetNamed as Named, TargetMade as Made, Label, Known, Entry, Mark, Symbols}
-use Rattle.cell_asm.specs.Uppers.{is_upper_spot, target_lost_by, mark_lost_by, lost_by}
+use Rattle.cell_num.proofs.Elements.{map_same, flat_same}
 
 pub same_part : (p q : Part) → is_same_part p q ≡ true → p ≡ q
 same_part Text Text e = refl
@@ -156,24 +156,16 @@ pub ruleset any_left = (any_found, any_passed, any_end)
 
 -- The entries of lines.
 
-map_same : {X Y : Type 0} (f g : X → Y) (xs : List X) → ((x : X) → f x ≡ g x) → map f xs ≡ map g xs
-map_same f g [] same = refl
-map_same f g (x ∷ xs) same = ap (λ y. y ∷ map f xs) (same x) ∙ ap (λ ys. g x ∷ ys) (map_same f g xs same)
-
 mark_is : (symbols : Symbols) (lines : List Laid) (part : Part) (l : Laid) (m : Mark) → Numbered symbols lines → mark_entry (part_number lines part) symbols l m ≡ entry_of lines part l m
 mark_is symbols lines part l m n =
     let entry : ℕ → Entry = λ symbol. record { section = part_number lines part; offset = l.offset + m.at; kind = m.fix.kind; symbol = symbol; addend = m.fix.addend } in
     ap entry (n (target_key l m.fix.target))
 
-flat_same : {X Y : Type 0} (f g : X → List Y) (xs : List X) → ((x : X) → f x ≡ g x) → flat_map f xs ≡ flat_map g xs
-flat_same f g [] same = refl
-flat_same f g (x ∷ xs) same = ap (λ ys. ys ++ flat_map f xs) (same x) ∙ ap (λ ys. g x ++ ys) (flat_same f g xs same)
-
 part_is : (symbols : Symbols) (lines : List Laid) (part : Part) → Numbered symbols lines → part_entries (parts_of lines) symbols lines part ≡ entries_in lines part
 part_is symbols lines part n =
     flat_same (line_entries (part_number lines part) symbols) (entries_of lines part) (filter (is_in part) lines)
-    (λ l. map_same (mark_entry (part_number lines part) symbols l) (entry_of lines part l) (marks_in l.line.statement) (λ m. mark_is symbols lines part l m n))
+    (λ l i. map_same (mark_entry (part_number lines part) symbols l) (entry_of lines part l) (marks_in l.line.statement) (λ m k. mark_is symbols lines part l m n))
 
 -- the entries of all sections are those of the definition
 pub entries_are : (symbols : Symbols) (lines : List Laid) → Numbered symbols lines → flat_map (part_entries (parts_of lines) symbols lines) (parts_of lines) ≡ entries lines
-entries_are symbols lines n = flat_same (part_entries (parts_of lines) symbols lines) (entries_in lines) (parts_of lines) (λ part. part_is symbols lines part n)
+entries_are symbols lines n = flat_same (part_entries (parts_of lines) symbols lines) (entries_in lines) (parts_of lines) (λ part k. part_is symbols lines part n)

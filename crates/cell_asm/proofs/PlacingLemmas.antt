@@ -12,15 +12,14 @@ use Rattle.std.specs.Prelude.{Option, option_map, is_some, if◌then◌else◌, 
 use Rattle.cell_num.specs.Lists.{equals, where_true, holds_name, last, or_else, numbered_from}
 use Rattle.cell_text.specs.Text.{lines_in, Behind}
 use Rattle.cell_asm.specs.Assembled.{add_line, with_line, placed_line, placed_texts, object_from, object_unless, has_lost, assembled, Assembles, placed_unless, placed_lines}
-use Rattle.cell_asm.specs.Known.{about, with_spot, with_global, spot_here, declares, about_with, spot_at, spot_among, about_in}
+use Rattle.cell_asm.specs.Progress.{about, with_spot, with_global, spot_here, declares, about_with, spot_at, spot_among, about_in, Places, failure, size_of, size_chosen, offset_of, twice_of, fault_after, laid_after, Adds, Follows}
 use Rattle.cell_asm.specs.Lines.{line_of}
 use Rattle.cell_asm.specs.Objects.{global_name, globals, object_of}
-use Rattle.cell_asm.specs.Outcome.{Gives}
+use Rattle.cell_asm.specs.Faults.{Gives}
 use Rattle.cell_asm.specs.Places.{is_key, holds_key, makes_label, own_key, made_key, keys_of, label, labels_at, labels, fault_at, is_at, is_in, choice, choices, taken, size_in, size_at, made_in, is_twice, placed}
-use Rattle.cell_asm.specs.Placing.{Places, failure}
-use Rattle.cell_asm.specs.Progress.{size_of, size_chosen, offset_of, twice_of, fault_after, laid_after, Adds, Follows}
 use Rattle.cell_asm.specs.Types.{Part, Statement, StatementGlobal as Global, Laid, Label, AsmKindLabel, KeyNamed as Named, KeyMade as Made, Spot, About, Known, Line, Progress, AsmKind, Stop, StopFault as Fault, StopOutOfMemory as OutOfMemory, Object, AsmFail, AsmFailFault as Faulty, AsmFailOutOfMemory as NoMemory}
-use Rattle.cell_asm.proofs.ListLemmas.{In, In-append}
+use Rattle.cell_num.proofs.Elements.{In, In-append}
+use Rattle.cell_asm.proofs.ListLemmas.{or_none, mapped_length}
 use Rattle.cell_asm.proofs.ObjectLemmas.{same_part}
 
 -- ONE MORE NAME
@@ -48,10 +47,6 @@ global_added known name q a is =
 
 -- ONE MORE LINE
 
-or_false : (b : Bool) → (b || false) ≡ b
-or_false true = refl
-or_false false = refl
-
 no_made : (part : Part) (offset n : ℕ) (b : Bool) (q : List ℕ) → find (λ l. is_key l.key (Named q)) (map (label part offset) (if b then Made n ∷ [] else [])) ≡ None
 no_made part offset n true q = refl
 no_made part offset n false q = refl
@@ -71,16 +66,20 @@ mapped_or : (o p : Option Label) → option_map spot_at (option_or o p) ≡ opti
 mapped_or None p = refl
 mapped_or (Some l) p = refl
 
+pub labels_push : (lines : List Laid) (l : Laid) → labels (lines ++ l ∷ []) ≡ labels lines ++ labels_at l.part l.offset (keys_of l)
+labels_push lines l =
+    flat_map-append (λ m. labels_at m.part m.offset (keys_of m)) lines (l ∷ []) ∙ ap (λ ls. labels lines ++ ls) (append-nil (labels_at l.part l.offset (keys_of l)))
+
 spot_more : (before : List Laid) (l : Laid) (q : List ℕ) → spot_among (labels (before ++ l ∷ [])) q ≡ option_or (spot_among (labels before) q) (spot_here l.part l.offset l.line.label q)
 spot_more before l q =
     let new : List Label = labels_at l.part l.offset (keys_of l) in
-    ap (λ ls. spot_among ls q) (flat_map-append (λ m. labels_at m.part m.offset (keys_of m)) before (l ∷ []) ∙ ap (λ ls. labels before ++ ls) (append-nil new))
+    ap (λ ls. spot_among ls q) (labels_push before l)
     ∙ ap (option_map spot_at) (find-append (λ m. is_key m.key (Named q)) (labels before) new)
     ∙ mapped_or (find (λ m. is_key m.key (Named q)) (labels before)) (find (λ m. is_key m.key (Named q)) new)
     ∙ ap (option_or (spot_among (labels before) q)) (here_is l.part l.offset l.made l.line.label l.line.statement q)
 
 declared : (q : List ℕ) (s : Statement) → list_any (λ other. equals other q) (cons_option (global_name s) []) ≡ declares q s
-declared q (Global name) = or_false (equals name q)
+declared q (Global name) = or_none (equals name q)
 declared q _ = refl
 
 global_more : (before : List Laid) (l : Laid) (q : List ℕ) → holds_name (globals (before ++ l ∷ [])) q ≡ (holds_name (globals before) q || declares q l.line.statement)
@@ -99,9 +98,9 @@ or_true false = refl
 
 joined : (o p : Option Spot) (g b : Bool) → record { spot = option_or o p; global = g || b } ≡ with_global b (with_spot p (record { spot = o; global = g }))
 joined o None g true = rw (none_more o, or_true g) refl
-joined o None g false = rw (none_more o, or_false g) refl
+joined o None g false = rw (none_more o, or_none g) refl
 joined o (Some s) g true = rw (or_true g) refl
-joined o (Some s) g false = rw (or_false g) refl
+joined o (Some s) g false = rw (or_none g) refl
 
 pub about_more : (before : List Laid) (l : Laid) (q : List ℕ) → about_in (before ++ l ∷ []) q ≡ about_with l q (about_in before q)
 about_more before l q =
@@ -157,13 +156,13 @@ one_size : (part : Part) (l : Laid) (b : Bool) → sum_by (λ m. taken m.line.st
 one_size part l true = zero-add (taken l.line.statement l.offset)
 one_size part l false = refl
 
-size_more : (part : Part) (before : List Laid) (l : Laid) → size_in part (before ++ l ∷ []) ≡ size_in part before + (if is_in part l then taken l.line.statement l.offset else 0)
+pub size_more : (part : Part) (before : List Laid) (l : Laid) → size_in part (before ++ l ∷ []) ≡ size_in part before + (if is_in part l then taken l.line.statement l.offset else 0)
 size_more part before l =
     ap (sum_by (λ m. taken m.line.statement m.offset)) (filter-append (is_in part) before (l ∷ []))
     ∙ sum_by-append (λ m. taken m.line.statement m.offset) (filter (is_in part) before) (filter (is_in part) (l ∷ []))
     ∙ ap (λ n. size_in part before + n) (one_size part l (is_in part l))
 
-made_more : (before : List Laid) (l : Laid) → made_in (before ++ l ∷ []) ≡ made_in before + (if makes_label l.line.statement then 1 else 0)
+pub made_more : (before : List Laid) (l : Laid) → made_in (before ++ l ∷ []) ≡ made_in before + (if makes_label l.line.statement then 1 else 0)
 made_more before l =
     sum_by-append (λ m. cond (makes_label m.line.statement) 1 0) before (l ∷ []) ∙ ap (λ n. made_in before + n) (zero-add (cond (makes_label l.line.statement) 1 0))
 
@@ -213,10 +212,6 @@ stopped OutOfMemory n before text texts all g e = tt
 -- the texts that are left
 pub dropped : (texts : List (Bor (List ℕ))) (i : ℕ) (d : Bor (List ℕ)) → i < length texts → map (λ text. text.now) (drop i texts) ≡ (get_or texts i d).now ∷ map (λ text. text.now) (drop (i + 1) texts)
 dropped texts i d lt = ap (map (λ text. text.now)) (drop_more texts i d lt)
-
-mapped_length : {X Y : Type 0} (f : X → Y) (xs : List X) → length (map f xs) ≡ length xs
-mapped_length f [] = refl
-mapped_length f (x ∷ xs) = ap suc (mapped_length f xs)
 
 behind_last : (n m : ℕ) → m ≡ n → n < suc m
 behind_last n m e = omega arith

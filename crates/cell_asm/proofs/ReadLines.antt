@@ -3,27 +3,24 @@
 use Rattle.std.proofs.Common.{◌≡◌, ◌≤◌, ◌+◌, ◌-◌, ◌^◌, ℕ, suc, Bool, true, false, List, [], ◌∷◌, ◌++◌, map, take, drop, length, Result, Ok, Err, Some, None, inl, inr, refl, subst, arith}
 use Rattle.std.specs.Prelude.{Option, ◌==◌, min, if◌then◌else◌, nat_le, flat_map}
 use Rattle.std.specs.List.{position_or_len, prefix_len, before_first}
-use Rattle.std.proofs.lemmas.Bool.Decides.{nat_tests}
 use Rattle.std.proofs.lemmas.List.{length-take}
 use Rattle.cell_num.specs.Lists.{where_true}
-use Rattle.cell_asm.specs.Types.{AsmKind, Mnemonic, Directive, Operand, Content, Code, Mark, Block, Statement, StatementChoose as Choose, StatementGlobal as Global, StatementZeros as Zeros, StatementAlign as Align, Bytes, Line}
+use Rattle.cell_asm.specs.Types.{AsmKind, Mnemonic, Directive, ExpressionName as Name, Whole, ImmediatePart as Part, Operand, OperandValue as Value, Content, Code, Mark, Block, Statement, StatementChoose as Choose, StatementGlobal as Global, StatementZeros as Zeros, StatementAlign as Align, Bytes, Line}
 use Rattle.cell_asm.specs.declared.kind.AsmKind.TheVariants as faults
 use Rattle.cell_asm.specs.declared.mnemonic.Directive.TheVariants as directives
-use Rattle.cell_asm.specs.declared.operand.Expression.TheVariants as expressions
-use Rattle.cell_asm.specs.declared.operand.Operand.TheVariants as operands
-use Rattle.cell_asm.specs.Faults.{both, with_value, each}
+use Rattle.cell_asm.specs.Faults.{with_value}
 use Rattle.cell_asm.specs.Names.{is_name}
 use Rattle.cell_asm.specs.Objects.{target_names, label_names, statement_names}
 use Rattle.cell_asm.specs.Wanted.{name}
 use Rattle.cell_asm.specs.Instructions.{instruction}
 use Rattle.cell_asm.specs.Mnemonics.{directive, mnemonic}
 use Rattle.cell_asm.specs.Statements.{layout_of, numbers, count, unit_of, unit, none, one, directed, instructed, worded, statement}
-use Rattle.cell_asm.specs.Lines.{is_inked, read_with, statement_in, spelled, operand_texts, first_word, after_word, has_label, labelled, label_in, line_of, code_of}
-use Rattle.cell_asm.proofs.ListLemmas.{In, take_le, drop_le}
-use Rattle.cell_asm.proofs.NamesFit.{Any, Yields, yields_value, yields_both, yields_any, yields_ok, AreNames, IsNamed, cost, no_names, more_names, join_names, none_named, one_named, join_named, more_named, le_trans, split_length, trimmed_le, all_names, NamesAll, operands_named, name_fits}
+use Rattle.cell_asm.specs.Lines.{is_inked, read_with, statement_in, spelled, operand_texts, first_word, after_word, has_label, label_name, labelled, line_of, code_of, operands}
+use Rattle.cell_num.proofs.Elements.{In}
+use Rattle.cell_asm.proofs.ListLemmas.{take_le, drop_le, le_trans, itself, le_of, least}
+use Rattle.cell_asm.proofs.NamesFit.{Any, Yields, yields_value, yields_any, yields_ok, AreNames, IsNamed, cost, no_names, more_names, join_names, none_named, one_named, join_named, more_named, split_length, trimmed_le, all_names, NamesAll, operands_named, name_fits}
 use Rattle.cell_asm.proofs.GoodBlocks.{IsUnit, IsGoodStatement}
-use Rattle.cell_asm.proofs.InstructionPieces.{IsFewBlock, instruction_good}
-use Rattle.cell_asm.proofs.NumberPieces.{numbers_good}
+use Rattle.cell_asm.proofs.StatementBlocks.{IsFewBlock, instruction_good, numbers_good}
 
 -- a good statement, whose names take so many bytes
 record IsRead (m : ℕ) (s : Statement) : Type 0 where
@@ -32,9 +29,6 @@ record IsRead (m : ℕ) (s : Statement) : Type 0 where
 
 -- DIRECTIVES
 
-le_of : (m n : ℕ) → nat_le m n ≡ true → m ≤ n
-le_of m n e = grind (arith, nat_tests)
-
 unit_by : (k : ℕ) (b : Bool) → nat_le k 12 ≡ b → Yields IsUnit (if b then Ok (2 ^ k) else Err faults.Range)
 unit_by k true e = (k, le_of k 12 e, refl)
 unit_by k false e = tt
@@ -42,9 +36,6 @@ unit_by k false e = tt
 unit_good : (r : Result ℕ AsmKind) → Yields IsUnit (unit_of r)
 unit_good (Ok k) = unit_by k (nat_le k 12) refl
 unit_good (Err kind) = tt
-
-no_cost : (m : ℕ) → 0 ≤ m
-no_cost m = omega arith
 
 none_read : (m : ℕ) (s : Statement) (os : List Operand) → IsRead m s → Yields (IsRead m) (none s os)
 none_read m s [] r = r
@@ -58,23 +49,20 @@ one_read P m read make (o ∷ p ∷ os) h made = tt
 
 -- the name of one operand, among the names of all
 one_name : (m : ℕ) (os : List Operand) (o : Operand) → NamesAll m os → os ≡ o ∷ [] → Yields (λ n. IsNamed m (n ∷ [])) (name o)
-one_name m os (operands.Plain (expressions.Name n)) h e = subst (λ x. IsNamed m (all_names x)) e h
-one_name m os (operands.Plain (expressions.Sum n by)) h e = tt
-one_name m os (operands.Plain (expressions.Difference a b)) h e = tt
-one_name m os (operands.Value i) h e = tt
-one_name m os (operands.Memory i base) h e = tt
+one_name m os (Value (Part Whole (Name n))) h e = subst (λ x. IsNamed m (all_names x)) e h
+one_name m os _ h e = tt
 
 few_block : (m : ℕ) (content : Content) (os : List Operand) (b : Block) → NamesAll m os → IsFewBlock content (cost (all_names os)) b → IsRead m (Bytes content b)
 few_block m content os b h p = record { good = p.good; few = le_trans _ (cost (all_names os)) m p.few h.few }
 
 directed_read : (m : ℕ) (d : Directive) (os : List Operand) → NamesAll m os → Yields (IsRead m) (directed d os)
-directed_read m (directives.Choose part) os h = none_read m (Choose part) os (record { good = tt; few = no_cost m })
+directed_read m (directives.Choose part) os h = none_read m (Choose part) os (record { good = tt; few = least m })
 directed_read m directives.Global os h =
     one_read (λ n. IsNamed m (n ∷ [])) m name (λ n. Global n) os (λ o e. one_name m os o h e) (λ n g. record { good = g.named n (inl refl); few = g.few })
 directed_read m (directives.Numbers w) os h =
     yields_value (IsFewBlock (layout_of w).content (cost (all_names os))) (IsRead m) (λ b. Bytes (layout_of w).content b) (numbers w os) (λ b g. few_block m (layout_of w).content os b h g) (numbers_good w os h.named)
-directed_read m directives.Zeros os h = one_read Any m count (λ n. Zeros n) os (λ o e. yields_any (count o)) (λ n u. record { good = tt; few = no_cost m })
-directed_read m directives.Align os h = one_read IsUnit m unit (λ n. Align n) os (λ o e. unit_good (count o)) (λ n u. record { good = u; few = no_cost m })
+directed_read m directives.Zeros os h = one_read Any m count (λ n. Zeros n) os (λ o e. yields_any (count o)) (λ n u. record { good = tt; few = least m })
+directed_read m directives.Align os h = one_read IsUnit m unit (λ n. Align n) os (λ o e. unit_good (count o)) (λ n u. record { good = u; few = least m })
 
 -- STATEMENTS
 
@@ -98,9 +86,9 @@ after_le : (text : List ℕ) → length (after_word text) ≤ length text
 after_le text = le_trans (length (after_word text)) (length (drop (prefix_len is_inked text) text)) (length text) (trimmed_le (drop (prefix_len is_inked text) text)) (drop_le (prefix_len is_inked text) text)
 
 statement_read : (text : List ℕ) (m : ℕ) → suc (length text) ≤ m → Yields (IsRead m) (statement_in text)
-statement_read [] m l = record { good = tt; few = no_cost m }
+statement_read [] m l = record { good = tt; few = least m }
 statement_read (b ∷ bs) m l =
-    with_operands m (first_word (b ∷ bs)) (each (map spelled (operand_texts (after_word (b ∷ bs)))))
+    with_operands m (first_word (b ∷ bs)) (operands (map spelled (operand_texts (after_word (b ∷ bs)))))
     (operands_named (after_word (b ∷ bs)) m (suc_le (length (after_word (b ∷ bs))) (length (b ∷ bs)) m (after_le (b ∷ bs)) l))
 
 -- the names of a good statement are names
@@ -110,7 +98,7 @@ marks_named (m ∷ marks) g = join_names (target_names m.fix.target) (flat_map (
 
 statement_named : (s : Statement) → IsGoodStatement s → AreNames (statement_names s)
 statement_named (Global n) g = more_names n [] g no_names
-statement_named (Bytes content b) g = marks_named b.marks (λ m k. (g.sound.marks_are.fixes m k).named)
+statement_named (Bytes content b) g = marks_named b.marks (λ m k. (g.sound.marks_are.stand.0 m k).fix.named)
 statement_named _ g = no_names
 
 -- LINES
@@ -123,33 +111,28 @@ pub record IsReadLine (m : ℕ) (line : Line) : Type 0 where
   pub good : IsGoodStatement line.statement
   pub names : IsNamed m (line_names line)
 
-abbrev LabelNamed : ℕ → Option (List ℕ) → Type 0
-LabelNamed m o = IsNamed m (label_names o)
-
-label_by : (m : ℕ) (b : Bool) (n : List ℕ) → is_name n ≡ b → length n ≤ m - 1 → Yields (LabelNamed m) (labelled (where_true b n))
-label_by m true n h l = one_named m n h (let some : 1 ≤ length n = (name_fits n h).some in omega (arith, l, some))
-label_by m false n h l = tt
+-- a line of a text, behind a label that takes so many bytes
+line_made : (k n : ℕ) (label : Option (List ℕ)) (text : List ℕ) → IsNamed k (label_names label) → k + suc (length text) ≤ n
+    → Yields (IsReadLine n) (with_value (λ s. record { label = label; statement = s }) (statement_in text))
+line_made k n label text h l =
+    yields_value (IsRead (suc (length text))) (IsReadLine n) (λ s. record { label = label; statement = s }) (statement_in text)
+    (λ s g. record {
+      good = g.good;
+      names = more_named (k + suc (length text)) n (label_names label ++ statement_names s) l
+          (join_named k (suc (length text)) (label_names label) (statement_names s) h (record { named = statement_named s g.good; few = g.few }));
+    })
+    (statement_read text (suc (length text)) (itself (suc (length text))))
 
 -- a label takes as many bytes as its word
-label_read : (word : List ℕ) → Yields (LabelNamed (length word)) (label_in word)
-label_read word =
-    label_by (length word) (is_name (take (length word - 1) word)) (take (length word - 1) word) refl (go (length word - 1) (length word) (length (take (length word - 1) word)) (length-take (length word - 1) word))
+labelled_by : (k n : ℕ) (b : Bool) (name text : List ℕ) → is_name name ≡ b → length name ≤ k - 1 → k + suc (length text) ≤ n → Yields (IsReadLine n) (labelled (where_true b name) text)
+labelled_by k n true name text h l t = line_made k n (Some name) text (one_named k name h (let some : 1 ≤ length name = (name_fits name h).some in omega (arith, l, some))) t
+labelled_by k n false name text h l t = tt
+
+taken_le : (n : ℕ) (text : List ℕ) → length (take n text) ≤ n
+taken_le n text = go (length (take n text)) (length text) (length-take n text)
   where
-    go : (n m k : ℕ) → k ≡ min n m → k ≤ n
-    go n m k e = omega (arith, e)
-
-abbrev made : Result (Option (List ℕ) × Statement) AsmKind → Result Line AsmKind
-made parts = with_value (λ p. record { label = p.0; statement = p.1 }) parts
-
-more_read : (m n : ℕ) (line : Line) → m ≤ n → IsReadLine m line → IsReadLine n line
-more_read m n line l h = record { good = h.good; names = more_named m n (line_names line) l h.names }
-
-line_by : (k m n : ℕ) (label : Result (Option (List ℕ)) AsmKind) (text : List ℕ) → Yields (LabelNamed k) label → suc (length text) ≤ m → k + m ≤ n → Yields (IsReadLine n) (made (both label (statement_in text)))
-line_by k m n label text h l t =
-    yields_value (λ (p : Option (List ℕ) × Statement). LabelNamed k p.0 × IsRead m p.1) (IsReadLine n) (λ p. record { label = p.0; statement = p.1 }) (both label (statement_in text))
-    (λ p g. more_read (k + m) n (record { label = p.0; statement = p.1 }) t
-    (record { good = g.1.good; names = join_named k m (label_names p.0) (statement_names p.1) g.0 (record { named = statement_named p.1 g.1.good; few = g.1.few }) }))
-    (yields_both (LabelNamed k) (IsRead m) label (statement_in text) h (statement_read text m l))
+    go : (k m : ℕ) → k ≡ min n m → k ≤ n
+    go k m e = omega arith
 
 -- a word and what follows it are within the text
 words_le : (text : List ℕ) (n : ℕ) → length text ≤ n → length (first_word text) + suc (length (after_word text)) ≤ suc n
@@ -160,16 +143,16 @@ words_le text n l =
     go : (w d a t : ℕ) → w + d ≡ t → a ≤ d → t ≤ n → w + suc a ≤ suc n
     go w d a t e h k = omega (arith, e, h, k)
 
-itself : (n : ℕ) → n ≤ n
-itself n = omega arith
-
 none_before : (a n : ℕ) → a ≤ n → 0 + suc a ≤ suc n
-none_before a n h = omega (arith, h)
+none_before a n h = omega arith
 
-line_if : (code : List ℕ) (n : ℕ) (b : Bool) → length code ≤ n → Yields (IsReadLine (suc n)) (made (if b then both (label_in (first_word code)) (statement_in (after_word code)) else both (Ok None) (statement_in code)))
+line_if : (code : List ℕ) (n : ℕ) (b : Bool) → length code ≤ n
+    → Yields (IsReadLine (suc n)) (if b then labelled (label_name (first_word code)) (after_word code) else with_value (λ s. record { label = None; statement = s }) (statement_in code))
 line_if code n true l =
-    line_by (length (first_word code)) (suc (length (after_word code))) (suc n) (label_in (first_word code)) (after_word code) (label_read (first_word code)) (itself (suc (length (after_word code)))) (words_le code n l)
-line_if code n false l = line_by 0 (suc (length code)) (suc n) (Ok None) code (none_named 0) (itself (suc (length code))) (none_before (length code) n l)
+    let word : List ℕ = first_word code in
+    let name : List ℕ = take (length word - 1) word in
+    labelled_by (length word) (suc n) (is_name name) name (after_word code) refl (taken_le (length word - 1) word) (words_le code n l)
+line_if code n false l = line_made 0 (suc n) None code (none_named 0) (none_before (length code) n l)
 
 code_le : (text : List ℕ) → length (code_of text) ≤ length text
 code_le text =

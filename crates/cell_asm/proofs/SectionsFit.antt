@@ -12,7 +12,8 @@ use Rattle.cell_image.proofs.Ruled.{IsWhole, IsWritableSection}
 use Rattle.cell_asm.specs.Places.{is_at, is_in, gap, taken, takes, may_stand, size_in}
 use Rattle.cell_asm.specs.Objects.{parts_of, part_name, is_text, first_alignment, alignment_asked, alignment, padding, bytes_at, contents, fill_of, may_write, section_of, sections}
 use Rattle.cell_asm.specs.Assembled.{placed_lines}
-use Rattle.cell_asm.proofs.ListLemmas.{In, In-filtered, filter_passes, In-map, get_map, flat_length, total_same, sum_is_total}
+use Rattle.cell_num.proofs.Elements.{In, In-filtered, filter-Passes, In-map}
+use Rattle.cell_asm.proofs.ListLemmas.{get_map, flat_length, total_same, sum_is_total}
 use Rattle.cell_asm.proofs.GoodBlocks.{IsUnit, IsGoodStatement}
 use Rattle.cell_asm.proofs.EntriesFit.{IsStanding, all_stand, taken_fours, in_fours, section_small}
 use Rattle.cell_asm.proofs.WritableEntries.{part_numbered}
@@ -66,7 +67,7 @@ filled_length : (part : Part) (lines : List Laid) → InWords part lines
 filled_length part lines words =
     flat_length (λ l. bytes_at part l.offset l.line.statement) (filter (is_in part) lines)
     ∙ total_same (λ l. length (bytes_at part l.offset l.line.statement)) (λ l. taken l.line.statement l.offset) (filter (is_in part) lines)
-    (λ l k. at_length part l.offset l.line.statement (words l (In-filtered (is_in part) lines l k) (filter_passes (is_in part) lines l k)))
+    (λ l k. at_length part l.offset l.line.statement (words l (In-filtered (is_in part) lines l k) (filter-Passes (is_in part) lines l k)))
     ∙ sym (sum_is_total (λ l. taken l.line.statement l.offset) (filter (is_in part) lines))
 
 whole : (part : Part) (lines : List Laid) → InWords part lines → IsWhole (fill_of part) (contents part lines) (size_in part lines)

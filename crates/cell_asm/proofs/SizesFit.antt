@@ -5,14 +5,12 @@ use Rattle.std.proofs.lemmas.Bool.{and_parts}
 use Rattle.std.proofs.lemmas.List.{map-append, length-replicate}
 use Rattle.std.proofs.lemmas.List.Elements.{filter-append}
 use Rattle.std.proofs.lemmas.List.Sums.{sum_by-cons}
-use Rattle.std.specs.Prelude.{Option, if◌then◌else◌, decimal, filter, flat_map, is_none, sum_by, ◌==◌}
+use Rattle.std.specs.Prelude.{slice_get, Option, if◌then◌else◌, decimal, filter, flat_map, is_none, sum_by, ◌==◌}
 use Rattle.cell_image.proofs.Ruled.{IsWhole}
 use Rattle.cell_num.specs.Kinds.{is_pcrel_hi20}
 use Rattle.cell_num.specs.Lists.{numbered_from}
 use Rattle.cell_object.specs.Before.{with_before, with_before_from}
 use Rattle.cell_object.specs.Image.{own_row, symtab_row, strtab_row, shstrtab_row, table_row, section_rows, local_count}
-use Rattle.cell_object.specs.ImageParts.{padded, offset_after, symtab_number, entries_for, has_entries, relocated, content, filled, symbol_part_bytes, symbols_part, symbol_strings, table, own_names, table_name, names_before_tables, section_strings, parts_before_tables, parts_before_strings, parts_before_names}
-use Rattle.cell_object.specs.ImageParts as parts
 use Rattle.cell_object.specs.ImageParts.{padded, offset_after, symtab_number, entries_for, has_entries, relocated, content, filled, symbol_part_bytes, symbols_part, symbol_strings, table, own_names, table_name, names_before_tables, section_strings, parts_before_tables, parts_before_strings, parts_before_names}
 use Rattle.cell_object.specs.ImageParts as parts
 use Rattle.cell_object.specs.Rows.{stored, fields, symbol_bytes, entry_bytes}
@@ -21,21 +19,20 @@ use Rattle.cell_text.specs.Text.{onto, pieces, lines_in}
 use Rattle.cell_asm.specs.Assembled.{placed_lines}
 use Rattle.cell_asm.specs.Objects.{marks_in, globals, local_labels, label_names, statement_names, mentions, other_names, key_name, local_symbol, global_symbol, symbols, parts_of, part_name, section_of, sections, entries, object_of}
 use Rattle.cell_asm.specs.Objects as objects
-use Rattle.cell_asm.specs.Objects.{marks_in, globals, local_labels, label_names, statement_names, mentions, other_names, key_name, local_symbol, global_symbol, symbols, parts_of, part_name, section_of, sections, entries, object_of}
-use Rattle.cell_asm.specs.Objects as objects
 use Rattle.cell_asm.specs.Places.{is_same_part, is_at, is_in, placed, is_made, makes_label, may_stand, lays_nothing, taken, size_in, own_key, made_key, keys_of, label, labels_at, labels, is_key, holds_key}
 use Rattle.cell_asm.specs.Types.{Symbol, Mark, Part, Text, Statement, Bytes, Line, Laid, Label, Key, KeyNamed as Named, KeyMade as Made, Section, Entry, Object, Fill, Prog, Note, Zero}
 use Rattle.cell_asm.proofs.EntriesFit.{IsStanding, all_stand, section_fits, few_entries}
-use Rattle.cell_asm.proofs.GoodBlocks.{is_code, content_of, statement_marks, statement_taken, none_laid}
-use Rattle.cell_asm.proofs.ListLemmas.{In, In-left, filter-In, any-In, In-any, total, total-append, total-map, total_split, fold_total, In-append, In-filtered, In-map, total_times, total_le, flat_length, mapped_length, filter_le}
-use Rattle.cell_asm.proofs.NamesFit.{cost, cost-append, made_short}
+use Rattle.cell_asm.proofs.GoodBlocks.{is_code, hi20_code, content_of, statement_marks, statement_taken, none_laid}
+use Rattle.cell_num.proofs.Elements.{In, In-left, filter-In, any-Has, any-In, In-append, In-filtered, In-map, In-numbered, get-In}
+use Rattle.cell_asm.proofs.ListLemmas.{total, total-append, total-map, total_split, fold_total, total_times, total_le, flat_length, mapped_length, filter_le, le_trans}
+use Rattle.cell_asm.proofs.NamesFit.{cost, cost-append, cost_flat, made_short}
 use Rattle.cell_asm.proofs.ObjectLemmas.{few}
 use Rattle.cell_asm.proofs.PlacingLemmas.{GoesOn, grows_with}
 use Rattle.cell_asm.proofs.ReadLines.{line_names, read_line}
 use Rattle.cell_asm.proofs.SectionsFit.{section_whole}
 use Rattle.cell_asm.proofs.SymbolPlaces.{names_apart, key_itself}
 use Rattle.cell_asm.proofs.SymbolsFit.{locals_count}
-use Rattle.cell_asm.proofs.WritableEntries.{hi20_code, in_labels, made_head}
+use Rattle.cell_asm.proofs.WritableEntries.{in_labels, made_head}
 
 -- THE TEXTS OF A SOURCE
 
@@ -70,10 +67,6 @@ lines_room : (source : List ℕ) → total room (lines_in source) ≤ length sou
 lines_room source = pieces_room _ source
 
 -- NAMES
-
-cost_flat : {X : Type 0} (g : X → List (List ℕ)) (xs : List X) → cost (flat_map g xs) ≡ total (λ x. cost (g x)) xs
-cost_flat g [] = refl
-cost_flat g (x ∷ xs) = cost-append (g x) (flat_map g xs) ∙ ap (λ n. cost (g x) + n) (cost_flat g xs)
 
 more_room : (a b c d n m : ℕ) → a ≡ b + (n + 0) → b ≤ c → n ≤ suc m → d ≡ c + ((m + 1) + 0) → a ≤ d
 more_room a b c d n m p h k q = omega (arith, p, h, k, q)
@@ -110,7 +103,7 @@ some_there [] m k = absurd k
 some_there (n ∷ marks) m k = omega arith
 
 made_mark : (s : Statement) → makes_label s ≡ true → (m : Mark) × In m (marks_in s) × (is_made m.fix.target ≡ true)
-made_mark (Bytes content b) t = any-In (λ m. is_made m.fix.target) b.marks t
+made_mark (Bytes content b) t = any-Has (λ m. is_made m.fix.target) b.marks t
 made_mark _ t = absurd cc
 
 in_text_by : (o : Option Part) (line : Line) (m : Mark) → may_stand o line ≡ true → In m (marks_in line.statement) → is_code (content_of line.statement) ≡ true → is_at Text o ≡ true
@@ -121,9 +114,9 @@ making : (l : Laid) → IsStanding l → makes_label l.line.statement ≡ true �
 making l s t =
     let st : Statement = l.line.statement in
     let r : (m : Mark) × In m (marks_in st) × (is_made m.fix.target ≡ true) = made_mark st t in
-    let u : (m : Mark) × In m (marks_in st) × (is_pcrel_hi20 m.fix.kind ≡ true) = any-In (λ m. is_pcrel_hi20 m.fix.kind) (marks_in st) (made_head st r.0 s.good r.1 r.2) in
+    let u : (m : Mark) × In m (marks_in st) × (is_pcrel_hi20 m.fix.kind ≡ true) = any-Has (λ m. is_pcrel_hi20 m.fix.kind) (marks_in st) (made_head st r.0 s.good r.1 r.2) in
     record {
-      in_text = in_text_by l.part l.line u.0 s.stands u.1 (sym ((statement_marks st l.offset s.good).fixes u.0 u.1).code ∙ hi20_code u.0.fix.kind u.2);
+      in_text = in_text_by l.part l.line u.0 s.stands u.1 (sym ((statement_marks st l.offset s.good).stand.0 u.0 u.1).fix.code ∙ hi20_code u.0.fix.kind u.2);
       entered = some_there (marks_in st) r.0 r.1;
     }
 
@@ -165,7 +158,7 @@ module _ (lines : List Laid) where
   is_own name = holds_key (local_labels lines) (Named name)
 
   own_there : (x : Label) (name : List ℕ) → In x (labels lines) → x.key ≡ Named name → is_local x ≡ true → is_own name ≡ true
-  own_there x name k e t = In-any (λ y. is_key y.key (Named name)) (local_labels lines) x (filter-In is_local (labels lines) x k t) (subst (λ q. is_key q (Named name) ≡ true) (sym e) (key_itself (Named name)))
+  own_there x name k e t = any-In (λ y. is_key y.key (Named name)) (local_labels lines) x (filter-In is_local (labels lines) x k t) (subst (λ q. is_key q (Named name) ≡ true) (sym e) (key_itself (Named name)))
 
   own_by : (x : Label) (name : List ℕ) (t p : Bool) → x.key ≡ Named name → (t ≡ true → p ≡ true) → total label_cost (cond t (x ∷ []) []) ≤ cost (cond p (name ∷ []) [])
   own_by x name true true e h = subst (λ q. suc (length (key_name q)) + 0 ≤ suc (length name) + 0) (sym e) (itself (suc (length name) + 0))
@@ -242,9 +235,6 @@ symbols_cost source lines e =
 -- The tables of an assembled source's image aren't too large, and there aren't too many headers.
 --     headers_fit, locals_fit, texts_fit, names_fit, size_fits
 
-le_trans : (a b c : ℕ) → a ≤ b → b ≤ c → a ≤ c
-le_trans a b c h k = omega (arith, h, k)
-
 -- THE COUNTS
 
 pub few_sections : (lines : List Laid) → length (sections lines) ≤ 4
@@ -318,18 +308,39 @@ string_le : (m : ℕ) (name : List ℕ) → length name ≤ m → length (string
 string_le m [] h = omega arith
 string_le m (b ∷ bs) h = subst (λ n. suc n ≤ m + 1) (sym (length-append bs (0 ∷ []))) (string_by (length bs) m h)
 
--- a table of names of so many bytes at most
-abbrev AreShort : ℕ → List (List ℕ) → Type 0
-AreShort m names = (n : List ℕ) → In n names → length n ≤ m
+-- so many texts at most, each of so many bytes at most
+record AreSmall (n m : ℕ) (texts : List (List ℕ)) : Type 0 where
+  count : length texts ≤ n
+  short : (t : List ℕ) → In t texts → length t ≤ m
+
+small_join : (a b m : ℕ) (xs ys : List (List ℕ)) → AreSmall a m xs → AreSmall b m ys → AreSmall (a + b) m (xs ++ ys)
+small_join a b m xs ys h k = record { count = go (length xs) (length ys) (length (xs ++ ys)) h.count k.count (length-append xs ys); short = λ t i. each t (In-append xs ys t i) }
+  where
+    go : (x y z : ℕ) → x ≤ a → y ≤ b → z ≡ x + y → z ≤ a + b
+    go x y z p q e = omega arith
+
+    each : (t : List ℕ) → In t xs ⊎ In t ys → length t ≤ m
+    each t (inl i) = h.short t i
+    each t (inr i) = k.short t i
+
+small_one : (m : ℕ) (t : List ℕ) → length t ≤ m → AreSmall 1 m (t ∷ [])
+small_one m t h = record { count = omega arith; short = only }
+  where
+    only : (x : List ℕ) → In x (t ∷ []) → length x ≤ m
+    only x (inl e) = subst (λ v. length v ≤ m) (sym e) h
+    only x (inr i) = absurd i
+
+small_map : {X : Type 0} (n m : ℕ) (f : X → List ℕ) (xs : List X) → length xs ≤ n → ((x : X) → In x xs → length (f x) ≤ m) → AreSmall n m (map f xs)
+small_map n m f xs c h = record { count = subst (λ k. k ≤ n) (sym (mapped_length f xs)) c; short = λ t i. let r = In-map f xs t i in subst (λ v. length v ≤ m) (sym r.2) (h r.0 r.1) }
 
 table_by : (t n k : ℕ) → t ≤ k * n → suc t ≤ 1 + k * n
 table_by t n k h = omega (arith, h)
 
-table_le : (m : ℕ) (names : List (List ℕ)) → AreShort m names → length (string_table names) ≤ 1 + (m + 1) * length names
+table_le : (n m : ℕ) (names : List (List ℕ)) → AreSmall n m names → length (string_table names) ≤ 1 + (m + 1) * length names
 unfolding string_table
-table_le m names h =
+table_le n m names h =
     table_by (length (flat_map string names)) (length names) (m + 1)
-    (subst (λ n. n ≤ (m + 1) * length names) (sym (flat_length string names)) (total_times (λ n. length (string n)) (m + 1) names (λ n k. string_le m n (h n k))))
+    (subst (λ k. k ≤ (m + 1) * length names) (sym (flat_length string names)) (total_times (λ t. length (string t)) (m + 1) names (λ t k. string_le m t (h.short t k))))
 
 -- a name and the zero behind it
 string_cost : (name : List ℕ) → length (string name) ≤ suc (length name)
@@ -363,9 +374,7 @@ section_short lines s k =
     subst (λ t. length t.name ≤ 7) (sym r.2) (part_short r.0)
 
 numbered_In : {X : Type 0} (i : ℕ) (xs : List X) (row : ℕ × X) → In row (numbered_from i xs) → In row.1 xs
-numbered_In i [] row k = absurd k
-numbered_In i (x ∷ xs) row (inl e) = inl (ap (λ r. r.1) e)
-numbered_In i (x ∷ xs) row (inr k) = inr (numbered_In (suc i) xs row k)
+numbered_In i xs row k = let r : (n : ℕ) × (slice_get xs n ≡ Some row.1) × (row.0 ≡ i + n) = In-numbered xs i row k in get-In xs r.0 row.1 r.1
 
 relocated_In : (ss : List Section) (es : List Entry) (row : ℕ × Section) → In row (relocated ss es) → In row.1 ss
 unfolding relocated
@@ -381,53 +390,27 @@ table_short : (lines : List Laid) (row : ℕ × Section) → In row (relocated (
 table_short lines row k =
     subst (λ n. n ≤ 12) (sym (length-append (codes ".rela") row.1.name)) (seven_more (length row.1.name) (section_short lines row.1 (relocated_In (sections lines) (entries lines) row k)))
 
-own_short : (lines : List Laid) → AreShort 12 (own_names (sections lines))
-own_short lines n k =
-    let r : (s : Section) × In s (sections lines) × (n ≡ s.name) = In-map (λ s. s.name) (sections lines) n k in
-    subst (λ m. length m ≤ 12) (sym r.2) (seven (length r.0.name) (section_short lines r.0 r.1))
+abbrev fixed_names : List (List ℕ)
+fixed_names = codes ".symtab" ∷ codes ".strtab" ∷ codes ".shstrtab" ∷ []
 
-fixed_short : AreShort 12 (codes ".symtab" ∷ codes ".strtab" ∷ codes ".shstrtab" ∷ [])
-fixed_short n (inl e) = subst (λ m. length m ≤ 12) (sym e) (lit≤ tt)
-fixed_short n (inr (inl e)) = subst (λ m. length m ≤ 12) (sym e) (lit≤ tt)
-fixed_short n (inr (inr (inl e))) = subst (λ m. length m ≤ 12) (sym e) (lit≤ tt)
-fixed_short n (inr (inr (inr k))) = absurd k
+fixed_small : AreSmall 3 12 fixed_names
+fixed_small = small_join 1 2 12 (codes ".symtab" ∷ []) (codes ".strtab" ∷ codes ".shstrtab" ∷ []) (small_one 12 (codes ".symtab") (lit≤ tt))
+    (small_join 1 1 12 (codes ".strtab" ∷ []) (codes ".shstrtab" ∷ []) (small_one 12 (codes ".strtab") (lit≤ tt)) (small_one 12 (codes ".shstrtab") (lit≤ tt)))
 
-tables_short : (lines : List Laid) → AreShort 12 (map table_name (relocated (sections lines) (entries lines)))
-tables_short lines n k =
-    let r : (row : ℕ × Section) × In row (relocated (sections lines) (entries lines)) × (n ≡ table_name row) = In-map table_name (relocated (sections lines) (entries lines)) n k in
-    subst (λ m. length m ≤ 12) (sym r.2) (table_short lines r.0 r.1)
-
-join_short : (m : ℕ) (xs ys : List (List ℕ)) → AreShort m xs → AreShort m ys → AreShort m (xs ++ ys)
-join_short m xs ys f g n k = go (In-append xs ys n k)
-  where
-    go : In n xs ⊎ In n ys → length n ≤ m
-    go (inl i) = f n i
-    go (inr i) = g n i
-
-abbrev section_names : List Laid → List (List ℕ)
-section_names lines = names_before_tables (object_of lines) ++ map table_name (relocated (sections lines) (entries lines))
-
-names_short : (lines : List Laid) → AreShort 12 (section_names lines)
-names_short lines =
-    join_short 12 (names_before_tables (object_of lines)) (map table_name (relocated (sections lines) (entries lines)))
-    (join_short 12 (own_names (sections lines)) (codes ".symtab" ∷ codes ".strtab" ∷ codes ".shstrtab" ∷ []) (own_short lines) fixed_short) (tables_short lines)
-
-names_count : (a b c d e f : ℕ) → a ≡ b + c → b ≡ d + 3 → d ≡ e → e ≤ 4 → c ≡ f → f ≤ 4 → a ≤ 11
-names_count a b c d e f p q r h s k = omega (arith, p, q, r, h, s, k)
-
-names_few : (lines : List Laid) → length (section_names lines) ≤ 11
-names_few lines =
-    names_count (length (section_names lines)) (length (names_before_tables (object_of lines))) (length (map table_name (relocated (sections lines) (entries lines)))) (length (own_names (sections lines))) (length (sections lines)) (length (relocated (sections lines) (entries lines)))
-    (length-append (names_before_tables (object_of lines)) (map table_name (relocated (sections lines) (entries lines))))
-    (length-append (own_names (sections lines)) (codes ".symtab" ∷ codes ".strtab" ∷ codes ".shstrtab" ∷ []))
-    (mapped_length (λ s. s.name) (sections lines)) (few_sections lines) (mapped_length table_name (relocated (sections lines) (entries lines))) (few_tables lines)
+names_small : (lines : List Laid) → AreSmall 11 12 (names_before_tables (object_of lines) ++ map table_name (relocated (sections lines) (entries lines)))
+names_small lines =
+    small_join 7 4 12 (names_before_tables (object_of lines)) (map table_name (relocated (sections lines) (entries lines)))
+    (small_join 4 3 12 (own_names (sections lines)) fixed_names (small_map 4 12 (λ (s : Section). s.name) (sections lines) (few_sections lines) (λ s k. seven (length s.name) (section_short lines s k))) fixed_small)
+    (small_map 4 12 table_name (relocated (sections lines) (entries lines)) (few_tables lines) (table_short lines))
 
 few_names : (t n : ℕ) → t ≤ 1 + 13 * n → n ≤ 11 → t < 2 ^ 32
 few_names t n h k = omega (arith, h, k)
 
 pub names_fit : (lines : List Laid) → length (section_strings (object_of lines)) < 2 ^ 32
 unfolding section_strings
-names_fit lines = few_names (length (string_table (section_names lines))) (length (section_names lines)) (table_le 12 (section_names lines) (names_short lines)) (names_few lines)
+names_fit lines =
+    let names : List (List ℕ) = names_before_tables (object_of lines) ++ map table_name (relocated (sections lines) (entries lines)) in
+    few_names (length (string_table names)) (length names) (table_le 11 12 names (names_small lines)) (names_small lines).count
 
 -- THE WHOLE FILE
 
@@ -443,23 +426,10 @@ padded_le m part h =
     padded_by m (length part) (parts.padding (length part)) (length (part ++ replicate (parts.padding (length part)) 0))
     (length-append part (replicate (parts.padding (length part)) 0) ∙ ap (λ n. length part + n) (length-replicate (parts.padding (length part)) 0)) (few_zeros (length part)) h
 
--- so many bytes the parts take, with the zeros between
-abbrev taken_by : List (List ℕ) → ℕ
-taken_by ps = total (λ p. length (padded p)) ps
-
-parts_le : (m : ℕ) (ps : List (List ℕ)) → AreShort m ps → taken_by ps ≤ (m + 8) * length ps
-parts_le m ps h = total_times (λ p. length (padded p)) (m + 8) ps (λ p k. padded_le m p (h p k))
-
 filled_le : (f : Fill) (bytes : List ℕ) (size : ℕ) → IsWhole f bytes size → size ≤ 16777216 → length (filled f bytes) ≤ 16777216
 filled_le Prog bytes size w h = subst (λ n. n ≤ 16777216) (sym w) h
 filled_le Note bytes size w h = subst (λ n. n ≤ 16777216) (sym w) h
 filled_le Zero bytes size w h = omega arith
-
-contents_short : (lines : List Laid) → ((s : Section) → In s (sections lines) → (s.size ≤ 16777216) × IsWhole s.fill s.bytes s.size) → AreShort 16777216 (parts.contents (sections lines))
-contents_short lines f n k =
-    let r : (s : Section) × In s (sections lines) × (n ≡ content s) = In-map content (sections lines) n k in
-    let g : (r.0.size ≤ 16777216) × IsWhole r.0.fill r.0.bytes r.0.size = f r.0 r.1 in
-    subst (λ m. length m ≤ 16777216) (sym r.2) (filled_le r.0.fill r.0.bytes r.0.size g.1 g.0)
 
 symbol_count : (symtab name : ℕ) (s : Symbol) → length (symbol_bytes symtab name s) ≡ 24
 unfolding symbol_bytes fields stored
@@ -500,47 +470,33 @@ table_few es row h =
     (total_times (λ e. length (entry_bytes e)) 24 (entries_for es row.0) (λ e k. same_le (length (entry_bytes e)) 24 (entry_count e))))
     (entries_for_few es row.0) h
 
-tables_few : (lines : List Laid) → length (entries lines) ≤ 134217728 → AreShort 3221225472 (map (table (entries lines)) (relocated (sections lines) (entries lines)))
-tables_few lines h n k =
-    let r : (row : ℕ × Section) × In row (relocated (sections lines) (entries lines)) × (n ≡ table (entries lines) row) = In-map (table (entries lines)) (relocated (sections lines) (entries lines)) n k in
-    subst (λ m. length m ≤ 3221225472) (sym r.2) (table_few (entries lines) r.0 h)
+-- the largest part is that of the symbols
+abbrev most : ℕ
+most = 54962159640
 
-one_part : (m : ℕ) (p : List ℕ) → length p ≤ m → taken_by (p ∷ []) ≤ (m + 8) * 1
-one_part m p h = parts_le m (p ∷ []) (λ n k. only n k)
-  where
-    only : (n : List ℕ) → In n (p ∷ []) → length n ≤ m
-    only n (inl e) = subst (λ v. length v ≤ m) (sym e) h
-    only n (inr k) = absurd k
+below : (n m : ℕ) → n ≤ m → m ≤ 4294967296 → n ≤ most
+below n m h k = omega (arith, h, k)
 
-abbrev tables_of : List Laid → List (List ℕ)
-tables_of lines = map (table (entries lines)) (relocated (sections lines) (entries lines))
+strings_below : (n : ℕ) → n < 2 ^ 32 → n ≤ most
+strings_below n h = omega (arith, h)
 
--- the parts one after the other
-all_parts : (lines : List Laid)
-    → taken_by (parts.parts (object_of lines))
-    ≡ (((taken_by (parts.contents (sections lines)) + taken_by (symbols_part (object_of lines) ∷ [])) + taken_by (tables_of lines)) + taken_by (symbol_strings (object_of lines) ∷ [])) + taken_by (section_strings (object_of lines) ∷ [])
-all_parts lines =
-    total-append (λ p. length (padded p)) (parts_before_names (object_of lines)) (section_strings (object_of lines) ∷ [])
-    ∙ ap (λ n. n + taken_by (section_strings (object_of lines) ∷ []))
-    (total-append (λ p. length (padded p)) (parts_before_strings (object_of lines)) (symbol_strings (object_of lines) ∷ [])
-    ∙ ap (λ n. n + taken_by (symbol_strings (object_of lines) ∷ []))
-    (total-append (λ p. length (padded p)) (parts_before_tables (object_of lines)) (tables_of lines)
-    ∙ ap (λ n. n + taken_by (tables_of lines)) (total-append (λ p. length (padded p)) (parts.contents (sections lines)) (symbols_part (object_of lines) ∷ []))))
-
-all_below : (a b c d e t l m k : ℕ) → t ≡ (((a + b) + c) + d) + e → a ≤ (16777216 + 8) * l → l ≤ 4 → b ≤ (54962159640 + 8) * 1 → c ≤ (3221225472 + 8) * m → m ≤ 4 → d ≤ (4294967296 + 8) * 1 → e ≤ (4294967296 + 8) * 1 → k ≡ t → 64 + k < 2 ^ 64
-all_below a b c d e t l m k p ha hl hb hc hm hd he q = omega (arith, p, ha, hl, hb, hc, hm, hd, he, q)
-
-below_32 : (n : ℕ) → n < 2 ^ 32 → n ≤ 4294967296
-below_32 n h = omega (arith, h)
+all_below : (t l k : ℕ) → k ≡ t → t ≤ (most + 8) * l → l ≤ 11 → 64 + k < 2 ^ 64
+all_below t l k e h m = omega (arith, e, h, m)
 
 pub size_fits : (source : List ℕ) (lines : List Laid) → placed_lines source ≡ Ok lines → length source < 2 ^ 31 → offset_after (parts.parts (object_of lines)) < 2 ^ 64
 size_fits source lines e h =
-    all_below (taken_by (parts.contents (sections lines))) (taken_by (symbols_part (object_of lines) ∷ [])) (taken_by (tables_of lines)) (taken_by (symbol_strings (object_of lines) ∷ [])) (taken_by (section_strings (object_of lines) ∷ []))
-    (taken_by (parts.parts (object_of lines))) (length (parts.contents (sections lines))) (length (tables_of lines)) (length (flat_map padded (parts.parts (object_of lines))))
-    (all_parts lines)
-    (parts_le 16777216 (parts.contents (sections lines)) (contents_short lines (section_whole source lines e))) (subst (λ n. n ≤ 4) (sym (mapped_length content (sections lines))) (few_sections lines))
-    (one_part 54962159640 (symbols_part (object_of lines)) (symbols_short_part source lines e h))
-    (parts_le 3221225472 (tables_of lines) (tables_few lines (few_entries source lines e))) (subst (λ n. n ≤ 4) (sym (mapped_length (table (entries lines)) (relocated (sections lines) (entries lines)))) (few_tables lines))
-    (one_part 4294967296 (symbol_strings (object_of lines)) (below_32 (length (symbol_strings (object_of lines))) (texts_fit source lines e h)))
-    (one_part 4294967296 (section_strings (object_of lines)) (below_32 (length (section_strings (object_of lines))) (names_fit lines)))
-    (flat_length padded (parts.parts (object_of lines)))
+    let o : Object = object_of lines in
+    let tables : List (List ℕ) = map (table (entries lines)) (relocated (sections lines) (entries lines)) in
+    let small : AreSmall 11 most (parts.parts o) =
+    small_join 10 1 most (parts_before_names o) (section_strings o ∷ [])
+    (small_join 9 1 most (parts_before_strings o) (symbol_strings o ∷ [])
+    (small_join 5 4 most (parts_before_tables o) tables
+    (small_join 4 1 most (parts.contents (sections lines)) (symbols_part o ∷ [])
+    (small_map 4 most content (sections lines) (few_sections lines)
+    (λ s k. let w : (s.size ≤ 16777216) × IsWhole s.fill s.bytes s.size = section_whole source lines e s k in below (length (content s)) 16777216 (filled_le s.fill s.bytes s.size w.1 w.0) (lit≤ tt)))
+    (small_one most (symbols_part o) (symbols_short_part source lines e h)))
+    (small_map 4 most (table (entries lines)) (relocated (sections lines) (entries lines)) (few_tables lines) (λ row k. below (length (table (entries lines) row)) 3221225472 (table_few (entries lines) row (few_entries source lines e)) (lit≤ tt))))
+    (small_one most (symbol_strings o) (strings_below (length (symbol_strings o)) (texts_fit source lines e h))))
+    (small_one most (section_strings o) (strings_below (length (section_strings o)) (names_fit lines))) in
+    all_below (total (λ p. length (padded p)) (parts.parts o)) (length (parts.parts o)) (length (flat_map padded (parts.parts o))) (flat_length padded (parts.parts o))
+    (total_times (λ p. length (padded p)) (most + 8) (parts.parts o) (λ p k. padded_le most p (small.short p k))) small.count

@@ -11,13 +11,13 @@ use Rattle.std.specs.Option.{option_map_or, unwrap_or}
 use Rattle.std.specs.Ordering.{nat_cmp, is_eq}
 use Rattle.std.specs.Prelude.{Option, option_map, if◌then◌else◌, filter, fold}
 use Rattle.cell_num.specs.Lists.{equals, or_else, where_true, holds_name}
-use Rattle.cell_asm.specs.Known.{about, spot_at, spot_among, about_in}
-use Rattle.cell_asm.specs.Making.{is_global_in, locals_in, Locals, Numbered}
-use Rattle.cell_asm.specs.Numberings.{number_of, has_key, keys_with, mentioned, home_in, other_in, local_in, Lists, Mentions}
+use Rattle.cell_asm.specs.Progress.{about, spot_at, spot_among, about_in}
+use Rattle.cell_asm.specs.Numberings.{is_global_in, locals_in, Locals, Numbered, number_of, has_key, keys_with, mentioned, home_in, other_in, local_in, Lists, Mentions}
 use Rattle.cell_asm.specs.Objects.{is_global, globals, local_labels, adds_name, other_names, mentions, parts_of, home_at, label_named, number_in, number_from, symbol, global_symbol, local_symbol, symbols, symbol_keys, key_name}
 use Rattle.cell_asm.specs.Places.{is_key, labels, holds_key}
 use Rattle.cell_asm.specs.Types.{Key, KeyNamed as Named, KeyMade as Made, Numbering, Symbol, Local, Inside, Part, Laid, Label, Known, Symbols, Spot, Bind, BindGlobal as Global, NoType, Home}
-use Rattle.cell_asm.proofs.ListLemmas.{number_more, numbered_if}
+use Rattle.cell_num.proofs.Elements.{map_same, fold_same}
+use Rattle.cell_asm.proofs.ListLemmas.{number_more, numbered_if, not_false}
 
 or_none : {X : Type 0} (o : Option X) → or_else o None ≡ o
 or_none None = refl
@@ -30,9 +30,6 @@ taken false v old none = sym (or_none old)
 
 pub same_test : (m n : ℕ) → is_eq (nat_cmp m n) ≡ (m == n)
 same_test m n = grind (arith, nat_tests)
-
-pub same_number : (m n : ℕ) → (m == n) ≡ true → m ≡ n
-same_number m n e = grind (arith, nat_tests)
 
 -- a key more, of either form
 pub added_name : (old new : Numbering) (name : List ℕ) (n : ℕ) → ((q : List ℕ) → number_of new (Named q) ≡ or_else (number_of old (Named q)) (where_true (equals name q) n)) → new.made ≡ old.made
@@ -75,10 +72,6 @@ locals_more names before l e global =
 not_true : (b : Bool) → not b ≡ true → b ≡ false
 not_true true e = cc
 not_true false e = refl
-
-not_false : (b : Bool) → not b ≡ false → b ≡ true
-not_false true e = refl
-not_false false e = cc
 
 -- a label that is GLOBAL
 pub local_same : (s : Symbols) (parts : List Part) (names : Known) (before : List Label) (l : Label) → not (is_global_in names l.key) ≡ false
@@ -132,14 +125,10 @@ fold_filter : {A B : Type 0} (f : B → A → B) (p : A → Bool) (b : B) (xs : 
 fold_filter f p b [] = refl
 fold_filter f p b (x ∷ xs) = filter_step f (λ c y. if p y then f c y else c) p b x xs (p x) (λ c. fold_filter f p c xs)
 
-fold_same : {A B : Type 0} (f g : B → A → B) (b : B) (xs : List A) → ((c : B) (x : A) → f c x ≡ g c x) → fold f b xs ≡ fold g b xs
-fold_same f g b [] same = refl
-fold_same f g b (x ∷ xs) same = ap (λ c. fold f c xs) (same b x) ∙ fold_same f g (g b x) xs same
-
 pub others_are : (lines : List Laid) → fold (mentioned (map (λ l. l.key) (local_labels lines))) [] (mentions lines) ≡ other_names lines
 others_are lines =
     let locals = local_labels lines in
-    fold_same (mentioned (map (λ l. l.key) locals)) (λ names name. if not (holds_key locals (Named name)) then adds_name names name else names) [] (mentions lines) (mentioned_is locals)
+    fold_same (mentioned (map (λ l. l.key) locals)) (λ names name. if not (holds_key locals (Named name)) then adds_name names name else names) [] (mentions lines) (λ names name k. mentioned_is locals names name)
     ∙ sym (fold_filter adds_name (λ name. not (holds_key locals (Named name))) [] (mentions lines))
 
 -- THE SYMBOLS
@@ -152,17 +141,13 @@ offset_is : (o : Option Label) → option_map_or (λ s. s.offset) (option_map sp
 offset_is None = refl
 offset_is (Some l) = refl
 
-map_same : {X Y : Type 0} (f g : X → Y) (xs : List X) → ((x : X) → f x ≡ g x) → map f xs ≡ map g xs
-map_same f g [] same = refl
-map_same f g (x ∷ xs) same = ap (λ y. y ∷ map f xs) (same x) ∙ ap (λ ys. g x ∷ ys) (map_same f g xs same)
-
 other_is : (lines : List Laid) (spots : Known) (name : List ℕ) → (about spots name).spot ≡ spot_among (labels lines) name → other_in (parts_of lines) spots name ≡ global_symbol lines name
 other_is lines spots name e = rw (e, home_is lines (label_named lines name), offset_is (label_named lines name)) refl
 
 pub symbols_are : (lines : List Laid) (spots : Known) → ((q : List ℕ) → about spots q ≡ about_in lines q)
     → map (local_in (parts_of lines)) (local_labels lines) ++ map (other_in (parts_of lines) spots) (other_names lines) ≡ symbols lines
 symbols_are lines spots e =
-    ap (λ ss. map (local_symbol lines) (local_labels lines) ++ ss) (map_same (other_in (parts_of lines) spots) (global_symbol lines) (other_names lines) (λ name. other_is lines spots name (ap (λ a. a.spot) (e name))))
+    ap (λ ss. map (local_symbol lines) (local_labels lines) ++ ss) (map_same (other_in (parts_of lines) spots) (global_symbol lines) (other_names lines) (λ name k. other_is lines spots name (ap (λ a. a.spot) (e name))))
 
 pub numbered_by : (lines : List Laid) (s : Symbols) → ((key : Key) → number_of s.numbers key ≡ number_from 1 (symbol_keys lines) key) → Numbered s lines
 numbered_by lines s e = λ key. ap (λ o. unwrap_or o 0) (e key)

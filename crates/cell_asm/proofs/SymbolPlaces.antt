@@ -1,10 +1,8 @@
 -- No two labels have the same key.
 --     labels_once source lines      two labels of the lines with the same key are one
-use Rattle.std.proofs.Common.{◌≡◌, ℕ, ◌+◌, ◌≤◌, ◌==◌, Bool, true, false, cond, List, [], ◌∷◌, ◌++◌, ◌⊎◌, inl, inr, Ok, Some, None, refl, sym, ap, subst, ◌∙◌, append-nil, zero-add, true≢false, arith, zero, suc, ◌-◌, ◌<◌, ◌||◌, not, map, length, slice_get}
+use Rattle.std.proofs.Common.{◌≡◌, ℕ, ◌+◌, ◌≤◌, ◌==◌, Bool, true, false, cond, List, [], ◌∷◌, ◌++◌, ◌⊎◌, inl, inr, Ok, Some, None, refl, sym, ap, subst, ◌∙◌, zero-add, true≢false, arith, zero, suc, ◌-◌, ◌<◌, ◌||◌, not, map, length, slice_get}
 use Rattle.std.proofs.lemmas.Bool.{and_right}
 use Rattle.std.proofs.lemmas.Bool.Decides.{nat_tests}
-use Rattle.std.proofs.lemmas.List.Concat.{flat_map-append}
-use Rattle.std.proofs.lemmas.List.Sums.{sum_by-append}
 use Rattle.std.proofs.lemmas.Option.{slice_get_within}
 use Rattle.std.proofs.lemmas.Slice.Eq.{bytes_eq-Decides}
 use Rattle.std.specs.List.{list_any}
@@ -19,8 +17,9 @@ use Rattle.cell_asm.specs.Objects.{part_number, is_global, globals, local_labels
 use Rattle.cell_asm.specs.Places.{makes_label, made_in, placed, own_key, made_key, keys_of, label, labels_at, labels, is_twice, is_key, holds_key}
 use Rattle.cell_asm.specs.Types.{Part, Line, Laid, Label, Key, KeyNamed as Named, KeyMade as Made, Symbol, Inside}
 use Rattle.cell_asm.proofs.EntriesFit.{allowed}
-use Rattle.cell_asm.proofs.ListLemmas.{In, In-append, In-map, In-any, In-left, In-right, In-filtered, filter-In, found-In, find_there, any-In, map-In, next_place, numbered_if, fold_there}
-use Rattle.cell_asm.proofs.PlacingLemmas.{Goes, grows}
+use Rattle.cell_num.proofs.Elements.{get-In, In, In-append, In-map, any-In, In-left, In-right, In-filtered, filter-In, found-In, find_there, any-Has, map-In}
+use Rattle.cell_asm.proofs.ListLemmas.{next_place, numbered_if, fold_there, same_of, IsSplit, get_split, get_map, get_mapped, mapped_length}
+use Rattle.cell_asm.proofs.PlacingLemmas.{Goes, grows, made_more, labels_push}
 
 -- KEYS
 
@@ -34,9 +33,6 @@ same_name a b e = (bytes_eq-Decides a b).0 e
 pub name_itself : (a : List ℕ) → bytes_eq a a ≡ true
 name_itself a = (bytes_eq-Decides a a).1 refl
 
-same_number : (m n : ℕ) → (m == n) ≡ true → m ≡ n
-same_number m n e = grind (arith, nat_tests)
-
 number_itself : (n : ℕ) → (n == n) ≡ true
 number_itself n = grind (arith, nat_tests)
 
@@ -44,7 +40,7 @@ pub same_key : (k q : Key) → is_key k q ≡ true → k ≡ q
 same_key (Named a) (Named b) e = ap Named (same_name a b e)
 same_key (Named a) (Made n) e = absurd cc
 same_key (Made m) (Named b) e = absurd cc
-same_key (Made m) (Made n) e = ap Made (same_number m n e)
+same_key (Made m) (Made n) e = ap Made (same_of m n e)
 
 pub key_itself : (k : Key) → is_key k k ≡ true
 key_itself (Named a) = name_itself a
@@ -108,14 +104,6 @@ record AreOnce (lines : List Laid) : Type 0 where
   once : (a b : Label) → In a (labels lines) → In b (labels lines) → a.key ≡ b.key → a ≡ b
   made : (a : Label) → In a (labels lines) → (n : ℕ) → a.key ≡ Made n → n ≤ made_in lines
 
-labels_push : (lines : List Laid) (l : Laid) → labels (lines ++ l ∷ []) ≡ labels lines ++ labels_at l.part l.offset (keys_of l)
-labels_push lines l =
-    flat_map-append (λ m. labels_at m.part m.offset (keys_of m)) lines (l ∷ []) ∙ ap (λ ls. labels lines ++ ls) (append-nil (labels_at l.part l.offset (keys_of l)))
-
-made_push : (lines : List Laid) (l : Laid) → made_in (lines ++ l ∷ []) ≡ made_in lines + cond (makes_label l.line.statement) 1 0
-made_push lines l =
-    sum_by-append (λ m. cond (makes_label m.line.statement) 1 0) lines (l ∷ []) ∙ ap (λ n. made_in lines + n) (zero-add (cond (makes_label l.line.statement) 1 0))
-
 cases : (before : List Laid) (new : Laid) (a : Label) → In a (labels (before ++ new ∷ [])) → In a (labels before) ⊎ IsAt new.part new.offset (keys_of new) a
 cases before new a h = go (In-append (labels before) (labels_at new.part new.offset (keys_of new)) a (subst (λ ls. In a ls) (labels_push before new) h))
   where
@@ -125,7 +113,7 @@ cases before new a h = go (In-append (labels before) (labels_at new.part new.off
 
 twice_named : (before : List Laid) (o : Option (List ℕ)) (name : List ℕ) (a : Label) → o ≡ Some name → is_twice before o ≡ false → In a (labels before) → a.key ≡ Named name → ⊥
 twice_named before o name a e f i k =
-    true≢false (sym (In-any (λ l. is_key l.key (Named name)) (labels before) a i (ap (λ q. is_key q (Named name)) k ∙ key_itself (Named name))) ∙ ap (is_twice before) (sym e) ∙ f)
+    true≢false (sym (any-In (λ l. is_key l.key (Named name)) (labels before) a i (ap (λ q. is_key q (Named name)) k ∙ key_itself (Named name))) ∙ ap (is_twice before) (sym e) ∙ f)
 
 not_past : (m n k : ℕ) → m ≤ n → m ≡ n + 1 → ⊥
 not_past m n k h e = omega arith
@@ -142,7 +130,7 @@ not_again before new a b h twice number i k e = go (key_of_line new b.key k.key_
 same_numbers : (m n : ℕ) (k : Key) → k ≡ Made m → k ≡ Made n → m ≡ n
 same_numbers m n k e f = cc
 
-not_both : (a : List ℕ) (n : ℕ) (k : Key) → k ≡ Named a → k ≡ Made n → ⊥
+pub not_both : (a : List ℕ) (n : ℕ) (k : Key) → k ≡ Named a → k ≡ Made n → ⊥
 not_both a n k e f = absurd cc
 
 grown_once : (before : List Laid) (new : Laid) → AreOnce before → is_twice before new.line.label ≡ false → new.made ≡ made_in before + 1
@@ -157,7 +145,7 @@ grown_once before new h twice number a b i j e = go (cases before new a i) (case
 
 grown_made : (before : List Laid) (new : Laid) → AreOnce before → new.made ≡ made_in before + 1 → (a : Label) → In a (labels (before ++ new ∷ [])) → (n : ℕ) → a.key ≡ Made n
     → n ≤ made_in (before ++ new ∷ [])
-grown_made before new h number a i n e = subst (λ m. n ≤ m) (sym (made_push before new)) (go (cases before new a i))
+grown_made before new h number a i n e = subst (λ m. n ≤ m) (sym (made_more before new)) (go (cases before new a i))
   where
     more : (m k w : ℕ) → m ≤ k → m ≤ k + w
     more m k w p = omega arith
@@ -192,35 +180,15 @@ labels_once source lines e = (grows AreOnce goes (lines_in source) lines (record
 
 -- THE SYMBOL AT A PLACE
 
-module _ {A B X Y : Type 0} (h : A → X) (f : A → Y) (k : B → X) (g : B → Y) where
-  record FirstAt (xs : List A) (ys : List Y) (i : ℕ) (x : X) : Type 0 where
-    a : A
-    inside : In a xs
-    key_is : x ≡ h a
-    symbol_is : slice_get ys i ≡ Some (f a)
+get_first : {X : Type 0} (xs ys : List X) (i : ℕ) (x : X) → slice_get xs i ≡ Some x → slice_get (xs ++ ys) i ≡ Some x
+get_first [] ys i x e = absurd cc
+get_first (y ∷ xs) ys zero x e = e
+get_first (y ∷ xs) ys (suc i) x e = get_first xs ys i x e
 
-  record SecondAt (ys : List Y) (i : ℕ) (x : X) : Type 0 where
-    b : B
-    key_is : x ≡ k b
-    symbol_is : slice_get ys i ≡ Some (g b)
-
-  same_some : (x y : X) → Some x ≡ Some y → y ≡ x
-  same_some x y e = cc
-
-  second_get : (zs : List B) (i : ℕ) (x : X) → slice_get (map k zs) i ≡ Some x → SecondAt (map g zs) i x
-  second_get [] i x e = absurd cc
-  second_get (b ∷ zs) zero x e = record { b = b; key_is = same_some (k b) x e; symbol_is = refl }
-  second_get (b ∷ zs) (suc i) x e = let r = second_get zs i x e in record { b = r.b; key_is = r.key_is; symbol_is = r.symbol_is }
-
-  later : (a : A) (xs : List A) (zs : List B) (i : ℕ) (x : X) → FirstAt xs (map f xs ++ map g zs) i x ⊎ SecondAt (map f xs ++ map g zs) i x
-      → FirstAt (a ∷ xs) (map f (a ∷ xs) ++ map g zs) (suc i) x ⊎ SecondAt (map f (a ∷ xs) ++ map g zs) (suc i) x
-  later a xs zs i x (inl r) = inl (record { a = r.a; inside = inr r.inside; key_is = r.key_is; symbol_is = r.symbol_is })
-  later a xs zs i x (inr r) = inr (record { b = r.b; key_is = r.key_is; symbol_is = r.symbol_is })
-
-  both_get : (xs : List A) (zs : List B) (i : ℕ) (x : X) → slice_get (map h xs ++ map k zs) i ≡ Some x → FirstAt xs (map f xs ++ map g zs) i x ⊎ SecondAt (map f xs ++ map g zs) i x
-  both_get [] zs i x e = inr (second_get zs i x e)
-  both_get (a ∷ xs) zs zero x e = inl (record { a = a; inside = inl refl; key_is = same_some (h a) x e; symbol_is = refl })
-  both_get (a ∷ xs) zs (suc i) x e = later a xs zs i x (both_get xs zs i x e)
+get_behind : {X : Type 0} (xs ys : List X) (i n : ℕ) → n ≡ length xs + i → slice_get (xs ++ ys) n ≡ slice_get ys i
+get_behind [] ys i n e = let same : n ≡ i = omega arith in ap (slice_get ys) same
+get_behind (x ∷ xs) ys i zero e = absurd (omega arith)
+get_behind (x ∷ xs) ys i (suc n) e = get_behind xs ys i n (omega arith)
 
 -- a label that no directive makes GLOBAL, or another name
 pub record IsLocalAt (lines : List Laid) (i : ℕ) (key : Key) : Type 0 where
@@ -235,13 +203,26 @@ pub record IsOtherAt (lines : List Laid) (i : ℕ) (key : Key) : Type 0 where
   pub symbol_is : slice_get (symbols lines) i ≡ Some (global_symbol lines name)
 
 symbol_at : (lines : List Laid) (i : ℕ) (x : Key) → slice_get (symbol_keys lines) i ≡ Some x → IsLocalAt lines i x ⊎ IsOtherAt lines i x
-symbol_at lines i x e =
-    go (both_get (λ (l : Label). l.key) (local_symbol lines) (λ (name : List ℕ). Named name) (global_symbol lines) (local_labels lines) (other_names lines) i x e)
+symbol_at lines i x e = go (get_split (map (λ (l : Label). l.key) (local_labels lines)) (map (λ n. Named n) (other_names lines)) i x e)
   where
-    go : FirstAt (λ (l : Label). l.key) (local_symbol lines) (λ (name : List ℕ). Named name) (global_symbol lines) (local_labels lines) (symbols lines) i x
-        ⊎ SecondAt (λ (l : Label). l.key) (local_symbol lines) (λ (name : List ℕ). Named name) (global_symbol lines) (symbols lines) i x → IsLocalAt lines i x ⊎ IsOtherAt lines i x
-    go (inl r) = inl (record { l = r.a; inside = r.inside; key_is = r.key_is; symbol_is = r.symbol_is })
-    go (inr r) = inr (record { name = r.b; key_is = r.key_is; symbol_is = r.symbol_is })
+    go : IsSplit (map (λ (l : Label). l.key) (local_labels lines)) (map (λ n. Named n) (other_names lines)) i x → IsLocalAt lines i x ⊎ IsOtherAt lines i x
+    go (inl h) =
+        let r : (l : Label) × (slice_get (local_labels lines) i ≡ Some l) × (x ≡ l.key) = get_map (λ (l : Label). l.key) (local_labels lines) i x h in
+        inl (record {
+          l = r.0;
+          inside = get-In (local_labels lines) i r.0 r.1;
+          key_is = r.2;
+          symbol_is = get_first (map (local_symbol lines) (local_labels lines)) (map (global_symbol lines) (other_names lines)) i (local_symbol lines r.0) (get_mapped (local_symbol lines) (local_labels lines) i r.0 r.1);
+        })
+    go (inr h) =
+        let r : (name : List ℕ) × (slice_get (other_names lines) h.0 ≡ Some name) × (x ≡ Named name) = get_map (λ n. Named n) (other_names lines) h.0 x h.2 in
+        inr (record {
+          name = r.0;
+          key_is = r.2;
+          symbol_is = get_behind (map (local_symbol lines) (local_labels lines)) (map (global_symbol lines) (other_names lines)) h.0 i
+              (h.1 ∙ ap (λ n. n + h.0) (mapped_length (λ (l : Label). l.key) (local_labels lines) ∙ sym (mapped_length (local_symbol lines) (local_labels lines))))
+              ∙ get_mapped (global_symbol lines) (other_names lines) h.0 r.0 r.1;
+        })
 
 -- THE NUMBER OF A KEY
 
@@ -324,21 +305,21 @@ number_usable lines key = usable_by lines key (has_symbol lines key) refl
 
 all_added : (more : List (List ℕ)) (x : List ℕ) → In x more → In x (fold adds_name [] more)
 all_added more x h =
-    let r : (y : List ℕ) × In y (fold adds_name [] more) × (equals y x ≡ true) = any-In (names_apart x) (fold adds_name [] more) (fold_there names_apart name_itself [] more x h) in
+    let r : (y : List ℕ) × In y (fold adds_name [] more) × (equals y x ≡ true) = any-Has (names_apart x) (fold adds_name [] more) (fold_there names_apart name_itself [] more x h) in
     subst (λ n. In n (fold adds_name [] more)) (same_name r.0 x r.2) r.1
 
 local_there : (lines : List Laid) (l : Label) → In l (local_labels lines) → has_symbol lines l.key ≡ true
 local_there lines l h =
-    In-any (λ k. is_key k l.key) (symbol_keys lines) l.key (In-left (map (λ m. m.key) (local_labels lines)) (map (λ name. Named name) (other_names lines)) l.key (map-In (λ (m : Label). m.key) (local_labels lines) l h)) (key_itself l.key)
+    any-In (λ k. is_key k l.key) (symbol_keys lines) l.key (In-left (map (λ m. m.key) (local_labels lines)) (map (λ name. Named name) (other_names lines)) l.key (map-In (λ (m : Label). m.key) (local_labels lines) l h)) (key_itself l.key)
 
 other_there : (lines : List Laid) (name : List ℕ) → In name (other_names lines) → has_symbol lines (Named name) ≡ true
 other_there lines name h =
-    In-any (λ k. is_key k (Named name)) (symbol_keys lines) (Named name)
+    any-In (λ k. is_key k (Named name)) (symbol_keys lines) (Named name)
     (In-right (map (λ m. m.key) (local_labels lines)) (map (λ n. Named n) (other_names lines)) (Named name) (map-In (λ (n : List ℕ). Named n) (other_names lines) name h)) (key_itself (Named name))
 
 mentioned_by : (lines : List Laid) (name : List ℕ) (b : Bool) → holds_key (local_labels lines) (Named name) ≡ b → In name (mentions lines) → has_symbol lines (Named name) ≡ true
 mentioned_by lines name true e h =
-    let r : (l : Label) × In l (local_labels lines) × (is_key l.key (Named name) ≡ true) = any-In (λ l. is_key l.key (Named name)) (local_labels lines) e in
+    let r : (l : Label) × In l (local_labels lines) × (is_key l.key (Named name) ≡ true) = any-Has (λ l. is_key l.key (Named name)) (local_labels lines) e in
     ap (has_symbol lines) (sym (same_key r.0.key (Named name) r.2)) ∙ local_there lines r.0 r.1
 mentioned_by lines name false e h =
     other_there lines name

@@ -7,7 +7,7 @@ use Rattle.std.proofs.lemmas.List.Folds.{list_any-append}
 use Rattle.std.proofs.lemmas.Option.{slice_get_within}
 use Rattle.std.specs.List.{list_any}
 use Rattle.std.specs.Option.{option_map_or}
-use Rattle.std.specs.Prelude.{Option, if◌then◌else◌, filter}
+use Rattle.std.specs.Prelude.{Option, filter}
 use Rattle.std.specs.Str.{bytes_eq}
 use Rattle.cell_image.proofs.Ruled.{IsWithin, IsWritableHome, IsWritableSymbol}
 use Rattle.cell_num.specs.Lists.{last, equals}
@@ -21,17 +21,16 @@ use Rattle.cell_asm.specs.Assembled.{placed_lines}
 use Rattle.cell_asm.specs.Names.{is_name}
 use Rattle.cell_asm.specs.Objects.{parts_of, key_name, label_names, mentions, statement_names, part_number, number_in, section_of, sections, globals, local_labels, other_names, label_named, home_at, local_symbol, global_symbol, symbols, object_of}
 use Rattle.cell_asm.specs.Objects as objects
-use Rattle.cell_asm.specs.Objects.{parts_of, key_name, label_names, mentions, statement_names, part_number, number_in, section_of, sections, globals, local_labels, other_names, label_named, home_at, local_symbol, global_symbol, symbols, object_of}
-use Rattle.cell_asm.specs.Objects as objects
-use Rattle.cell_asm.specs.Places.{is_same_part, is_at, is_in, choice, choices, taken, size_in, size_at, placed, makes_label, own_key, made_key, keys_of, label, labels_at, labels, holds_key, is_key}
-use Rattle.cell_asm.specs.Types.{Part, Statement, Laid, Key, KeyNamed as Named, KeyMade as Made, Label, Symbol}
-use Rattle.cell_asm.proofs.EntriesFit.{size_push, section_small}
-use Rattle.cell_asm.proofs.ListLemmas.{In, In-left, fold_there, In-append, In-flat, In-map, In-filtered, found-In, get-In, get_split, get_map, take_behind, mapped_length, AreApart, fold_apart, fold_In, before_fails}
+use Rattle.cell_asm.specs.Places.{is_same_part, is_at, is_in, choice, choices, taken, size_in, size_at, placed, keys_of, labels_at, labels, holds_key, is_key}
+use Rattle.cell_asm.specs.Types.{Part, Statement, Laid, Key, KeyNamed as Named, Label, Symbol}
+use Rattle.cell_asm.proofs.EntriesFit.{section_small}
+use Rattle.cell_num.proofs.Elements.{In, In-left, In-flat_map, In-filtered, found-In, get-In}
+use Rattle.cell_asm.proofs.ListLemmas.{fold_there, get_split, get_map, get_mapped, take_behind, mapped_length, AreApart, fold_apart, fold_In, before_fails}
 use Rattle.cell_asm.proofs.NamesFit.{key_fits, AreNames, IsGoodName, name_fits}
 use Rattle.cell_asm.proofs.ObjectLemmas.{part_itself, same_part}
-use Rattle.cell_asm.proofs.PlacingLemmas.{Goes, grows, pushed, each_line}
+use Rattle.cell_asm.proofs.PlacingLemmas.{Goes, grows, pushed, each_line, size_more}
 use Rattle.cell_asm.proofs.ReadLines.{line_names, read_line}
-use Rattle.cell_asm.proofs.SymbolPlaces.{names_apart}
+use Rattle.cell_asm.proofs.SymbolPlaces.{names_apart, IsOwn, IsMade, key_of_line, IsAt, label_at, not_both}
 use Rattle.cell_asm.proofs.WritableEntries.{part_numbered}
 
 pub record IsHeld (lines : List Laid) (part : Part) (l : Laid) : Type 0 where
@@ -72,7 +71,7 @@ new_inside part (Some other) before s e =
 old_held : (before : List Laid) (new : Laid) (l : Laid) (part : Part) → IsHeld before part l → IsHeld (before ++ new ∷ []) part l
 old_held before new l part h = record {
   chosen = still_chosen before new part h.chosen;
-  inside = subst (λ n. l.offset + taken l.line.statement l.offset ≤ n) (sym (size_push part before new))
+  inside = subst (λ n. l.offset + taken l.line.statement l.offset ≤ n) (sym (size_more part before new))
       (still_inside (l.offset + taken l.line.statement l.offset) (size_in part before) (cond (is_in part new) (taken new.line.statement new.offset) 0) h.inside);
 }
 
@@ -83,7 +82,7 @@ IsNext before new = (new.part ≡ last (choices before)) × (new.offset ≡ size
 new_held : (before : List Laid) (new : Laid) (part : Part) → IsNext before new → new.part ≡ Some part → IsHeld (before ++ new ∷ []) part new
 new_held before new part h e = record {
   chosen = still_chosen before new part (last_In (choices before) part (sym h.0 ∙ e));
-  inside = subst (λ n. new.offset + taken new.line.statement new.offset ≤ n) (sym (size_push part before new))
+  inside = subst (λ n. new.offset + taken new.line.statement new.offset ≤ n) (sym (size_more part before new))
       (subst (λ o. o + taken new.line.statement o ≤ size_in part before + cond (is_in part new) (taken new.line.statement o) 0) (sym h.1) (new_inside part new.part before new.line.statement e));
 }
 
@@ -112,7 +111,7 @@ lines_named = each_line (λ l. AreNames (line_names l.line)) (λ before n text l
 
 pub all_named : (source : List ℕ) (lines : List Laid) → placed_lines source ≡ Ok lines → AreNames (mentions lines)
 all_named source lines e n k =
-    let r : (l : Laid) × In l lines × In n (line_names l.line) = In-flat (λ l. line_names l.line) lines n k in
+    let r : (l : Laid) × In l lines × In n (line_names l.line) = In-flat_map (λ l. line_names l.line) lines n k in
     lines_named source lines e r.0 r.1 n r.2
 
 -- LABELS
@@ -123,31 +122,20 @@ pub record IsFitLabel (lines : List Laid) (l : Label) : Type 0 where
   pub name : IsPlain (key_name l.key)
 
 -- the name of a key is the label of its line
-own_named : (o : Option (List ℕ)) (key : Key) (name : List ℕ) → In key (own_key o) → key ≡ Named name → In name (label_names o)
-own_named None key name k e = absurd k
-own_named (Some own) key name (inl f) e = let is : name ≡ own = cc in inl is
-own_named (Some own) key name (inr k) e = absurd k
-
-made_not_named : (b : Bool) (n : ℕ) (key : Key) (name : List ℕ) → In key (if b then Made n ∷ [] else []) → key ≡ Named name → ⊥
-made_not_named true n key name (inl f) e = cc
-made_not_named true n key name (inr k) e = k
-made_not_named false n key name k e = k
+named_once : (a b : List ℕ) (k : Key) → k ≡ Named a → k ≡ Named b → a ≡ b
+named_once a b k e f = cc
 
 key_named : (l : Laid) (key : Key) (name : List ℕ) → In key (keys_of l) → key ≡ Named name → In name (line_names l.line)
-key_named l key name k e = go (In-append (own_key l.line.label) (made_key l.line.statement l.made) key k)
+key_named l key name k e = go (key_of_line l key k)
   where
-    go : In key (own_key l.line.label) ⊎ In key (made_key l.line.statement l.made) → In name (line_names l.line)
-    go (inl i) = In-left (label_names l.line.label) (statement_names l.line.statement) name (own_named l.line.label key name i e)
-    go (inr i) = absurd (made_not_named (makes_label l.line.statement) l.made key name i e)
+    go : IsOwn l.line key ⊎ IsMade l.line l.made key → In name (line_names l.line)
+    go (inl own) =
+        let same : name ≡ own.name = named_once name own.name key e own.named in
+        In-left (label_names l.line.label) (statement_names l.line.statement) name (subst (λ o. In name (label_names o)) (sym own.labelled) (inl same))
+    go (inr made) = absurd (not_both name l.made key e made.made)
 
 within : (a t n : ℕ) → a + t ≤ n → a ≤ n
 within a t n h = omega (arith, h)
-
-label_by : (o : Option Part) (offset : ℕ) (keys : List Key) (m : Label) → In m (labels_at o offset keys) → (o ≡ Some m.part) × (m.offset ≡ offset) × In m.key keys
-label_by None offset keys m k = absurd k
-label_by (Some part) offset keys m k =
-    let r : (key : Key) × In key keys × (m ≡ label part offset key) = In-map (label part offset) keys m k in
-    (ap (λ x. Some x.part) (sym r.2), ap (λ x. x.offset) r.2, subst (λ x. In x.key keys) (sym r.2) r.1)
 
 label_fits : (source : List ℕ) (lines : List Laid) (l : Laid) (m : Label) → placed_lines source ≡ Ok lines → In l lines → l.part ≡ Some m.part → m.offset ≡ l.offset → In m.key (keys_of l) → IsFitLabel lines m
 label_fits source lines l m e k part offset key =
@@ -160,9 +148,9 @@ label_fits source lines l m e k part offset key =
 
 pub labels_fit : (source : List ℕ) (lines : List Laid) → placed_lines source ≡ Ok lines → (m : Label) → In m (labels lines) → IsFitLabel lines m
 labels_fit source lines e m k =
-    let r : (l : Laid) × In l lines × In m (labels_at l.part l.offset (keys_of l)) = In-flat (λ l. labels_at l.part l.offset (keys_of l)) lines m k in
-    let s : (r.0.part ≡ Some m.part) × (m.offset ≡ r.0.offset) × In m.key (keys_of r.0) = label_by r.0.part r.0.offset (keys_of r.0) m r.2 in
-    label_fits source lines r.0 m e r.1 s.0 s.1 s.2
+    let r : (l : Laid) × In l lines × In m (labels_at l.part l.offset (keys_of l)) = In-flat_map (λ l. labels_at l.part l.offset (keys_of l)) lines m k in
+    let s : IsAt r.0.part r.0.offset (keys_of r.0) m = label_at r.0.part r.0.offset (keys_of r.0) m r.2 in
+    label_fits source lines r.0 m e r.1 s.chosen s.placed_at s.key_in
 
 -- The symbols of an assembled source can be written.
 --     locals_count lines          the LOCAL symbols are the local labels
@@ -197,11 +185,6 @@ found_at (q ∷ parts) part e = go (is_same_part part q) refl e (found_at parts 
         → (k : ℕ) × (slice_get (q ∷ parts) k ≡ Some part)
     go true same h rest = (0, ap (λ x. Some x) (sym (same_part part q same)))
     go false same h rest = let r : (k : ℕ) × (slice_get parts k ≡ Some part) = rest h in (suc r.0, r.1)
-
-get_mapped : {X Y : Type 0} (f : X → Y) (xs : List X) (k : ℕ) (x : X) → slice_get xs k ≡ Some x → slice_get (map f xs) k ≡ Some (f x)
-get_mapped f [] k x e = absurd cc
-get_mapped f (y ∷ ys) zero x e = let is : y ≡ x = cc in ap (λ z. Some (f z)) is
-get_mapped f (y ∷ ys) (suc k) x e = get_mapped f ys k x e
 
 low_number : (k n : ℕ) → n ≡ k + 1 → 1 ≤ n
 low_number k n e = omega (arith, e)

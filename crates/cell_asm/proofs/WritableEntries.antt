@@ -2,7 +2,7 @@
 --     part_numbered        the n-th section that is chosen has the number n + 1
 --     entries_of_part      its entries are those with its number
 --     entries_grouped      all entries are those of the first section, of the second, and so on
-use Rattle.std.proofs.Common.{◌≡◌, ℕ, zero, suc, ◌+◌, ◌<◌, ◌==◌, Bool, true, false, ◌||◌, not, cond, List, [], ◌∷◌, ◌++◌, inl, inr, map, length, slice_get, Ok, Some, None, refl, sym, ap, ◌∙◌, append-nil, one-add, true≢false, arith, ◌-◌, pos, ◌&&◌, subst, int_eq, ◌%◌, ◌^◌, ◌≤◌, take}
+use Rattle.std.proofs.Common.{◌≡◌, ℕ, zero, suc, ◌+◌, ◌<◌, ◌==◌, Bool, true, false, ◌||◌, not, cond, List, [], ◌∷◌, ◌++◌, inl, map, length, slice_get, Ok, Some, None, refl, sym, ap, ◌∙◌, append-nil, one-add, true≢false, arith, ◌-◌, pos, ◌&&◌, subst, int_eq, ◌%◌, ◌^◌, ◌≤◌, take}
 use Rattle.std.proofs.lemmas.Bool.{and_parts, and_from}
 use Rattle.std.proofs.lemmas.Bool.Decides.{nat_tests}
 use Rattle.std.proofs.lemmas.List.Elements.{filter-append}
@@ -21,11 +21,12 @@ use Rattle.cell_object.specs.Sound.{is_known_kind}
 use Rattle.cell_asm.specs.Assembled.{placed_lines, has_upper, is_upper_label, is_lost, is_lost_mark, has_lost}
 use Rattle.cell_asm.specs.Objects.{parts_of, part_number, section_of, sections, entries_in, entries, marks_in, label_named, entries_of, target_names, statement_names, label_names, mentions, symbols, symbol_number, target_key, entry_of, fill_of, is_text, object_of}
 use Rattle.cell_asm.specs.Places.{is_same_part, is_in, may_stand, is_made, makes_label, own_key, made_key, keys_of, label, labels_at, labels, is_key, is_long, largest, taken}
-use Rattle.cell_asm.specs.Types.{Entry, Part, Laid, RelKind, PcrelHi20, PcrelLo12I, PcrelLo12S, Inside, Text, Target, Mark, Statement, Bytes, Label, Key, KeyNamed as Named, KeyMade as Made, Section, Zero, Bss}
+use Rattle.cell_asm.specs.Types.{Entry, Part, Laid, Inside, Text, Target, Mark, Statement, Bytes, Label, Key, KeyNamed as Named, KeyMade as Made, Section, Zero, Bss}
 use Rattle.cell_asm.specs.declared.statement.Target.TheVariants as targets
 use Rattle.cell_asm.proofs.EntriesFit.{entry_origin, IsStanding, all_stand, at_part, Origin, in_fours, not_past, largest_most, entry_high, entries_apart, apart_take}
-use Rattle.cell_asm.proofs.GoodBlocks.{is_code, any_upper, IsGoodStatement, content_of, statement_taken, IsTaken}
-use Rattle.cell_asm.proofs.ListLemmas.{In, map-In, In-right, filter-In, flat-In, find_none, found-In, any-In, In-any, In-none, In-flat, get-In}
+use Rattle.cell_asm.proofs.GoodBlocks.{is_code, lo12_code, any_upper, IsGoodStatement, content_of, statement_taken, IsTaken}
+use Rattle.cell_num.proofs.Elements.{In, map-In, In-right, filter-In, flat_map-In, unfound-In, found-In, any-Has, any-In, none-In, In-flat_map, get-In, filter_all, filter_none}
+use Rattle.cell_asm.proofs.ListLemmas.{get_map, not_false, same_of, same_test}
 use Rattle.cell_asm.proofs.ObjectLemmas.{same_part, part_itself, parts_distinct}
 use Rattle.cell_asm.proofs.SymbolPlaces.{same_key, labels_once, has_symbol, mentioned_there, made_there, one_less, label_symbol, number_small, number_usable}
 
@@ -88,17 +89,6 @@ part_numbered lines n part e =
 
 -- THE ENTRIES WITH A NUMBER
 
-all_pass : (test : Entry → Bool) (es : List Entry) → ((e : Entry) → In e es → test e ≡ true) → filter test es ≡ es
-all_pass test [] h = refl
-all_pass test (e ∷ es) h = ap (λ b. cond b (e ∷ filter test es) (filter test es)) (h e (inl refl)) ∙ ap (λ xs. e ∷ xs) (all_pass test es (λ f k. h f (inr k)))
-
-none_pass : (test : Entry → Bool) (es : List Entry) → ((e : Entry) → In e es → test e ≡ false) → filter test es ≡ []
-none_pass test [] h = refl
-none_pass test (e ∷ es) h = ap (λ b. cond b (e ∷ filter test es) (filter test es)) (h e (inl refl)) ∙ none_pass test es (λ f k. h f (inr k))
-
-same_number : (m n : ℕ) → m ≡ n → (m == n) ≡ true
-same_number m n h = grind (arith, nat_tests)
-
 other_number : (m n k : ℕ) → m ≡ k → n < k → (m == n) ≡ false
 other_number m n k h l = grind (arith, nat_tests)
 
@@ -140,7 +130,7 @@ module _ {A : Type 0} (g : A → List Entry) (number : A → ℕ) (own : (a : A)
   none_below [] k m r l = refl
   none_below (a ∷ xs) k m r l =
       filter-append (λ e. e.section == m) (g a) (flat_map g xs)
-      ∙ ap (λ es. es ++ filter (λ e. e.section == m) (flat_map g xs)) (none_pass (λ e. e.section == m) (g a) (λ e i. other_number e.section m k (own a e i ∙ r.0) l))
+      ∙ ap (λ es. es ++ filter (λ e. e.section == m) (flat_map g xs)) (filter_none (λ e. e.section == m) (g a) (λ e i. other_number e.section m k (own a e i ∙ r.0) l))
       ∙ none_below xs (suc k) m r.1 (go m k l)
     where
       go : (x y : ℕ) → x < y → x < suc y
@@ -154,12 +144,12 @@ module _ {A : Type 0} (g : A → List Entry) (number : A → ℕ) (own : (a : A)
   with_number [] k n a r h = absurd cc
   with_number (b ∷ xs) k zero a r h =
       all_first (λ e. e.section == k + 0) (g b) (flat_map g xs)
-      (all_pass (λ e. e.section == k + 0) (g b) (λ e i. same_number e.section (k + 0) (own b e i ∙ r.0 ∙ same_plus k)))
+      (filter_all (λ e. e.section == k + 0) (g b) (λ e i. same_test e.section (k + 0) (own b e i ∙ r.0 ∙ same_plus k)))
       (none_below xs (suc k) (k + 0) r.1 (below_next k))
       ∙ ap g (same_some b a h)
   with_number (b ∷ xs) k (suc n) a r h =
       after_none (λ e. e.section == k + suc n) (g b) (flat_map g xs) (g a)
-      (none_pass (λ e. e.section == k + suc n) (g b) (λ e i. smaller_number e.section (k + suc n) k (own b e i ∙ r.0) (past k n)))
+      (filter_none (λ e. e.section == k + suc n) (g b) (λ e i. smaller_number e.section (k + suc n) k (own b e i ∙ r.0) (past k n)))
       (ap (λ m. filter (λ e. e.section == m) (flat_map g xs)) (moved k n) ∙ with_number xs (suc k) n a r.1 h)
 
   rises : (xs : List A) (k : ℕ) → ((n : ℕ) (a : A) → slice_get xs n ≡ Some a → number a ≡ k + n) → Rises k xs
@@ -194,23 +184,6 @@ module _ (source : List ℕ) (lines : List Laid) (read : placed_lines source ≡
 -- Each entry of the kinds PCREL_LO12 names the label of one of the kind PCREL_HI20 in its section.
 --     entry_paired      is_unpaired is false
 
--- the kinds that name the label of another entry, and that entry's, are of instructions
-label_code : (kind : RelKind) → (is_pcrel_lo12 kind || is_pcrel_hi20 kind) ≡ true → is_instruction kind ≡ true
-label_code PcrelHi20 e = refl
-label_code PcrelLo12I e = refl
-label_code PcrelLo12S e = refl
-label_code _ e = absurd cc
-
-lo12_code : (kind : RelKind) → is_pcrel_lo12 kind ≡ true → is_instruction kind ≡ true
-lo12_code kind e = label_code kind (ap (λ b. b || is_pcrel_hi20 kind) e)
-
-pub hi20_code : (kind : RelKind) → is_pcrel_hi20 kind ≡ true → is_instruction kind ≡ true
-hi20_code kind e = label_code kind (either (is_pcrel_lo12 kind) (is_pcrel_hi20 kind) e)
-  where
-    either : (a b : Bool) → b ≡ true → (a || b) ≡ true
-    either true b h = refl
-    either false b h = h
-
 -- THE ENTRY OF THE UPPER PART
 
 -- an entry of the upper part stands at an offset
@@ -226,7 +199,7 @@ line_upper lines part l i p s h =
     let r = head_of l.line.statement s.good h in
     record {
       e = entry_of lines part l r.0;
-      there = flat-In (entries_of lines part) (filter (is_in part) lines) l (entry_of lines part l r.0) (filter-In (is_in part) lines l i p) (map-In (entry_of lines part l) (marks_in l.line.statement) r.0 r.1);
+      there = flat_map-In (entries_of lines part) (filter (is_in part) lines) l (entry_of lines part l r.0) (filter-In (is_in part) lines l i p) (map-In (entry_of lines part l) (marks_in l.line.statement) r.0 r.1);
       upper = r.3;
       stands = ap (λ n. l.offset + n) r.2 ∙ no_more l.offset;
     }
@@ -237,12 +210,6 @@ line_upper lines part l i p s h =
     head_of : (s : Statement) → IsGoodStatement s → any_upper (marks_in s) ≡ true → (m : Mark) × In m (marks_in s) × (m.at ≡ 0) × (is_pcrel_hi20 m.fix.kind ≡ true)
     head_of (Bytes content b) g t = g.headed t
     head_of _ g t = absurd (true≢false (sym t))
-
-same_test : (m n : ℕ) → m ≡ n → (m == n) ≡ true
-same_test m n e = grind (arith, nat_tests)
-
-same_of : (m n : ℕ) → (m == n) ≡ true → m ≡ n
-same_of m n e = grind (arith, nat_tests)
 
 -- THE LABEL
 
@@ -257,10 +224,6 @@ record IsUpperAt (lines : List Laid) (key : Key) : Type 0 where
 not_zero : (i : ℕ) → not (i + 1 == 0) ≡ true
 not_zero i = grind (arith, nat_tests)
 
-not_false : (b : Bool) → not b ≡ false → b ≡ true
-not_false true e = refl
-not_false false e = absurd (true≢false e)
-
 second_false : (a b : Bool) → (a && b) ≡ false → a ≡ true → b ≡ false
 second_false true b e t = e
 second_false false b e t = absurd (true≢false (sym t))
@@ -271,12 +234,7 @@ passing p (Some l) e = (l, refl, e)
 
 -- the keys of lines are those of labels
 pub in_labels : (lines : List Laid) (l : Laid) (part : Part) (k : Key) → In l lines → l.part ≡ Some part → In k (keys_of l) → In (label part l.offset k) (labels lines)
-in_labels lines l part k i p h = flat-In (λ m. labels_at m.part m.offset (keys_of m)) lines l (label part l.offset k) i (subst (λ o. In (label part l.offset k) (labels_at o l.offset (keys_of l))) (sym p) (mapped (keys_of l) h))
-  where
-    mapped : (ks : List Key) → In k ks → In (label part l.offset k) (map (label part l.offset) ks)
-    mapped [] j = absurd j
-    mapped (q ∷ ks) (inl e) = inl (ap (label part l.offset) e)
-    mapped (q ∷ ks) (inr j) = inr (mapped ks j)
+in_labels lines l part k i p h = flat_map-In (λ m. labels_at m.part m.offset (keys_of m)) lines l (label part l.offset k) i (subst (λ o. In (label part l.offset k) (labels_at o l.offset (keys_of l))) (sym p) (map-In (label part l.offset) (keys_of l) k h))
 
 made_in_keys : (b : Bool) (n : ℕ) → b ≡ true → In (Made n) (if b then Made n ∷ [] else [])
 made_in_keys true n e = inl refl
@@ -285,19 +243,19 @@ made_in_keys false n e = absurd (true≢false (sym e))
 -- the name of an entry is mentioned
 mentions_target : (lines : List Laid) (l : Laid) (m : Mark) (name : List ℕ) → In l lines → In m (marks_in l.line.statement) → m.fix.target ≡ targets.Named name → In name (mentions lines)
 mentions_target lines l m name i j t =
-    flat-In (λ k. label_names k.line.label ++ statement_names k.line.statement) lines l name i
+    flat_map-In (λ k. label_names k.line.label ++ statement_names k.line.statement) lines l name i
     (In-right (label_names l.line.label) (statement_names l.line.statement) name (of_statement l.line.statement j))
   where
     of_statement : (s : Statement) → In m (marks_in s) → In name (statement_names s)
-    of_statement (Bytes content b) k = flat-In (λ x. target_names x.fix.target) b.marks m name k (subst (λ u. In name (target_names u)) (sym t) (inl refl))
+    of_statement (Bytes content b) k = flat_map-In (λ x. target_names x.fix.target) b.marks m name k (subst (λ u. In name (target_names u)) (sym t) (inl refl))
     of_statement _ k = absurd k
 
 makes_by : (s : Statement) (m : Mark) → In m (marks_in s) → is_made m.fix.target ≡ true → makes_label s ≡ true
-makes_by (Bytes content b) m k e = In-any (λ x. is_made x.fix.target) b.marks m k e
+makes_by (Bytes content b) m k e = any-In (λ x. is_made x.fix.target) b.marks m k e
 makes_by _ m k e = absurd k
 
 pub made_head : (s : Statement) (m : Mark) → IsGoodStatement s → In m (marks_in s) → is_made m.fix.target ≡ true → any_upper (marks_in s) ≡ true
-made_head (Bytes content b) m g k e = g.made (In-any (λ x. is_made x.fix.target) b.marks m k e)
+made_head (Bytes content b) m g k e = g.made (any-In (λ x. is_made x.fix.target) b.marks m k e)
 made_head _ m g k e = absurd k
 
 -- what a section takes where a line of it has an entry
@@ -330,7 +288,7 @@ module _ (source : List ℕ) (lines : List Laid) (read : placed_lines source ≡
       let is : In r.0 (labels lines) × (is_key r.0.key (Named name) ≡ true) = found-In (λ l. is_key l.key (Named name)) (labels lines) r.0 r.1 in
       let text : (is_same_part Text r.0.part ≡ true) × (list_any (λ l. is_in Text l && l.offset == r.0.offset && has_upper l) lines ≡ true) =
       and_parts (is_same_part Text r.0.part) (list_any (λ l. is_in Text l && l.offset == r.0.offset && has_upper l) lines) r.2 in
-      let at : (l : Laid) × In l lines × ((is_in Text l && l.offset == r.0.offset && has_upper l) ≡ true) = any-In (λ l. is_in Text l && l.offset == r.0.offset && has_upper l) lines text.1 in
+      let at : (l : Laid) × In l lines × ((is_in Text l && l.offset == r.0.offset && has_upper l) ≡ true) = any-Has (λ l. is_in Text l && l.offset == r.0.offset && has_upper l) lines text.1 in
       let tests : ((is_in Text at.0 && at.0.offset == r.0.offset) ≡ true) × (has_upper at.0 ≡ true) = and_parts (is_in Text at.0 && at.0.offset == r.0.offset) (has_upper at.0) at.2 in
       let places : (is_in Text at.0 ≡ true) × ((at.0.offset == r.0.offset) ≡ true) = and_parts (is_in Text at.0) (at.0.offset == r.0.offset) tests.0 in
       record {
@@ -345,7 +303,7 @@ module _ (source : List ℕ) (lines : List Laid) (read : placed_lines source ≡
   not_lost : (l : Laid) (m : Mark) → In l lines → In m (marks_in l.line.statement) → is_pcrel_lo12 m.fix.kind ≡ true → is_lost lines m.fix.target ≡ false
   not_lost l m i j low =
       second_false (is_pcrel_lo12 m.fix.kind) (is_lost lines m.fix.target)
-      (In-none (is_lost_mark lines) (marks_in l.line.statement) m (find_none (has_lost lines) lines l kept i) j) low
+      (none-In (is_lost_mark lines) (marks_in l.line.statement) (unfound-In (has_lost lines) lines kept l i) m j) low
 
   -- what the entry names has its label, and its symbol
   record IsNamed (key : Key) : Type 0 where
@@ -370,7 +328,7 @@ module _ (source : List ℕ) (lines : List Laid) (read : placed_lines source ≡
       ∙ ap (is_label_symbol section (entries_in lines Text)) s.symbol_is
       ∙ ap (λ h. is_label section (entries_in lines Text) h s.s.value) home
       ∙ and_from (part_number lines Text == section) (list_any (λ e. is_pcrel_hi20 e.kind && e.offset == s.s.value) (entries_in lines Text)) (same_test (part_number lines Text) section (sym at))
-      (In-any (λ e. is_pcrel_hi20 e.kind && e.offset == s.s.value) (entries_in lines Text) u.upper.e u.upper.there
+      (any-In (λ e. is_pcrel_hi20 e.kind && e.offset == s.s.value) (entries_in lines Text) u.upper.e u.upper.there
       (and_from (is_pcrel_hi20 u.upper.e.kind) (u.upper.e.offset == s.s.value) u.upper.upper (same_test u.upper.e.offset s.s.value (u.upper.stands ∙ sym s.value_is)))))
 
   text_label : (part : Part) (e : Entry) (o : Origin source lines read part e) → is_pcrel_lo12 o.comes.m.fix.kind ≡ true → has_label e.section (entries_in lines part) (symbols lines) e.symbol ≡ true
@@ -412,9 +370,6 @@ zero_fill : (part : Part) → fill_of part ≡ Zero → part ≡ Bss
 zero_fill Bss e = refl
 zero_fill _ e = absurd cc
 
-zero_test : (n : ℕ) → n ≡ 0 → (n == 0) ≡ true
-zero_test n e = grind (arith, nat_tests)
-
 code_there : (a x f : Bool) → x ≡ true → f ≡ true → (a && (not x || not f)) ≡ false
 code_there true true true e h = refl
 code_there false x f e h = refl
@@ -424,20 +379,6 @@ code_there true true false e h = absurd (true≢false (sym h))
 no_code : (a b : Bool) → a ≡ false → (a && b) ≡ false
 no_code true b e = absurd (true≢false e)
 no_code false b e = refl
-
--- an element of a mapped list
-record IsMapped {A B : Type 0} (f : A → B) (xs : List A) (n : ℕ) (y : B) : Type 0 where
-  x : A
-  at : slice_get xs n ≡ Some x
-  is : y ≡ f x
-
-some_same : {A : Type 0} (a b : A) → Some a ≡ Some b → b ≡ a
-some_same a b e = cc
-
-map_get : {A B : Type 0} (f : A → B) (xs : List A) (n : ℕ) (y : B) → slice_get (map f xs) n ≡ Some y → IsMapped f xs n y
-map_get f [] n y e = absurd cc
-map_get f (x ∷ xs) zero y e = record { x = x; at = refl; is = some_same (f x) y e }
-map_get f (x ∷ xs) (suc n) y e = let r = map_get f xs n y e in record { x = r.x; at = r.at; is = r.is }
 
 module _ (source : List ℕ) (lines : List Laid) (read : placed_lines source ≡ Ok lines) where
   stands : (part : Part) (e : Entry) (o : Origin source lines read part e) → IsStanding o.l
@@ -459,7 +400,7 @@ module _ (source : List ℕ) (lines : List Laid) (read : placed_lines source ≡
 
   pub entry_storable : length (symbols lines) < 2 ^ 32 → (k : ℕ) (e : Entry) → slice_get (entries lines) k ≡ Some e → IsStorable e
   entry_storable few k e g =
-      let r : (part : Part) × In part (parts_of lines) × In e (entries_in lines part) = In-flat (entries_in lines) (parts_of lines) e (get-In (entries lines) k e g) in
+      let r : (part : Part) × In part (parts_of lines) × In e (entries_in lines part) = In-flat_map (entries_in lines) (parts_of lines) e (get-In (entries lines) k e g) in
       storable r.0 e few (entry_origin source lines read r.0 e r.2)
 
   taken_in : (part : Part) (e : Entry) (o : Origin source lines read part e) → IsTaken part (content_of o.l.line.statement)
@@ -473,7 +414,7 @@ module _ (source : List ℕ) (lines : List Laid) (read : placed_lines source ≡
 
   coded : (part : Part) (e : Entry) (o : Origin source lines read part e) (b : Bool) → is_instruction e.kind ≡ b → (is_instruction e.kind && (not (is_text part) || not (e.offset % 4 == 0))) ≡ false
   coded part e o true i =
-      code_there (is_instruction e.kind) (is_text part) (e.offset % 4 == 0) (ap is_text (in_code part e o i)) (zero_test (e.offset % 4) (at_four part e o (in_code part e o i)))
+      code_there (is_instruction e.kind) (is_text part) (e.offset % 4 == 0) (ap is_text (in_code part e o i)) (same_test (e.offset % 4) 0 (at_four part e o (in_code part e o i)))
   coded part e o false i = no_code (is_instruction e.kind) (not (is_text part) || not (e.offset % 4 == 0)) i
 
   module _ (kept : find (has_lost lines) lines ≡ None) where
@@ -494,8 +435,8 @@ module _ (source : List ℕ) (lines : List Laid) (read : placed_lines source ≡
     pub entry_writable : (n : ℕ) (s : Section) → slice_get (sections lines) n ≡ Some s → (k : ℕ) (e : Entry) → slice_get (entries_for (entries lines) (n + 1)) k ≡ Some e
         → IsWritableEntry (object_of lines) s (take k (entries_for (entries lines) (n + 1))) (entries_for (entries lines) (n + 1)) e
     entry_writable n s at k e g =
-        let m = map_get (section_of lines) (parts_of lines) n s at in
-        let same : entries_for (entries lines) (n + 1) ≡ entries_in lines m.x = entries_of_part source lines read n m.x m.at in
-        subst (λ t. IsWritableEntry (object_of lines) t (take k (entries_for (entries lines) (n + 1))) (entries_for (entries lines) (n + 1)) e) (sym m.is)
-        (subst (λ es. IsWritableEntry (object_of lines) (section_of lines m.x) (take k es) es e) (sym same)
-        (in_part m.x k e (ap (λ es. slice_get es k) (sym same) ∙ g)))
+        let m : (part : Part) × (slice_get (parts_of lines) n ≡ Some part) × (s ≡ section_of lines part) = get_map (section_of lines) (parts_of lines) n s at in
+        let same : entries_for (entries lines) (n + 1) ≡ entries_in lines m.0 = entries_of_part source lines read n m.0 m.1 in
+        subst (λ t. IsWritableEntry (object_of lines) t (take k (entries_for (entries lines) (n + 1))) (entries_for (entries lines) (n + 1)) e) (sym m.2)
+        (subst (λ es. IsWritableEntry (object_of lines) (section_of lines m.0) (take k es) es e) (sym same)
+        (in_part m.0 k e (ap (λ es. slice_get es k) (sym same) ∙ g)))

@@ -1,21 +1,22 @@
 -- The bytes of pieces, one behind the other, and where in them their entries stand.
---     block pieces
-use Rattle.std.specs.Prelude.{ℕ, List, [], ◌∷◌, ◌++◌, length, fold, Option, Some, None}
+--     appended b p      one piece more
+use Rattle.std.specs.Prelude.{ℕ, ◌+◌, List, [], ◌∷◌, ◌++◌, length, Option, Some, None}
 use Rattle.cell_num.specs.Bits.{bytes_of}
-use Rattle.cell_asm.specs.Types.{Fix, Piece, Mark, Block}
+use Rattle.cell_asm.specs.Types.{Fix, Piece, Mark, Block, Draft}
 
-abbrev pub marks_at : ℕ → Option Fix → List Mark
-marks_at at None = []
-marks_at at (Some f) = record { at = at; fix = f } ∷ []
+-- an entry so far behind a place
+abbrev pub marks_at : ℕ → ℕ → Option Fix → List Mark
+marks_at base at None = []
+marks_at base at (Some f) = record { at = base + at; fix = f } ∷ []
+
+abbrev pub marks_of : ℕ → Piece → List Mark
+marks_of base p = marks_at base 0 p.fix ++ marks_at base p.apart p.second
 
 abbrev pub appended : Block → Piece → Block
-appended b p = record {
-  bytes = b.bytes ++ bytes_of p.width p.value;
-  marks = b.marks ++ (marks_at (length b.bytes) p.fix ++ marks_at (length b.bytes) p.second);
-}
+appended b p = record { bytes = b.bytes ++ bytes_of p.width p.value; marks = b.marks ++ marks_of (length b.bytes) p }
 
 abbrev pub empty : Block
 empty = record { bytes = []; marks = [] }
 
-abbrev pub block : List Piece → Block
-block pieces = fold appended empty pieces
+abbrev pub drafted : Draft → Block
+drafted d = record { bytes = d.bytes.items; marks = d.marks.items }

@@ -1,7 +1,5 @@
 pub mod Types
 pub mod Faults
-pub mod Outcome
-pub mod Numbers
 pub mod Names
 pub mod Operands
 pub mod Mnemonics
@@ -9,14 +7,9 @@ pub mod Blocks
 pub mod Wanted
 pub mod Instructions
 pub mod Statements
-pub mod Gathering
 pub mod Lines
 pub mod Places
 pub mod Objects
-pub mod Known
 pub mod Progress
 pub mod Numberings
-pub mod Making
 pub mod Assembled
-pub mod Placing
-pub mod Uppers

@@ -1,10 +1,10 @@
 -- A line of a source.
 --     line_of text      its label and its statement, or the earliest fault of their words and operands
-use Rattle.std.specs.Prelude.{ℕ, ◌==◌, ◌-◌, Bool, ◌||◌, not, List, [], ◌∷◌, map, take, drop, length, codes, Option, Some, None, ok_or, if◌then◌else◌, Result, Ok, Err}
+use Rattle.std.specs.Prelude.{ℕ, ◌==◌, ◌-◌, Bool, ◌||◌, not, List, [], ◌∷◌, ◌++◌, map, take, drop, length, codes, Option, Some, None, ok_or, if◌then◌else◌, Result, Ok, Err}
 use Rattle.std.specs.List.{before_first, prefix_len, suffix_len, take_while, slice_split}
 use Rattle.cell_num.specs.Lists.{where_true}
 use Rattle.cell_asm.specs.Types.{AsmKind, AsmKindWord as Word, Operand, Statement, Nothing, Line}
-use Rattle.cell_asm.specs.Faults.{both, with_value, each}
+use Rattle.cell_asm.specs.Faults.{with_value, gathered}
 use Rattle.cell_asm.specs.Names.{is_name, ends}
 use Rattle.cell_asm.specs.Operands.{operand}
 use Rattle.cell_asm.specs.Statements.{statement}
@@ -40,6 +40,9 @@ operand_texts (b ∷ bs) = map trimmed (slice_split (λ c. c == 44) (b ∷ bs))
 abbrev pub spelled : List ℕ → Result Operand AsmKind
 spelled text = ok_or (operand text) Word
 
+abbrev pub operands : List (Result Operand AsmKind) → Result (List Operand) AsmKind
+operands os = gathered (λ before o. before ++ o ∷ []) [] os
+
 -- what an operand that is misspelled hides doesn't count: no fault comes before Word
 abbrev pub read_with : (List Operand → Result Statement AsmKind) → Result (List Operand) AsmKind → Result Statement AsmKind
 read_with read (Ok operands) = read operands
@@ -48,7 +51,7 @@ read_with read (Err k) = Err k
 abbrev pub statement_in : List ℕ → Result Statement AsmKind
 statement_in [] = Ok Nothing
 statement_in (b ∷ bs) =
-    read_with (statement (first_word (b ∷ bs))) (each (map spelled (operand_texts (after_word (b ∷ bs)))))
+    read_with (statement (first_word (b ∷ bs))) (operands (map spelled (operand_texts (after_word (b ∷ bs)))))
 
 -- a first word that ends in a colon is a label, or wrong
 abbrev pub has_label : List ℕ → Bool
@@ -57,18 +60,15 @@ has_label code = ends (first_word code) (codes ":")
 abbrev pub label_name : List ℕ → Option (List ℕ)
 label_name word = let name = take (length word - 1) word in where_true (is_name name) name
 
-abbrev pub labelled : Option (List ℕ) → Result (Option (List ℕ)) AsmKind
-labelled None = Err Word
-labelled (Some name) = Ok (Some name)
-
-abbrev pub label_in : List ℕ → Result (Option (List ℕ)) AsmKind
-label_in word = labelled (label_name word)
+-- behind a label that is none, which is a wrong word, nothing else counts
+abbrev pub labelled : Option (List ℕ) → List ℕ → Result Line AsmKind
+labelled None text = Err Word
+labelled (Some name) text = with_value (λ s. record { label = Some name; statement = s }) (statement_in text)
 
 abbrev pub line_in : List ℕ → Result Line AsmKind
 line_in code =
-    with_value (λ p. record { label = p.0; statement = p.1 })
-    (if has_label code then both (label_in (first_word code)) (statement_in (after_word code))
-    else both (Ok None) (statement_in code))
+    if has_label code then labelled (label_name (first_word code)) (after_word code)
+    else with_value (λ s. record { label = None; statement = s }) (statement_in code)
 
 abbrev pub line_of : List ℕ → Result Line AsmKind
 line_of line = line_in (code_of line)

@@ -5,10 +5,9 @@
 use Rattle.std.specs.Prelude.{ℕ, Bool, ◌||◌, ◌==◌, ◌-◌, List, [], ◌∷◌, take, drop, length, codes, Option, Some, None, option_map, option_and_then, if◌then◌else◌, neg_ℤ}
 use Rattle.std.specs.List.{position_or_len, before_last, after_last}
 use Rattle.cell_num.specs.Lists.{where_true, or_else}
-use Rattle.cell_asm.specs.Types.{Expression, ExpressionName as Name, Sum, Difference, Modifier, Hi, Lo, PcrelHi, PcrelLo, Immediate, Number, Modified, Operand, OperandValue as Value, Plain, OperandMemory as Memory}
+use Rattle.cell_asm.specs.Types.{Expression, ExpressionName as Name, Sum, Difference, Modifier, Whole, Hi, Lo, PcrelHi, PcrelLo, Immediate, Number, ImmediatePart as Part, Operand, OperandValue as Value, OperandMemory as Memory}
 use Rattle.cell_asm.specs.Mnemonics.{row_of}
-use Rattle.cell_asm.specs.Numbers.{number}
-use Rattle.cell_asm.specs.Names.{is_name, register, ends}
+use Rattle.cell_asm.specs.Names.{number, is_name, register, ends}
 
 abbrev pub is_sign : ℕ → Bool
 is_sign b = b == 43 || b == 45
@@ -50,7 +49,7 @@ closed a b f text =
     if ends text (codes ")") then option_and_then (λ x. option_map (λ y. f x y) (b (inside text))) (a (front text)) else None
 
 abbrev pub modified : List ℕ → Option Immediate
-modified text = closed modifier expression (λ m e. Modified m e) text
+modified text = closed modifier expression (λ m e. Part m e) text
 
 abbrev pub immediate : List ℕ → Option Immediate
 immediate text = or_else (option_map (λ n. Number n) (number text)) (modified text)
@@ -60,4 +59,4 @@ memory text = closed immediate register (λ i r. Memory i r) text
 
 abbrev pub operand : List ℕ → Option Operand
 operand text =
-    or_else (option_map (λ i. Value i) (immediate text)) (or_else (option_map (λ e. Plain e) (expression text)) (memory text))
+    or_else (option_map (λ i. Value i) (immediate text)) (or_else (option_map (λ e. Value (Part Whole e)) (expression text)) (memory text))

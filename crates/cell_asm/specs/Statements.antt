@@ -2,14 +2,14 @@
 --     statement word operands      the statement, or the earliest fault
 use Rattle.std.specs.Prelude.{ℕ, ◌^◌, ◌*◌, ◌-◌, nat_le, List, [], ◌∷◌, map, Option, Some, None, if◌then◌else◌, ℤ, pos, negsuc, Result, Ok, Err}
 use Rattle.cell_num.specs.Bits.{modulo_2}
-use Rattle.cell_asm.specs.Types.{RelKind, AsmKind, Width, Byte, Half, WidthWord as Word, Quad, Mnemonic, Directive, Expression, Difference, Number, Operand, OperandValue as Value, Plain, Content, Code, Narrow, Wide, Block, Piece, Fix, Statement, StatementChoose as Choose, StatementGlobal as Global, StatementZeros as Zeros, StatementAlign as Align, Bytes, Layout}
+use Rattle.cell_asm.specs.Types.{RelKind, AsmKind, Width, Byte, Half, WidthWord as Word, Quad, Mnemonic, Directive, Difference, Whole, Number, ImmediatePart as Part, Operand, OperandValue as Value, Content, Code, Narrow, Wide, Block, Piece, Fix, Statement, StatementChoose as Choose, StatementGlobal as Global, StatementZeros as Zeros, StatementAlign as Align, Bytes, Layout}
 use Rattle.cell_num.specs.declared.kinds.RelKind.TheVariants as kinds
 use Rattle.cell_asm.specs.declared.kind.AsmKind.TheVariants as faults
 use Rattle.cell_asm.specs.declared.mnemonic.Directive.TheVariants as directives
-use Rattle.cell_asm.specs.Blocks.{block}
-use Rattle.cell_asm.specs.Faults.{with_value, each}
+use Rattle.cell_asm.specs.Blocks.{appended, empty}
+use Rattle.cell_asm.specs.Faults.{with_value, gathered}
 use Rattle.cell_asm.specs.Mnemonics.{directive, mnemonic}
-use Rattle.cell_asm.specs.Wanted.{name, within, reference, refers, fix}
+use Rattle.cell_asm.specs.Wanted.{name, within, entry, fix}
 use Rattle.cell_asm.specs.Instructions.{instruction}
 
 -- how many bytes a number has, and the kinds of its entries: an address, which one or two bytes don't hold, and the two of a difference
@@ -29,24 +29,19 @@ stored w n =
     with_value (modulo_2 bits) (within (negsuc (2 ^ (bits - 1) - 1)) (pos (2 ^ bits - 1)) n)
 
 abbrev pub filled : Width → ℕ → Option Fix → Option Fix → Piece
-filled w value first second = record { width = (layout_of w).bytes; value = value; fix = first; second = second }
-
--- the address of an expression, where there is a kind for it
-abbrev pub addressed : Width → Option RelKind → Expression → Result Piece AsmKind
-addressed w None e = Err faults.Operand
-addressed w (Some kind) e = with_value (λ r. filled w 0 (Some (fix kind r)) None) (reference e)
+filled w value first second = record { width = (layout_of w).bytes; value = value; fix = first; apart = 0; second = second }
 
 -- one of a list of numbers: a number, an address, or the difference of two
 abbrev pub datum : Width → Operand → Result Piece AsmKind
 datum w (Value (Number n)) = with_value (λ value. filled w value None None) (stored w n)
-datum w (Plain (Difference m n)) = Ok (filled w 0 (Some (fix (layout_of w).add (refers m (pos 0)))) (Some (fix (layout_of w).sub (refers n (pos 0)))))
-datum w (Plain e) = addressed w (layout_of w).address e
+datum w (Value (Part Whole (Difference m n))) = Ok (filled w 0 (Some (fix (layout_of w).add m (pos 0))) (Some (fix (layout_of w).sub n (pos 0))))
+datum w (Value (Part Whole e)) = with_value (λ f. filled w 0 (Some f) None) (entry (layout_of w).address e)
 datum w _ = Err faults.Operand
 
 -- one number or more
 abbrev pub numbers : Width → List Operand → Result Block AsmKind
 numbers w [] = Err faults.Operand
-numbers w (o ∷ operands) = with_value block (each (map (datum w) (o ∷ operands)))
+numbers w (o ∷ operands) = gathered appended empty (map (datum w) (o ∷ operands))
 
 abbrev pub count : Operand → Result ℕ AsmKind
 count (Value (Number (pos n))) = Ok n

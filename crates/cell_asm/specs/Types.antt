@@ -1,23 +1,22 @@
 -- The types that the definitions speak of, each under one name here.
-pub use Rattle.cell_asm.specs.declared.block.Block.{Block}
-pub use Rattle.cell_asm.specs.declared.block.Draft.{Draft}
-pub use Rattle.cell_asm.specs.declared.block.Mark.{Mark}
-pub use Rattle.cell_asm.specs.declared.directive.Gathered.{Gathered}
+pub use Rattle.cell_asm.specs.declared.statement.Block.{Block}
+pub use Rattle.cell_asm.specs.declared.statement.Draft.{Draft}
+pub use Rattle.cell_asm.specs.declared.statement.Mark.{Mark}
 pub use Rattle.cell_asm.specs.declared.directive.Layout.{Layout}
-pub use Rattle.cell_asm.specs.declared.fault.Stop.{Stop}
-pub use Rattle.cell_asm.specs.declared.fault.Stop.TheVariants.{Fault as StopFault, OutOfMemory as StopOutOfMemory}
+pub use Rattle.cell_asm.specs.declared.kind.Stop.{Stop}
+pub use Rattle.cell_asm.specs.declared.kind.Stop.TheVariants.{Fault as StopFault, OutOfMemory as StopOutOfMemory}
 pub use Rattle.cell_asm.specs.declared.instruction.Fields.{Fields}
 pub use Rattle.cell_asm.specs.declared.kind.AsmFail.{AsmFail}
 pub use Rattle.cell_asm.specs.declared.kind.AsmFail.TheVariants.{Fault as AsmFailFault, OutOfMemory as AsmFailOutOfMemory}
 pub use Rattle.cell_asm.specs.declared.kind.AsmKind.{AsmKind}
 pub use Rattle.cell_asm.specs.declared.kind.AsmKind.TheVariants.{Word as AsmKindWord, Label as AsmKindLabel, Section as AsmKindSection, Twice, Long, Operand as AsmKindOperand, Range}
-pub use Rattle.cell_asm.specs.declared.known.About.{About}
-pub use Rattle.cell_asm.specs.declared.known.Known.{Known}
-pub use Rattle.cell_asm.specs.declared.known.Spot.{Spot}
-pub use Rattle.cell_asm.specs.declared.laid.Key.{Key}
-pub use Rattle.cell_asm.specs.declared.laid.Key.TheVariants.{Named as KeyNamed, Made as KeyMade}
-pub use Rattle.cell_asm.specs.declared.laid.Label.{Label}
-pub use Rattle.cell_asm.specs.declared.laid.Laid.{Laid}
+pub use Rattle.cell_asm.specs.declared.place.About.{About}
+pub use Rattle.cell_asm.specs.declared.place.Known.{Known}
+pub use Rattle.cell_asm.specs.declared.place.Spot.{Spot}
+pub use Rattle.cell_asm.specs.declared.statement.Key.{Key}
+pub use Rattle.cell_asm.specs.declared.statement.Key.TheVariants.{Named as KeyNamed, Made as KeyMade}
+pub use Rattle.cell_asm.specs.declared.statement.Label.{Label}
+pub use Rattle.cell_asm.specs.declared.statement.Laid.{Laid}
 pub use Rattle.cell_asm.specs.declared.mnemonic.Directive.{Directive}
 pub use Rattle.cell_asm.specs.declared.mnemonic.Directive.TheVariants.{Choose as DirectiveChoose, Global as DirectiveGlobal, Numbers, Zeros as DirectiveZeros, Align as DirectiveAlign}
 pub use Rattle.cell_asm.specs.declared.mnemonic.Mnemonic.{Mnemonic}
@@ -25,21 +24,21 @@ pub use Rattle.cell_asm.specs.declared.mnemonic.Shape.{Shape}
 pub use Rattle.cell_asm.specs.declared.mnemonic.Shape.TheVariants.{Registers, Immediate as ShapeImmediate, Shift as ShapeShift, ShiftWord as ShapeShiftWord, Load, Store, Branch, Jump, Upper as ShapeUpper, UpperPcrel as ShapeUpperPcrel, Alone, Move, LoadNumber, Return, JumpTo, Call, LoadAddress}
 pub use Rattle.cell_asm.specs.declared.mnemonic.Width.{Width}
 pub use Rattle.cell_asm.specs.declared.mnemonic.Width.TheVariants.{Byte, Half, Word as WidthWord, Quad}
-pub use Rattle.cell_asm.specs.declared.numbering.Numbering.{Numbering}
+pub use Rattle.cell_asm.specs.declared.symbol.Numbering.{Numbering}
 pub use Rattle.cell_asm.specs.declared.operand.Expression.{Expression}
 pub use Rattle.cell_asm.specs.declared.operand.Expression.TheVariants.{Name as ExpressionName, Sum, Difference}
 pub use Rattle.cell_asm.specs.declared.operand.Immediate.{Immediate}
-pub use Rattle.cell_asm.specs.declared.operand.Immediate.TheVariants.{Number, Modified}
+pub use Rattle.cell_asm.specs.declared.operand.Immediate.TheVariants.{Number, Part as ImmediatePart}
 pub use Rattle.cell_asm.specs.declared.operand.Modifier.{Modifier}
-pub use Rattle.cell_asm.specs.declared.operand.Modifier.TheVariants.{Hi, Lo, PcrelHi, PcrelLo}
+pub use Rattle.cell_asm.specs.declared.operand.Modifier.TheVariants.{Whole, Hi, Lo, PcrelHi, PcrelLo}
 pub use Rattle.cell_asm.specs.declared.operand.Operand.{Operand}
-pub use Rattle.cell_asm.specs.declared.operand.Operand.TheVariants.{Value as OperandValue, Plain, Memory as OperandMemory}
+pub use Rattle.cell_asm.specs.declared.operand.Operand.TheVariants.{Value as OperandValue, Memory as OperandMemory}
 pub use Rattle.cell_asm.specs.declared.place.Progress.{Progress}
 pub use Rattle.cell_asm.specs.declared.place.Sizes.{Sizes}
-pub use Rattle.cell_asm.specs.declared.slot.Form.{Form}
-pub use Rattle.cell_asm.specs.declared.slot.Form.TheVariants.{Low, LowStore, Upper as FormUpper, UpperPcrel as FormUpperPcrel, Shift as FormShift, ShiftWord as FormShiftWord, Small}
-pub use Rattle.cell_asm.specs.declared.slot.Slot.{Slot}
-pub use Rattle.cell_asm.specs.declared.slot.Slot.TheVariants.{Rd, Rs1, Rs2, Value as SlotValue, Memory as SlotMemory, Name as SlotName, Address}
+pub use Rattle.cell_asm.specs.declared.mnemonic.Form.{Form}
+pub use Rattle.cell_asm.specs.declared.mnemonic.Form.TheVariants.{Low, LowStore, Upper as FormUpper, UpperPcrel as FormUpperPcrel, Shift as FormShift, ShiftWord as FormShiftWord, Small, Branch as FormBranch, Jump as FormJump, Call as FormCall, Address}
+pub use Rattle.cell_asm.specs.declared.mnemonic.Slot.{Slot}
+pub use Rattle.cell_asm.specs.declared.mnemonic.Slot.TheVariants.{Rd, Rs1, Rs2, Value as SlotValue, Memory as SlotMemory}
 pub use Rattle.cell_asm.specs.declared.source.Placed.{Placed}
 pub use Rattle.cell_asm.specs.declared.statement.Content.{Content}
 pub use Rattle.cell_asm.specs.declared.statement.Content.TheVariants.{Code, Narrow, Wide}
@@ -49,7 +48,6 @@ pub use Rattle.cell_asm.specs.declared.statement.Line.{Line}
 pub use Rattle.cell_asm.specs.declared.statement.Part.{Part}
 pub use Rattle.cell_asm.specs.declared.statement.Part.TheVariants.{Text, Bss, Rodata, Data}
 pub use Rattle.cell_asm.specs.declared.statement.Piece.{Piece}
-pub use Rattle.cell_asm.specs.declared.statement.Reference.{Reference}
 pub use Rattle.cell_asm.specs.declared.statement.Statement.{Statement}
 pub use Rattle.cell_asm.specs.declared.statement.Statement.TheVariants.{Bytes, Nothing, Choose as StatementChoose, Global as StatementGlobal, Zeros as StatementZeros, Align as StatementAlign}
 pub use Rattle.cell_asm.specs.declared.statement.Target.{Target}

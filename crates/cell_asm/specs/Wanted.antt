@@ -1,82 +1,90 @@
 -- What is wanted of one operand.
---     register, name, address, value form, memory form
-use Rattle.std.specs.Prelude.{ℕ, ◌&&◌, List, Option, Some, None, ok_or, if◌then◌else◌, ℤ, pos, negsuc, int_le, Result, Ok, Err}
-use Rattle.cell_num.specs.Kinds.{is_pcrel_lo12}
-use Rattle.cell_asm.specs.Types.{RelKind, Hi20, Lo12I, Lo12S, PcrelHi20, PcrelLo12I, PcrelLo12S, AsmKind, Expression, ExpressionName as Name, Sum, Difference, Modifier, Hi, Lo, PcrelHi, PcrelLo, Immediate, Number, Modified, Operand, OperandValue as Value, Plain, OperandMemory as Memory, Form, Low, LowStore, FormUpper as Upper, FormUpperPcrel as UpperPcrel, FormShift as Shift, FormShiftWord as ShiftWord, TargetNamed as Named, Fix, Reference, Field}
+--     register o, name o         a register, a name
+--     value form o               what stands for an immediate: a number that fits, or an entry over 0
+--     memory form o              I(rs1)
+use Rattle.std.specs.Prelude.{ℕ, ◌&&◌, Bool, true, false, List, Option, Some, None, ok_or, if◌then◌else◌, ℤ, pos, negsuc, int_le, Result, Ok, Err}
+use Rattle.cell_num.specs.declared.kinds.RelKind.TheVariants as kinds
+use Rattle.cell_asm.specs.Types.{RelKind, Hi20, Lo12I, Lo12S, PcrelHi20, PcrelLo12I, PcrelLo12S, CallPlt, AsmKind, Expression, ExpressionName as Name, Sum, Difference, Modifier, Whole, Hi, Lo, PcrelHi, PcrelLo, Immediate, Number, ImmediatePart as Part, Operand, OperandValue as Value, OperandMemory as Memory, Form, Low, LowStore, FormUpper as Upper, FormUpperPcrel as UpperPcrel, FormShift as Shift, FormShiftWord as ShiftWord, Small, FormBranch as Branch, FormJump as Jump, FormCall as Call, Address, TargetNamed as Named, Fix, Field}
 use Rattle.cell_asm.specs.declared.kind.AsmKind.TheVariants as faults
 use Rattle.cell_asm.specs.Faults.{with_value}
 use Rattle.cell_asm.specs.Names as names
 
 -- a register; a name that is none is a wrong word
 abbrev pub register : Operand → Result ℕ AsmKind
-register (Plain (Name name)) = ok_or (names.register name) faults.Word
+register (Value (Part Whole (Name name))) = ok_or (names.register name) faults.Word
 register _ = Err faults.Operand
 
--- a name, and a signed number of 64 bits that is added to its address
-abbrev pub refers : List ℕ → ℤ → Reference
-refers n addend = record { name = n; addend = addend }
-
 abbrev pub name : Operand → Result (List ℕ) AsmKind
-name (Plain (Name n)) = Ok n
+name (Value (Part Whole (Name n))) = Ok n
 name _ = Err faults.Operand
 
 abbrev pub within : ℤ → ℤ → ℤ → Result ℤ AsmKind
 within low high n = if int_le low n && int_le n high then Ok n else Err faults.Range
 
-abbrev pub reference : Expression → Result Reference AsmKind
-reference (Name n) = Ok (refers n (pos 0))
-reference (Sum n by) = with_value (refers n) (within (negsuc 0x7fffffffffffffff) (pos 0x7fffffffffffffff) by)
-reference (Difference m n) = Err faults.Operand
+-- ENTRIES
 
-abbrev pub address : Operand → Result Reference AsmKind
-address (Plain e) = reference e
-address _ = Err faults.Operand
+-- the kinds whose symbol is where a jump or another entry is, to which no number is added
+abbrev pub is_bare : RelKind → Bool
+is_bare kinds.Branch = true
+is_bare kinds.Jal = true
+is_bare PcrelLo12I = true
+is_bare PcrelLo12S = true
+is_bare _ = false
 
-abbrev pub plain : ℤ → Field
-plain n = record { number = n; fix = None }
+abbrev pub fix : RelKind → List ℕ → ℤ → Fix
+fix kind n addend = record { kind = kind; target = Named n; addend = addend }
 
-abbrev pub fix : RelKind → Reference → Fix
-fix kind r = record { kind = kind; target = Named r.name; addend = r.addend }
+-- a signed number of 64 bits is added, where the kind takes one
+abbrev pub moved : RelKind → List ℕ → ℤ → Bool → Result Fix AsmKind
+moved kind n by true = Err faults.Operand
+moved kind n by false = with_value (fix kind n) (within (negsuc 0x7fffffffffffffff) (pos 0x7fffffffffffffff) by)
 
-abbrev pub under : RelKind → Reference → Field
-under kind r = record { number = pos 0; fix = Some (fix kind r) }
+-- an entry of that kind, where there is one
+abbrev pub entry : Option RelKind → Expression → Result Fix AsmKind
+entry None e = Err faults.Operand
+entry (Some kind) (Name n) = Ok (fix kind n (pos 0))
+entry (Some kind) (Sum n by) = moved kind n by (is_bare kind)
+entry (Some kind) (Difference m n) = Err faults.Operand
 
--- IMMEDIATES: the numbers that fit, and the kinds of the entries for parts of an address
+-- IMMEDIATES: the numbers that fit, and the kinds of the entries for an address and for parts of one
 
 abbrev pub fitting : Form → ℤ → Result ℤ AsmKind
 fitting Upper n = within (pos 0) (pos 0xfffff) n
 fitting UpperPcrel n = within (pos 0) (pos 0xfffff) n
 fitting Shift n = within (pos 0) (pos 63) n
 fitting ShiftWord n = within (pos 0) (pos 31) n
-fitting form n = within (negsuc 2047) (pos 2047) n
+fitting Low n = within (negsuc 2047) (pos 2047) n
+fitting LowStore n = within (negsuc 2047) (pos 2047) n
+fitting Small n = within (negsuc 2047) (pos 2047) n
+fitting _ n = Err faults.Operand
 
-abbrev pub part_kind : Form → Modifier → Option RelKind
-part_kind Low Lo = Some Lo12I
-part_kind Low PcrelLo = Some PcrelLo12I
-part_kind LowStore Lo = Some Lo12S
-part_kind LowStore PcrelLo = Some PcrelLo12S
-part_kind Upper Hi = Some Hi20
-part_kind UpperPcrel PcrelHi = Some PcrelHi20
-part_kind form m = None
+abbrev pub kind_of : Form → Modifier → Option RelKind
+kind_of Low Lo = Some Lo12I
+kind_of Low PcrelLo = Some PcrelLo12I
+kind_of LowStore Lo = Some Lo12S
+kind_of LowStore PcrelLo = Some PcrelLo12S
+kind_of Upper Hi = Some Hi20
+kind_of UpperPcrel PcrelHi = Some PcrelHi20
+kind_of Branch Whole = Some kinds.Branch
+kind_of Jump Whole = Some kinds.Jal
+kind_of Call Whole = Some CallPlt
+kind_of Address Whole = Some PcrelHi20
+kind_of form m = None
 
--- %pcrel_lo takes the name of a label and no number
-abbrev pub labelled : Expression → Result Reference AsmKind
-labelled (Name n) = Ok (refers n (pos 0))
-labelled _ = Err faults.Operand
+abbrev pub plain : ℤ → Field
+plain n = record { number = n; fix = None }
 
-abbrev pub part : Option RelKind → Expression → Result Field AsmKind
-part None e = Err faults.Operand
-part (Some kind) e = with_value (under kind) (if is_pcrel_lo12 kind then labelled e else reference e)
+abbrev pub under : Fix → Field
+under f = record { number = pos 0; fix = Some f }
 
-abbrev pub immediate : Form → Immediate → Result Field AsmKind
-immediate form (Number n) = with_value plain (fitting form n)
-immediate form (Modified m e) = part (part_kind form m) e
+abbrev pub field : Form → Immediate → Result Field AsmKind
+field form (Number n) = with_value plain (fitting form n)
+field form (Part m e) = with_value under (entry (kind_of form m) e)
 
 abbrev pub value : Form → Operand → Result Field AsmKind
-value form (Value i) = immediate form i
+value form (Value i) = field form i
 value form _ = Err faults.Operand
 
--- I(rs1)
 abbrev pub memory : Form → Operand → Result (Field × ℕ) AsmKind
-memory form (Memory i base) = with_value (λ field. (field, base)) (immediate form i)
+memory form (Memory i base) = with_value (λ f. (f, base)) (field form i)
 memory form _ = Err faults.Operand

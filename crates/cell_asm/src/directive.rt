@@ -1,21 +1,16 @@
 //! What a directive says, from its operands.
 
-ghost use Rattle.std.specs.Prelude.{◌≡◌, ◌≤◌, ◌<◌, OnOk};
-ghost use Rattle.cell_asm.specs.Wanted.{fix as fix_of};
-ghost use Rattle.cell_asm.specs.Outcome.{Gives};
-ghost use Rattle.cell_asm.specs.Statements.{layout as layout_by, layout_of as layout_with, stored as stored_of, filled as filled_of, addressed as addressed_of, datum as datum_of, numbers as numbers_of, count as count_of, unit as unit_of, directed as directed_of};
-ghost use Rattle.cell_asm.specs.Blocks.{block};
-ghost use Rattle.cell_asm.specs.Faults.{each, with_value};
-ghost use Rattle.cell_asm.specs.Gathering.{gathered, more};
+ghost use Rattle.std.specs.Prelude.{◌≡◌, ◌≤◌, ◌<◌, IfOk};
+ghost use Rattle.cell_asm.specs.Faults.{Gives, joined, with_value};
+ghost use Rattle.cell_asm.specs.Statements.{layout as layout_by, layout_of as layout_with, stored as stored_of, filled as filled_of, datum as datum_of, numbers as numbers_of, count as count_of, unit as unit_of, directed as directed_of};
+ghost use Rattle.cell_asm.specs.Blocks.{appended, drafted};
 ghost use Rattle.cell_num.specs.Bits.{modulo_2};
 
-use crate::block::{Block, Draft};
-use crate::fault::{Stop, earlier, or_stop};
-use crate::kind::AsmKind;
+use crate::kind::{AsmKind, Stop, both, or_stop};
 use crate::mnemonic::{Directive, Width};
-use crate::operand::{Expression, Immediate, Operand};
-use crate::statement::{Content, Fix, Piece, Statement};
-use crate::wanted::{fix, name, named, reference, within};
+use crate::operand::{Expression, Immediate, Modifier, Operand};
+use crate::statement::{Block, Content, Draft, Fix, Piece, Statement};
+use crate::wanted::{entry, fix, name, within};
 use cell_num::RelKind;
 use std::alloc::{AllocError, Global};
 
@@ -87,20 +82,8 @@ fn filled<'a>(width: Width, value: u64, fix: Option<Fix<'a>>, second: Option<Fix
         width: layout_of(width).bytes,
         value,
         fix,
+        apart: 0,
         second,
-    }
-}
-
-/// The bytes for an address, where there is a kind for it.
-fn addressed<'a>(width: Width, expression: &Expression<'a>) -> Result<Piece<'a>, AsmKind>
-    ensures { result ≡ addressed_of width (layout_with width).address expression.now }
-{
-    match layout_of(width).address {
-        Some(kind) => {
-            let reference = reference(expression)?;
-            Ok(filled(width, 0, Some(fix(kind, reference)), None))
-        }
-        None => Err(AsmKind::Operand),
     }
 }
 
@@ -112,38 +95,32 @@ fn datum<'a>(width: Width, operand: &Operand<'a>) -> Result<Piece<'a>, AsmKind>
         Operand::Value(Immediate::Number(number)) => {
             Ok(filled(width, stored(width, *number)?, None, None))
         }
-        Operand::Plain(Expression::Difference(left, right)) => {
-            let plus = fix(layout_of(width).add, named(left));
-            let minus = fix(layout_of(width).sub, named(right));
+        Operand::Value(Immediate::Part(Modifier::Whole, Expression::Difference(left, right))) => {
+            let plus = fix(layout_of(width).add, left, 0);
+            let minus = fix(layout_of(width).sub, right, 0);
             Ok(filled(width, 0, Some(plus), Some(minus)))
         }
-        Operand::Plain(expression) => addressed(width, expression),
+        Operand::Value(Immediate::Part(Modifier::Whole, expression)) => {
+            let fix = entry(layout_of(width).address, expression)?;
+            Ok(filled(width, 0, Some(fix), None))
+        }
         _ => Err(AsmKind::Operand),
     }
 }
 
-/// What is read so far, or the fault that is answered.
-#[derive(Drop)]
-struct Gathered<'a> {
-    draft: Draft<'a>,
-    fault: Option<AsmKind>,
-}
-
-impl<'a> Gathered<'a> {
-    /// Goes on behind one number more.
-    fn add(&mut self, piece: Result<Piece<'a>, AsmKind>) -> Result<(), AllocError>
-        ensures { OnOk result (gathered self.new ≡ more (gathered self.old) piece.entry) }
-    {
-        match piece {
-            Ok(piece) => self.draft.add(piece)?,
-            Err(kind) => {
-                self.fault = match self.fault {
-                    Some(first) => Some(earlier(first, kind)),
-                    None => Some(kind),
-                };
-            }
+/// The bytes behind which one number more stands, or the fault that is answered.
+fn added<'a>(
+    draft: Result<Draft<'a>, AsmKind>,
+    piece: Result<Piece<'a>, AsmKind>,
+) -> Result<Result<Draft<'a>, AsmKind>, AllocError>
+    ensures { IfOk result (λ new. with_value drafted new ≡ joined appended (with_value drafted draft.entry) piece.entry) }
+{
+    match both(draft, piece) {
+        Ok((mut draft, piece)) => {
+            draft.add(piece)?;
+            Ok(Ok(draft))
         }
-        Ok(())
+        Err(kind) => Ok(Err(kind)),
     }
 }
 
@@ -154,17 +131,11 @@ fn numbers<'a>(alloc: Global, width: Width, operands: &[Operand<'a>]) -> Result<
     if operands.is_empty() {
         return Err(Stop::Fault(AsmKind::Operand));
     }
-    let mut gathered = Gathered {
-        draft: Draft::new(alloc),
-        fault: None,
-    };
+    let mut draft = Ok(Draft::new(alloc));
     for operand in operands {
-        gathered.add(datum(width, operand))?;
+        draft = added(draft, datum(width, operand))?;
     }
-    match gathered.fault {
-        Some(kind) => Err(Stop::Fault(kind)),
-        None => Ok(gathered.draft.finished()),
-    }
+    Ok(or_stop(draft)?.finished())
 }
 
 /// A number that isn't negative.

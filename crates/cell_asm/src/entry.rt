@@ -3,13 +3,11 @@
 ghost use Rattle.std.specs.Prelude.{◌≡◌, ◌≤◌, ◌<◌, ◌+◌, ◌^◌, ◌++◌, true, filter, flat_map, map, length, All, IfOk, OnOk};
 ghost use Rattle.cell_asm.specs.Places.{is_in as stands_in};
 ghost use Rattle.cell_asm.specs.Objects.{parts_of, target_key as key_of, entries as entries_of};
-ghost use Rattle.cell_asm.specs.Making.{HasRoom, Numbered, mark_entry, line_entries, part_entries};
+ghost use Rattle.cell_asm.specs.Numberings.{HasRoom, Numbered, mark_entry, line_entries, part_entries};
 
-use crate::block::Mark;
 use crate::label::marks_in;
-use crate::laid::{Key, Laid};
 use crate::section::{is_in, part_number};
-use crate::statement::{Part, Target};
+use crate::statement::{Key, Laid, Mark, Part, Target};
 use crate::symbol::Symbols;
 use cell_num::Listed;
 use cell_object::Entry;
@@ -63,31 +61,19 @@ fn put_entries_in<'a>(
 {
     for laid in lines {
         if is_in(part, laid) {
-            put_entries_of(entries, laid, symbols, section)?;
+            put_marks(
+                entries,
+                laid,
+                symbols,
+                section,
+                marks_in(&laid.line.statement),
+            )?;
         }
     }
     Ok(())
 }
 
 /// Appends the entries of a line.
-fn put_entries_of<'a>(
-    entries: &mut Vec<Entry>,
-    laid: &Laid<'a>,
-    symbols: &Symbols<'a>,
-    section: u16,
-) -> Result<(), AllocError>
-    requires { HasRoom laid.now }
-    ensures { OnOk result (entries.new.items ≡ entries.old.items ++ line_entries section symbols.now laid.now) }
-{
-    put_marks(
-        entries,
-        laid,
-        symbols,
-        section,
-        marks_in(&laid.line.statement),
-    )
-}
-
 fn put_marks<'a>(
     entries: &mut Vec<Entry>,
     laid: &Laid<'a>,

@@ -1,19 +1,15 @@
 //! The words of an instruction from its operands, and the entries for them.
 
 ghost use Rattle.std.specs.Prelude.{◌≡◌, length, IfOk};
-ghost use Rattle.cell_asm.specs.Blocks.{block};
-ghost use Rattle.cell_asm.specs.Faults.{with_value};
-ghost use Rattle.cell_asm.specs.Outcome.{Gives};
-ghost use Rattle.cell_asm.specs.Instructions.{slots as slots_of, fields as fields_of, fixed as fixed_of, put as put_of, filled, word as word_of, piece as piece_of, call as call_of, low_part as low_part_of, pieces, instruction as instruction_of};
+ghost use Rattle.cell_asm.specs.Blocks.{appended, empty};
+ghost use Rattle.cell_asm.specs.Faults.{Gives};
+ghost use Rattle.cell_asm.specs.Instructions.{slots as slots_of, fields as fields_of, fixed as fixed_of, put as put_of, miscounted as miscounted_of, filled, word as word_of, single as single_of, double as double_of, piece as piece_of, instruction as instruction_of};
 
-use crate::block::{Block, Draft};
-use crate::fault::{Stop, earlier};
-use crate::kind::AsmKind;
-use crate::mnemonic::{Mnemonic, Shape};
+use crate::kind::{AsmKind, Stop, both, earlier, or_stop};
+use crate::mnemonic::{Form, Mnemonic, Shape, Slot};
 use crate::operand::Operand;
-use crate::slot::{Form, Slot};
-use crate::statement::{Field, Fix, Piece, Target};
-use crate::wanted::{address, memory, name, named, plain, register, under, value};
+use crate::statement::{Block, Draft, Field, Fix, Piece, Target};
+use crate::wanted::{memory, plain, register, value};
 use cell_isa::{Insn, Op, encode};
 use cell_num::RelKind;
 use std::alloc::{AllocError, Global};
@@ -41,16 +37,16 @@ fn slots(shape: Shape) -> &'static [Slot]
         Shape::ShiftWord => &[Slot::Rd, Slot::Rs1, Slot::Value(Form::ShiftWord)],
         Shape::Load => &[Slot::Rd, Slot::Memory(Form::Low)],
         Shape::Store => &[Slot::Rs2, Slot::Memory(Form::LowStore)],
-        Shape::Branch => &[Slot::Rs1, Slot::Rs2, Slot::Name(RelKind::Branch)],
-        Shape::Jump => &[Slot::Rd, Slot::Name(RelKind::Jal)],
+        Shape::Branch => &[Slot::Rs1, Slot::Rs2, Slot::Value(Form::Branch)],
+        Shape::Jump => &[Slot::Rd, Slot::Value(Form::Jump)],
         Shape::Upper => &[Slot::Rd, Slot::Value(Form::Upper)],
         Shape::UpperPcrel => &[Slot::Rd, Slot::Value(Form::UpperPcrel)],
         Shape::Move => &[Slot::Rd, Slot::Rs1],
         Shape::LoadNumber => &[Slot::Rd, Slot::Value(Form::Small)],
         Shape::Alone(_) | Shape::Return => &[],
-        Shape::JumpTo => &[Slot::Name(RelKind::Jal)],
-        Shape::Call => &[Slot::Address(RelKind::CallPlt)],
-        Shape::LoadAddress => &[Slot::Rd, Slot::Address(RelKind::PcrelHi20)],
+        Shape::JumpTo => &[Slot::Value(Form::Jump)],
+        Shape::Call => &[Slot::Value(Form::Call)],
+        Shape::LoadAddress => &[Slot::Rd, Slot::Value(Form::Address)],
     }
 }
 
@@ -77,45 +73,67 @@ fn fixed<'a>(shape: Shape) -> Fields<'a>
     }
 }
 
-/// The fields with what an operand puts in its slot.
-fn put<'a>(slot: Slot, operand: &Operand<'a>, mut fields: Fields<'a>) -> Result<Fields<'a>, AsmKind>
-    ensures { result ≡ with_value (λ put. put fields.entry) (put_of slot operand.now) }
+/// The fields with what an operand puts in its slot, or the fault that is answered.
+fn put<'a>(
+    fields: Result<Fields<'a>, AsmKind>,
+    slot: Slot,
+    operand: &Operand<'a>,
+) -> Result<Fields<'a>, AsmKind>
+    ensures { result ≡ put_of fields.entry slot operand.now }
 {
     match slot {
-        Slot::Rd => fields.rd = register(operand)?,
-        Slot::Rs1 => fields.rs1 = register(operand)?,
-        Slot::Rs2 => fields.rs2 = register(operand)?,
-        Slot::Value(form) => fields.field = value(form, operand)?,
-        Slot::Memory(form) => {
-            let (field, base) = memory(form, operand)?;
-            fields.field = field;
-            fields.rs1 = base;
+        Slot::Rd => {
+            let (fields, rd) = both(fields, register(operand))?;
+            Ok(Fields { rd, ..fields })
         }
-        Slot::Name(kind) => fields.field = under(kind, named(&name(operand)?)),
-        Slot::Address(kind) => fields.field = under(kind, address(operand)?),
+        Slot::Rs1 => {
+            let (fields, rs1) = both(fields, register(operand))?;
+            Ok(Fields { rs1, ..fields })
+        }
+        Slot::Rs2 => {
+            let (fields, rs2) = both(fields, register(operand))?;
+            Ok(Fields { rs2, ..fields })
+        }
+        Slot::Value(form) => {
+            let (fields, field) = both(fields, value(form, operand))?;
+            Ok(Fields { field, ..fields })
+        }
+        Slot::Memory(form) => {
+            let (fields, (field, rs1)) = both(fields, memory(form, operand))?;
+            Ok(Fields {
+                rs1,
+                field,
+                ..fields
+            })
+        }
     }
-    Ok(fields)
+}
+
+/// The fault where the operands are too few or too many.
+fn miscounted<'a>(fields: Result<Fields<'a>, AsmKind>) -> Result<Fields<'a>, AsmKind>
+    ensures { result ≡ miscounted_of fields.entry }
+{
+    match fields {
+        Ok(_) => Err(AsmKind::Operand),
+        Err(kind) => Err(earlier(kind, AsmKind::Operand)),
+    }
 }
 
 /// The fields with what the operands put in their slots. All that have one are read, for the
 /// earliest fault.
 fn fill<'a>(
+    fields: Result<Fields<'a>, AsmKind>,
     slots: &[Slot],
     operands: &[Operand<'a>],
-    start: Fields<'a>,
 ) -> Result<Fields<'a>, AsmKind>
-    ensures { result ≡ with_value (λ fill. fill start.entry) (filled slots.now operands.now) }
+    ensures { result ≡ filled fields.entry slots.now operands.now }
 {
     match (slots, operands) {
-        ([], []) => Ok(start),
-        ([slot, slots @ ..], [operand, operands @ ..]) => match put(*slot, operand, start) {
-            Ok(more) => fill(slots, operands, more),
-            Err(kind) => match fill(slots, operands, unfilled(0, 0, 0)) {
-                Ok(_) => Err(kind),
-                Err(other) => Err(earlier(kind, other)),
-            },
-        },
-        _ => Err(AsmKind::Operand),
+        ([], []) => fields,
+        ([slot, slots @ ..], [operand, operands @ ..]) => {
+            fill(put(fields, *slot, operand), slots, operands)
+        }
+        _ => miscounted(fields),
     }
 }
 
@@ -134,75 +152,59 @@ fn word(op: Op, rd: u8, rs1: u8, rs2: u8, imm: i32) -> u32
     encode(&insn).unwrap_or(0)
 }
 
-fn piece<'a>(op: Op, fields: Fields<'a>) -> Piece<'a>
-    ensures { result ≡ piece_of op fields.entry }
+fn single<'a>(op: Op, fields: Fields<'a>) -> Piece<'a>
+    ensures { result ≡ single_of op fields.entry }
 {
-    let Fields {
-        rd,
-        rs1,
-        rs2,
-        field,
-    } = fields;
-    let Field { number, fix } = field;
+    let Field { number, fix } = fields.field;
     Piece {
         width: 4,
-        value: u64::from(word(op, rd, rs1, rs2, number)),
+        value: u64::from(word(op, fields.rd, fields.rs1, fields.rs2, number)),
         fix,
+        apart: 0,
         second: None,
     }
 }
 
-/// auipc rd,0 and jalr rd,0(rd) under one entry
-fn call<'a>(fields: Fields<'a>) -> Piece<'a>
-    ensures { result ≡ call_of fields.entry }
+/// An instruction and a second one behind it, which has rd twice.
+fn double<'a>(op: Op, then: Op, fields: Fields<'a>) -> Piece<'a>
+    ensures { result ≡ double_of op then fields.entry }
 {
-    let high = u64::from(word(Op::Auipc, fields.rd, 0, 0, 0));
-    let low = u64::from(word(Op::Jalr, fields.rd, fields.rd, 0, 0));
+    let Field { number, fix } = fields.field;
+    let high = u64::from(word(op, fields.rd, fields.rs1, fields.rs2, number));
+    let low = u64::from(word(then, fields.rd, fields.rd, 0, 0));
     Piece {
         width: 8,
         value: high + 0x1_0000_0000 * low,
-        fix: fields.field.fix,
+        fix,
+        apart: 0,
         second: None,
     }
 }
 
-/// addi rd,rd,0, whose entry names the label that is made at the auipc before it
-fn low_part<'a>(rd: u8) -> Piece<'a>
-    ensures { result ≡ low_part_of rd }
+fn piece<'a>(shape: Shape, op: Op, fields: Fields<'a>) -> Piece<'a>
+    ensures { result ≡ piece_of shape op fields.entry }
 {
-    let fix = Fix {
-        kind: RelKind::PcrelLo12I,
-        target: Target::Made,
-        addend: 0,
-    };
-    piece(
-        Op::Addi,
-        Fields {
-            rd,
-            rs1: rd,
-            rs2: 0,
-            field: Field {
-                number: 0,
-                fix: Some(fix),
-            },
-        },
-    )
+    match shape {
+        Shape::Call => double(op, Op::Jalr, fields),
+        Shape::LoadAddress => {
+            let mut piece = double(op, Op::Addi, fields);
+            piece.apart = 4;
+            piece.second = Some(Fix {
+                kind: RelKind::PcrelLo12I,
+                target: Target::Made,
+                addend: 0,
+            });
+            piece
+        }
+        _ => single(op, fields),
+    }
 }
 
-/// The instructions of a row with these fields.
-fn code<'a>(alloc: Global, mnemonic: Mnemonic, fields: Fields<'a>) -> Result<Block<'a>, AllocError>
-    ensures { IfOk result (λ b. b ≡ block (pieces mnemonic.shape mnemonic.op fields.entry)) }
+fn block<'a>(alloc: Global, piece: Piece<'a>) -> Result<Block<'a>, AllocError>
+    ensures { IfOk result (λ b. b ≡ appended empty piece.entry) }
 {
     let mut draft = Draft::new(alloc);
-    match mnemonic.shape {
-        Shape::Call => draft.add(call(fields))?,
-        Shape::LoadAddress => {
-            let rd = fields.rd;
-            draft.add(piece(mnemonic.op, fields))?;
-            draft.add(low_part(rd))?;
-        }
-        _ => draft.add(piece(mnemonic.op, fields))?,
-    }
+    draft.add(piece)?;
     Ok(draft.finished())
 }
 
@@ -215,8 +217,6 @@ pub fn instruction<'a>(
     ensures { Gives result (instruction_of mnemonic operands.now) }
 {
     let shape = mnemonic.shape;
-    match fill(slots(shape), operands, fixed(shape)) {
-        Ok(fields) => Ok(code(alloc, mnemonic, fields)?),
-        Err(kind) => Err(Stop::Fault(kind)),
-    }
+    let fields = or_stop(fill(Ok(fixed(shape)), slots(shape), operands))?;
+    Ok(block(alloc, piece(shape, mnemonic.op, fields))?)
 }

@@ -1,7 +1,9 @@
 //! Why a source is no object.
 
-ghost use Rattle.std.specs.Prelude.{◌≡◌};
+ghost use Rattle.std.specs.Prelude.{◌≡◌, ◌<◌};
 ghost use Rattle.cell_asm.specs.declared.kind.AsmFail.TheVariants.{OutOfMemory};
+ghost use Rattle.cell_asm.specs.declared.kind.Stop.TheVariants.{OutOfMemory as NoMemory};
+ghost use Rattle.cell_asm.specs.Faults.{Gives, rank as rank_of, earlier as earlier_of, both as both_of};
 
 use std::alloc::{AllocError, AllocFailed};
 
@@ -46,5 +48,79 @@ impl<T: Drop> From<AllocFailed<T>> for AsmFail {
 
     fn from(_error: AllocFailed<T>) -> AsmFail {
         AsmFail::OutOfMemory
+    }
+}
+
+/// Why a line is not read.
+#[derive(Clone, Copy, Debug, PartialEq, Eq)]
+pub enum Stop {
+    Fault(AsmKind),
+    OutOfMemory,
+}
+
+impl From<AllocError> for Stop {
+    ghost from_gives = { λ _ e. e ≡ NoMemory };
+
+    fn from(_error: AllocError) -> Stop {
+        Stop::OutOfMemory
+    }
+}
+
+impl<T: Drop> From<AllocFailed<T>> for Stop {
+    ghost from_gives = { λ _ e. e ≡ NoMemory };
+
+    fn from(_error: AllocFailed<T>) -> Stop {
+        Stop::OutOfMemory
+    }
+}
+
+/// The place in the order in which the faults of one line are answered.
+fn rank(kind: AsmKind) -> u8
+    ensures rank { result ≡ rank_of kind }
+    ensures small { result < 7 }
+{
+    match kind {
+        AsmKind::Word => 0,
+        AsmKind::Operand => 1,
+        AsmKind::Range => 2,
+        AsmKind::Section => 3,
+        AsmKind::Twice => 4,
+        AsmKind::Long => 5,
+        AsmKind::Label => 6,
+    }
+}
+
+/// The fault that is answered of two on one line.
+pub fn earlier(first: AsmKind, second: AsmKind) -> AsmKind
+    ensures { result ≡ earlier_of first second }
+{
+    if rank(first) <= rank(second) {
+        first
+    } else {
+        second
+    }
+}
+
+/// The two values, or the fault that is answered.
+pub fn both<A: Drop, B: Drop>(
+    first: Result<A, AsmKind>,
+    second: Result<B, AsmKind>,
+) -> Result<(A, B), AsmKind>
+    ensures { result ≡ both_of first second }
+{
+    match (first, second) {
+        (Ok(first), Ok(second)) => Ok((first, second)),
+        (Err(first), Err(second)) => Err(earlier(first, second)),
+        (Err(kind), Ok(_)) | (Ok(_), Err(kind)) => Err(kind),
+    }
+}
+
+/// The value, or the fault as what stops the reading of a line.
+pub fn or_stop<A: Drop>(outcome: Result<A, AsmKind>) -> Result<A, Stop>
+    ensures { Gives result outcome }
+{
+    match outcome {
+        Ok(value) => Ok(value),
+        Err(kind) => Err(Stop::Fault(kind)),
     }
 }

@@ -4,19 +4,15 @@ ghost use Rattle.std.specs.Prelude.{◌≡◌, ◌++◌, ◌==◌, ◌&&◌, ℕ
 ghost use Rattle.std.specs.List.{list_any};
 ghost use Rattle.std.specs.Ordering.{nat_cmp};
 ghost use Rattle.std.specs.BTreeSet.{contains};
-ghost use Rattle.cell_asm.specs.Known.{about, about_in};
+ghost use Rattle.cell_asm.specs.Progress.{about, about_in, is_upper_spot, target_lost_by, mark_lost_by, lost_by};
 ghost use Rattle.cell_asm.specs.Places.{is_in, keys_of, labels_at, labels as labels_of};
 ghost use Rattle.cell_num.specs.Kinds.{is_pcrel_hi20 as pcrel_hi20};
 ghost use Rattle.cell_asm.specs.Objects.{marks_in as marks_of};
 ghost use Rattle.cell_asm.specs.Assembled.{has_upper as upper_in, has_lost as lost_in};
-ghost use Rattle.cell_asm.specs.Uppers.{is_upper_spot, target_lost_by, mark_lost_by, lost_by};
 ghost use Rattle.cell_asm.specs.declared.statement.Part.TheVariants as parts;
 
-use crate::block::Mark;
-use crate::known::{Known, Spot};
-use crate::laid::{Key, Label, Laid};
-use crate::place::makes_label;
-use crate::statement::{Part, Statement, Target};
+use crate::place::{Known, Spot, makes_label};
+use crate::statement::{Key, Label, Laid, Mark, Part, Statement, Target};
 use cell_num::{is_pcrel_hi20, is_pcrel_lo12};
 use std::alloc::{AllocError, Global};
 use std::collections::BTreeSet;

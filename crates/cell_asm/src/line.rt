@@ -2,15 +2,13 @@
 
 ghost use Rattle.std.specs.Prelude.{◌≡◌, ◌≤◌, ◌-◌, ◌==◌, map, length, not, IfOk};
 ghost use Rattle.std.specs.List.{prefix_len, suffix_len, slice_split};
-ghost use Rattle.cell_asm.specs.Faults.{each};
-ghost use Rattle.cell_asm.specs.Outcome.{Gives};
-ghost use Rattle.cell_asm.specs.Lines.{is_blank as blank, is_inked as inked, trimmed as trimmed_of, code_of as code_of_line, first_word as first_word_of, after_word as after_word_of, operand_texts, spelled, statement_in as statement_in_text, has_label as labelled, label_name, line_of};
+ghost use Rattle.cell_asm.specs.Faults.{Gives};
+ghost use Rattle.cell_asm.specs.Lines.{is_blank as blank, is_inked as inked, trimmed as trimmed_of, code_of as code_of_line, first_word as first_word_of, after_word as after_word_of, operand_texts, spelled, operands as operands_of, statement_in as statement_in_text, has_label as labelled, label_name, line_of};
 ghost use Rattle.cell_asm.specs.Statements.{statement as statement_of, instructed as instructed_of};
 
 use crate::directive::directed;
-use crate::fault::Stop;
 use crate::instruction::instruction;
-use crate::kind::AsmKind;
+use crate::kind::{AsmKind, Stop};
 use crate::mnemonic::{Mnemonic, read_directive, read_mnemonic};
 use crate::names::is_name;
 use crate::operand::{Operand, read_operand};
@@ -20,7 +18,6 @@ use cell_num::Listed;
 use std::alloc::{AllocError, Global};
 
 /// Reads a line. Of several faults the first in the order Word, Operand, Range is answered.
-#[tactic(auto, using(crate::proofs::ReadingLemmas::bad_label))]
 pub fn read_line<'a>(alloc: Global, text: &'a [u8]) -> Result<Line<'a>, Stop>
     ensures { Gives result (line_of text.now) }
 {
@@ -165,7 +162,7 @@ fn read_statement<'a>(alloc: Global, text: &'a [u8]) -> Result<Statement<'a>, St
 
 /// The operands between the commas; there are none where nothing follows the word.
 fn read_operands<'a>(alloc: Global, text: &'a [u8]) -> Result<Listed<Operand<'a>>, Stop>
-    ensures { Gives result (each (map spelled (operand_texts text.now))) }
+    ensures { Gives result (operands_of (map spelled (operand_texts text.now))) }
 {
     if text.is_empty() {
         return Ok(Listed::from_vec(Vec::new(alloc)));
@@ -182,7 +179,7 @@ fn parts_of<'a>(alloc: Global, text: &'a [u8]) -> Result<Vec<&'a [u8]>, AllocErr
 }
 
 fn read_parts<'a>(alloc: Global, parts: &[&'a [u8]]) -> Result<Listed<Operand<'a>>, Stop>
-    ensures { Gives result (each (map (λ part. spelled (trimmed_of part.now)) parts.now)) }
+    ensures { Gives result (operands_of (map (λ part. spelled (trimmed_of part.now)) parts.now)) }
 {
     let mut operands = Vec::new(alloc);
     for part in parts {

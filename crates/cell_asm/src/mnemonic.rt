@@ -196,3 +196,41 @@ fn mnemonic_row(text: &[u8]) -> Option<(Op, Shape)>
 {
     row_in(&MNEMONICS, text)
 }
+
+/// What stands for an immediate: the numbers that fit, and the parts of an address.
+#[derive(Clone, Copy, Debug, PartialEq, Eq)]
+pub enum Form {
+    /// 12 bits, `%lo(E)` or `%pcrel_lo(NAME)`
+    Low,
+    /// the same in a store
+    LowStore,
+    /// 20 bits or `%hi(E)`
+    Upper,
+    /// 20 bits or `%pcrel_hi(E)`
+    UpperPcrel,
+    /// 0 to 63
+    Shift,
+    /// 0 to 31
+    ShiftWord,
+    /// 12 bits
+    Small,
+    /// `NAME` in a branch
+    Branch,
+    /// `NAME` in a jump
+    Jump,
+    /// `NAME`, `NAME+N` or `NAME-N` in `call`
+    Call,
+    /// the same in `la`
+    Address,
+}
+
+/// What an operand fills.
+#[derive(Clone, Copy, Debug, PartialEq, Eq)]
+pub enum Slot {
+    Rd,
+    Rs1,
+    Rs2,
+    Value(Form),
+    /// `I(rs1)`
+    Memory(Form),
+}

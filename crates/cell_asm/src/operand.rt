@@ -17,27 +17,27 @@ pub enum Expression<'a> {
     Difference(Text<'a>, Text<'a>),
 }
 
-/// Which part of an address `%word(EXPR)` asks for.
+/// An address, or which part of it `%word(EXPR)` asks for.
 #[derive(Clone, Copy, Debug, PartialEq, Eq)]
 pub enum Modifier {
+    Whole,
     Hi,
     Lo,
     PcrelHi,
     PcrelLo,
 }
 
-/// A number, or a part of an address.
+/// A number, or an address or a part of one.
 #[derive(Drop)]
 pub enum Immediate<'a> {
     Number(i128),
-    Modified(Modifier, Expression<'a>),
+    Part(Modifier, Expression<'a>),
 }
 
-/// An operand: a number or a part of an address, an expression, or `I(reg)`.
+/// An operand, or `I(reg)`.
 #[derive(Drop)]
 pub enum Operand<'a> {
     Value(Immediate<'a>),
-    Plain(Expression<'a>),
     Memory(Immediate<'a>, u8),
 }
 
@@ -48,7 +48,7 @@ pub fn read_operand<'a>(text: &'a [u8]) -> Option<Operand<'a>>
     if let Some(value) = read_immediate(text) {
         Some(Operand::Value(value))
     } else if let Some(plain) = read_expression(text) {
-        Some(Operand::Plain(plain))
+        Some(Operand::Value(Immediate::Part(Modifier::Whole, plain)))
     } else {
         memory(text)
     }
@@ -84,7 +84,7 @@ fn modified<'a>(text: &'a [u8]) -> Option<Immediate<'a>>
     }
     let modifier = read_modifier(front(text))?;
     let of = read_expression(inside(text))?;
-    Some(Immediate::Modified(modifier, of))
+    Some(Immediate::Part(modifier, of))
 }
 
 /// The parts of an address.

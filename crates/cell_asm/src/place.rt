@@ -1,23 +1,87 @@
 //! Lines in their places, one after the other.
 
-ghost use Rattle.std.specs.Prelude.{◌≡◌, ◌+◌, ◌-◌, ◌^◌, ◌<◌, ◌≤◌, [], ◌∷◌, ◌++◌, true, false, ℕ, List, min, sum_by, Ok, IfOk, OnOk, if◌then◌else◌};
+ghost use Rattle.std.specs.Prelude.{◌≡◌, ℕ, List, OnOk, if◌then◌else◌, ◌+◌, ◌-◌, ◌^◌, ◌<◌, ◌≤◌, [], ◌∷◌, ◌++◌, true, false, min, sum_by, Ok, IfOk};
+ghost use Rattle.cell_num.specs.Lists.{equals, where_true};
+ghost use Rattle.cell_asm.specs.Progress.{unknown, about as about_of, with_spot, with_global, about_with, spot_here, size_of, offset_of, twice_of, fault_after, laid_after, Adds, Follows};
 ghost use Rattle.std.specs.List.{list_any};
 ghost use Rattle.cell_asm.specs.Assembled.{placed_line};
-ghost use Rattle.cell_asm.specs.Known.{about as about_of, with_spot, about_with, spot_here};
-ghost use Rattle.cell_asm.specs.Outcome.{Gives};
+ghost use Rattle.cell_asm.specs.Faults.{Gives};
 ghost use Rattle.cell_asm.specs.Places.{is_same_part, gap as gap_of, taken as taken_of, is_made, makes_label as label_made, may_stand as may_stand_of, takes as takes_of, lays_nothing as lays_none, is_long as long_of};
-ghost use Rattle.cell_asm.specs.Progress.{size_of, offset_of, twice_of, fault_after, laid_after, Adds, Follows};
-ghost use Rattle.cell_asm.specs.declared.laid.Laid.{Laid as LaidValue};
+ghost use Rattle.cell_asm.specs.declared.statement.Laid.{Laid as LaidValue};
 ghost use Rattle.cell_asm.specs.declared.statement.Part.{Part as PartValue};
 
-use crate::block::Mark;
-use crate::fault::Stop;
-use crate::kind::AsmKind;
-use crate::known::{Known, Spot};
-use crate::laid::Laid;
-use crate::statement::{Content, Line, Part, Statement, Target};
+use crate::kind::{AsmKind, Stop};
+use crate::statement::{Content, Laid, Line, Mark, Part, Statement, Target};
 use crate::text::Text;
 use std::alloc::{AllocError, Global};
+use std::collections::BTreeMap;
+
+/// A section, and an offset there.
+#[derive(Clone, Copy, Debug, PartialEq, Eq)]
+pub struct Spot {
+    pub part: Part,
+    pub offset: u32,
+}
+
+/// What a name is: where its label is, and whether a directive makes it GLOBAL.
+#[derive(Clone, Copy, Debug, PartialEq, Eq)]
+pub struct About {
+    pub spot: Option<Spot>,
+    pub global: bool,
+}
+
+/// What each name is.
+#[derive(Drop)]
+pub struct Known<'a> {
+    pub names: BTreeMap<&'a [u8], About>,
+}
+
+impl<'a> Known<'a> {
+    pub fn new(alloc: Global) -> Known<'a>
+        ensures { (q : List ℕ) → about_of result q ≡ unknown }
+    {
+        Known {
+            names: BTreeMap::new(alloc),
+        }
+    }
+
+    pub fn about(&self, name: &'a [u8]) -> About
+        ensures { result ≡ about_of self.now name.now }
+    {
+        let unknown = About {
+            spot: None,
+            global: false,
+        };
+        self.names.get(&name).copied().unwrap_or(unknown)
+    }
+
+    fn set(&mut self, name: &'a [u8], about: About) -> Result<(), AllocError>
+        ensures { OnOk result ((q : List ℕ) → about_of self.new q ≡ (if equals name.now q then about else about_of self.old q)) }
+    {
+        self.names.insert(name, about)?;
+        Ok(())
+    }
+
+    /// Keeps where the label of a name is. The first counts.
+    pub fn add_spot(&mut self, name: &'a [u8], spot: Spot) -> Result<(), AllocError>
+        ensures { OnOk result ((q : List ℕ) → about_of self.new q ≡ with_spot (where_true (equals name.now q) spot) (about_of self.old q)) }
+    {
+        let mut about = self.about(name);
+        about.spot = about.spot.or(Some(spot));
+        self.set(name, about)?;
+        Ok(())
+    }
+
+    /// Keeps that a directive makes the name GLOBAL.
+    pub fn add_global(&mut self, name: &'a [u8]) -> Result<(), AllocError>
+        ensures { OnOk result ((q : List ℕ) → about_of self.new q ≡ with_global (equals name.now q) (about_of self.old q)) }
+    {
+        let mut about = self.about(name);
+        about.global = true;
+        self.set(name, about)?;
+        Ok(())
+    }
+}
 
 /// How large `.bss` may be, and any other section.
 const LARGEST_BSS: u128 = 0x100_0000;

@@ -8,10 +8,8 @@ ghost use Rattle.cell_asm.specs.Progress.{size_of};
 ghost use Rattle.cell_asm.specs.Objects.{adds_part, adds_choice, parts_of as parts_chosen, number_in, part_name as name_of, fill_of as fill_with, may_write as writes, alignment as alignment_of, alignment_asked as alignment_wanted, first_alignment as alignment_first, padding, bytes_at, contents as contents_of, section_of, sections as sections_of};
 ghost use Rattle.cell_asm.specs.declared.statement.Part.{Part as PartValue};
 
-use crate::block::put_number;
-use crate::laid::Laid;
 use crate::place::{Sizes, gap};
-use crate::statement::{Part, Statement};
+use crate::statement::{Laid, Part, Statement, put_number};
 use cell_num::{Bytes, Listed};
 use cell_object::{Fill, Section};
 use std::alloc::{AllocError, Global};

@@ -2,23 +2,21 @@
 
 ghost use Rattle.std.specs.Prelude.{◌≡◌, ◌^◌, ◌<◌, ◌≤◌, All, [], ◌∷◌, ◌++◌, List, map, find, length, IfOk};
 ghost use Rattle.cell_object.specs.Writable.{IsWritable};
-ghost use Rattle.cell_asm.specs.Making.{HasRoom};
+ghost use Rattle.cell_asm.specs.Numberings.{HasRoom};
 ghost use Rattle.cell_asm.specs.Assembled.{placed_line, placed_texts, has_lost, object_unless, assembled, Assembles};
 ghost use Rattle.cell_asm.specs.Lines.{line_of};
-ghost use Rattle.cell_asm.specs.Outcome.{Gives};
-ghost use Rattle.cell_asm.specs.Placing.{Places, failure};
+ghost use Rattle.cell_asm.specs.Faults.{Gives};
+ghost use Rattle.cell_asm.specs.Progress.{Places, failure, Follows};
 ghost use Rattle.cell_asm.specs.Objects.{object_of};
-ghost use Rattle.cell_asm.specs.Progress.{Follows};
-ghost use Rattle.cell_asm.specs.declared.laid.Laid.{Laid as LaidValue};
+ghost use Rattle.cell_asm.specs.declared.statement.Laid.{Laid as LaidValue};
 
 use crate::entry::entries;
-use crate::fault::Stop;
-use crate::kind::{AsmFail, AsmKind};
+use crate::kind::{AsmFail, AsmKind, Stop};
 use crate::label::{first_lost, labels};
-use crate::laid::Laid;
 use crate::line::read_line;
 use crate::place::Progress;
 use crate::section::{parts_of, sections};
+use crate::statement::Laid;
 use crate::symbol::make_symbols;
 use cell_num::Listed;
 use cell_object::Object;

@@ -1,8 +1,12 @@
 //! What a line says.
 
-use crate::block::Block;
+ghost use Rattle.std.specs.Prelude.{◌≡◌, [], ◌++◌, length, OnOk};
+ghost use Rattle.cell_num.specs.Bits.{bytes_of};
+ghost use Rattle.cell_asm.specs.Blocks.{marks_at, appended, empty, drafted};
+
 use crate::text::Text;
-use cell_num::RelKind;
+use cell_num::{Listed, RelKind};
+use std::alloc::{AllocError, Global};
 
 /// The sections that a source can choose.
 #[derive(Clone, Copy, Debug, PartialEq, Eq)]
@@ -28,13 +32,6 @@ pub struct Fix<'a> {
     pub addend: i64,
 }
 
-/// A name, and the number that is added to its address.
-#[derive(Drop)]
-pub struct Reference<'a> {
-    pub name: Text<'a>,
-    pub addend: i64,
-}
-
 /// An instruction's immediate: a number, or 0 under an entry.
 #[derive(Drop)]
 pub struct Field<'a> {
@@ -42,12 +39,14 @@ pub struct Field<'a> {
     pub fix: Option<Fix<'a>>,
 }
 
-/// Up to eight bytes, the lowest first, and the entries for them, in order.
+/// Up to eight bytes, the lowest first, and the entries for them, in order, of which the second
+/// stands so far behind the first.
 #[derive(Drop)]
 pub struct Piece<'a> {
     pub width: u8,
     pub value: u64,
     pub fix: Option<Fix<'a>>,
+    pub apart: u8,
     pub second: Option<Fix<'a>>,
 }
 
@@ -77,4 +76,105 @@ pub enum Statement<'a> {
 pub struct Line<'a> {
     pub label: Option<Text<'a>>,
     pub statement: Statement<'a>,
+}
+
+/// An entry, and where its bytes begin in the statement.
+#[derive(Drop)]
+pub struct Mark<'a> {
+    pub at: usize,
+    pub fix: Fix<'a>,
+}
+
+/// The bytes of a statement, and the entries for them, in order.
+#[derive(Drop)]
+pub struct Block<'a> {
+    pub bytes: Listed<u8>,
+    pub marks: Listed<Mark<'a>>,
+}
+
+/// A block that grows piece by piece.
+#[derive(Drop)]
+pub struct Draft<'a> {
+    pub bytes: Vec<u8>,
+    pub marks: Vec<Mark<'a>>,
+}
+
+impl<'a> Draft<'a> {
+    pub fn new(alloc: Global) -> Draft<'a>
+        ensures { drafted result ≡ empty }
+    {
+        Draft {
+            bytes: Vec::new(alloc),
+            marks: Vec::new(alloc),
+        }
+    }
+
+    /// Goes on behind one piece more.
+    pub fn add(&mut self, piece: Piece<'a>) -> Result<(), AllocError>
+        ensures { OnOk result (drafted self.new ≡ appended (drafted self.old) piece.entry) }
+    {
+        self.mark(0, piece.fix)?;
+        self.mark(piece.apart, piece.second)?;
+        put_number(&mut self.bytes, piece.width, piece.value)
+    }
+
+    /// Adds an entry so far behind the bytes.
+    fn mark(&mut self, apart: u8, fix: Option<Fix<'a>>) -> Result<(), AllocError>
+        ensures marks { OnOk result (self.new.marks.items ≡ self.old.marks.items ++ marks_at (length self.old.bytes.items) apart fix.entry) }
+        ensures bytes { self.new.bytes ≡ self.old.bytes }
+    {
+        if let Some(fix) = fix {
+            let at = self.bytes.len() + usize::from(apart);
+            self.marks.push(Mark { at, fix })?;
+        }
+        Ok(())
+    }
+
+    pub fn finished(self) -> Block<'a>
+        ensures { result ≡ drafted self.entry }
+    {
+        Block {
+            bytes: Listed::from_vec(self.bytes),
+            marks: Listed::from_vec(self.marks),
+        }
+    }
+}
+
+/// Appends so many bytes of a number, the lowest first.
+#[tactic(auto, using(crate::proofs::ObjectLemmas::numbers))]
+pub fn put_number(bytes: &mut Vec<u8>, width: u8, value: u64) -> Result<(), AllocError>
+    ensures { OnOk result (bytes.new.items ≡ bytes.old.items ++ bytes_of width value) }
+{
+    let mut rest = value;
+    for _ in 0..width {
+        bytes.push((rest % 256) as u8)?;
+        rest /= 256;
+    }
+    Ok(())
+}
+
+/// A line and where it stands: its number, the section chosen before it, how many bytes that section
+/// has before it, and the number of the next label that is made, from 1.
+#[derive(Drop)]
+pub struct Laid<'a> {
+    pub number: u32,
+    pub part: Option<Part>,
+    pub offset: u32,
+    pub made: u32,
+    pub line: Line<'a>,
+}
+
+/// What a symbol is known by: its name, or the number of a label that `la` made, from 1.
+#[derive(Drop)]
+pub enum Key<'a> {
+    Named(Text<'a>),
+    Made(u32),
+}
+
+/// A label: its section, and its offset there.
+#[derive(Drop)]
+pub struct Label<'a> {
+    pub key: Key<'a>,
+    pub part: Part,
+    pub offset: u32,
 }

@@ -1,29 +1,85 @@
 //! The symbols of an object.
 
-ghost use Rattle.std.specs.Prelude.{◌≡◌, ◌≤◌, ◌+◌, [], ◌∷◌, ◌++◌, flat_map, fold, length, not, is_some, ℕ, List, IfOk, OnOk};
+ghost use Rattle.std.specs.Prelude.{◌≡◌, ◌==◌, ℕ, List, None, OnOk, ◌≤◌, ◌+◌, [], ◌∷◌, ◌++◌, flat_map, fold, length, not, is_some, IfOk};
+ghost use Rattle.cell_num.specs.Lists.{equals, or_else, where_true};
+ghost use Rattle.cell_asm.specs.Places.{is_key, labels as labels_of};
+ghost use Rattle.cell_asm.specs.Numberings.{number_of, Lists, Mentions, mentioned, home_in, is_global_in, Locals, number_kept, Numbered};
+ghost use Rattle.cell_asm.specs.declared.statement.Key.{Key as KeyValue};
+ghost use Rattle.cell_asm.specs.declared.statement.Key.TheVariants as keys;
 ghost use Rattle.std.specs.Option.{option_map_or};
-ghost use Rattle.cell_asm.specs.Known.{about, about_in};
-ghost use Rattle.cell_asm.specs.Places.{labels as labels_of};
+ghost use Rattle.cell_asm.specs.Progress.{about, about_in};
 ghost use Rattle.cell_asm.specs.Objects.{key_name as name_of, target_names, statement_names, mentions as mentions_of, parts_of, symbol as symbol_of, symbols as symbols_of};
-ghost use Rattle.cell_asm.specs.Numberings.{number_of, Lists, Mentions, mentioned, home_in};
-ghost use Rattle.cell_asm.specs.Making.{is_global_in, Locals, number_kept, Numbered};
 ghost use Rattle.cell_object.specs.declared.object.Bind.TheVariants as binds;
-ghost use Rattle.cell_asm.specs.declared.laid.Key.{Key as KeyValue};
-ghost use Rattle.cell_asm.specs.declared.laid.Key.TheVariants as keys;
-ghost use Rattle.cell_asm.specs.declared.laid.Label.{Label as LabelValue};
+ghost use Rattle.cell_asm.specs.declared.statement.Label.{Label as LabelValue};
 ghost use Rattle.cell_object.specs.declared.object.Symbol.{Symbol as SymbolValue};
 
-use crate::block::Mark;
-use crate::known::{Known, Spot};
-use crate::laid::{Key, Label, Laid};
-use crate::numbering::Numbering;
+use crate::place::{Known, Spot};
 use crate::section::part_number;
-use crate::statement::{Part, Statement, Target};
+use crate::statement::{Key, Label, Laid, Mark, Part, Statement, Target};
 use crate::text::Text;
 use cell_num::{Bytes, Listed};
 use cell_object::{Bind, Home, Sort, Symbol};
 use cell_text::put_dec;
 use std::alloc::{AllocError, Global};
+use std::collections::BTreeMap;
+
+/// The numbers of symbols, by their names and by the numbers of made labels.
+#[derive(Drop)]
+pub struct Numbering<'a> {
+    pub named: BTreeMap<&'a [u8], u32>,
+    pub made: BTreeMap<u32, u32>,
+}
+
+impl<'a> Numbering<'a> {
+    pub fn new(alloc: Global) -> Numbering<'a>
+        ensures { (q : KeyValue) → number_of result q ≡ None }
+    {
+        Numbering {
+            named: BTreeMap::new(alloc),
+            made: BTreeMap::new(alloc),
+        }
+    }
+
+    pub fn get(&self, key: &Key<'a>) -> Option<u32>
+        ensures { result ≡ number_of self.now key.now }
+    {
+        match key {
+            Key::Named(name) => self.named.get(&name.bytes()).copied(),
+            Key::Made(made) => self.made.get(made).copied(),
+        }
+    }
+
+    /// Gives a key its number, where it has none.
+    #[tactic(auto, using(crate::proofs::SymbolLemmas::added))]
+    pub fn add(&mut self, key: &Key<'a>, number: u32) -> Result<(), AllocError>
+        ensures { OnOk result ((q : KeyValue) → number_of self.new q ≡ or_else (number_of self.old q) (where_true (is_key key.now q) number)) }
+    {
+        match key {
+            Key::Named(name) => self.add_name(name.bytes(), number),
+            Key::Made(made) => self.add_made(*made, number),
+        }
+    }
+
+    fn add_name(&mut self, name: &'a [u8], number: u32) -> Result<(), AllocError>
+        ensures names { OnOk result ((q : List ℕ) → number_of self.new (keys.Named q) ≡ or_else (number_of self.old (keys.Named q)) (where_true (equals name.now q) number)) }
+        ensures made { self.new.made ≡ self.old.made }
+    {
+        if self.named.get(&name).is_none() {
+            self.named.insert(name, number)?;
+        }
+        Ok(())
+    }
+
+    fn add_made(&mut self, made: u32, number: u32) -> Result<(), AllocError>
+        ensures made { OnOk result ((q : ℕ) → number_of self.new (keys.Made q) ≡ or_else (number_of self.old (keys.Made q)) (where_true (made == q) number)) }
+        ensures names { self.new.named ≡ self.old.named }
+    {
+        if self.made.get(&made).is_none() {
+            self.made.insert(made, number)?;
+        }
+        Ok(())
+    }
+}
 
 /// The symbols, and their numbers.
 #[derive(Drop)]

@@ -1,16 +1,15 @@
 //! What is wanted of one operand.
 
 ghost use Rattle.std.specs.Prelude.{◌≡◌, ◌≤◌, ◌<◌, ◌≤ℤ◌, pos, negsuc, IfOk, if◌then◌else◌};
-ghost use Rattle.cell_num.specs.Kinds.{is_pcrel_lo12 as pcrel_lo12};
-ghost use Rattle.cell_asm.specs.Wanted.{register as register_of, name as name_of, within as within_of, refers, reference as reference_of, address as address_of, plain as plain_of, fix as fix_of, under as under_of, fitting as fitting_of, part_kind as part_kind_of, labelled as labelled_of, part as part_of, immediate as immediate_of, value as value_of, memory as memory_of};
+ghost use Rattle.cell_asm.specs.Wanted.{register as register_of, name as name_of, within as within_of, is_bare as bare, fix as fix_of, moved as moved_of, entry as entry_of, fitting as fitting_of, kind_of as kind_with, plain as plain_of, field as field_of, value as value_of, memory as memory_of};
 
 use crate::kind::AsmKind;
+use crate::mnemonic::Form;
 use crate::names;
 use crate::operand::{Expression, Immediate, Modifier, Operand};
-use crate::slot::Form;
-use crate::statement::{Field, Fix, Reference, Target};
+use crate::statement::{Field, Fix, Target};
 use crate::text::Text;
-use cell_num::{RelKind, is_pcrel_lo12};
+use cell_num::RelKind;
 
 /// Twelve bits hold a number from -2048 to 2047.
 const LEAST_LOW: i128 = -0x800;
@@ -25,21 +24,13 @@ pub fn register(operand: &Operand<'_>) -> Result<u8, AsmKind>
     ensures { result ≡ register_of operand.now }
 {
     match operand {
-        Operand::Plain(Expression::Name(name)) => match names::register(name.bytes()) {
-            Some(register) => Ok(register),
-            None => Err(AsmKind::Word),
-        },
+        Operand::Value(Immediate::Part(Modifier::Whole, Expression::Name(name))) => {
+            match names::register(name.bytes()) {
+                Some(register) => Ok(register),
+                None => Err(AsmKind::Word),
+            }
+        }
         _ => Err(AsmKind::Operand),
-    }
-}
-
-/// A name and no number.
-pub fn named<'a>(name: &Text<'a>) -> Reference<'a>
-    ensures { result ≡ refers name.now (pos 0) }
-{
-    Reference {
-        name: name.again(),
-        addend: 0,
     }
 }
 
@@ -47,7 +38,9 @@ pub fn name<'a>(operand: &Operand<'a>) -> Result<Text<'a>, AsmKind>
     ensures { result ≡ name_of operand.now }
 {
     match operand {
-        Operand::Plain(Expression::Name(name)) => Ok(name.again()),
+        Operand::Value(Immediate::Part(Modifier::Whole, Expression::Name(name))) => {
+            Ok(name.again())
+        }
         _ => Err(AsmKind::Operand),
     }
 }
@@ -65,58 +58,45 @@ pub fn within(least: i128, most: i128, number: i128) -> Result<i128, AsmKind>
     }
 }
 
-/// `NAME`, `NAME+N` or `NAME-N`
-pub fn reference<'a>(expression: &Expression<'a>) -> Result<Reference<'a>, AsmKind>
-    ensures { result ≡ reference_of expression.now }
+/// Whether no number is added to the address of the kind's symbol.
+fn is_bare(kind: RelKind) -> bool
+    ensures { result ≡ bare kind }
 {
-    match expression {
-        Expression::Name(name) => Ok(named(name)),
-        Expression::Sum(name, by) => {
-            let addend = within(i128::from(i64::MIN), i128::from(i64::MAX), *by)?;
-            Ok(Reference {
-                name: name.again(),
-                addend: addend as i64,
-            })
-        }
-        Expression::Difference(_, _) => Err(AsmKind::Operand),
+    match kind {
+        RelKind::Branch | RelKind::Jal | RelKind::PcrelLo12I | RelKind::PcrelLo12S => true,
+        _ => false,
     }
 }
 
-pub fn address<'a>(operand: &Operand<'a>) -> Result<Reference<'a>, AsmKind>
-    ensures { result ≡ address_of operand.now }
+/// An entry for a name, to whose address a number is added.
+pub fn fix<'a>(kind: RelKind, name: &Text<'a>, addend: i64) -> Fix<'a>
+    ensures { result ≡ fix_of kind name.now addend }
 {
-    match operand {
-        Operand::Plain(expression) => reference(expression),
-        _ => Err(AsmKind::Operand),
-    }
-}
-
-/// A number without an entry.
-pub fn plain<'a>(number: i32) -> Field<'a>
-    ensures { result ≡ plain_of number }
-{
-    Field { number, fix: None }
-}
-
-/// An entry for a reference.
-pub fn fix<'a>(kind: RelKind, reference: Reference<'a>) -> Fix<'a>
-    ensures { result ≡ fix_of kind reference.entry }
-{
-    let Reference { name, addend } = reference;
     Fix {
         kind,
-        target: Target::Named(name),
+        target: Target::Named(name.again()),
         addend,
     }
 }
 
-/// A field that an entry fills in.
-pub fn under<'a>(kind: RelKind, reference: Reference<'a>) -> Field<'a>
-    ensures { result ≡ under_of kind reference.entry }
+fn moved<'a>(kind: RelKind, name: &Text<'a>, by: i128) -> Result<Fix<'a>, AsmKind>
+    ensures { result ≡ moved_of kind name.now by (bare kind) }
 {
-    Field {
-        number: 0,
-        fix: Some(fix(kind, reference)),
+    if is_bare(kind) {
+        return Err(AsmKind::Operand);
+    }
+    let addend = within(i128::from(i64::MIN), i128::from(i64::MAX), by)?;
+    Ok(fix(kind, name, addend as i64))
+}
+
+/// The entry of that kind, where there is one for the expression.
+pub fn entry<'a>(kind: Option<RelKind>, expression: &Expression<'a>) -> Result<Fix<'a>, AsmKind>
+    ensures { result ≡ entry_of kind expression.now }
+{
+    match (kind, expression) {
+        (Some(kind), Expression::Name(name)) => Ok(fix(kind, name, 0)),
+        (Some(kind), Expression::Sum(name, by)) => moved(kind, name, *by),
+        _ => Err(AsmKind::Operand),
     }
 }
 
@@ -131,12 +111,13 @@ fn fitting(form: Form, number: i128) -> Result<i32, AsmKind>
         Form::Low | Form::LowStore | Form::Small => {
             Ok(within(LEAST_LOW, MOST_LOW, number)? as i32)
         }
+        _ => Err(AsmKind::Operand),
     }
 }
 
-/// The kind of the entry for a part of an address.
-fn part_kind(form: Form, modifier: Modifier) -> Option<RelKind>
-    ensures { result ≡ part_kind_of form modifier }
+/// The kind of the entry for an address or a part of one.
+fn kind_of(form: Form, modifier: Modifier) -> Option<RelKind>
+    ensures { result ≡ kind_with form modifier }
 {
     match (form, modifier) {
         (Form::Low, Modifier::Lo) => Some(RelKind::Lo12I),
@@ -145,36 +126,33 @@ fn part_kind(form: Form, modifier: Modifier) -> Option<RelKind>
         (Form::LowStore, Modifier::PcrelLo) => Some(RelKind::PcrelLo12S),
         (Form::Upper, Modifier::Hi) => Some(RelKind::Hi20),
         (Form::UpperPcrel, Modifier::PcrelHi) => Some(RelKind::PcrelHi20),
+        (Form::Branch, Modifier::Whole) => Some(RelKind::Branch),
+        (Form::Jump, Modifier::Whole) => Some(RelKind::Jal),
+        (Form::Call, Modifier::Whole) => Some(RelKind::CallPlt),
+        (Form::Address, Modifier::Whole) => Some(RelKind::PcrelHi20),
         _ => None,
     }
 }
 
-/// A label alone, as `%pcrel_lo` takes it.
-fn labelled<'a>(expression: &Expression<'a>) -> Result<Reference<'a>, AsmKind>
-    ensures { result ≡ labelled_of expression.now }
+/// A number without an entry.
+pub fn plain<'a>(number: i32) -> Field<'a>
+    ensures { result ≡ plain_of number }
 {
-    match expression {
-        Expression::Name(name) => Ok(named(name)),
-        _ => Err(AsmKind::Operand),
-    }
+    Field { number, fix: None }
 }
 
-fn part<'a>(kind: Option<RelKind>, expression: &Expression<'a>) -> Result<Field<'a>, AsmKind>
-    ensures { result ≡ part_of kind expression.now }
-{
-    match kind {
-        Some(kind) if is_pcrel_lo12(kind) => Ok(under(kind, labelled(expression)?)),
-        Some(kind) => Ok(under(kind, reference(expression)?)),
-        None => Err(AsmKind::Operand),
-    }
-}
-
-fn immediate<'a>(form: Form, immediate: &Immediate<'a>) -> Result<Field<'a>, AsmKind>
-    ensures { result ≡ immediate_of form immediate.now }
+fn field<'a>(form: Form, immediate: &Immediate<'a>) -> Result<Field<'a>, AsmKind>
+    ensures { result ≡ field_of form immediate.now }
 {
     match immediate {
         Immediate::Number(number) => Ok(plain(fitting(form, *number)?)),
-        Immediate::Modified(modifier, expression) => part(part_kind(form, *modifier), expression),
+        Immediate::Part(modifier, expression) => {
+            let fix = entry(kind_of(form, *modifier), expression)?;
+            Ok(Field {
+                number: 0,
+                fix: Some(fix),
+            })
+        }
     }
 }
 
@@ -182,8 +160,8 @@ pub fn value<'a>(form: Form, operand: &Operand<'a>) -> Result<Field<'a>, AsmKind
     ensures { result ≡ value_of form operand.now }
 {
     match operand {
-        Operand::Value(value) => immediate(form, value),
-        _ => Err(AsmKind::Operand),
+        Operand::Value(value) => field(form, value),
+        Operand::Memory(_, _) => Err(AsmKind::Operand),
     }
 }
 
@@ -193,9 +171,9 @@ pub fn memory<'a>(form: Form, operand: &Operand<'a>) -> Result<(Field<'a>, u8), 
 {
     match operand {
         Operand::Memory(value, base) => {
-            let field = immediate(form, value)?;
+            let field = field(form, value)?;
             Ok((field, *base))
         }
-        _ => Err(AsmKind::Operand),
+        Operand::Value(_) => Err(AsmKind::Operand),
     }
 }

@@ -1,9 +1,8 @@
 use Rattle.std.proofs.Common.{◌<◌, map, take, length, ap, sym, ◌∙◌, arith}
-use Rattle.cell_asm.specs.Blocks.{block}
-use Rattle.cell_asm.specs.Faults.{each, with_value}
-use Rattle.cell_asm.specs.Gathering.{more}
+use Rattle.cell_asm.specs.Blocks.{appended, empty}
+use Rattle.cell_asm.specs.Faults.{joined, gathered}
 use Rattle.cell_asm.specs.Statements.{datum}
-use Rattle.cell_asm.proofs.ReadingLemmas.{block_more}
+use Rattle.cell_asm.proofs.ReadingLemmas.{gathered_more}
 use Rattle.cell_asm.proofs.directive.numbers.Goals as goal
 
 pub loop-operand-preserved : goal.loop-operand-preserved
@@ -11,7 +10,7 @@ loop-operand-preserved c =
     let i = c.loop-operand.operand-index in
     let operands = c.args.operands.now in
     let within : i < length operands = omega arith in
-    c.in_ok-add.ensures
-    ∙ ap (λ g. more g c.datum.result) c.loop-operand.invariant
-    ∙ ap (more (with_value block (each (map (datum c.args.width) (take i operands))))) (c.datum.ensures ∙ ap (datum c.args.width) c.operand-item.is)
-    ∙ sym (block_more (datum c.args.width) operands i c.operand-item.result within)
+    c.in_ok-draft.ensures
+    ∙ ap (λ r. joined appended r c.datum.result) c.loop-operand.invariant
+    ∙ ap (joined appended (gathered appended empty (map (datum c.args.width) (take i operands)))) (c.datum.ensures ∙ ap (datum c.args.width) c.operand-item.is)
+    ∙ sym (gathered_more appended empty (datum c.args.width) operands i c.operand-item.result within)

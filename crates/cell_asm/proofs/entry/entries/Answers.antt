@@ -1,6 +1,6 @@
 use Rattle.std.proofs.Common.{◌≡◌, ◌++◌, [], ap, ◌∙◌, rules}
 use Rattle.std.specs.Prelude.{flat_map}
-use Rattle.cell_asm.specs.Making.{part_entries}
+use Rattle.cell_asm.specs.Numberings.{part_entries}
 use Rattle.cell_asm.proofs.ObjectLemmas.{entries_are}
 use Rattle.cell_asm.proofs.entry.entries.Goals as goal
 

@@ -1,7 +1,7 @@
 use Rattle.std.proofs.Common.{◌≡◌, ◌++◌, take, filter}
 use Rattle.std.specs.Prelude.{flat_map}
 use Rattle.cell_asm.specs.Places.{is_in}
-use Rattle.cell_asm.specs.Making.{line_entries}
+use Rattle.cell_asm.specs.Numberings.{line_entries}
 use Rattle.cell_asm.proofs.entry.put_entries_in.Given as goal
 
 -- the entries of the lines so far

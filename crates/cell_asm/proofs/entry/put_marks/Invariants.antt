@@ -1,5 +1,5 @@
 use Rattle.std.proofs.Common.{◌≡◌, ◌++◌, map, take}
-use Rattle.cell_asm.specs.Making.{mark_entry}
+use Rattle.cell_asm.specs.Numberings.{mark_entry}
 use Rattle.cell_asm.proofs.entry.put_marks.Given as goal
 
 -- the entries so far

@@ -1,28 +1,18 @@
-use Rattle.std.proofs.Common.{sym, ◌∙◌, arith, ap, Err}
+use Rattle.std.proofs.Common.{◌∙◌, ap, arith}
 use Rattle.std.proofs.lemmas.Bool.Decides.{nat_tests}
 use Rattle.cell_asm.specs.Types.{Rd}
-use Rattle.cell_asm.proofs.ReadingLemmas.{goes_on, first_fails, both_fail, too_many, too_few}
+use Rattle.cell_asm.specs.Instructions.{filled}
+use Rattle.cell_asm.proofs.ReadingLemmas.{rest, first_filled, too_many, too_few}
 use Rattle.cell_asm.proofs.instruction.+fill.Goals as goal
 use Rattle.cell_asm.proofs.instruction.+fill.Goals.{in_default-via-then-slots-lt1+else-operands-lt1, in_default-via-else-slots-lt1+then-this-lt1}
 
-pub returns-in-Ok : goal.returns-in-Ok
-returns-in-Ok t c =
-    goes_on c.args.slots.now c.args.operands.now Rd c.operand-item.result (grind (arith, nat_tests)) (grind (arith, nat_tests)) c.operand-item.is
-    c.args.start c.in-Ok.more c.fill.result (sym c.in-Ok.is ∙ c.put.ensures) c.fill.ensures
-
-pub returns-in-Ok-fill : goal.returns-in-Ok-fill
-returns-in-Ok-fill t c =
-    first_fails c.args.slots.now c.args.operands.now Rd c.operand-item.result (grind (arith, nat_tests)) (grind (arith, nat_tests)) c.operand-item.is
-    c.args.start c.unfilled.result c.in-Ok-fill.field-0 c.in-Err.kind (sym c.in-Err.is ∙ c.put.ensures) (sym c.in-Ok-fill.is ∙ c.fill-in-Err.ensures)
-
-pub returns-in-Err-fill : goal.returns-in-Err-fill
-returns-in-Err-fill t c =
-    ap Err c.earlier.ensures
-    ∙ both_fail c.args.slots.now c.args.operands.now Rd c.operand-item.result (grind (arith, nat_tests)) (grind (arith, nat_tests)) c.operand-item.is
-    c.args.start c.unfilled.result c.in-Err.kind c.in-Err-fill.other (sym c.in-Err.is ∙ c.put.ensures) (sym c.in-Err-fill.is ∙ c.fill-in-Err.ensures)
+pub returns-in-len1-up-len1-up : goal.returns-in-len1-up-len1-up
+returns-in-len1-up-len1-up t c =
+    c.fill.ensures ∙ ap (λ f. filled f (rest c.args.slots.now) (rest c.args.operands.now)) c.put.ensures
+    ∙ first_filled c.args.fields c.args.slots.now c.args.operands.now Rd c.operand-item.result (grind (arith, nat_tests)) (grind (arith, nat_tests)) c.operand-item.is
 
 pub returns-in_default : goal.returns-in_default
 returns-in_default t c = elim c.in_default.branch [
-  | in_default-via-then-slots-lt1+else-operands-lt1 w ↦ too_many c.args.slots.now c.args.operands.now c.args.start (grind (arith, nat_tests)) (grind (arith, nat_tests))
-  | in_default-via-else-slots-lt1+then-this-lt1 w ↦ too_few c.args.slots.now c.args.operands.now c.args.start (grind (arith, nat_tests)) (grind (arith, nat_tests))
+  | in_default-via-then-slots-lt1+else-operands-lt1 w ↦ c.miscounted.ensures ∙ too_many c.args.fields c.args.slots.now c.args.operands.now (grind (arith, nat_tests)) (grind (arith, nat_tests))
+  | in_default-via-else-slots-lt1+then-this-lt1 w ↦ c.miscounted.ensures ∙ too_few c.args.fields c.args.slots.now c.args.operands.now (grind (arith, nat_tests)) (grind (arith, nat_tests))
 ]

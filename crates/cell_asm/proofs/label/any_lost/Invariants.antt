@@ -1,6 +1,6 @@
 use Rattle.std.proofs.Common.{◌≡◌, drop}
 use Rattle.std.specs.List.{list_any}
-use Rattle.cell_asm.specs.Uppers.{mark_lost_by}
+use Rattle.cell_asm.specs.Progress.{mark_lost_by}
 use Rattle.cell_asm.proofs.label.any_lost.Given as goal
 
 -- none so far, so one is there exactly if one is left

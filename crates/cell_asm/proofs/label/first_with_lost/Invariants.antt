@@ -1,6 +1,6 @@
 use Rattle.std.proofs.Common.{◌≡◌, drop}
 use Rattle.std.specs.Prelude.{find}
-use Rattle.cell_asm.specs.Uppers.{lost_by}
+use Rattle.cell_asm.specs.Progress.{lost_by}
 use Rattle.cell_asm.proofs.label.first_with_lost.Given as goal
 
 -- none so far, so the first is among those that are left

@@ -1,14 +1,12 @@
-use Rattle.std.proofs.Common.{ap, sym, subst, ◌∙◌}
-use Rattle.cell_asm.specs.Faults.{each}
-use Rattle.cell_asm.specs.Outcome.{Gives}
-use Rattle.cell_asm.specs.Lines.{spelled, trimmed}
-use Rattle.std.proofs.Common.{map, Bor, List, ℕ}
+use Rattle.std.proofs.Common.{ap, sym, subst, ◌∙◌, map, Bor, List, ℕ}
+use Rattle.cell_asm.specs.Faults.{Gives}
+use Rattle.cell_asm.specs.Lines.{spelled, trimmed, operands}
 use Rattle.cell_asm.proofs.ReadingLemmas.{parts_spelled}
 use Rattle.cell_asm.proofs.line.read_operands.Goals as goal
 
 pub returns : goal.returns
 returns c =
-    subst (λ texts. Gives c.read_parts.result (each texts))
+    subst (λ texts. Gives c.read_parts.result (operands texts))
     (ap (λ (parts : List (Bor (List ℕ))). map (λ part. spelled (trimmed part.now)) parts) c.as_slice.ensures.value
     ∙ parts_spelled c.args.text.now c.in_ok-parts.parts.items (sym c.is_empty.ensures ∙ c.if-is_empty.false) c.in_ok-parts.ensures)
     c.read_parts.ensures

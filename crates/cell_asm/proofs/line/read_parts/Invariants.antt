@@ -1,8 +1,7 @@
 use Rattle.std.proofs.Common.{◌≡◌, map, take, Ok}
-use Rattle.cell_asm.specs.Faults.{each}
-use Rattle.cell_asm.specs.Lines.{spelled, trimmed}
+use Rattle.cell_asm.specs.Lines.{spelled, trimmed, operands}
 use Rattle.cell_asm.proofs.line.read_parts.Given as goal
 
 -- the parts so far are spelled well
 abbrev pub invariant-loop-part : goal.invariant-loop-part
-invariant-loop-part l = each (map (λ part. spelled (trimmed part.now)) (take l.part-index l.parts)) ≡ Ok l.operands.items
+invariant-loop-part l = operands (map (λ part. spelled (trimmed part.now)) (take l.part-index l.parts)) ≡ Ok l.operands.items

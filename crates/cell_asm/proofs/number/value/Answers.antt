@@ -1,7 +1,7 @@
 use Rattle.std.proofs.Common.{◌≡◌, ◌+◌, ◌*◌, ◌<◌, take, length, get_or, ap, sym, ◌∙◌, arith}
 use Rattle.std.specs.Char.{digit_value}
 use Rattle.std.specs.Str.Parse.{digits_value}
-use Rattle.cell_asm.specs.Numbers.{held}
+use Rattle.cell_asm.specs.Names.{held}
 use Rattle.cell_asm.proofs.ReadingLemmas.{digits_more, held_step}
 use Rattle.cell_asm.proofs.number.value.Goals as goal
 

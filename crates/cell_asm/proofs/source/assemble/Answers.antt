@@ -2,7 +2,7 @@ use Rattle.std.proofs.Common.{List, ℕ, Bor, map, refl, sym, ap, subst, ◌∙�
 use Rattle.std.specs.Prelude.{find, All}
 use Rattle.cell_asm.specs.Types.{Laid}
 use Rattle.cell_asm.specs.Assembled.{placed_texts, has_lost, object_unless, Assembles}
-use Rattle.cell_asm.specs.Making.{HasRoom}
+use Rattle.cell_asm.specs.Numberings.{HasRoom}
 use Rattle.cell_text.specs.Text.{lines_in}
 use Rattle.cell_asm.proofs.PlacingLemmas.{goes_all}
 use Rattle.cell_asm.proofs.AssembledFits.{rooms, writable_all}

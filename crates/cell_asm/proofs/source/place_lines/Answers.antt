@@ -1,6 +1,5 @@
 use Rattle.std.proofs.Common.{ℕ, List, Bor, ◌≡◌, ◌+◌, ◌<◌, ◌∷◌, [], map, drop, length, get_or, Ok, Err, ap, sym, subst, ◌∙◌, arith}
-use Rattle.cell_asm.specs.Placing.{Places}
-use Rattle.cell_asm.specs.Progress.{Follows}
+use Rattle.cell_asm.specs.Progress.{Places, Follows}
 use Rattle.cell_asm.proofs.PlacingLemmas.{placed_from, goes_on, stopped, dropped}
 use Rattle.cell_asm.proofs.source.place_lines.Goals as goal
 

@@ -1,7 +1,6 @@
 use Rattle.std.proofs.Common.{[], ap, ◌∙◌, map}
 use Rattle.std.specs.Prelude.{fold}
-use Rattle.cell_asm.specs.Numberings.{local_in, mentioned}
-use Rattle.cell_asm.specs.Making.{locals_in}
+use Rattle.cell_asm.specs.Numberings.{local_in, mentioned, locals_in}
 use Rattle.cell_asm.proofs.SymbolLemmas.{none_yet, list_is, numbers_are, same_names}
 use Rattle.cell_asm.proofs.symbol.make_symbols.Goals as goal
 

@@ -1,6 +1,5 @@
 use Rattle.std.proofs.Common.{map, sym, ◌∙◌}
-use Rattle.cell_asm.specs.Numberings.{local_in}
-use Rattle.cell_asm.specs.Making.{locals_in}
+use Rattle.cell_asm.specs.Numberings.{local_in, locals_in}
 use Rattle.cell_asm.proofs.SymbolLemmas.{local_same, local_added}
 use Rattle.cell_asm.proofs.symbol.Symbols.add_local.Goals as goal
 

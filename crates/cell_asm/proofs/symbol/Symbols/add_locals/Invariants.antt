@@ -1,5 +1,5 @@
 use Rattle.std.proofs.Common.{take}
-use Rattle.cell_asm.specs.Making.{Locals}
+use Rattle.cell_asm.specs.Numberings.{Locals}
 use Rattle.cell_asm.proofs.symbol.Symbols.add_locals.Given as goal
 
 -- the symbols of the labels so far

@@ -1,5 +1,5 @@
 use Rattle.std.proofs.Common.{◌++◌, map, sym, ap, ◌∙◌}
-use Rattle.cell_asm.specs.Known.{about}
+use Rattle.cell_asm.specs.Progress.{about}
 use Rattle.cell_asm.specs.Numberings.{keys_with, other_in}
 use Rattle.cell_asm.proofs.SymbolLemmas.{mention_known, mention_by}
 use Rattle.cell_asm.proofs.symbol.Symbols.mention.Goals as goal

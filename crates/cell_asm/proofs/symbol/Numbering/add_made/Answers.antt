@@ -1,8 +1,9 @@
 use Rattle.std.proofs.Common.{◌≡◌, ◌==◌, cond, Some, None, sym, ap, ◌∙◌, rules}
 use Rattle.cell_asm.specs.Types.{KeyMade as Made}
 use Rattle.cell_asm.specs.Numberings.{number_of}
-use Rattle.cell_asm.proofs.SymbolLemmas.{taken, same_test, same_number}
-use Rattle.cell_asm.proofs.numbering.Numbering.add_made.Goals as goal
+use Rattle.cell_asm.proofs.SymbolLemmas.{taken, same_test}
+use Rattle.cell_asm.proofs.ListLemmas.{same_of}
+use Rattle.cell_asm.proofs.symbol.Numbering.add_made.Goals as goal
 
 pub returns-in_ok-insert-clause-made : goal.returns-in_ok-insert-clause-made
 returns-in_ok-insert-clause-made c = λ q.
@@ -10,4 +11,4 @@ returns-in_ok-insert-clause-made c = λ q.
     let absent : number_of c.args.self.now (Made c.args.made) ≡ None = search rules in
     c.in_ok-insert.ensures.updates.0 q
     ∙ ap (λ b. cond b (Some c.args.number) (number_of c.args.self.now (Made q))) (same_test k q)
-    ∙ taken (k == q) c.args.number (number_of c.args.self.now (Made q)) (λ t. ap (λ n. number_of c.args.self.now (Made n)) (sym (same_number k q t)) ∙ absent)
+    ∙ taken (k == q) c.args.number (number_of c.args.self.now (Made q)) (λ t. ap (λ n. number_of c.args.self.now (Made n)) (sym (same_of k q t)) ∙ absent)

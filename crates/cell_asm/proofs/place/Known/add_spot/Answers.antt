@@ -1,6 +1,6 @@
 use Rattle.std.proofs.Common.{◌∙◌}
 use Rattle.cell_asm.proofs.PlacingLemmas.{spot_added}
-use Rattle.cell_asm.proofs.known.Known.add_spot.Goals as goal
+use Rattle.cell_asm.proofs.place.Known.add_spot.Goals as goal
 
 pub returns : goal.returns
 returns c = λ q.

@@ -4,7 +4,7 @@ use Rattle.std.proofs.lemmas.Slice.Eq.{bytes_eq-Decides}
 use Rattle.cell_asm.specs.Types.{KeyNamed as Named}
 use Rattle.cell_asm.specs.Numberings.{number_of}
 use Rattle.cell_asm.proofs.SymbolLemmas.{taken}
-use Rattle.cell_asm.proofs.numbering.Numbering.add_name.Goals as goal
+use Rattle.cell_asm.proofs.symbol.Numbering.add_name.Goals as goal
 
 pub returns-in_ok-insert-clause-names : goal.returns-in_ok-insert-clause-names
 returns-in_ok-insert-clause-names c = λ q.

@@ -1,6 +1,6 @@
 use Rattle.std.proofs.Common.{◌≡◌, ◌++◌, ◌-◌}
 use Rattle.cell_num.specs.Bits.{bytes_of}
-use Rattle.cell_asm.proofs.block.put_number.Given as goal
+use Rattle.cell_asm.proofs.statement.put_number.Given as goal
 
 -- the bytes so far
 abbrev pub invariant-loop : goal.invariant-loop

@@ -2,9 +2,9 @@ use Rattle.std.proofs.Common.{ap, ◌∙◌}
 use Rattle.std.specs.Option.{unwrap_or}
 use Rattle.std.proofs.lemmas.Map.Text.{btree_map_updates_str}
 use Rattle.cell_num.specs.Lists.{equals}
-use Rattle.cell_asm.specs.Known.{unknown}
+use Rattle.cell_asm.specs.Progress.{unknown}
 use Rattle.cell_asm.proofs.PlacingLemmas.{unwrapped}
-use Rattle.cell_asm.proofs.known.Known.set.Goals as goal
+use Rattle.cell_asm.proofs.place.Known.set.Goals as goal
 
 pub returns : goal.returns
 returns c = λ q.
