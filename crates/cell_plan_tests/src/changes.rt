@@ -81,42 +81,56 @@ fn word(field: Entry, value: u64) -> Change {
     }
 }
 
-/// Of the two entries at the first word, the second named an old cell.
-#[test]
-fn one_of_two_entries_at_a_field(rt: HostRuntime) -> Result<(), Fail> {
-    let alloc = rt.alloc();
-    let entries = [
+fn entries() -> [Entry; 4] {
+    [
         entry(0, RelKind::Add32, 1),
         entry(0, RelKind::Sub32, 2),
         entry(4, RelKind::Abs32, 3),
         entry(8, RelKind::Abs32, 2),
-    ];
-    let targets = [
+    ]
+}
+
+fn targets() -> [Target; 4] {
+    [
         target(4, 0x1014),
         target(5, 0x1000),
         target(4, 0x1014),
         target(5, 0x1000),
-    ];
-    let links = [link(0, 4), link(1, 2), link(2, 4), link(3, 3)];
-    let changed = fitting_changes(alloc, &entries, &targets, &links)?;
-    assert!(rt;
-        changed.fields.as_slice() == [word(entries[0], 0x14), word(entries[3], 0x1000)].as_slice()
-    );
+    ]
+}
+
+fn links() -> [LinkRow; 4] {
+    [link(0, 4), link(1, 2), link(2, 4), link(3, 3)]
+}
+
+/// The words of the first entry and of the last.
+fn changed_words() -> [Change; 2] {
+    let [first, _, _, last] = entries();
+    [word(first, 0x14), word(last, 0x1000)]
+}
+
+/// Of the two entries at the first word, the second named an old cell.
+#[test]
+fn one_of_two_entries_at_a_field(rt: HostRuntime) -> Result<(), Fail> {
+    let changed = fitting_changes(rt.alloc(), &entries(), &targets(), &links())?;
+    assert!(rt; changed.fields.as_slice() == changed_words().as_slice());
     assert!(rt; changed.moves.as_slice() == [link(1, 5), link(3, 5)].as_slice());
     Ok(())
+}
+
+/// Whether nothing changes in a cell whose one entry names one cell, and has a link into another.
+fn is_left(alloc: Global, named: u32, linked: u32) -> Result<bool, Fail> {
+    let entries = [entry(0, RelKind::Abs32, 1)];
+    let targets = [target(named, 0x1000)];
+    let changed = fitting_changes(alloc, &entries, &targets, &[link(0, linked)])?;
+    Ok(changed.fields.is_empty() && changed.moves.is_empty())
 }
 
 /// A link into an old cell whose entry still names one stays as it is.
 #[test]
 fn still_in_an_old_cell(rt: HostRuntime) -> Result<(), Fail> {
-    let alloc = rt.alloc();
-    let entries = [entry(0, RelKind::Abs32, 1)];
-    let changed = fitting_changes(alloc, &entries, &[target(3, 0x1000)], &[link(0, 2)])?;
-    assert!(rt; changed.fields.is_empty());
-    assert!(rt; changed.moves.is_empty());
-    let kept = fitting_changes(alloc, &entries, &[target(4, 0x1000)], &[link(0, 4)])?;
-    assert!(rt; kept.fields.is_empty());
-    assert!(rt; kept.moves.is_empty());
+    assert!(rt; is_left(rt.alloc(), 3, 2)?);
+    assert!(rt; is_left(rt.alloc(), 4, 4)?);
     Ok(())
 }
 

@@ -1,136 +1,147 @@
 //! Tasks inside sequences.
 
-ghost use Rattle.std.specs.Prelude.{◌<◌};
-
 use crate::cell::{START, cell, entry};
 use cell_num::RelKind;
 use cell_object::Entry;
-use cell_plan::{CellId, TaskPc, Torn, first_torn, spans_of};
+use cell_plan::{CellId, Span, TaskPc, Torn, first_torn, spans_of};
 use std::alloc::{AllocError, Global};
 use std::test::*;
 
-/// The field of section 1 that the task at an offset stands inside, where these fields of a cell with these
-/// entries change.
-fn torn_at(
-    alloc: Global,
-    entries: &[Entry],
-    fields: &[Entry],
-    offset: u64,
-) -> Result<Option<u32>, AllocError>
-    requires { offset < 4096 }
-{
-    let cell = cell(alloc, 1, entries)?;
-    let spans = spans_of(alloc, &cell, fields)?;
+/// An entry of section 1: its offset, its kind, and the symbol that it names.
+struct Part(u32, RelKind, u32);
+
+fn entries_of(alloc: Global, parts: &[Part]) -> Result<Vec<Entry>, AllocError> {
+    let mut entries = Vec::new(alloc);
+    for part in parts {
+        entries.push(entry(part.0, part.1, part.2))?;
+    }
+    Ok(entries)
+}
+
+/// The spans of these fields of a cell with these entries.
+fn spans(alloc: Global, entries: &[Part], fields: &[Part]) -> Result<Vec<Span>, AllocError> {
+    let entries = entries_of(alloc, entries)?;
+    let fields = entries_of(alloc, fields)?;
+    let cell = cell(alloc, 1, &entries)?;
+    spans_of(alloc, &cell, &fields)
+}
+
+const CALL: &[Part] = &[Part(8, RelKind::Call, 1)];
+
+const CALL_PLT: &[Part] = &[Part(0, RelKind::CallPlt, 1)];
+
+const JUMP: &[Part] = &[Part(0, RelKind::Jal, 1)];
+
+/// A high part with two low parts.
+const HIGH_AND_LOW: &[Part] = &[
+    Part(0, RelKind::Lo12I, 2),
+    Part(4, RelKind::Hi20, 2),
+    Part(8, RelKind::Lo12I, 2),
+    Part(16, RelKind::Lo12S, 2),
+    Part(20, RelKind::Lo12I, 3),
+];
+
+const HIGH: &[Part] = &[Part(4, RelKind::Hi20, 2)];
+
+const LOW: &[Part] = &[Part(8, RelKind::Lo12I, 2)];
+
+const TWO_HIGH: &[Part] = &[
+    Part(12, RelKind::Lo12I, 2),
+    Part(8, RelKind::Hi20, 2),
+    Part(4, RelKind::Lo12I, 2),
+    Part(0, RelKind::Hi20, 2),
+];
+
+const FIRST: &[Part] = &[Part(0, RelKind::Hi20, 2)];
+
+/// The label of the low parts, symbol 1, is at the section's start.
+const RELATIVE: &[Part] = &[
+    Part(0, RelKind::PcrelHi20, 2),
+    Part(12, RelKind::PcrelLo12S, 1),
+    Part(8, RelKind::PcrelLo12I, 1),
+];
+
+const RELATIVE_HIGH: &[Part] = &[Part(0, RelKind::PcrelHi20, 2)];
+
+/// The entries of a cell, those at fields that change, and of a task at an offset the field that it stands inside.
+struct Standing(&'static [Part], &'static [Part], u16, Option<u32>);
+
+const STANDING: [Standing; 20] = [
+    Standing(CALL, CALL, 4, None),
+    Standing(CALL, CALL, 8, None),
+    Standing(CALL, CALL, 12, Some(8)),
+    Standing(CALL, CALL, 16, None),
+    Standing(CALL_PLT, CALL_PLT, 4, Some(0)),
+    Standing(JUMP, JUMP, 4, None),
+    // The sequence goes on to the last low part, and stops there.
+    Standing(HIGH_AND_LOW, HIGH, 4, None),
+    Standing(HIGH_AND_LOW, HIGH, 8, Some(4)),
+    Standing(HIGH_AND_LOW, HIGH, 12, Some(4)),
+    Standing(HIGH_AND_LOW, HIGH, 16, Some(4)),
+    Standing(HIGH_AND_LOW, HIGH, 20, None),
+    Standing(HIGH_AND_LOW, LOW, 12, None),
+    // A low part goes with the nearest high part before it.
+    Standing(TWO_HIGH, FIRST, 4, Some(0)),
+    Standing(TWO_HIGH, FIRST, 8, None),
+    Standing(TWO_HIGH, FIRST, 12, None),
+    Standing(TWO_HIGH, TWO_HIGH, 12, Some(8)),
+    Standing(FIRST, FIRST, 4, None),
+    Standing(RELATIVE, RELATIVE_HIGH, 0, None),
+    Standing(RELATIVE, RELATIVE_HIGH, 12, Some(0)),
+    Standing(RELATIVE, RELATIVE_HIGH, 16, None),
+];
+
+fn torn_at(alloc: Global, case: &Standing) -> Result<Option<u32>, AllocError> {
+    let spans = spans(alloc, case.0, case.1)?;
     let task = TaskPc {
         task: 1,
-        pc: START + offset,
+        pc: START + u64::from(case.2),
     };
     Ok(first_torn(&spans, &[task]).map(|torn| torn.offset))
 }
 
 #[test]
-fn a_call(rt: HostRuntime) -> Result<(), Fail> {
-    let alloc = rt.alloc();
-    let call = [entry(8, RelKind::Call, 1)];
-    assert!(rt; torn_at(alloc, &call, &call, 4)? == None);
-    assert!(rt; torn_at(alloc, &call, &call, 8)? == None);
-    assert!(rt; torn_at(alloc, &call, &call, 12)? == Some(8));
-    assert!(rt; torn_at(alloc, &call, &call, 16)? == None);
-    let plt = [entry(0, RelKind::CallPlt, 1)];
-    assert!(rt; torn_at(alloc, &plt, &plt, 4)? == Some(0));
-    let jump = [entry(0, RelKind::Jal, 1)];
-    assert!(rt; torn_at(alloc, &jump, &jump, 4)? == None);
+fn tasks_in_sequences(rt: HostRuntime) -> Result<(), Fail> {
+    for (number, case) in STANDING.iter().enumerate() {
+        assert!(rt; torn_at(rt.alloc(), case)? == case.3, "case {number}");
+    }
     Ok(())
 }
 
-/// The sequence goes on to the last low part, and stops there.
-#[test]
-fn a_high_part_with_two_low_parts(rt: HostRuntime) -> Result<(), Fail> {
-    let alloc = rt.alloc();
-    let entries = [
-        entry(0, RelKind::Lo12I, 2),
-        entry(4, RelKind::Hi20, 2),
-        entry(8, RelKind::Lo12I, 2),
-        entry(16, RelKind::Lo12S, 2),
-        entry(20, RelKind::Lo12I, 3),
-    ];
-    let high = [entries[1]];
-    assert!(rt; torn_at(alloc, &entries, &high, 4)? == None);
-    assert!(rt; torn_at(alloc, &entries, &high, 8)? == Some(4));
-    assert!(rt; torn_at(alloc, &entries, &high, 12)? == Some(4));
-    assert!(rt; torn_at(alloc, &entries, &high, 16)? == Some(4));
-    assert!(rt; torn_at(alloc, &entries, &high, 20)? == None);
-    assert!(rt; torn_at(alloc, &entries, &[entries[2]], 12)? == None);
-    Ok(())
-}
+const TWO_SEQUENCES: &[Part] = &[
+    Part(4, RelKind::Hi20, 2),
+    Part(12, RelKind::Lo12I, 2),
+    Part(0, RelKind::Hi20, 3),
+    Part(16, RelKind::Lo12I, 3),
+];
 
-/// A low part goes with the nearest high part before it.
-#[test]
-fn two_high_parts(rt: HostRuntime) -> Result<(), Fail> {
-    let alloc = rt.alloc();
-    let entries = [
-        entry(12, RelKind::Lo12I, 2),
-        entry(8, RelKind::Hi20, 2),
-        entry(4, RelKind::Lo12I, 2),
-        entry(0, RelKind::Hi20, 2),
-    ];
-    let lower = [entries[3]];
-    assert!(rt; torn_at(alloc, &entries, &lower, 4)? == Some(0));
-    assert!(rt; torn_at(alloc, &entries, &lower, 8)? == None);
-    assert!(rt; torn_at(alloc, &entries, &lower, 12)? == None);
-    assert!(rt; torn_at(alloc, &entries, &entries, 12)? == Some(8));
-    let alone = [entry(0, RelKind::Hi20, 2)];
-    assert!(rt; torn_at(alloc, &alone, &alone, 4)? == None);
-    Ok(())
-}
+const BOTH_HIGH: &[Part] = &[Part(4, RelKind::Hi20, 2), Part(0, RelKind::Hi20, 3)];
 
-/// The label of the low parts, symbol 1, is at the section's start.
-#[test]
-fn a_relative_high_part(rt: HostRuntime) -> Result<(), Fail> {
-    let alloc = rt.alloc();
-    let entries = [
-        entry(0, RelKind::PcrelHi20, 2),
-        entry(12, RelKind::PcrelLo12S, 1),
-        entry(8, RelKind::PcrelLo12I, 1),
-    ];
-    let high = [entries[0]];
-    assert!(rt; torn_at(alloc, &entries, &high, 0)? == None);
-    assert!(rt; torn_at(alloc, &entries, &high, 12)? == Some(0));
-    assert!(rt; torn_at(alloc, &entries, &high, 16)? == None);
-    Ok(())
-}
+const TASKS: [TaskPc; 3] = [
+    TaskPc { task: 2, pc: START },
+    TaskPc {
+        task: 5,
+        pc: START + 8,
+    },
+    TaskPc {
+        task: 7,
+        pc: START + 16,
+    },
+];
+
+const LOWEST: Torn = Torn {
+    task: 5,
+    cell: CellId(1),
+    section: 1,
+    offset: 0,
+};
 
 /// The lowest field of the first task, whatever the table's order.
 #[test]
 fn the_lowest_field(rt: HostRuntime) -> Result<(), Fail> {
-    let alloc = rt.alloc();
-    let entries = [
-        entry(4, RelKind::Hi20, 2),
-        entry(12, RelKind::Lo12I, 2),
-        entry(0, RelKind::Hi20, 3),
-        entry(16, RelKind::Lo12I, 3),
-    ];
-    let cell = cell(alloc, 1, &entries)?;
-    let spans = spans_of(alloc, &cell, &[entries[0], entries[2]])?;
-    let tasks = [
-        TaskPc { task: 2, pc: START },
-        TaskPc {
-            task: 5,
-            pc: START + 8,
-        },
-        TaskPc {
-            task: 7,
-            pc: START + 16,
-        },
-    ];
-    let torn = Torn {
-        task: 5,
-        cell: CellId(1),
-        section: 1,
-        offset: 0,
-    };
-    assert!(rt; first_torn(&spans, &tasks) == Some(torn));
-    assert!(rt; first_torn(&spans, &tasks[..1]) == None);
-    assert!(rt; first_torn(&[], &tasks) == None);
+    let spans = spans(rt.alloc(), TWO_SEQUENCES, BOTH_HIGH)?;
+    assert!(rt; first_torn(&spans, &TASKS) == Some(LOWEST));
+    assert!(rt; first_torn(&spans, &TASKS[..1]) == None);
+    assert!(rt; first_torn(&[], &TASKS) == None);
     Ok(())
 }

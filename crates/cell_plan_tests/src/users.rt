@@ -6,7 +6,7 @@ ghost use Rattle.cell_world.specs.World.{key_of};
 use crate::cell::cell;
 use cell_graph::Graph;
 use cell_num::SecKey;
-use cell_plan::{CellId, LinkRow, Old, users_of};
+use cell_plan::{CellId, LinkRow, NewCell, Old, users_of};
 use std::alloc::{AllocError, Global};
 use std::test::*;
 
@@ -44,22 +44,33 @@ fn linked(alloc: Global) -> Result<Graph, AllocError> {
     Ok(graph)
 }
 
+/// Cells 1, 2 and 3, without entries.
+fn present(alloc: Global) -> Result<Vec<NewCell>, AllocError> {
+    let mut cells = Vec::new(alloc);
+    for number in 1..4 {
+        cells.push(cell(alloc, number, &[])?)?;
+    }
+    Ok(cells)
+}
+
+/// The cells with links into these.
+fn users_into(alloc: Global, old: &[CellId]) -> Result<Vec<CellId>, AllocError> {
+    let graph = linked(alloc)?;
+    let present = present(alloc)?;
+    let old = Old::of(alloc, old)?;
+    let users = users_of(alloc, &present, &graph, &old)?;
+    let mut numbers = Vec::new(alloc);
+    for user in &users {
+        numbers.push(user.id)?;
+    }
+    Ok(numbers)
+}
+
 #[test]
 fn cells_with_links_into_old_ones(rt: HostRuntime) -> Result<(), Fail> {
-    let alloc = rt.alloc();
-    let graph = linked(alloc)?;
-    let present = [
-        cell(alloc, 1, &[])?,
-        cell(alloc, 2, &[])?,
-        cell(alloc, 3, &[])?,
-    ];
-    let old = [CellId(1), CellId(3)];
-    let old = Old::of(alloc, &old)?;
-    let users = users_of(alloc, &present, &graph, &old)?;
-    assert!(rt; users.len() == 1);
-    assert!(rt; users[0].id == CellId(2));
-    let used = [CellId(2)];
-    let used = Old::of(alloc, &used)?;
-    assert!(rt; users_of(alloc, &present, &graph, &used)?.is_empty());
+    let users = users_into(rt.alloc(), &[CellId(1), CellId(3)])?;
+    assert!(rt; users.as_slice() == [CellId(2)].as_slice());
+    let users = users_into(rt.alloc(), &[CellId(2)])?;
+    assert!(rt; users.is_empty());
     Ok(())
 }
