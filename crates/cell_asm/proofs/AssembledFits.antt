@@ -8,13 +8,12 @@ use Rattle.cell_elf.proofs.LoadableCounts.{reads_passed}
 use Rattle.cell_elf.proofs.Soundness.{object_sound}
 use Rattle.cell_image.proofs.RoundTrip.{read_again}
 use Rattle.cell_image.proofs.Ruled.{IsWhole, IsRuled}
-use Rattle.cell_num.specs.Kinds.{width_of}
 use Rattle.cell_object.specs.Image.{image}
 use Rattle.cell_object.specs.Sound.{IsSoundObject}
 use Rattle.cell_object.specs.Writable.{IsWritable}
 use Rattle.cell_asm.specs.Assembled.{has_lost, object_unless, object_from, placed_lines, assembled, Assembles}
 use Rattle.cell_asm.specs.Numberings.{HasRoom}
-use Rattle.cell_asm.specs.Objects.{object_of, symbols, marks_in}
+use Rattle.cell_asm.specs.Objects.{object_of, marks_in}
 use Rattle.cell_asm.specs.Places.{taken, is_long, may_stand, lays_nothing}
 use Rattle.cell_asm.specs.Types.{Object, AsmKind, Laid, Fill, Prog, Note, Zero, Part, Bss, Line, AsmFail}
 use Rattle.cell_asm.proofs.EntriesFit.{not_past, IsStanding, all_stand}
@@ -48,14 +47,11 @@ read_lines source o e = by_lines source o (placed_lines source) refl e
 -- What a source is assembled to can be written: it keeps the rules, so that it is read again, and what is
 -- read is sound.
 
-below_32 : (n : ℕ) → n ≤ 2290089984 → n < 2 ^ 32
-below_32 n h = omega (arith, h)
-
 lines_ruled : (source : List ℕ) (lines : List Laid) → placed_lines source ≡ Ok lines → find (has_lost lines) lines ≡ None → length source < 2 ^ 31 → IsRuled (object_of lines)
 lines_ruled source lines read kept h = record {
   sections = sections_fit source lines read;
   symbols = symbols_fit source lines read;
-  storable = entry_storable source lines read (below_32 (length (symbols lines)) (few_symbols source lines read h));
+  storable = entry_storable source lines read (omega (arith, few_symbols source lines read h));
   entries = entry_writable source lines read kept;
   fits = record {
     grouped = entries_grouped source lines read;
@@ -96,15 +92,12 @@ not_long : (part : Part) (n : ℕ) → is_long (Some part) n ≡ false → n ≤
 not_long Bss n e = not_past 16777216 n e
 not_long _ n e = let h : n ≤ 1048576 = not_past 1048576 n e in omega (arith, h)
 
-near : (o a w t : ℕ) → a + w ≤ t → o + t ≤ 16777216 → o + a < 2 ^ 32
-near o a w t h k = omega (arith, h, k)
-
 room_by : (part : Option Part) (offset : ℕ) (line : Line) → may_stand part line ≡ true → is_long part (offset + taken line.statement offset) ≡ false → IsGoodStatement line.statement
     → All (λ m. offset + m.at < 2 ^ 32) (marks_in line.statement)
 room_by None offset line s l g = In-All (λ m. offset + m.at < 2 ^ 32) (marks_in line.statement) (λ m k. absurd (none_laid line.statement m (and_parts (is_none line.label) (lays_nothing line.statement) s).1 k))
 room_by (Some part) offset line s l g =
     In-All (λ m. offset + m.at < 2 ^ 32) (marks_in line.statement)
-    (λ m k. near offset m.at (width_of m.fix.kind) (taken line.statement offset) ((statement_marks line.statement offset g).stand.0 m k).inside (not_long part (offset + taken line.statement offset) l))
+    (λ m k. (omega (arith, ((statement_marks line.statement offset g).stand.0 m k).inside, (not_long part (offset + taken line.statement offset) l))))
 
 pub rooms : (source : List ℕ) (lines : List Laid) → placed_lines source ≡ Ok lines → All HasRoom lines
 rooms source lines e = In-All HasRoom lines (λ l k. let s : IsStanding l = all_stand source lines e l k in room_by l.part l.offset l.line s.stands s.room s.good)

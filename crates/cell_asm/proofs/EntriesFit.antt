@@ -60,12 +60,8 @@ all_stand = each_line IsStanding one_stands
 
 -- In .text each line stands at a multiple of four.
 --     in_fours source lines         so does each line of a source
---     size_in_fours source lines    and so many bytes .text has
 
 -- WHAT A STATEMENT TAKES
-
-sum_more : (w n : ℕ) → w % 4 ≡ 0 → n % 4 ≡ 0 → (w + n) % 4 ≡ 0
-sum_more w n h k = omega arith
 
 quarter : (j : ℕ) → 2 ^ suc (suc j) ≡ 4 * 2 ^ j
 quarter j =
@@ -119,7 +115,7 @@ no_more n h = omega arith
 size_by : (o : Option Part) (before : List Laid) (line : Line) → may_stand o line ≡ true → IsGoodStatement line.statement → size_in Text before % 4 ≡ 0
     → (size_in Text before + cond (is_at Text o) (taken line.statement (size_at o before)) 0) % 4 ≡ 0
 size_by None before line m g h = no_more (size_in Text before) h
-size_by (Some Text) before line m g h = sum_more (size_in Text before) (taken line.statement (size_in Text before)) h (taken_fours line.statement (size_in Text before) m g h)
+size_by (Some Text) before line m g h = omega (arith, h, (taken_fours line.statement (size_in Text before) m g h))
 size_by (Some part) before line m g h = no_more (size_in Text before) h
 
 offset_by : (o : Option Part) (before : List Laid) → size_in Text before % 4 ≡ 0 → is_at Text o ≡ true → size_at o before % 4 ≡ 0
@@ -137,9 +133,6 @@ fours source lines e = grows AreFours goes (lines_in source) lines (record { siz
 
 pub in_fours : (source : List ℕ) (lines : List Laid) → placed_lines source ≡ Ok lines → (l : Laid) → In l lines → is_in Text l ≡ true → l.offset % 4 ≡ 0
 in_fours source lines e = (fours source lines e).offsets
-
-pub size_in_fours : (source : List ℕ) (lines : List Laid) → placed_lines source ≡ Ok lines → size_in Text lines % 4 ≡ 0
-size_in_fours source lines e = (fours source lines e).size
 
 -- The lines of a section stand one behind the other.
 --     stacked source lines part
@@ -161,11 +154,8 @@ pub taken_cons : (o : ℕ) (l : Laid) (ls : List Laid) → o + all_taken (l ∷ 
 taken_cons o l ls =
     ap (λ n. o + n) (sum_by-cons (λ m. taken m.line.statement m.offset) l ls) ∙ sym (add_assoc o (taken l.line.statement l.offset) (all_taken ls))
 
-at_end : (n o : ℕ) → n ≡ o + 0 → n ≡ o
-at_end n o e = omega arith
-
 stacked_push : (o : ℕ) (ls : List Laid) (l : Laid) → Stacked o ls → l.offset ≡ o + all_taken ls → Stacked o (ls ++ l ∷ [])
-stacked_push o [] l h e = (at_end l.offset o e, tt)
+stacked_push o [] l h e = ((omega (arith, e)), tt)
 stacked_push o (m ∷ ls) l h e = (h.0, stacked_push (o + taken m.line.statement m.offset) ls l h.1 (e ∙ taken_cons o m ls))
 
 from_none : (n m : ℕ) → n ≡ m → n ≡ 0 + m
@@ -221,16 +211,10 @@ line_within lines part l e g k =
     record { from = h.low; to = h.high }
 
 wider : (low t rest : ℕ) (e : Entry) → IsWithin low (low + t) e → IsWithin low ((low + t) + rest) e
-wider low t rest e h = record { from = h.from; to = go (e.offset + width_of e.kind) (low + t) h.to }
-  where
-    go : (n m : ℕ) → n ≤ m → n ≤ m + rest
-    go n m p = omega arith
-
-deeper : (base width n : ℕ) → base + width ≤ n → base ≤ n
-deeper base width n h = omega arith
+wider low t rest e h = record { from = h.from; to = (omega (arith, h.to)) }
 
 lower : (low t high : ℕ) (e : Entry) → IsWithin (low + t) high e → IsWithin low high e
-lower low t high e h = record { from = deeper low t e.offset h.from; to = h.to }
+lower low t high e h = record { from = omega (arith, h.from); to = h.to }
 
 -- each entry of lines that stand one behind the other is within them
 within : (lines : List Laid) (part : Part) (o : ℕ) (ls : List Laid) → Stacked o ls → AreGood ls → (e : Entry) → In e (flat_map (entries_of lines part) ls) → IsWithin o (o + all_taken ls) e
@@ -260,11 +244,8 @@ module _ (source : List ℕ) (lines : List Laid) (read : placed_lines source ≡
   pub entries_apart : Apart (entries_in lines part)
   entries_apart = lines_apart lines part 0 (filter (is_in part) lines) (stacked source lines part read) good_in
 
-  no_start : (n m : ℕ) → n ≤ 0 + m → n ≤ m
-  no_start n m h = omega arith
-
   pub entry_high : (e : Entry) → In e (entries_in lines part) → e.offset + width_of e.kind ≤ size_in part lines
-  entry_high e k = no_start _ _ (within lines part 0 (filter (is_in part) lines) (stacked source lines part read) good_in e k).to
+  entry_high e k = omega (arith, (within lines part 0 (filter (is_in part) lines) (stacked source lines part read) good_in e k).to)
 
   -- the line that an entry comes from
   pub record Origin (e : Entry) : Type 0 where
@@ -297,15 +278,12 @@ apart_take (x ∷ es) (suc k) e h g = both (is_clash e x) (list_any (is_clash e)
 pub not_past : (m n : ℕ) → nat_lt m n ≡ false → n ≤ m
 not_past m n e = grind (arith, nat_tests)
 
-none_added : (n m : ℕ) → n ≤ m → n + 0 ≤ m
-none_added n m h = omega arith
-
 abbrev Fits : Part → List Laid → Type 0
 Fits part lines = size_in part lines ≤ largest part
 
 fits_by : (part : Part) (o : Option Part) (before : List Laid) (n : ℕ) (b : Bool) → is_at part o ≡ b → size_in part before ≤ largest part → is_long o (size_at o before + n) ≡ false → size_in part before + cond b n 0 ≤ largest part
 fits_by part o before n true e h room = not_past (largest part) (size_in part before + n) (subst (λ p. is_long p (size_at p before + n) ≡ false) (at_part part o e) room)
-fits_by part o before n false e h room = none_added (size_in part before) (largest part) h
+fits_by part o before n false e h room = omega (arith, h)
 
 fits_goes : (part : Part) → Goes (Fits part)
 fits_goes part before n text line h e f =
@@ -345,13 +323,7 @@ part_count source lines part e = lines_count lines part (filter (is_in part) lin
 each_count : {A : Type 0} (g : A → List Entry) (m : ℕ) (xs : List A) → ((x : A) → length (g x) ≤ m) → length (flat_map g xs) ≤ m * length xs
 each_count g m [] h = least (m * 0)
 each_count g m (x ∷ xs) h =
-    subst (λ n. n ≤ m * suc (length xs)) (sym (length-append (g x) (flat_map g xs))) (go (length (g x)) (length (flat_map g xs)) (m * length xs) (m * suc (length xs)) (h x) (each_count g m xs h) (mul-suc m (length xs)))
-  where
-    go : (a b c d : ℕ) → a ≤ m → b ≤ c → d ≡ c + m → a + b ≤ d
-    go a b c d p q r = omega arith
-
-double : (n m : ℕ) → n ≤ 2 * m → m ≤ 16777216 → n ≤ 33554432
-double n m h k = omega arith
+    subst (λ n. n ≤ m * suc (length xs)) (sym (length-append (g x) (flat_map g xs))) (omega (arith, h x, each_count g m xs h, mul-suc m (length xs)))
 
 four_times : (n k : ℕ) → n ≤ 33554432 * k → k ≤ 4 → n ≤ 134217728
 four_times n k h l = omega arith
@@ -359,5 +331,5 @@ four_times n k h l = omega arith
 pub few_entries : (source : List ℕ) (lines : List Laid) → placed_lines source ≡ Ok lines → length (entries lines) ≤ 134217728
 few_entries source lines e =
     four_times (length (entries lines)) (length (parts_of lines))
-    (each_count (entries_in lines) 33554432 (parts_of lines) (λ part. double _ _ (part_count source lines part e) (section_small source lines part e)))
+    (each_count (entries_in lines) 33554432 (parts_of lines) (λ part. (omega (arith, (part_count source lines part e), (section_small source lines part e)))))
     (few lines (parts_of lines) refl)

@@ -165,9 +165,6 @@ one_most : (base at : ℕ) (o : Option Fix) → length (marks_at base at o) ≤ 
 one_most base at None = omega arith
 one_most base at (Some f) = omega arith
 
-sum_fours : (n w m : ℕ) → n % 4 ≡ 0 → w % 4 ≡ 0 → m ≡ n + w → m % 4 ≡ 0
-sum_fours n w m x y e = omega arith
-
 two_more : (a c d e n w m : ℕ) → a ≤ 2 * n → c ≤ 1 → d ≤ 1 → e ≡ a + (c + d) → 1 ≤ w → m ≡ n + w → e ≤ 2 * m
 two_more a c d e n w m x y z q l is = omega arith
 
@@ -183,7 +180,7 @@ piece_sound content b p h g =
         few = two_more (length b.marks) (length one) (length two) (length (appended b p).marks) n p.width (length (appended b p).bytes)
             h.marks_are.few (one_most n 0 p.fix) (one_most n p.apart p.second) (length-append b.marks (marks_of n p) ∙ ap (λ k. length b.marks + k) (length-append one two)) g.low size;
       };
-      whole = λ wide. sum_fours n p.width (length (appended b p).bytes) (h.whole wide) (g.in_fours wide) size;
+      whole = λ wide. omega (arith, (h.whole wide), (g.in_fours wide), size);
     }
 
 no_marks : (content : Content) (n : ℕ) → AreMarks content n []
@@ -245,12 +242,6 @@ pub record IsFrom (lines : List Laid) (part : Part) (l : Laid) (e : Entry) : Typ
   pub low : l.offset ≤ e.offset
   pub high : e.offset + width_of e.kind ≤ l.offset + taken l.line.statement l.offset
 
-same_fours : (base at offset : ℕ) → at % 4 ≡ 0 → offset ≡ base + at → offset % 4 ≡ base % 4
-same_fours base at offset h e = omega (arith, h, e)
-
-behind_base : (base at offset : ℕ) → offset ≡ base + at → base ≤ offset
-behind_base base at offset e = omega (arith, e)
-
 inside_base : (base at w size offset v : ℕ) → at + w ≤ size → offset ≡ base + at → v ≡ w → offset + v ≤ base + size
 inside_base base at w size offset v h e f = omega (arith, h, e, f)
 
@@ -267,8 +258,8 @@ line_origin lines part l e g k =
       symbol_is = ap (λ x. x.symbol) r.2;
       addend_is = ap (λ x. x.addend) r.2;
       good = a.fix;
-      fours = λ wide. same_fours l.offset r.0.at e.offset (a.fours wide) at;
-      low = behind_base l.offset r.0.at e.offset at;
+      fours = λ wide. omega (arith, (a.fours wide), at);
+      low = omega (arith, at);
       high = inside_base l.offset r.0.at (width_of r.0.fix.kind) (taken l.line.statement l.offset) e.offset (width_of e.kind) a.inside at (ap (λ x. width_of x.kind) r.2);
     }
 
@@ -286,10 +277,7 @@ no_clash false b c e = refl
 pub behind : (e f : Entry) (mid : ℕ) → e.offset + width_of e.kind ≤ mid → mid ≤ f.offset → is_clash f e ≡ false
 behind e f mid h k =
     no_clash (nat_lt f.offset (e.offset + width_of e.kind)) (nat_lt e.offset (f.offset + width_of f.kind)) (not (is_stack f e))
-    (not_less f.offset (e.offset + width_of e.kind) (past (e.offset + width_of e.kind) mid f.offset h k))
-  where
-    past : (a b c : ℕ) → a ≤ b → b ≤ c → a ≤ c
-    past a b c p q = omega arith
+    (not_less f.offset (e.offset + width_of e.kind) (omega (arith, h, k)))
 
 stacked_free : (a b c d e : Bool) → b ≡ true → c ≡ true → d ≡ true → e ≡ true → (a && not (b && c && d && e)) ≡ false
 stacked_free true true true true true p q r s = refl
@@ -306,13 +294,7 @@ together e f at wide a b =
 
 module _ (lines : List Laid) (part : Part) (l : Laid) where
   never_clash : (m n : Mark) → AreApart m n → is_clash (entry_of lines part l n) (entry_of lines part l m) ≡ false
-  never_clash m n (inl h) = behind (entry_of lines part l m) (entry_of lines part l n) (l.offset + n.at) (moved m.at (width_of m.fix.kind) n.at h) (itself (l.offset + n.at))
-    where
-      moved : (a w b : ℕ) → a + w ≤ b → (l.offset + a) + w ≤ l.offset + b
-      moved a w b p = omega (arith, p)
-
-      itself : (n : ℕ) → n ≤ n
-      itself n = omega arith
+  never_clash m n (inl h) = behind (entry_of lines part l m) (entry_of lines part l n) (l.offset + n.at) (omega (arith, h)) (itself (l.offset + n.at))
   never_clash m n (inr h) = together (entry_of lines part l m) (entry_of lines part l n) (ap (λ a. l.offset + a) h.0) h.1.same h.1.second h.1.first
 
   marks_apart : (marks : List Mark) → AllApart marks → Apart (map (entry_of lines part l) marks)

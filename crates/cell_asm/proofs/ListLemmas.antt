@@ -57,9 +57,6 @@ or_second false b e = e
 next : (k n j : ℕ) → k ≡ n + j → suc k ≡ suc n + j
 next k n j e = omega (arith, e)
 
-from_none : (k : ℕ) → k ≡ 0 + k
-from_none k = omega arith
-
 module _ {X : Type 0} where
   -- an element of the first list, or one of the second
   abbrev pub IsSplit : List X → List X → ℕ → X → Type 0
@@ -70,7 +67,7 @@ module _ {X : Type 0} where
   split_next y xs ys k x (inr r) = inr (r.0, next k (length xs) r.0 r.1, r.2)
 
   pub get_split : (xs ys : List X) (k : ℕ) (x : X) → slice_get (xs ++ ys) k ≡ Some x → IsSplit xs ys k x
-  get_split [] ys k x e = inr (k, from_none k, e)
+  get_split [] ys k x e = inr (k, (omega arith), e)
   get_split (y ∷ xs) ys zero x e = inl e
   get_split (y ∷ xs) ys (suc k) x e = split_next y xs ys k x (get_split xs ys k x e)
 
@@ -124,9 +121,6 @@ both_le a b c d h k = omega (arith, h, k)
 times_more : (a t c n : ℕ) → a ≤ c → t ≤ c * n → a + t ≤ c * suc n
 times_more a t c n h k = omega (arith, h, k)
 
-none_le : (c : ℕ) → 0 ≤ c * 0
-none_le c = omega arith
-
 module _ {X : Type 0} where
   pub total-append : (f : X → ℕ) (xs ys : List X) → total f (xs ++ ys) ≡ total f xs + total f ys
   total-append f [] ys = sym (zero-add (total f ys))
@@ -141,7 +135,7 @@ module _ {X : Type 0} where
   total_same f g (x ∷ xs) h = ap (λ n. n + total f xs) (h x (inl refl)) ∙ ap (λ n. g x + n) (total_same f g xs (λ y k. h y (inr k)))
 
   pub total_times : (f : X → ℕ) (c : ℕ) (xs : List X) → ((x : X) → In x xs → f x ≤ c) → total f xs ≤ c * length xs
-  total_times f c [] h = none_le c
+  total_times f c [] h = omega arith
   total_times f c (x ∷ xs) h = times_more (f x) (total f xs) c (length xs) (h x (inl refl)) (total_times f c xs (λ y k. h y (inr k)))
 
   pub sum_is_total : (f : X → ℕ) (xs : List X) → sum_by f xs ≡ total f xs

@@ -1,7 +1,7 @@
 -- A line that is read: its pieces are good, and its names take no more bytes than its text and one.
 --     read_line text line
 use Rattle.std.proofs.Common.{◌≡◌, ◌≤◌, ◌+◌, ◌-◌, ◌^◌, ℕ, suc, Bool, true, false, List, [], ◌∷◌, ◌++◌, map, take, drop, length, Result, Ok, Err, Some, None, inl, inr, refl, subst, arith}
-use Rattle.std.specs.Prelude.{Option, ◌==◌, min, if◌then◌else◌, nat_le, flat_map}
+use Rattle.std.specs.Prelude.{Option, ◌==◌, if◌then◌else◌, nat_le, flat_map}
 use Rattle.std.specs.List.{position_or_len, prefix_len, before_first}
 use Rattle.std.proofs.lemmas.List.{length-take}
 use Rattle.cell_num.specs.Lists.{where_true}
@@ -79,9 +79,6 @@ with_operands : (m : ℕ) (word : List ℕ) (r : Result (List Operand) AsmKind) 
 with_operands m word (Ok os) h = worded_read m (directive word) (mnemonic word) os h
 with_operands m word (Err k) h = tt
 
-suc_le : (a b c : ℕ) → a ≤ b → suc b ≤ c → suc a ≤ c
-suc_le a b c h k = omega (arith, h, k)
-
 after_le : (text : List ℕ) → length (after_word text) ≤ length text
 after_le text = le_trans (length (after_word text)) (length (drop (prefix_len is_inked text) text)) (length text) (trimmed_le (drop (prefix_len is_inked text) text)) (drop_le (prefix_len is_inked text) text)
 
@@ -89,7 +86,7 @@ statement_read : (text : List ℕ) (m : ℕ) → suc (length text) ≤ m → Yie
 statement_read [] m l = record { good = tt; few = least m }
 statement_read (b ∷ bs) m l =
     with_operands m (first_word (b ∷ bs)) (operands (map spelled (operand_texts (after_word (b ∷ bs)))))
-    (operands_named (after_word (b ∷ bs)) m (suc_le (length (after_word (b ∷ bs))) (length (b ∷ bs)) m (after_le (b ∷ bs)) l))
+    (operands_named (after_word (b ∷ bs)) m (omega (arith, (after_le (b ∷ bs)), l)))
 
 -- the names of a good statement are names
 marks_named : (marks : List Mark) → ((m : Mark) → In m marks → AreNames (target_names m.fix.target)) → AreNames (flat_map (λ m. target_names m.fix.target) marks)
@@ -129,22 +126,12 @@ labelled_by k n true name text h l t = line_made k n (Some name) text (one_named
 labelled_by k n false name text h l t = tt
 
 taken_le : (n : ℕ) (text : List ℕ) → length (take n text) ≤ n
-taken_le n text = go (length (take n text)) (length text) (length-take n text)
-  where
-    go : (k m : ℕ) → k ≡ min n m → k ≤ n
-    go k m e = omega arith
+taken_le n text = omega (arith, length-take n text)
 
 -- a word and what follows it are within the text
 words_le : (text : List ℕ) (n : ℕ) → length text ≤ n → length (first_word text) + suc (length (after_word text)) ≤ suc n
 words_le text n l =
-    go (length (first_word text)) (length (drop (prefix_len is_inked text) text)) (length (after_word text)) (length text)
-    (split_length (prefix_len is_inked text) text) (trimmed_le (drop (prefix_len is_inked text) text)) l
-  where
-    go : (w d a t : ℕ) → w + d ≡ t → a ≤ d → t ≤ n → w + suc a ≤ suc n
-    go w d a t e h k = omega (arith, e, h, k)
-
-none_before : (a n : ℕ) → a ≤ n → 0 + suc a ≤ suc n
-none_before a n h = omega arith
+    omega (arith, split_length (prefix_len is_inked text) text, trimmed_le (drop (prefix_len is_inked text) text), l)
 
 line_if : (code : List ℕ) (n : ℕ) (b : Bool) → length code ≤ n
     → Yields (IsReadLine (suc n)) (if b then labelled (label_name (first_word code)) (after_word code) else with_value (λ s. record { label = None; statement = s }) (statement_in code))
@@ -152,7 +139,7 @@ line_if code n true l =
     let word : List ℕ = first_word code in
     let name : List ℕ = take (length word - 1) word in
     labelled_by (length word) (suc n) (is_name name) name (after_word code) refl (taken_le (length word - 1) word) (words_le code n l)
-line_if code n false l = line_made 0 (suc n) None code (none_named 0) (none_before (length code) n l)
+line_if code n false l = line_made 0 (suc n) None code (none_named 0) (omega (arith, l))
 
 code_le : (text : List ℕ) → length (code_of text) ≤ length text
 code_le text =

@@ -20,21 +20,15 @@ use Rattle.cell_asm.proofs.WritableEntries.{part_numbered}
 
 -- THE BYTES OF A STATEMENT
 
-four_more : (m : ℕ) → 4 + 4 * m ≡ 4 * suc m
-four_more m = omega arith
-
 nops_count : (m : ℕ) → length (flat_map (λ word. bytes_of 4 word) (replicate m 0x13)) ≡ 4 * m
 nops_count zero = refl
 nops_count (suc m) =
     length-append (bytes_of 4 0x13) (flat_map (λ word. bytes_of 4 word) (replicate m 0x13))
     ∙ ap (λ n. 4 + n) (nops_count m)
-    ∙ four_more m
-
-whole_words : (n : ℕ) → n % 4 ≡ 0 → 4 * (n / 4) ≡ n
-whole_words n h = omega arith
+    ∙ (omega arith)
 
 padding_length : (part : Part) (n : ℕ) → (is_text part ≡ true → n % 4 ≡ 0) → length (padding part n) ≡ n
-padding_length Text n h = nops_count (n / 4) ∙ whole_words n (h refl)
+padding_length Text n h = nops_count (n / 4) ∙ (omega (arith, h refl))
 padding_length _ n h = length-replicate n 0
 
 at_length : (part : Part) (offset : ℕ) (s : Statement) → (is_text part ≡ true → taken s offset % 4 ≡ 0) → length (bytes_at part offset s) ≡ taken s offset
@@ -96,15 +90,9 @@ asked_unit : (s : Statement) → IsGoodStatement s → IsUnit (alignment_asked s
 asked_unit (Align unit) g = g
 asked_unit _ g = one_unit
 
-second_larger : (a b : ℕ) → a < b → b ≡ max a b
-second_larger a b h = omega (arith, h)
-
-first_larger : (a b : ℕ) → b ≤ a → a ≡ max a b
-first_larger a b h = omega (arith, h)
-
 larger_unit : (a b : ℕ) → IsUnit a → IsUnit b → (a < b) ⊎ (b ≤ a) → IsUnit (max a b)
-larger_unit a b g h (inl l) = subst IsUnit (second_larger a b l) h
-larger_unit a b g h (inr l) = subst IsUnit (first_larger a b l) g
+larger_unit a b g h (inl l) = subst IsUnit (omega (arith, l)) h
+larger_unit a b g h (inr l) = subst IsUnit (omega (arith, l)) g
 
 fold_unit : (a : ℕ) (units : List ℕ) → IsUnit a → ((n : ℕ) → In n units → IsUnit n) → IsUnit (fold max a units)
 fold_unit a [] g h = g

@@ -1,6 +1,6 @@
 -- How many bytes the names of a source's symbols take.
 --     symbols_cost source lines
-use Rattle.std.proofs.Common.{◌≡◌, ℕ, suc, ◌+◌, ◌*◌, ◌≤◌, Bool, true, false, cond, not, List, [], ◌∷◌, ◌++◌, map, length, codes, Ok, Some, None, inl, inr, refl, subst, sym, ap, ◌∙◌, zero-add, true≢false, arith, ◌-◌, ◌%◌, ◌^◌, ◌<◌, replicate, ◌⊎◌, length-append, lit≤}
+use Rattle.std.proofs.Common.{◌≡◌, ℕ, suc, ◌+◌, ◌*◌, ◌≤◌, Bool, true, false, cond, not, List, [], ◌∷◌, ◌++◌, map, length, codes, Ok, Some, None, inl, inr, refl, subst, sym, ap, ◌∙◌, zero-add, true≢false, arith, ◌^◌, ◌<◌, replicate, ◌⊎◌, length-append, lit≤}
 use Rattle.std.proofs.lemmas.Bool.{and_parts}
 use Rattle.std.proofs.lemmas.List.{map-append, length-replicate}
 use Rattle.std.proofs.lemmas.List.Elements.{filter-append}
@@ -39,21 +39,12 @@ use Rattle.cell_asm.proofs.WritableEntries.{in_labels, made_head}
 abbrev room : List ℕ → ℕ
 room text = length text + 1
 
-line_feed : (n t : ℕ) → t ≤ n + 1 → (0 + 1) + t ≤ suc n + 1
-line_feed n t h = omega (arith, h)
-
-longer : (n p t : ℕ) → (p + 1) + t ≤ n + 1 → (suc p + 1) + t ≤ suc n + 1
-longer n p t h = omega (arith, h)
-
-first_piece : (n : ℕ) → (1 + 1) + 0 ≤ suc n + 1
-first_piece n = omega arith
-
 onto_room : (b n : ℕ) (texts : List (List ℕ)) → total room texts ≤ n + 1 → total room (onto b texts) ≤ suc n + 1
-onto_room b n [] h = first_piece n
-onto_room b n (text ∷ texts) h = longer n (length text) (total room texts) h
+onto_room b n [] h = omega arith
+onto_room b n (text ∷ texts) h = omega (arith, h)
 
 pieces_by : (c : Bool) (b n : ℕ) (texts : List (List ℕ)) → total room texts ≤ n + 1 → total room (if c then [] ∷ texts else onto b texts) ≤ suc n + 1
-pieces_by true b n texts h = line_feed n (total room texts) h
+pieces_by true b n texts h = omega (arith, h)
 pieces_by false b n texts h = onto_room b n texts h
 
 no_piece : (0 + 1) + 0 ≤ 0 + 1
@@ -68,9 +59,6 @@ lines_room source = pieces_room _ source
 
 -- NAMES
 
-more_room : (a b c d n m : ℕ) → a ≡ b + (n + 0) → b ≤ c → n ≤ suc m → d ≡ c + ((m + 1) + 0) → a ≤ d
-more_room a b c d n m p h k q = omega (arith, p, h, k, q)
-
 names_by : (a b c d : ℕ) → a ≡ b → b ≤ c → c ≤ d + 1 → a ≤ d + 1
 names_by a b c d p h k = omega (arith, p, h, k)
 
@@ -79,8 +67,7 @@ names_cost l = cost (line_names l.line)
 
 goes : GoesOn (λ done ls. total names_cost ls ≤ total room done)
 goes done before n text line h e f =
-    more_room (total names_cost (before ++ placed before n line ∷ [])) (total names_cost before) (total room done) (total room (done ++ text ∷ [])) (cost (line_names line)) (length text)
-    (total-append names_cost before (placed before n line ∷ [])) h (read_line text line e).names.few (total-append room done (text ∷ []))
+    omega (arith, (total-append names_cost before (placed before n line ∷ [])), h, (read_line text line e).names.few, (total-append room done (text ∷ [])))
 
 -- the names that the lines mention take no more bytes than the source and one
 pub mentions_cost : (source : List ℕ) (lines : List Laid) → placed_lines source ≡ Ok lines → cost (mentions lines) ≤ length source + 1
@@ -181,12 +168,9 @@ module _ (lines : List Laid) where
   both_cost : (a b c d e f g : ℕ) → a ≡ b + c → b ≤ d → c ≤ 68 * e → f ≡ d + g → a ≤ f + 68 * e
   both_cost a b c d e f g p h k q = omega (arith, p, h, k, q)
 
-  none_cost : (a b : ℕ) → 0 ≤ a + 68 * b
-  none_cost a b = omega arith
-
   line_cost : (o : Option Part) (l : Laid) → ((part : Part) → o ≡ Some part → (k : Key) → In k (keys_of l) → In (label part l.offset k) (labels lines))
       → total label_cost (filter is_local (labels_at o l.offset (keys_of l))) ≤ cost (filter is_own (line_names l.line)) + 68 * makes l
-  line_cost None l h = none_cost (cost (filter is_own (line_names l.line))) (makes l)
+  line_cost None l h = omega arith
   line_cost (Some part) l h =
       let own : List Key = own_key l.line.label in
       let made : List Key = made_key l.line.statement l.made in
@@ -281,32 +265,20 @@ symbols_number lines =
 
 count_le : (ss : List Symbol) → length ss ≤ total symbol_cost ss
 count_le [] = omega arith
-count_le (s ∷ ss) = more (length ss) (total symbol_cost ss) (length s.name) (count_le ss)
-  where
-    more : (a b c : ℕ) → a ≤ b → suc a ≤ suc c + b
-    more a b c h = omega (arith, h)
-
-few_by : (a b s : ℕ) → a ≤ b → b ≤ s + 142606337 → s < 2 ^ 31 → a ≤ 2290089984
-few_by a b s h k l = omega (arith, h, k, l)
+count_le (s ∷ ss) = omega (arith, count_le ss)
 
 pub few_symbols : (source : List ℕ) (lines : List Laid) → placed_lines source ≡ Ok lines → length source < 2 ^ 31 → length (symbols lines) ≤ 2290089984
-few_symbols source lines e h = few_by (length (symbols lines)) (total symbol_cost (symbols lines)) (length source) (count_le (symbols lines)) (symbols_cost source lines e) h
-
-locals_by : (a b c s : ℕ) → a ≡ b → s ≡ b + c → s ≤ 2290089984 → a + 1 < 2 ^ 32
-locals_by a b c s e f h = omega (arith, e, f, h)
+few_symbols source lines e h = omega (arith, (count_le (symbols lines)), (symbols_cost source lines e), h)
 
 pub locals_fit : (source : List ℕ) (lines : List Laid) → placed_lines source ≡ Ok lines → length source < 2 ^ 31 → local_count (object_of lines) + 1 < 2 ^ 32
 locals_fit source lines e h =
-    locals_by (local_count (object_of lines)) (length (local_labels lines)) (length (other_names lines)) (length (symbols lines)) (locals_count lines) (symbols_number lines) (few_symbols source lines e h)
+    omega (arith, (locals_count lines), (symbols_number lines), (few_symbols source lines e h))
 
 -- THE STRINGS
 
-string_by : (a m : ℕ) → suc a ≤ m → suc (a + 1) ≤ m + 1
-string_by a m h = omega (arith, h)
-
 string_le : (m : ℕ) (name : List ℕ) → length name ≤ m → length (string name) ≤ m + 1
 string_le m [] h = omega arith
-string_le m (b ∷ bs) h = subst (λ n. suc n ≤ m + 1) (sym (length-append bs (0 ∷ []))) (string_by (length bs) m h)
+string_le m (b ∷ bs) h = subst (λ n. suc n ≤ m + 1) (sym (length-append bs (0 ∷ []))) (omega (arith, h))
 
 -- so many texts at most, each of so many bytes at most
 record AreSmall (n m : ℕ) (texts : List (List ℕ)) : Type 0 where
@@ -314,11 +286,8 @@ record AreSmall (n m : ℕ) (texts : List (List ℕ)) : Type 0 where
   short : (t : List ℕ) → In t texts → length t ≤ m
 
 small_join : (a b m : ℕ) (xs ys : List (List ℕ)) → AreSmall a m xs → AreSmall b m ys → AreSmall (a + b) m (xs ++ ys)
-small_join a b m xs ys h k = record { count = go (length xs) (length ys) (length (xs ++ ys)) h.count k.count (length-append xs ys); short = λ t i. each t (In-append xs ys t i) }
+small_join a b m xs ys h k = record { count = omega (arith, h.count, k.count, length-append xs ys); short = λ t i. each t (In-append xs ys t i) }
   where
-    go : (x y z : ℕ) → x ≤ a → y ≤ b → z ≡ x + y → z ≤ a + b
-    go x y z p q e = omega arith
-
     each : (t : List ℕ) → In t xs ⊎ In t ys → length t ≤ m
     each t (inl i) = h.short t i
     each t (inr i) = k.short t i
@@ -344,13 +313,7 @@ table_le n m names h =
 
 -- a name and the zero behind it
 string_cost : (name : List ℕ) → length (string name) ≤ suc (length name)
-string_cost name = grind_le (length (string name)) (length name) (string_le (length name) name (itself (length name)))
-  where
-    itself : (n : ℕ) → n ≤ n
-    itself n = omega arith
-
-    grind_le : (a n : ℕ) → a ≤ n + 1 → a ≤ suc n
-    grind_le a n h = omega (arith, h)
+string_cost name = omega (arith, string_le (length name) name (omega arith))
 
 texts_by : (t u v k s : ℕ) → t ≡ u → u ≤ v → v ≡ k → k ≤ s + 142606337 → s < 2 ^ 31 → suc t < 2 ^ 32
 texts_by t u v k s e h f l m = omega (arith, e, h, f, l, m)
@@ -380,15 +343,9 @@ relocated_In : (ss : List Section) (es : List Entry) (row : ℕ × Section) → 
 unfolding relocated
 relocated_In ss es row k = numbered_In 1 ss row (In-filtered (λ r. has_entries es r.0) (numbered_from 1 ss) row k)
 
-seven_more : (n : ℕ) → n ≤ 7 → 5 + n ≤ 12
-seven_more n h = omega (arith, h)
-
-seven : (n : ℕ) → n ≤ 7 → n ≤ 12
-seven n h = omega (arith, h)
-
 table_short : (lines : List Laid) (row : ℕ × Section) → In row (relocated (sections lines) (entries lines)) → length (table_name row) ≤ 12
 table_short lines row k =
-    subst (λ n. n ≤ 12) (sym (length-append (codes ".rela") row.1.name)) (seven_more (length row.1.name) (section_short lines row.1 (relocated_In (sections lines) (entries lines) row k)))
+    subst (λ n. n ≤ 12) (sym (length-append (codes ".rela") row.1.name)) (omega (arith, (section_short lines row.1 (relocated_In (sections lines) (entries lines) row k))))
 
 abbrev fixed_names : List (List ℕ)
 fixed_names = codes ".symtab" ∷ codes ".strtab" ∷ codes ".shstrtab" ∷ []
@@ -400,22 +357,16 @@ fixed_small = small_join 1 2 12 (codes ".symtab" ∷ []) (codes ".strtab" ∷ co
 names_small : (lines : List Laid) → AreSmall 11 12 (names_before_tables (object_of lines) ++ map table_name (relocated (sections lines) (entries lines)))
 names_small lines =
     small_join 7 4 12 (names_before_tables (object_of lines)) (map table_name (relocated (sections lines) (entries lines)))
-    (small_join 4 3 12 (own_names (sections lines)) fixed_names (small_map 4 12 (λ (s : Section). s.name) (sections lines) (few_sections lines) (λ s k. seven (length s.name) (section_short lines s k))) fixed_small)
+    (small_join 4 3 12 (own_names (sections lines)) fixed_names (small_map 4 12 (λ (s : Section). s.name) (sections lines) (few_sections lines) (λ s k. (omega (arith, section_short lines s k)))) fixed_small)
     (small_map 4 12 table_name (relocated (sections lines) (entries lines)) (few_tables lines) (table_short lines))
-
-few_names : (t n : ℕ) → t ≤ 1 + 13 * n → n ≤ 11 → t < 2 ^ 32
-few_names t n h k = omega (arith, h, k)
 
 pub names_fit : (lines : List Laid) → length (section_strings (object_of lines)) < 2 ^ 32
 unfolding section_strings
 names_fit lines =
     let names : List (List ℕ) = names_before_tables (object_of lines) ++ map table_name (relocated (sections lines) (entries lines)) in
-    few_names (length (string_table names)) (length names) (table_le 11 12 names (names_small lines)) (names_small lines).count
+    (omega (arith, (table_le 11 12 names (names_small lines)), (names_small lines).count))
 
 -- THE WHOLE FILE
-
-few_zeros : (n : ℕ) → (8 - n % 8) % 8 ≤ 8
-few_zeros n = omega arith
 
 padded_by : (a n z p : ℕ) → p ≡ n + z → z ≤ 8 → n ≤ a → p ≤ a + 8
 padded_by a n z p e h k = omega (arith, e, h, k)
@@ -424,7 +375,7 @@ padded_le : (m : ℕ) (part : List ℕ) → length part ≤ m → length (padded
 unfolding padded
 padded_le m part h =
     padded_by m (length part) (parts.padding (length part)) (length (part ++ replicate (parts.padding (length part)) 0))
-    (length-append part (replicate (parts.padding (length part)) 0) ∙ ap (λ n. length part + n) (length-replicate (parts.padding (length part)) 0)) (few_zeros (length part)) h
+    (length-append part (replicate (parts.padding (length part)) 0) ∙ ap (λ n. length part + n) (length-replicate (parts.padding (length part)) 0)) (omega arith) h
 
 filled_le : (f : Fill) (bytes : List ℕ) (size : ℕ) → IsWhole f bytes size → size ≤ 16777216 → length (filled f bytes) ≤ 16777216
 filled_le Prog bytes size w h = subst (λ n. n ≤ 16777216) (sym w) h

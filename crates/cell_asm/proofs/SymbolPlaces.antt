@@ -115,9 +115,6 @@ twice_named : (before : List Laid) (o : Option (List ℕ)) (name : List ℕ) (a 
 twice_named before o name a e f i k =
     true≢false (sym (any-In (λ l. is_key l.key (Named name)) (labels before) a i (ap (λ q. is_key q (Named name)) k ∙ key_itself (Named name))) ∙ ap (is_twice before) (sym e) ∙ f)
 
-not_past : (m n k : ℕ) → m ≤ n → m ≡ n + 1 → ⊥
-not_past m n k h e = omega arith
-
 -- a new label is none of those before
 not_again : (before : List Laid) (new : Laid) (a b : Label) → AreOnce before → is_twice before new.line.label ≡ false → new.made ≡ made_in before + 1
     → In a (labels before) → IsAt new.part new.offset (keys_of new) b → a.key ≡ b.key → ⊥
@@ -125,7 +122,7 @@ not_again before new a b h twice number i k e = go (key_of_line new b.key k.key_
   where
     go : IsOwn new.line b.key ⊎ IsMade new.line new.made b.key → ⊥
     go (inl own) = twice_named before new.line.label own.name a own.labelled twice i (e ∙ own.named)
-    go (inr m) = not_past new.made (made_in before) 0 (h.made a i new.made (e ∙ m.made)) number
+    go (inr m) = omega (arith, (h.made a i new.made (e ∙ m.made)), number)
 
 same_numbers : (m n : ℕ) (k : Key) → k ≡ Made m → k ≡ Made n → m ≡ n
 same_numbers m n k e f = cc
@@ -275,10 +272,7 @@ either_below lines i key (inr r) = get_below (symbols lines) i (global_symbol li
 
 small_by : (lines : List Laid) (key : Key) (b : Bool) → has_symbol lines key ≡ b → symbol_number lines key ≤ length (symbols lines)
 small_by lines key true h = let s = symbol_there lines key h in subst (λ n. n ≤ length (symbols lines)) (sym s.number) (either_below lines s.i key s.at)
-small_by lines key false h = subst (λ n. n ≤ length (symbols lines)) (sym (symbol_none lines key h)) (go (length (symbols lines)))
-  where
-    go : (n : ℕ) → 0 ≤ n
-    go n = omega arith
+small_by lines key false h = subst (λ n. n ≤ length (symbols lines)) (sym (symbol_none lines key h)) (omega arith)
 
 pub number_small : (lines : List Laid) (key : Key) → symbol_number lines key ≤ length (symbols lines)
 number_small lines key = small_by lines key (has_symbol lines key) refl

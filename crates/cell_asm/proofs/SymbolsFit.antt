@@ -1,6 +1,6 @@
 -- Each line stands in a section that is chosen, and its bytes are within it.
 --     all_held source lines        so it is of each line of a source
-use Rattle.std.proofs.Common.{◌≡◌, ℕ, ◌+◌, ◌≤◌, cond, List, [], ◌∷◌, ◌++◌, inl, inr, Ok, Some, None, refl, sym, subst, ◌∙◌, arith, true, Bool, false, ◌⊎◌, ap, zero, suc, ◌-◌, ◌^◌, ◌<◌, not, ◌&&◌, ◌||◌, map, length, take, slice_get, append-nil, true≢false}
+use Rattle.std.proofs.Common.{◌≡◌, ℕ, ◌+◌, ◌≤◌, cond, List, [], ◌∷◌, ◌++◌, inl, inr, Ok, Some, None, refl, sym, subst, ◌∙◌, arith, true, Bool, false, ◌⊎◌, ap, zero, suc, ◌^◌, ◌<◌, not, ◌&&◌, ◌||◌, map, length, take, slice_get, append-nil, true≢false}
 use Rattle.std.proofs.lemmas.Bool.{or_from}
 use Rattle.std.proofs.lemmas.List.Elements.{filter_map-append, filter-append}
 use Rattle.std.proofs.lemmas.List.Folds.{list_any-append}
@@ -50,16 +50,10 @@ still_chosen : (before : List Laid) (l : Laid) (part : Part) → In part (choice
 still_chosen before l part k =
     subst (In part) (sym (filter_map-append (λ m. choice m.line.statement) before (l ∷ []))) (In-left (choices before) (choices (l ∷ [])) part k)
 
-still_inside : (a n m : ℕ) → a ≤ n → a ≤ n + m
-still_inside a n m h = omega (arith, h)
-
-one_more : (n t : ℕ) → n + t ≤ n + t
-one_more n t = omega arith
-
 at_itself : (part : Part) (before : List Laid) (s : Statement)
     → size_in part before + taken s (size_in part before) ≤ size_in part before + cond (is_same_part part part) (taken s (size_in part before)) 0
 at_itself part before s =
-    subst (λ b. size_in part before + taken s (size_in part before) ≤ size_in part before + cond b (taken s (size_in part before)) 0) (sym (part_itself part)) (one_more (size_in part before) (taken s (size_in part before)))
+    subst (λ b. size_in part before + taken s (size_in part before) ≤ size_in part before + cond b (taken s (size_in part before)) 0) (sym (part_itself part)) (omega arith)
 
 new_inside : (part : Part) (o : Option Part) (before : List Laid) (s : Statement) → o ≡ Some part
     → size_at o before + taken s (size_at o before) ≤ size_in part before + cond (is_at part o) (taken s (size_at o before)) 0
@@ -72,7 +66,7 @@ old_held : (before : List Laid) (new : Laid) (l : Laid) (part : Part) → IsHeld
 old_held before new l part h = record {
   chosen = still_chosen before new part h.chosen;
   inside = subst (λ n. l.offset + taken l.line.statement l.offset ≤ n) (sym (size_more part before new))
-      (still_inside (l.offset + taken l.line.statement l.offset) (size_in part before) (cond (is_in part new) (taken new.line.statement new.offset) 0) h.inside);
+      (omega (arith, h.inside));
 }
 
 -- the new line, which stands behind the others
@@ -186,12 +180,6 @@ found_at (q ∷ parts) part e = go (is_same_part part q) refl e (found_at parts 
     go true same h rest = (0, ap (λ x. Some x) (sym (same_part part q same)))
     go false same h rest = let r : (k : ℕ) × (slice_get parts k ≡ Some part) = rest h in (suc r.0, r.1)
 
-low_number : (k n : ℕ) → n ≡ k + 1 → 1 ≤ n
-low_number k n e = omega (arith, e)
-
-place_before : (k n : ℕ) → n ≡ k + 1 → n - 1 ≡ k
-place_before k n e = omega (arith, e)
-
 label_within : (lines : List Laid) (part : Part) (value : ℕ) → list_any (is_same_part part) (parts_of lines) ≡ true → value ≤ size_in part lines
     → IsWithin (sections lines) (part_number lines part) value
 label_within lines part value there inside =
@@ -199,16 +187,13 @@ label_within lines part value there inside =
     let n : part_number lines part ≡ r.0 + 1 = part_numbered lines r.0 part r.1 in
     record {
       section = section_of lines part;
-      low = low_number r.0 (part_number lines part) n;
-      there = ap (slice_get (sections lines)) (place_before r.0 (part_number lines part) n) ∙ get_mapped (section_of lines) (parts_of lines) r.0 part r.1;
+      low = omega (arith, n);
+      there = ap (slice_get (sections lines)) (omega (arith, n)) ∙ get_mapped (section_of lines) (parts_of lines) r.0 part r.1;
       value_inside = inside;
     }
 
-below_64 : (a b : ℕ) → a ≤ b → b ≤ 16777216 → a < 2 ^ 64
-below_64 a b h k = omega (arith, h, k)
-
 offset_fits : (source : List ℕ) (lines : List Laid) (l : Label) → placed_lines source ≡ Ok lines → IsFitLabel lines l → l.offset < 2 ^ 64
-offset_fits source lines l e h = below_64 l.offset (size_in l.part lines) h.inside (section_small source lines l.part e)
+offset_fits source lines l e h = omega (arith, h.inside, (section_small source lines l.part e))
 
 none_64 : 0 < 2 ^ 64
 none_64 = omega arith

@@ -13,7 +13,7 @@ use Rattle.std.specs.List.{IsDistinct, AllByRecursion, list_any, position_or_len
 use Rattle.std.specs.Option.{option_map_or}
 use Rattle.std.specs.Prelude.{nat_lt, filter, flat_map, Option, if◌then◌else◌, find, FitsSigned}
 use Rattle.cell_image.proofs.Ruled.{IsStorable, IsWritableEntry}
-use Rattle.cell_num.specs.Kinds.{is_instruction, is_pcrel_lo12, is_pcrel_hi20, width_of}
+use Rattle.cell_num.specs.Kinds.{is_instruction, is_pcrel_lo12, is_pcrel_hi20}
 use Rattle.cell_num.specs.Lists.{numbered_from}
 use Rattle.cell_object.specs.ImageParts.{entries_for}
 use Rattle.cell_object.specs.Relocations.{is_label, is_label_symbol, has_label, is_unpaired, is_unusable}
@@ -104,17 +104,8 @@ all_first test es fs e f = filter-append test es fs ∙ ap (λ xs. xs ++ filter 
 same_plus : (k : ℕ) → k ≡ k + 0
 same_plus k = omega arith
 
-below_next : (k : ℕ) → k + 0 < suc k
-below_next k = omega arith
-
-past : (k n : ℕ) → k < k + suc n
-past k n = omega arith
-
 moved : (k n : ℕ) → k + suc n ≡ suc k + n
 moved k n = omega arith
-
-from_one : (n m : ℕ) → m ≡ n + 1 → m ≡ 1 + n
-from_one n m e = omega arith
 
 one_more : (n : ℕ) → n + 1 ≡ 1 + n
 one_more n = omega arith
@@ -131,10 +122,7 @@ module _ {A : Type 0} (g : A → List Entry) (number : A → ℕ) (own : (a : A)
   none_below (a ∷ xs) k m r l =
       filter-append (λ e. e.section == m) (g a) (flat_map g xs)
       ∙ ap (λ es. es ++ filter (λ e. e.section == m) (flat_map g xs)) (filter_none (λ e. e.section == m) (g a) (λ e i. other_number e.section m k (own a e i ∙ r.0) l))
-      ∙ none_below xs (suc k) m r.1 (go m k l)
-    where
-      go : (x y : ℕ) → x < y → x < suc y
-      go x y h = omega arith
+      ∙ none_below xs (suc k) m r.1 (omega (arith, l))
 
   same_some : (a b : A) → Some a ≡ Some b → a ≡ b
   same_some a b e = cc
@@ -145,11 +133,11 @@ module _ {A : Type 0} (g : A → List Entry) (number : A → ℕ) (own : (a : A)
   with_number (b ∷ xs) k zero a r h =
       all_first (λ e. e.section == k + 0) (g b) (flat_map g xs)
       (filter_all (λ e. e.section == k + 0) (g b) (λ e i. same_test e.section (k + 0) (own b e i ∙ r.0 ∙ same_plus k)))
-      (none_below xs (suc k) (k + 0) r.1 (below_next k))
+      (none_below xs (suc k) (k + 0) r.1 (omega arith))
       ∙ ap g (same_some b a h)
   with_number (b ∷ xs) k (suc n) a r h =
       after_none (λ e. e.section == k + suc n) (g b) (flat_map g xs) (g a)
-      (filter_none (λ e. e.section == k + suc n) (g b) (λ e i. smaller_number e.section (k + suc n) k (own b e i ∙ r.0) (past k n)))
+      (filter_none (λ e. e.section == k + suc n) (g b) (λ e i. smaller_number e.section (k + suc n) k (own b e i ∙ r.0) (omega arith)))
       (ap (λ m. filter (λ e. e.section == m) (flat_map g xs)) (moved k n) ∙ with_number xs (suc k) n a r.1 h)
 
   rises : (xs : List A) (k : ℕ) → ((n : ℕ) (a : A) → slice_get xs n ≡ Some a → number a ≡ k + n) → Rises k xs
@@ -168,7 +156,7 @@ module _ (source : List ℕ) (lines : List Laid) (read : placed_lines source ≡
   own_section part e k = (entry_origin source lines read part e k).comes.section_is
 
   parts_rise : Rises (entries_in lines) (part_number lines) own_section 1 (parts_of lines)
-  parts_rise = rises (entries_in lines) (part_number lines) own_section (parts_of lines) 1 (λ n part e. from_one n (part_number lines part) (part_numbered lines n part e))
+  parts_rise = rises (entries_in lines) (part_number lines) own_section (parts_of lines) 1 (λ n part e. (omega (arith, part_numbered lines n part e)))
 
   pub entries_of_part : (n : ℕ) (part : Part) → slice_get (parts_of lines) n ≡ Some part → entries_for (entries lines) (n + 1) ≡ entries_in lines part
   unfolding entries_for
@@ -201,12 +189,9 @@ line_upper lines part l i p s h =
       e = entry_of lines part l r.0;
       there = flat_map-In (entries_of lines part) (filter (is_in part) lines) l (entry_of lines part l r.0) (filter-In (is_in part) lines l i p) (map-In (entry_of lines part l) (marks_in l.line.statement) r.0 r.1);
       upper = r.3;
-      stands = ap (λ n. l.offset + n) r.2 ∙ no_more l.offset;
+      stands = ap (λ n. l.offset + n) r.2 ∙ omega arith;
     }
   where
-    no_more : (n : ℕ) → n + 0 ≡ n
-    no_more n = omega arith
-
     head_of : (s : Statement) → IsGoodStatement s → any_upper (marks_in s) ≡ true → (m : Mark) × In m (marks_in s) × (m.at ≡ 0) × (is_pcrel_hi20 m.fix.kind ≡ true)
     head_of (Bytes content b) g t = g.headed t
     head_of _ g t = absurd (true≢false (sym t))
@@ -359,12 +344,6 @@ module _ (source : List ℕ) (lines : List Laid) (read : placed_lines source ≡
 --     entry_storable       IsStorable of each
 --     entry_writable       IsWritableEntry of each entry of a section
 
-below_end : (at w o t most : ℕ) → at + w ≤ o + t → o + t ≤ most → most ≤ 16777216 → at < 2 ^ 32
-below_end at w o t most a b c = omega arith
-
-below_all : (m n : ℕ) → m ≤ n → n < 2 ^ 32 → m < 2 ^ 32
-below_all m n h k = omega arith
-
 -- a section that is filled with zeros
 zero_fill : (part : Part) → fill_of part ≡ Zero → part ≡ Bss
 zero_fill Bss e = refl
@@ -388,13 +367,13 @@ module _ (source : List ℕ) (lines : List Laid) (read : placed_lines source ≡
   offset_small part e o =
       let t = taken o.l.line.statement o.l.offset in
       let room : is_long (Some part) (o.l.offset + t) ≡ false = subst (λ p. is_long p (o.l.offset + t) ≡ false) (at_part part o.l.part o.in_part) (stands part e o).room in
-      below_end e.offset (width_of e.kind) o.l.offset t (largest part) o.comes.high (not_past (largest part) (o.l.offset + t) room) (largest_most part)
+      (omega (arith, o.comes.high, (not_past (largest part) (o.l.offset + t) room), (largest_most part)))
 
   storable : (part : Part) (e : Entry) → length (symbols lines) < 2 ^ 32 → Origin source lines read part e → IsStorable e
   storable part e few o = record {
     kind = ap is_known_kind o.comes.kind_is ∙ o.comes.good.known;
     offset = offset_small part e o;
-    symbol = subst (λ n. n < 2 ^ 32) (sym o.comes.symbol_is) (below_all _ _ (number_small lines (target_key o.l o.comes.m.fix.target)) few);
+    symbol = subst (λ n. n < 2 ^ 32) (sym o.comes.symbol_is) (omega (arith, (number_small lines (target_key o.l o.comes.m.fix.target)), few));
     addend = subst (FitsSigned w64) (sym o.comes.addend_is) o.comes.good.addend;
   }
 
