@@ -10,8 +10,8 @@ use crate::arithmetic::{
     divide, divide_unsigned, flag, is_less, low_word, multiply_high, multiply_high_mixed,
     multiply_high_unsigned, remain, remain_unsigned, shift_signed, word,
 };
-use crate::memory::Access;
 use crate::insn::Op;
+use crate::memory::Access;
 
 /// An immediate on 64 bits.
 fn extended(imm: i32) -> u64

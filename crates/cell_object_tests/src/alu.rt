@@ -1,8 +1,7 @@
 ghost use Rattle.std.specs.Prelude.{◌<◌};
 
 use crate::meanings::{ACCESSES, Computed, Led, RESULTS, TURNS};
-use cell_isa::*;
-use cell_isa::Op;
+use cell_isa::{Op, *};
 use std::process::Abort;
 use std::test::*;
 

@@ -9,8 +9,8 @@ ghost use Rattle.cell_world.specs.declared.state.NewCell.{NewCell as Cell};
 ghost use Rattle.cell_hold.specs.declared.roots.Root.TheVariants.{Attached};
 ghost use Rattle.cell_unload.specs.Sweep.{IsOutlook};
 
-use crate::places::places_of;
 use crate::holding::roots;
+use crate::places::places_of;
 use cell_hold::{Places, Root};
 use cell_machine::Machine;
 use cell_num::CellId;
