@@ -15,3 +15,4 @@ pub mod Adding
 pub mod Outside
 pub mod Dropping
 pub mod Calling
+pub mod Nearby

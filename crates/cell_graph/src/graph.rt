@@ -15,7 +15,7 @@ use crate::links::{
     add_section, bind_row, cell_rows, cell_sections, has_section, link_named, move_row,
     remove_rows, remove_sections, row_index, section_place, unbind_at,
 };
-use crate::near::{Near, row_index_near};
+use crate::near::{Near, cell_rows_near, row_index_near};
 use crate::order::{RowPlace, SectionPlace};
 use crate::removal::{StillUsed, is_listed};
 use crate::rows::Rows;
@@ -155,6 +155,14 @@ impl Graph {
         ensures { result ≡ filter (λ r. r.user.cell.0 == cell.0) self.now.rows }
     {
         CellDeps::of(&self.rows, cell_rows(&self.row_list, cell))
+    }
+
+    /// The same, with the index behind them in the list of links. They are looked for at an index first.
+    pub fn deps_of_cell_near(&self, cell: CellId, near: usize) -> (CellDeps<'_>, usize)
+        ensures { result.0 ≡ filter (λ r. r.user.cell.0 == cell.0) self.now.rows }
+    {
+        let (list, next) = cell_rows_near(&self.row_list, near, cell);
+        (CellDeps::of(&self.rows, list), next)
     }
 
     /// The link of that user and entry, which is there.

@@ -11,3 +11,4 @@ pub mod Claiming
 pub mod Spreading
 pub mod Counting
 pub mod Keeping
+pub mod Cutting

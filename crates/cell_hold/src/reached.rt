@@ -15,15 +15,33 @@ use cell_mem::Memory;
 use cell_num::CellId;
 use cell_world::Placed;
 
-/// Adds the targets of a cell's links.
-fn add_targets(graph: &Graph, cell: CellId, into: &mut Found)
+/// Where to look for a cell first: behind the links and the sections of the last one.
+#[derive(Clone, Copy, Debug, PartialEq, Eq)]
+pub struct Near {
+    pub links: usize,
+    pub sections: usize,
+}
+
+impl Near {
+    /// At the start of both.
+    pub fn start() -> Near {
+        Near {
+            links: 0,
+            sections: 0,
+        }
+    }
+}
+
+/// Adds the targets of a cell's links. The answer is the index behind them.
+fn add_targets(graph: &Graph, cell: CellId, near: usize, into: &mut Found) -> usize
     ensures added { Adds (links_lead graph.now cell.0) into.old.room into.old.items into.new.items }
     ensures room { into.new.room ≡ into.old.room }
 {
-    let links = graph.deps_of_cell(cell);
+    let (links, next) = graph.deps_of_cell_near(cell, near);
     for link in links {
         into.add(link.target.cell);
     }
+    next
 }
 
 /// Adds the cells that the words of a section lie in, if it may be written.
@@ -38,28 +56,38 @@ fn add_from_section(memory: &Memory, places: &Sections, place: &Placed, into: &m
     add_words(places, bytes, into);
 }
 
-/// The same for all sections of a cell.
-fn add_from_sections(memory: &Memory, places: &Sections, cell: CellId, into: &mut Found)
+/// The same for all sections of a cell. The answer is the index behind them.
+fn add_from_sections(
+    memory: &Memory,
+    places: &Sections,
+    cell: CellId,
+    near: usize,
+    into: &mut Found,
+) -> usize
     ensures added { Adds (λ c. list_any (λ s. cell_leads memory.now places.now cell.0 s c) places.now) into.old.room into.old.items into.new.items }
     ensures room { into.new.room ≡ into.old.room }
 {
-    let own = places.own(cell);
+    let (own, next) = places.own_near(cell, near);
     for place in own {
         add_from_section(memory, places, place, into);
     }
+    next
 }
 
-/// Adds the cells that a cell reaches.
+/// Adds the cells that a cell reaches, and tells where to look for the next one first.
 pub fn add_reached(
     graph: &Graph,
     memory: &Memory,
     places: &Sections,
     cell: CellId,
+    near: Near,
     into: &mut Found,
-)
+) -> Near
     ensures added { Adds (reaches (linked graph.now memory.now places.now) cell.0) into.old.room into.old.items into.new.items }
     ensures room { into.new.room ≡ into.old.room }
 {
-    add_targets(graph, cell, into);
-    add_from_sections(memory, places, cell, into);
+    Near {
+        links: add_targets(graph, cell, near.links, into),
+        sections: add_from_sections(memory, places, cell, near.sections, into),
+    }
 }

@@ -10,7 +10,7 @@ ghost use Rattle.cell_hold.specs.Roots.{AreCells, HasRoom, holding_by};
 use crate::direct::add_held;
 use crate::found::Found;
 use crate::places::Places;
-use crate::reached::add_reached;
+use crate::reached::{Near, add_reached};
 use crate::roots::Root;
 use crate::sections::Sections;
 use cell_graph::Graph;
@@ -23,12 +23,13 @@ fn spread(graph: &Graph, memory: &Memory, places: &Sections, into: &mut Found)
     ensures spread { Spreads (reaches (linked graph.now memory.now places.now)) into.old.room into.old.room into.old.items into.new.items }
     ensures room { into.new.room ≡ into.old.room }
 {
+    let mut near = Near::start();
     for next in 0..into.room() {
         if next >= into.len() {
             return;
         }
         let cell = into.at(next);
-        add_reached(graph, memory, places, cell, into);
+        near = add_reached(graph, memory, places, cell, near, into);
     }
 }
 

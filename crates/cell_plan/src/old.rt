@@ -12,6 +12,9 @@ use cell_world::Target;
 use std::alloc::{AllocError, Global};
 use std::collections::BTreeSet;
 
+/// Among so many cells one is looked for sooner than in the set of their numbers.
+const FEW: usize = 4;
+
 /// Some cells by their numbers.
 #[derive(Drop)]
 pub struct Old<'a> {
@@ -37,6 +40,12 @@ fn numbers_of(alloc: Global, cells: &[CellId]) -> Result<BTreeSet<u32>, AllocErr
     Ok(numbers)
 }
 
+fn is_among(cells: &[CellId], cell: CellId) -> bool
+    ensures { result ≡ list_any (λ c. c.0 == cell.0) cells.now }
+{
+    cells.iter().any(|other| other.0 == cell.0)
+}
+
 impl<'a> Old<'a> {
     pub fn of(alloc: Global, cells: &'a [CellId]) -> Result<Old<'a>, AllocError>
         ensures { IfOk result (λ old. old.cells.now ≡ cells.now) }
@@ -49,6 +58,9 @@ impl<'a> Old<'a> {
     pub fn has(&self, cell: CellId) -> bool
         ensures { result ≡ holds (map (λ c. c.0) self.now.cells.now) cell.0 }
     {
+        if self.cells.len() <= FEW {
+            return is_among(self.cells, cell);
+        }
         self.numbers.contains(&cell.0)
     }
 

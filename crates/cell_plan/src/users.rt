@@ -9,32 +9,35 @@ use cell_num::CellId;
 use cell_world::NewCell;
 use std::alloc::{AllocError, Global};
 
-/// Whether a link of the cell leads into an old one.
-fn leads_into(graph: &Graph, old: &Old, cell: CellId) -> bool
-    ensures { result ≡ leads_among (map (λ c. c.0) old.now.cells.now) graph.now.rows cell.0 }
+/// Whether a link of the cell leads into an old one, and the index behind its links. They are looked for
+/// at an index first.
+fn leads_into(graph: &Graph, old: &Old, cell: CellId, near: usize) -> (bool, usize)
+    ensures { result.0 ≡ leads_among (map (λ c. c.0) old.now.cells.now) graph.now.rows cell.0 }
 {
-    let links = graph.deps_of_cell(cell);
+    let (links, next) = graph.deps_of_cell_near(cell, near);
     for link in links {
         if old.has(link.target.cell) {
-            return true;
+            return (true, next);
         }
     }
-    false
+    (false, next)
 }
 
-/// Adds the cell, where a link of it leads into an old one.
+/// Adds the cell, where a link of it leads into an old one. The answer is the index behind its links.
 fn add_user<'a>(
     users: &mut Vec<&'a NewCell>,
     graph: &Graph,
     old: &Old,
     cell: &'a NewCell,
-) -> Result<(), AllocError>
+    near: usize,
+) -> Result<usize, AllocError>
     ensures { OnOk result (map (λ c. c.now) users.new.items ≡ map (λ c. c.now) users.old.items ++ filter (uses (map (λ c. c.0) old.now.cells.now) graph.now.rows) (cell.now ∷ [])) }
 {
-    if leads_into(graph, old, cell.id) {
+    let (is_user, next) = leads_into(graph, old, cell.id, near);
+    if is_user {
         users.push(cell)?;
     }
-    Ok(())
+    Ok(next)
 }
 
 /// The present cells with a link into an old one, in their order. It goes over each link once.
@@ -47,8 +50,9 @@ pub fn users_of<'a>(
     ensures { IfOk result (λ users. map (λ c. c.now) users.items ≡ filter (uses (map (λ c. c.0) old.now.cells.now) graph.now.rows) present.now) }
 {
     let mut users = Vec::new(alloc);
+    let mut near = 0;
     for index in 0..present.len() {
-        add_user(&mut users, graph, old, &present[index])?;
+        near = add_user(&mut users, graph, old, &present[index], near)?;
     }
     Ok(users)
 }

@@ -1,6 +1,6 @@
 -- Places and names of the same cells.
 use Rattle.std.proofs.Common.{◌≡◌, refl, sym, ◌∙◌, ap, ap₂, ℕ, Bool, true, false, cond, List, [], ◌∷◌, ◌++◌, map, length}
-use Rattle.std.specs.Prelude.{Option, Some, None, ◌==◌, drop, find, option_map}
+use Rattle.std.specs.Prelude.{Option, Some, ◌==◌, drop, find, option_map}
 use Rattle.std.proofs.lemmas.List.{map-append}
 use Rattle.cell_world.specs.declared.state.NewCell.{NewCell}
 use Rattle.cell_world.specs.World.{Alias, Cell, Standing, Attached as IsAttached, Detached as IsDetached}

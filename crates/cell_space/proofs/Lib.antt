@@ -16,3 +16,4 @@ pub mod Appended
 pub mod Renaming
 pub mod Unclaimed
 pub mod RisingOrder
+pub mod Steps

@@ -1,6 +1,6 @@
 -- A name that nobody on the path has, and the cell itself is on its path.
 use Rattle.std.proofs.Common.{◌≡◌, refl, sym, ◌∙◌, ap, arith, ℕ, zero, suc, ◌<◌, Bool, true, false, cond, List, [], ◌∷◌, ◌++◌, Some, None, length}
-use Rattle.std.specs.Prelude.{All, IsSomeAnd, Option, ◌&&◌, ◌||◌, ◌==◌, find, filter, slice_get}
+use Rattle.std.specs.Prelude.{All, IsSomeAnd, Option, ◌&&◌, ◌||◌, find, filter, slice_get}
 use Rattle.std.proofs.lemmas.List.Elements.{All-cons, All-nil}
 use Rattle.cell_num.specs.Lists.{holds, or_else}
 use Rattle.cell_world.specs.declared.state.Namespace.{Namespace}

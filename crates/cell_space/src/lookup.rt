@@ -1,7 +1,7 @@
 //! Looking among the cells. Attached ones are found by the index, by their hash alone where few have
 //! it, and else by one look-up for a namespace; what it finds is asked by its own table of names.
 
-ghost use Rattle.std.specs.Prelude.{◌≡◌, ◌<◌, ◌≤◌, ◌&&◌, ◌==◌, All, filter_map, find, length, nat_lt, option_map};
+ghost use Rattle.std.specs.Prelude.{◌≡◌, ◌<◌, ◌≤◌, ◌&&◌, ◌==◌, ℕ, All, false, filter_map, find, length, nat_lt, option_map, slice_index_or, true};
 ghost use Rattle.cell_num.specs.Lists.{first};
 ghost use Rattle.cell_world.specs.Names.{chain};
 ghost use Rattle.cell_space.specs.Named.{cell_numbered, provider_for, first_provider, offer, provider_as, number_as, clash_stem, clash_name, cell_at, is_rival, is_holder, is_in};
@@ -12,6 +12,7 @@ ghost use Rattle.cell_space.specs.Path.{IsPath};
 ghost use Rattle.cell_space.specs.Rising.{IsRising, lower};
 ghost use Rattle.cell_space.specs.Rooted.{AreRooted};
 ghost use Rattle.cell_space.specs.declared.cell.CellState.TheVariants.{Attached};
+ghost use Rattle.cell_space.specs.declared.cell.SpaceCell.{SpaceCell as Known};
 
 use crate::cell::{CellState, SpaceCell};
 use crate::chain::{chain_of, is_above};
@@ -22,16 +23,59 @@ use crate::word::{Word, WordKind, has_word, is_at};
 use cell_num::CellId;
 use cell_world::Namespace;
 
-/// How many of the cells have a lower number.
+/// How many of the cells can have a lower number at most: numbers rise by one at least.
+fn most_before(cells: &[SpaceCell], number: u32) -> usize
+    requires { IsRising cells.now }
+    ensures within { result ≤ length cells.now }
+    ensures rest { (k : ℕ) (d : Known) → result ≤ k → k < length cells.now → nat_lt (slice_index_or cells.now k d).cell.0 number ≡ false }
+{
+    if cells.is_empty() {
+        return 0;
+    }
+    let above = number.saturating_sub(cells[0].cell.0);
+    cells.len().min(above as usize)
+}
+
+/// How many of the cells have a lower number, where those before `low` have and those from `high` on
+/// haven't.
+fn cells_between(cells: &[SpaceCell], number: u32, low: usize, high: usize) -> usize
+    requires rising { IsRising cells.now }
+    requires order { low ≤ high }
+    requires within { high ≤ length cells.now }
+    requires before { (k : ℕ) (d : Known) → k < low → nat_lt (slice_index_or cells.now k d).cell.0 number ≡ true }
+    requires rest { (k : ℕ) (d : Known) → high ≤ k → k < length cells.now → nat_lt (slice_index_or cells.now k d).cell.0 number ≡ false }
+    ensures { AreBefore number_in number cells.now result }
+{
+    let mut from = low;
+    let mut to = high;
+    while from < to {
+        let middle = from + (to - from) / 2;
+        if cells[middle].cell.0 < number {
+            from = middle + 1;
+        } else {
+            to = middle;
+        }
+    }
+    from
+}
+
+/// How many of the cells have a lower number. It is looked for from where it is if no number between
+/// them is free, in steps that double, since few cells are gone as a rule.
 pub fn cells_before(cells: &[SpaceCell], number: u32) -> usize
     requires { IsRising cells.now }
     ensures { AreBefore number_in number cells.now result }
 {
-    cells.partition_point(
-        |cell: &SpaceCell| -> bool
-            ensures { result ≡ nat_lt cell.now.cell.0 number }
-        { cell.cell.0 < number },
-    )
+    let mut high = most_before(cells, number);
+    let mut step = 1;
+    while step <= high {
+        let low = high - step;
+        if cells[low].cell.0 < number {
+            return cells_between(cells, number, low + 1, high);
+        }
+        high = low;
+        step *= 2;
+    }
+    cells_between(cells, number, 0, high)
 }
 
 /// The cell of a number.

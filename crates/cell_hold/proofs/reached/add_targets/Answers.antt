@@ -5,11 +5,11 @@ use Rattle.cell_hold.proofs.reached.add_targets.Goals as goal
 
 pub loop-link-init : goal.loop-link-init
 loop-link-init c =
-    let same : c.into_iter-link-iterator.result ≡ c.deps_of_cell-links.result = search rules in
+    let same : c.into_iter-link-iterator.result ≡ c.deps_of_cell_near-links.result.0 = search rules in
     record {
       added =
           subst (λ (rows : List LinkRow). TargetsSoFar c.args.graph.now c.args.cell.0 rows c.args.into.now.room c.args.into.now.items c.args.into.now.items) (sym same)
-          (targets_begun c.args.graph.now c.args.cell.0 _ _ c.deps_of_cell-links.result c.deps_of_cell-links.ensures);
+          (targets_begun c.args.graph.now c.args.cell.0 _ _ c.deps_of_cell_near-links.result.0 c.deps_of_cell_near-links.ensures);
       room = refl;
     }
 

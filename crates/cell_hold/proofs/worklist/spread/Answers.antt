@@ -9,8 +9,8 @@ pub loop-next-preserved : goal.loop-next-preserved
 loop-next-preserved c =
     let there : c.loop-next.next < length c.loop-next.into.items = omega (arith, c.if-next-len.false, c.len.ensures) in
     record {
-      spread = spread_more _ _ _ _ _ _ _ c.at-cell.result there c.at-cell.ensures c.loop-next.invariant.room c.loop-next.invariant.spread c.add_reached.ensures.added;
-      room = c.add_reached.ensures.room ∙ c.loop-next.invariant.room;
+      spread = spread_more _ _ _ _ _ _ _ c.at-cell.result there c.at-cell.ensures c.loop-next.invariant.room c.loop-next.invariant.spread c.add_reached-near.ensures.added;
+      room = c.add_reached-near.ensures.room ∙ c.loop-next.invariant.room;
     }
 
 pub returns-then-next-len-clause-spread : goal.returns-then-next-len-clause-spread

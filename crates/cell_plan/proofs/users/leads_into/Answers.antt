@@ -4,8 +4,8 @@ use Rattle.cell_plan.proofs.users.leads_into.Goals as goal
 
 pub loop-link-init : goal.loop-link-init
 loop-link-init c =
-    let same : c.into_iter-link-iterator.result ≡ c.deps_of_cell-links.result = search rules in
-    ap (some_into (map (λ n. n.0) c.args.old.now.cells.now)) (same ∙ c.deps_of_cell-links.ensures)
+    let same : c.into_iter-link-iterator.result ≡ c.deps_of_cell_near-links.result.0 = search rules in
+    ap (some_into (map (λ n. n.0) c.args.old.now.cells.now)) (same ∙ c.deps_of_cell_near-links.ensures)
 
 pub returns-then-has : goal.returns-then-has
 returns-then-has c =

@@ -1,11 +1,14 @@
-use Rattle.std.proofs.Common.{rules, of_calls, nat_lt}
-use Rattle.std.proofs.lemmas.Fn.{always_returns_same}
-use Rattle.cell_space.specs.Keys.{number_in}
-use Rattle.cell_world.proofs.InOrder.{partitioned}
-use Rattle.cell_space.proofs.RisingOrder.{rising_pairs}
+use Rattle.std.proofs.Common.{arith}
+use Rattle.cell_space.proofs.Steps.{all_lower, none_lower}
 use Rattle.cell_space.proofs.lookup.cells_before.Goals as goal
 
-pub returns : goal.returns
-returns c =
-    c.partition_point.ensures.partitioned (λ d. nat_lt d.cell.0 c.args.number) (always_returns_same _ _ _ (λ a r f k. search (rules, of_calls)))
-    (partitioned number_in c.args.number c.args.cells.now (rising_pairs c.args.cells.now c.requires))
+pub loop-step-preserved : goal.loop-step-preserved
+loop-step-preserved c = record {
+  some = omega arith;
+  within = omega arith;
+  rest = none_lower c.args.cells.now c.args.number _ c.index-cells-low.result c.requires (omega (arith, c.loop-step.invariant.within, c.loop-step.invariant.some)) c.if-cells-low.false;
+}
+
+pub cells_between-requires-clause-before : goal.cells_between-requires-clause-before
+cells_between-requires-clause-before c =
+    all_lower c.args.cells.now c.args.number _ c.index-cells-low.result c.requires (omega (arith, c.loop-step.invariant.within, c.loop-step.invariant.some)) c.if-cells-low.true
