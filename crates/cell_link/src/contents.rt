@@ -83,6 +83,7 @@ fn little_number(bytes: &[u8]) -> u64
     ensures small { result < 256 ^ length bytes.now }
 {
     match bytes {
+        [a, b, c, d, e, f, g, h] => u64::from_le_bytes([*a, *b, *c, *d, *e, *f, *g, *h]),
         [] => 0,
         [first, rest @ ..] => u64::from(*first) + 256 * little_number(rest),
     }

@@ -2,18 +2,21 @@
 use Rattle.std.proofs.Common.{◌≡◌, ℕ, ◌+◌, ◌<◌, ◌&&◌, Bool, true, false, cond, Option, Some, None, List, [], ◌∷◌, ◌++◌, length, get_or, take, refl, sym, ap, ◌∙◌, arith, inl, inr}
 use Rattle.std.specs.Prelude.{◌==◌, max, filter, fold, map, option_map, unwrap_or}
 use Rattle.std.specs.Ordering.{is_eq}
-use Rattle.std.proofs.lemmas.Bool.{cases_Bool, eqb-true}
+use Rattle.std.proofs.lemmas.Bool.{cases_Bool, eqb-true, or_parts}
 use Rattle.std.proofs.lemmas.List.Sums.{fold-append}
 use Rattle.std.proofs.lemmas.List.Elements.{filter_more, filter_agree}
+use Rattle.std.specs.List.{list_any}
+use Rattle.cell_num.specs.Kinds.{is_pcrel_lo12}
+use Rattle.cell_num.proofs.Elements.{none-In, filter_none}
 use Rattle.cell_object.specs.declared.object.Object.{Object}
 use Rattle.cell_object.specs.declared.object.Entry.{Entry}
 use Rattle.cell_world.specs.declared.state.NewCell.{NewCell}
 use Rattle.cell_world.specs.Field.{place_of}
-use Rattle.cell_world.specs.Torn.{partner_of, goes_with, last_low}
+use Rattle.cell_world.specs.Torn.{is_low, partner_of, goes_with, last_low}
 use Rattle.cell_link.specs.Applied.{spot_of}
 use Rattle.cell_link.specs.Tables.{spot_cmp}
 use Rattle.cell_plan.proofs.Lists.{map_append}
-use Rattle.cell_plan.specs.Lasts.{Ends, IsLastAfter, goes_to, end_of}
+use Rattle.cell_plan.specs.Lasts.{Ends, IsLastAfter, may_go, goes_to, end_of}
 
 goes_nowhere : (object : Object) (e : Entry) (q : ℕ × ℕ) → option_map spot_of (partner_of object e) ≡ None → goes_to object q e ≡ false
 goes_nowhere object e q none = go (partner_of object e) none
@@ -62,6 +65,15 @@ taken_in c e k end f g is last are q = elim (cases_Bool (k.0 == q.0 && k.1 == q.
   | inl t ↦ rw (are q, same_spot k q, goes_there c.object e k q is, t) (last ∙ ap (λ p. max (unwrap_or (f p) 0) (place_of c e)) (sym (spot_is k q t)))
   | inr t ↦ rw (are q, same_spot k q, goes_there c.object e k q is, t) refl
 ]
+
+-- where no entry is a low one, none goes with a high one
+pub no_ends : (c : NewCell) → list_any may_go c.object.entries ≡ false → (q : ℕ × ℕ) → end_of c c.object.entries q ≡ 0
+no_ends c none q =
+    ap (λ (es : List Entry). fold max 0 (map (place_of c) es))
+    (filter_none (goes_to c.object q) c.object.entries (λ e there. goes_nowhere c.object e q (alone e (none-In may_go c.object.entries none e there))))
+  where
+    alone : (e : Entry) → may_go e ≡ false → option_map spot_of (partner_of c.object e) ≡ None
+    alone e h = let parts = or_parts (is_pcrel_lo12 e.kind) (is_low e.kind) h in rw (parts.0, parts.1) refl
 
 -- one more entry
 pub end_more : (c : NewCell) (es : List Entry) (i : ℕ) (d : Entry) (q : ℕ × ℕ) (old new : ℕ) → i < length es → old ≡ end_of c (take i es) q

@@ -1,16 +1,21 @@
 -- The last low entry that goes with each high one.
+--     may_go e                 the entry is a low one, which may go with a high one
 --     goes_to object q e       the entry goes with a high one at that section and offset
 --     end_of c some q          the greatest address of such entries among some, 0 where there is none
 --     IsLasts c some ends      the map has that for each place
 --     IsLastAfter c e old new  the map after one more entry
-use Rattle.std.specs.Prelude.{◌≡◌, ℕ, ◌==◌, ◌&&◌, Bool, false, max, List, Some, None, map, filter, fold, unwrap_or, if◌then◌else◌}
+use Rattle.std.specs.Prelude.{◌≡◌, ℕ, ◌==◌, ◌&&◌, ◌||◌, Bool, false, max, List, Some, None, map, filter, fold, unwrap_or, if◌then◌else◌}
 use Rattle.std.specs.BTreeMap.{BTreeMap, get}
 use Rattle.cell_object.specs.declared.object.Object.{Object}
 use Rattle.cell_object.specs.declared.object.Entry.{Entry}
 use Rattle.cell_world.specs.declared.state.NewCell.{NewCell}
 use Rattle.cell_world.specs.Field.{place_of}
-use Rattle.cell_world.specs.Torn.{partner_of}
+use Rattle.cell_num.specs.Kinds.{is_pcrel_lo12}
+use Rattle.cell_world.specs.Torn.{is_low, partner_of}
 use Rattle.cell_link.specs.Tables.{spot_cmp}
+
+abbrev pub may_go : Entry → Bool
+may_go e = is_pcrel_lo12 e.kind || is_low e.kind
 
 abbrev pub goes_to : Object → ℕ × ℕ → Entry → Bool
 goes_to object q e = elim (partner_of object e) [ None ↦ false | Some h ↦ h.section == q.0 && h.offset == q.1 ]

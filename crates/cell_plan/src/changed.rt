@@ -10,7 +10,7 @@ ghost use Rattle.cell_plan.specs.Taking.{AreMarked, Takes};
 
 use crate::changes::{Changes, changes_of};
 use crate::lasts::Lasts;
-use crate::marks::marks_of;
+use crate::marks::mark_lost;
 use crate::old::Old;
 use crate::rising::rises;
 use crate::span::Span;
@@ -20,6 +20,7 @@ use cell_link::FieldValue;
 use cell_object::Entry;
 use cell_world::{Fail, LinkRow, NewCell, Target};
 use std::alloc::{AllocError, Global};
+use std::mem::replace;
 
 /// The fields that change, by what they hold then; the links that move, as they lead then; and where
 /// no task may stand.
@@ -28,6 +29,22 @@ pub struct Changed {
     pub patches: Vec<FieldValue>,
     pub moves: Vec<LinkRow>,
     pub spans: Vec<Span>,
+}
+
+/// Room for what the fields of one cell after another hold, and for marks of those that change.
+#[derive(Drop)]
+pub(crate) struct FieldRoom {
+    values: Vec<FieldValue>,
+    marks: Vec<bool>,
+}
+
+impl FieldRoom {
+    pub(crate) fn new(alloc: Global) -> FieldRoom {
+        FieldRoom {
+            values: Vec::new(alloc),
+            marks: Vec::new(alloc),
+        }
+    }
 }
 
 impl Changed {
@@ -111,6 +128,7 @@ impl Changed {
     fn take_in_rising(
         &mut self,
         alloc: Global,
+        room: &mut FieldRoom,
         cell: &NewCell,
         targets: &[Target],
         links: &[LinkRow],
@@ -123,11 +141,13 @@ impl Changed {
         requires low { IsLow cell.now }
         ensures { Takes (map (λ c. c.0) old.now.cells.now) cell.now targets.now links.now self.old result self.new }
     {
-        let values = values_of(alloc, cell, targets)?;
+        let values = replace(&mut room.values, Vec::new(alloc));
+        let values = values_of(alloc, values, cell, targets)?;
         let count = cell.object.entries.as_slice().len();
-        let marks = marks_of(alloc, &mut self.moves, count, old, targets, links)?;
+        mark_lost(&mut room.marks, &mut self.moves, count, old, targets, links)?;
         let lasts = Lasts::of(alloc, cell)?;
-        self.add_marked(&lasts, values.as_slice(), &marks)?;
+        self.add_marked(&lasts, values.as_slice(), &room.marks)?;
+        room.values = values.into_vec();
         Ok(())
     }
 
@@ -136,6 +156,7 @@ impl Changed {
     pub(crate) fn take_in(
         &mut self,
         alloc: Global,
+        room: &mut FieldRoom,
         cell: &NewCell,
         targets: &[Target],
         links: &[LinkRow],
@@ -148,7 +169,7 @@ impl Changed {
         ensures { Takes (map (λ c. c.0) old.now.cells.now) cell.now targets.now links.now self.old result self.new }
     {
         if rises(cell.object.entries.as_slice()) {
-            return self.take_in_rising(alloc, cell, targets, links, old);
+            return self.take_in_rising(alloc, room, cell, targets, links, old);
         }
         let changes = changes_of(alloc, cell, targets, links, old)?;
         self.add(alloc, cell, &changes)?;

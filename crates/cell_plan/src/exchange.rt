@@ -1,16 +1,16 @@
 //! An exchange of cells, before anything is changed.
 
-ghost use Rattle.std.specs.Prelude.{◌≡◌, ◌++◌, ◌∷◌, [], All, IfOk, OnErr, OnOk, map};
+ghost use Rattle.std.specs.Prelude.{◌≡◌, ◌++◌, ◌∷◌, [], All, OnErr, OnOk, map};
 ghost use Rattle.cell_num.specs.Lists.{In};
 ghost use Rattle.cell_plan.specs.Exchanged.{Change, MayChange, links_before};
 ghost use Rattle.cell_target.specs.Named.{IsNamed, world_of};
 ghost use Rattle.cell_plan.specs.Viewed.{Adds, view_of};
 
-use crate::changed::Changed;
+use crate::changed::{Changed, FieldRoom};
 use crate::old::Old;
 use cell_graph::Graph;
 use cell_space::Spaces;
-use cell_target::{Named, Scene};
+use cell_target::{Named, Scene, Targets};
 use cell_world::{Fail, LinkRow, NewCell};
 use std::alloc::{AllocError, Global};
 
@@ -24,17 +24,46 @@ pub struct Exchange<'a> {
     pub old: &'a Old<'a>,
 }
 
+/// Room for what is looked up of one user after the other.
+#[derive(Drop)]
+struct Room {
+    links: Vec<LinkRow>,
+    /// Where the links of the next user are looked for first.
+    near: usize,
+    targets: Targets,
+    fields: FieldRoom,
+}
+
+impl Room {
+    fn new(alloc: Global) -> Room {
+        Room {
+            links: Vec::new(alloc),
+            near: 0,
+            targets: Targets::none(alloc),
+            fields: FieldRoom::new(alloc),
+        }
+    }
+}
+
 impl<'a> Exchange<'a> {
-    fn links(&self, alloc: Global, cell: &NewCell) -> Result<Vec<LinkRow>, AllocError>
-        ensures { IfOk result (λ links. links.items ≡ links_before (view_of self.now) cell.now) }
+    /// Lists the links of the cell as they are.
+    fn list_links(&self, room: &mut Room, cell: &NewCell) -> Result<(), AllocError>
+        ensures { OnOk result (room.new.links.items ≡ links_before (view_of self.now) cell.now) }
     {
-        self.graph.deps_of_cell(cell.id).collect(alloc)
+        let (links, next) = self.graph.deps_of_cell_near(cell.id, room.near);
+        room.near = next;
+        room.links.clear();
+        for link in links {
+            room.links.push(link)?;
+        }
+        Ok(())
     }
 
     /// Adds what changes in one cell.
     fn add<'n>(
         &self,
         alloc: Global,
+        room: &mut Room,
         named: &mut Option<Named<'n>>,
         changed: &mut Changed,
         cell: &'n NewCell,
@@ -46,9 +75,17 @@ impl<'a> Exchange<'a> {
         ensures adds { Adds (view_of self.now) cell.now changed.old result changed.new }
     {
         let state = self.spaces.state(cell.id);
-        let targets = self.scene.targets_after(alloc, named, cell, state)?;
-        let links = self.links(alloc, cell)?;
-        changed.take_in(alloc, cell, &targets, &links, self.old)?;
+        self.list_links(room, cell)?;
+        self.scene
+            .find_targets(alloc, &mut room.targets, named, cell, state)?;
+        changed.take_in(
+            alloc,
+            &mut room.fields,
+            cell,
+            &room.targets.entries,
+            &room.links,
+            self.old,
+        )?;
         Ok(())
     }
 
@@ -59,9 +96,10 @@ impl<'a> Exchange<'a> {
         ensures { Change (view_of self.now) (map (λ c. c.now) users.now) result }
     {
         let mut changed = Changed::none(alloc);
+        let mut room = Room::new(alloc);
         let mut named = None;
         for place in 0..users.len() {
-            self.add(alloc, &mut named, &mut changed, users[place])?;
+            self.add(alloc, &mut room, &mut named, &mut changed, users[place])?;
         }
         Ok(changed)
     }

@@ -5,11 +5,14 @@ ghost use Rattle.std.specs.BTreeMap.{get};
 ghost use Rattle.cell_link.specs.Tables.{spot_cmp};
 ghost use Rattle.cell_placed.specs.Low.{IsLow};
 ghost use Rattle.cell_world.specs.Torn.{last_low};
-ghost use Rattle.cell_plan.specs.Lasts.{IsLasts, IsLastAfter};
+ghost use Rattle.cell_plan.specs.Lasts.{IsLasts, IsLastAfter, may_go as may_go_with_a_high};
+ghost use Rattle.std.specs.List.{list_any};
 
 use crate::partners::Partners;
 use crate::places::place_of;
+use crate::uppers::is_low;
 use cell_link::spot;
+use cell_num::is_pcrel_lo12;
 use cell_object::Entry;
 use cell_world::NewCell;
 use std::alloc::{AllocError, Global};
@@ -48,7 +51,7 @@ fn take_in(
     Ok(())
 }
 
-fn ends_of(
+fn ends_with(
     alloc: Global,
     cell: &NewCell,
     partners: &Partners,
@@ -65,13 +68,37 @@ fn ends_of(
     Ok(ends)
 }
 
+/// Whether the entry is a low one, which may go with a high one.
+fn may_go(entry: &Entry) -> bool
+    ensures { result ≡ may_go_with_a_high entry.now }
+{
+    is_pcrel_lo12(entry.kind) || is_low(entry.kind)
+}
+
+fn any_may_go(entries: &[Entry]) -> bool
+    ensures { result ≡ list_any may_go_with_a_high entries.now }
+{
+    entries.iter().any(|entry| may_go(entry))
+}
+
+/// Takes no memory where the cell has no low entries.
+fn ends_of(alloc: Global, cell: &NewCell) -> Result<BTreeMap<(u16, u64), u64>, AllocError>
+    requires { IsLow cell.now }
+    ensures { IfOk result (λ ends. IsLasts cell.now cell.now.object.entries ends) }
+{
+    if any_may_go(cell.object.entries.as_slice()) {
+        let partners = Partners::of(alloc, &cell.object)?;
+        return ends_with(alloc, cell, &partners);
+    }
+    Ok(BTreeMap::new(alloc))
+}
+
 impl<'a> Lasts<'a> {
     pub fn of(alloc: Global, cell: &'a NewCell) -> Result<Lasts<'a>, AllocError>
         requires { IsLow cell.now }
         ensures { IfOk result (λ lasts. lasts.cell.now ≡ cell.now) }
     {
-        let partners = Partners::of(alloc, &cell.object)?;
-        let ends = ends_of(alloc, cell, &partners)?;
+        let ends = ends_of(alloc, cell)?;
         Ok(Lasts { cell, ends })
     }
 

@@ -1,6 +1,6 @@
 //! The entries of a table whose links move, by a mark for each.
 
-ghost use Rattle.std.specs.Prelude.{◌≡◌, ◌++◌, ◌∷◌, [], ◌||◌, ◌==◌, ◌<◌, ℕ, Bool, IfOk, OnOk, false, true, filter, length, map, replicate, slice_get, slice_index_or};
+ghost use Rattle.std.specs.Prelude.{◌≡◌, ◌++◌, ◌∷◌, [], ◌||◌, ◌==◌, ◌<◌, ℕ, Bool, OnOk, false, true, filter, length, map, replicate, slice_get, slice_index_or};
 ghost use Rattle.cell_lemmas.specs.Moved.{led_to as led};
 ghost use Rattle.cell_plan.specs.Changes.{lost_links};
 ghost use Rattle.cell_plan.specs.Lost.{is_lost as lost};
@@ -9,7 +9,7 @@ ghost use Rattle.cell_plan.specs.Taking.{IsMarkedAfter, is_lost_entry};
 use crate::moves::{is_lost, led_to};
 use crate::old::Old;
 use cell_world::{LinkRow, Target};
-use std::alloc::{AllocError, Global};
+use std::alloc::AllocError;
 
 fn mark(marks: &mut [bool], entry: u32)
     ensures long { length marks.new ≡ length marks.old }
@@ -57,21 +57,21 @@ fn take_links(
     Ok(())
 }
 
-/// Adds the links that move, as they lead by now, and gives a mark for each of so many entries.
-pub fn marks_of(
-    alloc: Global,
+/// Adds the links that move, as they lead by now, and makes the list one of marks for so many entries,
+/// whatever it was.
+pub fn mark_lost(
+    marks: &mut Vec<bool>,
     moves: &mut Vec<LinkRow>,
     entries: usize,
     old: &Old,
     targets: &[Target],
     links: &[LinkRow],
-) -> Result<Vec<bool>, AllocError>
+) -> Result<(), AllocError>
     ensures moves { OnOk result (moves.new.items ≡ moves.old.items ++ lost_links (map (λ c. c.0) old.now.cells.now) targets.now links.now) }
-    ensures long { IfOk result (λ marks. length marks.items ≡ entries) }
-    ensures marks { IfOk result (λ marks. (i : ℕ) (d : Bool) → i < entries → slice_index_or marks.items i d ≡ is_lost_entry (map (λ c. c.0) old.now.cells.now) targets.now links.now i) }
+    ensures long { OnOk result (length marks.new.items ≡ entries) }
+    ensures marks { OnOk result ((i : ℕ) (d : Bool) → i < entries → slice_index_or marks.new.items i d ≡ is_lost_entry (map (λ c. c.0) old.now.cells.now) targets.now links.now i) }
 {
-    let mut marks = Vec::new(alloc);
+    marks.clear();
     marks.resize(entries, false)?;
-    take_links(moves, &mut marks, old, targets, links)?;
-    Ok(marks)
+    take_links(moves, marks, old, targets, links)
 }

@@ -14,9 +14,10 @@ use std::alloc::{AllocError, Global};
 /// So many entries are gone over for each of them sooner than a table of the cell is made.
 const FEW: usize = 8;
 
-/// What the fields hold, or none where an entry doesn't fit. The table is gone over for each entry.
+/// What the fields hold, or none where an entry doesn't fit, in the room of a list. The table is gone
+/// over for each entry.
 fn scanned(
-    alloc: Global,
+    mut values: Vec<FieldValue>,
     cell: &NewCell,
     targets: &[Target],
 ) -> Result<Option<Vec<FieldValue>>, AllocError>
@@ -27,7 +28,7 @@ fn scanned(
     ensures values { IfOk result (λ found. IfSome found (λ values. values.items ≡ map (value_at cell.now targets.now) cell.now.object.entries)) }
 {
     let count = cell.object.entries.as_slice().len();
-    let mut values = Vec::with_capacity(alloc, count)?;
+    values.clear();
     for index in 0..count {
         match field_value(cell, targets, index as u32) {
             Ok(value) => values.push(value)?,
@@ -37,9 +38,11 @@ fn scanned(
     Ok(Some(values))
 }
 
-/// The values of the fields, in table order. The first entry that doesn't fit is refused.
+/// The values of the fields, in table order, where it can be in the room of a list. The first entry that
+/// doesn't fit is refused.
 pub fn values_of(
     alloc: Global,
+    room: Vec<FieldValue>,
     cell: &NewCell,
     targets: &[Target],
 ) -> Result<Listed<FieldValue>, Fail>
@@ -50,7 +53,7 @@ pub fn values_of(
     ensures { LinksBy cell.now targets.now result }
 {
     if cell.object.entries.as_slice().len() <= FEW {
-        if let Some(values) = scanned(alloc, cell, targets)? {
+        if let Some(values) = scanned(room, cell, targets)? {
             return Ok(Listed::from_vec(values));
         }
     }

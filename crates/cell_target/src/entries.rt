@@ -1,6 +1,6 @@
 //! The targets of a cell's entries, by those of its symbols.
 
-ghost use Rattle.std.specs.Prelude.{◌≡◌, IfOk, unwrap_or};
+ghost use Rattle.std.specs.Prelude.{◌≡◌, OnOk, unwrap_or};
 ghost use Rattle.cell_world.specs.Target.{naming_entry as naming};
 ghost use Rattle.cell_world.specs.declared.state.Target.TheVariants.{Number as SomeNumber};
 ghost use Rattle.cell_target.specs.Entries.{target_numbered, entry_target, entry_targets};
@@ -9,7 +9,7 @@ use crate::highs::Highs;
 use cell_num::is_pcrel_lo12;
 use cell_object::Entry;
 use cell_world::Target;
-use std::alloc::{AllocError, Global};
+use std::alloc::AllocError;
 
 /// The target of the symbol with a number; symbol 0 is the number 0.
 fn target_of_number(symbols: &[Option<Target>], number: u32) -> Option<Target>
@@ -46,18 +46,18 @@ fn target_or_zero(symbols: &[Option<Target>], highs: &Highs, entry: &Entry) -> T
     target_of(symbols, highs, entry).unwrap_or(Target::Number { value: 0 })
 }
 
-/// The target of each entry, in table order.
-pub fn entry_targets(
-    alloc: Global,
+/// Lists the target of each entry, in table order, in place of what is in the list.
+pub fn find_entries(
+    targets: &mut Vec<Target>,
     symbols: &[Option<Target>],
     highs: &Highs,
-) -> Result<Vec<Target>, AllocError>
-    ensures { IfOk result (λ targets. targets.items ≡ entry_targets symbols.now highs.now.object.now) }
+) -> Result<(), AllocError>
+    ensures { OnOk result (targets.new.items ≡ entry_targets symbols.now highs.now.object.now) }
 {
     let entries = highs.object.entries.as_slice();
-    let mut targets = Vec::with_capacity(alloc, entries.len())?;
+    targets.clear();
     for index in 0..entries.len() {
         targets.push(target_or_zero(symbols, highs, &entries[index]))?;
     }
-    Ok(targets)
+    Ok(())
 }

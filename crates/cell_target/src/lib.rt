@@ -15,3 +15,4 @@ pub use cell_world::{NewCell, Target};
 pub use highs::Highs;
 pub use named::Named;
 pub use scene::Scene;
+pub use targets::Targets;

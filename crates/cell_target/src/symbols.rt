@@ -1,6 +1,6 @@
 //! The targets of a cell's symbols.
 
-ghost use Rattle.std.specs.Prelude.{◌≡◌, ◌<◌, ◌++◌, IfOk, length};
+ghost use Rattle.std.specs.Prelude.{◌≡◌, ◌<◌, ◌++◌, OnOk, length};
 ghost use Rattle.cell_world.specs.Target.{symbol_target as target_with};
 ghost use Rattle.cell_num.specs.Lists.{In};
 ghost use Rattle.cell_target.specs.Entries.{symbol_targets as targets_with};
@@ -14,7 +14,7 @@ use cell_object::{Bind, Home, Symbol};
 use cell_placed::own_target;
 use cell_space::CellState;
 use cell_world::{NewCell, Target};
-use std::alloc::{AllocError, Global};
+use std::alloc::AllocError;
 
 impl<'a> Scene<'a> {
     /// The target of a symbol of the cell, in that state.
@@ -41,25 +41,25 @@ impl<'a> Scene<'a> {
         self.provided_after(named, cell.ns, state, symbol.name.as_slice())
     }
 
-    /// The target of each symbol of the cell, in that state.
-    pub(crate) fn symbol_targets<'n>(
+    /// Lists the target of each symbol of the cell, in that state, in place of what is in the list.
+    pub(crate) fn find_symbols<'n>(
         &self,
-        alloc: Global,
+        targets: &mut Vec<Option<Target>>,
         named: &mut Option<Named<'n>>,
         cell: &'n NewCell,
         state: CellState,
-    ) -> Result<Vec<Option<Target>>, AllocError>
+    ) -> Result<(), AllocError>
         requires named { IsNamed (world_of self.now) named.old }
         requires low { IsLow cell.now }
         requires ns { cell.now.ns < length self.now.ahead.now.namespaces }
         ensures named { IsNamed (world_of self.now) named.new }
-        ensures targets { IfOk result (λ targets. targets.items ≡ targets_with (seen self.now.ahead.now.namespaces (self.now.present.now ++ self.now.fresh.now) self.now.ahead.now.cells) (in_state cell.now state)) }
+        ensures targets { OnOk result (targets.new.items ≡ targets_with (seen self.now.ahead.now.namespaces (self.now.present.now ++ self.now.fresh.now) self.now.ahead.now.cells) (in_state cell.now state)) }
     {
         let symbols = cell.object.symbols.as_slice();
-        let mut targets = Vec::with_capacity(alloc, symbols.len())?;
+        targets.clear();
         for index in 0..symbols.len() {
             targets.push(self.symbol_target(named, cell, state, &symbols[index]))?;
         }
-        Ok(targets)
+        Ok(())
     }
 }

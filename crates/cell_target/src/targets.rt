@@ -1,12 +1,12 @@
 //! What the entries of a cell name.
 
-ghost use Rattle.std.specs.Prelude.{◌≡◌, ◌<◌, ◌++◌, IfOk, length};
+ghost use Rattle.std.specs.Prelude.{◌≡◌, ◌<◌, ◌++◌, IfOk, OnOk, length};
 ghost use Rattle.cell_world.specs.Target.{targets_of};
 ghost use Rattle.cell_num.specs.Lists.{In};
 ghost use Rattle.cell_target.specs.Named.{IsNamed, world_of};
 ghost use Rattle.cell_target.specs.Scene.{in_state, seen};
 
-use crate::entries::entry_targets;
+use crate::entries::find_entries;
 use crate::highs::Highs;
 use crate::named::Named;
 use crate::scene::Scene;
@@ -14,10 +14,50 @@ use cell_space::CellState;
 use cell_world::{NewCell, Target};
 use std::alloc::{AllocError, Global};
 
+/// What a cell's entries name, in room that serves for one cell after another.
+#[derive(Drop)]
+pub struct Targets {
+    /// In table order.
+    pub entries: Vec<Target>,
+    symbols: Vec<Option<Target>>,
+}
+
+impl Targets {
+    /// Of no cell yet.
+    pub fn none(alloc: Global) -> Targets {
+        Targets {
+            entries: Vec::new(alloc),
+            symbols: Vec::new(alloc),
+        }
+    }
+}
+
 impl<'a> Scene<'a> {
+    /// Finds what each entry of the cell names in that state, in table order, in place of what was found
+    /// before. A name that nobody provides is the number 0. The last name that was looked up is at hand
+    /// for the next cell.
+    #[tactic(auto, using(crate::proofs::Tabled::targets_tabled))]
+    pub fn find_targets<'n>(
+        &self,
+        alloc: Global,
+        targets: &mut Targets,
+        named: &mut Option<Named<'n>>,
+        cell: &'n NewCell,
+        state: CellState,
+    ) -> Result<(), AllocError>
+        requires named { IsNamed (world_of self.now) named.old }
+        requires there { In cell.now (self.now.present.now ++ self.now.fresh.now) }
+        requires ns { cell.now.ns < length self.now.ahead.now.namespaces }
+        ensures named { IsNamed (world_of self.now) named.new }
+        ensures targets { OnOk result (targets.new.entries.items ≡ targets_of (world_of self.now) (in_state cell.now state)) }
+    {
+        self.find_symbols(&mut targets.symbols, named, cell, state)?;
+        let highs = Highs::of(alloc, &cell.object)?;
+        find_entries(&mut targets.entries, &targets.symbols, &highs)
+    }
+
     /// What each entry of the cell names in that state, in table order. A name that nobody provides is the
     /// number 0. The last name that was looked up is at hand for the next cell.
-    #[tactic(auto, using(crate::proofs::Tabled::targets_tabled))]
     pub fn targets_after<'n>(
         &self,
         alloc: Global,
@@ -31,9 +71,9 @@ impl<'a> Scene<'a> {
         ensures named { IsNamed (world_of self.now) named.new }
         ensures targets { IfOk result (λ targets. targets.items ≡ targets_of (world_of self.now) (in_state cell.now state)) }
     {
-        let symbols = self.symbol_targets(alloc, named, cell, state)?;
-        let highs = Highs::of(alloc, &cell.object)?;
-        entry_targets(alloc, &symbols, &highs)
+        let mut targets = Targets::none(alloc);
+        self.find_targets(alloc, &mut targets, named, cell, state)?;
+        Ok(targets.entries)
     }
 
     /// What each entry of the cell names in that state, in table order. A name that nobody provides is the number 0.

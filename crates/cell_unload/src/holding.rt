@@ -81,7 +81,8 @@ pub fn roots(alloc: Global, machine: &Machine, aside: &[CellId]) -> Result<Vec<R
     requires { IsSound machine.now }
     ensures { IfOk result (λ roots. roots.items ≡ flat_map (root_of aside.now) (world_of machine.now).cells ++ map root_of_task machine.now.tasks.tasks) }
 {
-    let mut roots = Vec::new(alloc);
+    // Those of new cells are added behind.
+    let mut roots = Vec::with_capacity(alloc, machine.cells.len() + 1)?;
     add_cells(machine, aside, &mut roots)?;
     add_tasks(&machine.tasks, &mut roots)?;
     Ok(roots)

@@ -5,4 +5,4 @@ use Rattle.cell_unload.proofs.holding.roots.Goals as goal
 pub returns : goal.returns
 returns c =
     let m = c.args.machine.now in
-    listed_are c.args.aside.now (world_of m).cells m.tasks.tasks c.new-roots.result.items c.add_cells.new.into.items c.add_tasks.new.into.items c.new-roots.ensures.items c.in_ok-add_cells.ensures c.in_ok-add_tasks.ensures
+    listed_are c.args.aside.now (world_of m).cells m.tasks.tasks c.in_ok-roots.roots.items c.add_cells.new.into.items c.add_tasks.new.into.items c.in_ok-roots.ensures.items c.in_ok-add_cells.ensures c.in_ok-add_tasks.ensures

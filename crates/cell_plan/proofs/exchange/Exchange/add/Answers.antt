@@ -8,5 +8,5 @@ use Rattle.cell_plan.proofs.exchange.Exchange.add.Goals as goal
 
 pub returns-clause-adds : goal.returns-clause-adds
 returns-clause-adds c =
-    taken_in (view_of c.args.self.now) c.args.cell.now c.state-state.result c.deref.result.now c.deref-2.result.now c.args.changed.now c.take_in.new.self (sym (ap (λ (o : Option CellState). unwrap_or o Attached) c.state-state.ensures)) (c.deref.ensures.value ∙ c.in_ok-targets.ensures.targets) (c.deref-2.ensures.value ∙ c.in_ok-links.ensures)
+    taken_in (view_of c.args.self.now) c.args.cell.now c.state-state.result c.deref.result.now c.deref-2.result.now c.args.changed.now c.take_in.new.self (sym (ap (λ (o : Option CellState). unwrap_or o Attached) c.state-state.ensures)) (c.deref.ensures.value ∙ c.in_ok-find_targets.ensures.targets) (c.deref-2.ensures.value ∙ c.in_ok-list_links.ensures)
     (c.in_ok-take_in.ensures {u = tt})

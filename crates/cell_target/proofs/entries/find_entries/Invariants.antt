@@ -2,7 +2,7 @@ use Rattle.std.proofs.Common.{◌≡◌, map, take}
 use Rattle.std.specs.Prelude.{unwrap_or}
 use Rattle.cell_world.specs.declared.state.Target.TheVariants.{Number}
 use Rattle.cell_target.specs.Entries.{entry_target}
-use Rattle.cell_target.proofs.entries.entry_targets.Given as goal
+use Rattle.cell_target.proofs.entries.find_entries.Given as goal
 
 -- the targets of the entries so far
 abbrev pub invariant-loop-index : goal.invariant-loop-index

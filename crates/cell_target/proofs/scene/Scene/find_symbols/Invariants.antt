@@ -2,7 +2,7 @@ use Rattle.std.proofs.Common.{◌≡◌, ◌++◌, map, take}
 use Rattle.cell_world.specs.Target.{symbol_target}
 use Rattle.cell_target.specs.Scene.{in_state, seen}
 use Rattle.cell_target.specs.Named.{IsNamed, world_of}
-use Rattle.cell_target.proofs.scene.Scene.symbol_targets.Given as goal
+use Rattle.cell_target.proofs.scene.Scene.find_symbols.Given as goal
 
 -- the targets of the symbols so far
 abbrev pub invariant-loop-index : goal.invariant-loop-index

@@ -2,7 +2,7 @@ use Rattle.std.proofs.Common.{◌∙◌, ap, sym, subst, length, get_or, arith}
 use Rattle.cell_object.specs.declared.object.Symbol.{Symbol}
 use Rattle.cell_num.specs.Lists.{In}
 use Rattle.cell_target.proofs.Lookups.{in_get}
-use Rattle.cell_target.proofs.scene.Scene.symbol_targets.Goals as goal
+use Rattle.cell_target.proofs.scene.Scene.find_symbols.Goals as goal
 
 pub symbol_target-requires-clause-there : goal.symbol_target-requires-clause-there
 symbol_target-requires-clause-there c =
