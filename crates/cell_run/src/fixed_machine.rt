@@ -1,7 +1,8 @@
 //! A machine of which the answers are given.
 
-ghost use Rattle.std.specs.Prelude.{◌≡◌, false, true, None, Err};
+ghost use Rattle.std.specs.Prelude.{◌≡◌, false, true, None, Err, IsOk, OnOk};
 ghost use Rattle.cell_run.specs.Fixed.{Gives, IsFirst, tells_nothing};
+ghost use Rattle.cell_run.specs.Machine.{HasAnswered};
 
 use crate::machine::Machine;
 use cell_system::{Command, Fail, File, Refusal, Reply};
@@ -69,17 +70,25 @@ impl Machine for FixedMachine {
 
     ghost acts_plainly = { λ e. tells_nothing e };
 
+    /// Changes nothing, and never fails.
     fn start(
         &mut self,
         _alloc: Global,
         _base: u64,
         _pages: u32,
         _files: Vec<File>,
-    ) -> Result<(), AllocError> {
+    ) -> Result<(), AllocError>
+        ensures begun { OnOk result (self.new ≡ self.old) }
+        ensures started { OnOk result (true ≡ true) }
+        ensures always { IsOk result }
+    {
         Ok(())
     }
 
-    fn act(&mut self, _command: &Command) -> Result<Reply, Fail> {
+    fn act(&mut self, _command: &Command) -> Result<Reply, Fail>
+        ensures acts { HasAnswered (λ answer new. IsFirst answer self.old new × (true ≡ true)) result self.new }
+        ensures given { Gives self.old result self.new }
+    {
         self.next()
     }
 }
