@@ -4,6 +4,7 @@ use cell_hart::*;
 use cell_mem::{Memory, Perm};
 use cell_num::Cause;
 use std::alloc::Global;
+use std::process::Abort;
 use std::test::*;
 
 const BASE: u64 = 0x10000000;
@@ -58,7 +59,36 @@ fn step(hart: &mut Hart, memory: &mut Memory) -> Stop
     hart.step(memory)
 }
 
-/// Straight on, over a taken branch, up to the call.
+/// The pc after each step: straight on, over a taken branch, up to the call.
+const PCS: [u64; 7] = [
+    BASE + 4,
+    BASE + 8,
+    BASE + 12,
+    BASE + 16,
+    BASE + 20,
+    BASE + 28,
+    BASE + 32,
+];
+
+/// The first registers at the call.
+const REGISTERS: [u64; 4] = [
+    0,
+    0xffff_ffff_ffff_ff80,
+    BASE + 0x1004,
+    0xffff_ffff_ffff_ff80,
+];
+
+/// Steps from the base up to the call.
+fn run(rt: &impl Abort, hart: &mut Hart, memory: &mut Memory)
+    requires { memory.old.undo ≡ None }
+    ensures { memory.new.undo ≡ None }
+{
+    for pc in &PCS {
+        assert!(rt; step(hart, memory) == Stop::Next);
+        assert!(rt; hart.pc == *pc);
+    }
+}
+
 #[test]
 fn runs(rt: HostRuntime) -> Result<(), Fail> {
     let mut memory = memory_with_code(&rt)?;
@@ -66,36 +96,41 @@ fn runs(rt: HostRuntime) -> Result<(), Fail> {
         pc: BASE,
         x: [0; 32],
     };
-    for want in [4, 8, 12, 16, 20, 28, 32] {
-        assert_eq!(rt; step(&mut hart, &mut memory), Stop::Next);
-        assert_eq!(rt; hart.pc, BASE + want);
-    }
-    let x = hart.x;
-    assert_eq!(rt; x[0], 0);
-    assert_eq!(rt; x[1], 0xffff_ffff_ffff_ff80);
-    assert_eq!(rt; x[2], BASE + 0x1004);
-    assert_eq!(rt; x[3], 0xffff_ffff_ffff_ff80);
+    run(&rt, &mut hart, &mut memory);
+    assert!(rt; &hart.x[..4] == REGISTERS.as_slice());
     assert_eq!(rt; memory.load(BASE + 0x1008, 8), Ok(0xffff_ffff_ffff_ff80));
     assert_eq!(rt; step(&mut hart, &mut memory), Stop::Call);
     assert_eq!(rt; hart.pc, BASE + 32);
     Ok(())
 }
 
-/// A trap has the pc of its instruction.
+/// A pc, and why the instruction there traps.
+struct Trap(u64, Cause);
+
+const TRAPS: [Trap; 6] = [
+    Trap(BASE + 2, Cause::Fetch),
+    Trap(BASE + 0x1000, Cause::Fetch),
+    Trap(BASE + 8, Cause::StoreAlign),
+    Trap(BASE + 12, Cause::Load),
+    Trap(BASE + 24, Cause::Illegal),
+    Trap(BASE + 36, Cause::Break),
+];
+
+/// Whether a step from the pc traps, and leaves it.
+fn traps_there(memory: &mut Memory, trap: &Trap) -> bool
+    requires { memory.old.undo ≡ None }
+    ensures { memory.new.undo ≡ None }
+{
+    let (pc, cause) = (trap.0, trap.1);
+    let mut hart = Hart { pc, x: [0; 32] };
+    step(&mut hart, memory) == Stop::Trap { cause, pc } && hart.pc == pc
+}
+
 #[test]
 fn traps(rt: HostRuntime) -> Result<(), Fail> {
     let mut memory = memory_with_code(&rt)?;
-    for (pc, cause) in [
-        (BASE + 2, Cause::Fetch),
-        (BASE + 0x1000, Cause::Fetch),
-        (BASE + 8, Cause::StoreAlign),
-        (BASE + 12, Cause::Load),
-        (BASE + 24, Cause::Illegal),
-        (BASE + 36, Cause::Break),
-    ] {
-        let mut hart = Hart { pc, x: [0; 32] };
-        assert_eq!(rt; step(&mut hart, &mut memory), Stop::Trap { cause, pc });
-        assert_eq!(rt; hart.pc, pc);
+    for (number, trap) in TRAPS.iter().enumerate() {
+        assert!(rt; traps_there(&mut memory, trap), "trap {number}");
     }
     Ok(())
 }

@@ -107,16 +107,15 @@ fn one_after_another(rt: HostRuntime) -> Result<(), Fail> {
     assert_eq!(rt; second.id, CellId(7));
     assert_eq!(rt; second.places.as_slice(), at(3, 4).as_slice());
     let starts: Vec<u64> = taken.regions.iter().map(|r| r.start).collect(alloc)?;
-    assert_eq!(rt;
-        starts.as_slice(),
-        [BASE, BASE + 0x2000, BASE + 0x3000, BASE + 0x4000].as_slice()
+    assert!(rt;
+        starts.as_slice() == [BASE, BASE + 0x2000, BASE + 0x3000, BASE + 0x4000].as_slice()
     );
-    assert_eq!(rt;
-        space.take(1),
-        Err(NoRun {
-            wanted: 1,
-            largest: 0
-        })
+    assert!(rt;
+        space.take(1)
+            == Err(NoRun {
+                wanted: 1,
+                largest: 0
+            })
     );
     Ok(())
 }
@@ -132,7 +131,7 @@ fn no_room_for_the_second(rt: HostRuntime) -> Result<(), Fail> {
     };
     let mut cells = two_cells(alloc, 12 * 4096 + 1)?;
     match place_cells(alloc, &mut space, &mut cells, 0) {
-        Err(fail) => assert_eq!(rt; fail, PlaceFail::NoRoom(none)),
+        Err(fail) => assert!(rt; fail == PlaceFail::NoRoom(none)),
         Ok(_) => return Err("room for both".into()),
     }
     Ok(())
@@ -163,7 +162,7 @@ fn no_room_behind_the_cells(rt: HostRuntime) -> Result<(), Fail> {
     };
     let mut cells = two_cells(alloc, 12 * 4096)?;
     match place_cells(alloc, &mut space, &mut cells, 5) {
-        Err(fail) => assert_eq!(rt; fail, PlaceFail::NoRoom(none)),
+        Err(fail) => assert!(rt; fail == PlaceFail::NoRoom(none)),
         Ok(_) => return Err("room for all".into()),
     }
     for cell in cells {

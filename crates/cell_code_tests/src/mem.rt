@@ -13,7 +13,7 @@ use std::test::*;
 
 const BASE: u64 = 0x10000000;
 
-#[derive(Clone, Copy, Debug)]
+#[derive(Clone, Copy)]
 enum Width {
     One,
     Two,
@@ -21,7 +21,7 @@ enum Width {
     Eight,
 }
 
-#[derive(Clone, Copy, Debug)]
+#[derive(Clone, Copy)]
 enum Access {
     Load(Width),
     Store(Width, u64),
@@ -29,7 +29,7 @@ enum Access {
 }
 
 /// An address, an access there, and what it answers. A store that succeeds answers 0.
-type Case = (u64, Access, Result<u64, MemFault>);
+struct Case(u64, Access, Result<u64, MemFault>);
 
 fn bytes_in(width: Width) -> u8
     ensures { is_width result ≡ true }
@@ -67,12 +67,8 @@ fn walk(rt: &impl Abort, memory: &mut Memory, cases: &[Case])
     requires { memory.old.undo ≡ None }
     ensures { memory.new.undo ≡ None }
 {
-    for (addr, access, want) in cases {
-        assert_eq!(rt;
-            answer(memory, *addr, *access),
-            *want,
-            "{access:?} at {addr:x}"
-        );
+    for (number, case) in cases.iter().enumerate() {
+        assert!(rt; answer(memory, case.0, case.1) == case.2, "case {number}");
     }
 }
 
@@ -103,24 +99,24 @@ fn three_regions(alloc: Global) -> Result<Memory, Fail>
 
 /// Each fault comes before the next.
 const FAULTS: [Case; 18] = [
-    (BASE + 0x2001, Store(Two, 1), Err(Misaligned)),
-    (BASE + 0x5ffc, Store(Eight, 1), Err(Misaligned)),
-    (BASE - 8, Store(Eight, 1), Err(Unmapped)),
-    (BASE + 0x2000, Store(Eight, 1), Err(Unmapped)),
-    (BASE + 0x6000, Store(One, 1), Err(Unmapped)),
-    (BASE + 0x10000, Store(Four, 1), Err(Unmapped)),
-    (0, Store(Eight, 1), Err(Unmapped)),
-    (u64::MAX - 7, Store(Eight, 1), Err(Unmapped)),
-    (BASE + 0x1008, Store(Eight, 1), Err(Denied)),
-    (BASE + 1, Load(Four), Err(Misaligned)),
-    (BASE + 0x3ff8, Load(Eight), Err(Unmapped)),
-    (BASE + 0xff8, Load(Eight), Ok(0)),
-    (BASE + 0x5fff, Load(One), Ok(0)),
-    (BASE + 2, Fetch, Err(Misaligned)),
-    (BASE + 0x2000, Fetch, Err(Unmapped)),
-    (BASE + 0x1000, Fetch, Err(Denied)),
-    (BASE + 0x4000, Fetch, Err(Denied)),
-    (BASE + 0xffc, Fetch, Ok(0)),
+    Case(BASE + 0x2001, Store(Two, 1), Err(Misaligned)),
+    Case(BASE + 0x5ffc, Store(Eight, 1), Err(Misaligned)),
+    Case(BASE - 8, Store(Eight, 1), Err(Unmapped)),
+    Case(BASE + 0x2000, Store(Eight, 1), Err(Unmapped)),
+    Case(BASE + 0x6000, Store(One, 1), Err(Unmapped)),
+    Case(BASE + 0x10000, Store(Four, 1), Err(Unmapped)),
+    Case(0, Store(Eight, 1), Err(Unmapped)),
+    Case(u64::MAX - 7, Store(Eight, 1), Err(Unmapped)),
+    Case(BASE + 0x1008, Store(Eight, 1), Err(Denied)),
+    Case(BASE + 1, Load(Four), Err(Misaligned)),
+    Case(BASE + 0x3ff8, Load(Eight), Err(Unmapped)),
+    Case(BASE + 0xff8, Load(Eight), Ok(0)),
+    Case(BASE + 0x5fff, Load(One), Ok(0)),
+    Case(BASE + 2, Fetch, Err(Misaligned)),
+    Case(BASE + 0x2000, Fetch, Err(Unmapped)),
+    Case(BASE + 0x1000, Fetch, Err(Denied)),
+    Case(BASE + 0x4000, Fetch, Err(Denied)),
+    Case(BASE + 0xffc, Fetch, Ok(0)),
 ];
 
 #[test]
@@ -132,17 +128,17 @@ fn faults(rt: HostRuntime) -> Result<(), Fail> {
 
 /// The lowest byte first; a store takes the low bytes of its value and leaves what is beside them.
 const NUMBERS: [Case; 11] = [
-    (BASE + 0x4000, Store(Eight, 0x8877665544332211), Ok(0)),
-    (BASE + 0x4008, Store(Eight, u64::MAX), Ok(0)),
-    (BASE + 0x400a, Store(One, 0x5ff00), Ok(0)),
-    (BASE + 0x5ffc, Store(Four, 0x123456789), Ok(0)),
-    (BASE + 0x4000, Load(Eight), Ok(0x8877665544332211)),
-    (BASE + 0x4000, Load(One), Ok(0x11)),
-    (BASE + 0x4002, Load(Two), Ok(0x4433)),
-    (BASE + 0x4004, Load(Four), Ok(0x88776655)),
-    (BASE + 0x4007, Load(One), Ok(0x88)),
-    (BASE + 0x4008, Load(Eight), Ok(0xffffffffff00ffff)),
-    (BASE + 0x5ff8, Load(Eight), Ok(0x2345678900000000)),
+    Case(BASE + 0x4000, Store(Eight, 0x8877665544332211), Ok(0)),
+    Case(BASE + 0x4008, Store(Eight, u64::MAX), Ok(0)),
+    Case(BASE + 0x400a, Store(One, 0x5ff00), Ok(0)),
+    Case(BASE + 0x5ffc, Store(Four, 0x123456789), Ok(0)),
+    Case(BASE + 0x4000, Load(Eight), Ok(0x8877665544332211)),
+    Case(BASE + 0x4000, Load(One), Ok(0x11)),
+    Case(BASE + 0x4002, Load(Two), Ok(0x4433)),
+    Case(BASE + 0x4004, Load(Four), Ok(0x88776655)),
+    Case(BASE + 0x4007, Load(One), Ok(0x88)),
+    Case(BASE + 0x4008, Load(Eight), Ok(0xffffffffff00ffff)),
+    Case(BASE + 0x5ff8, Load(Eight), Ok(0x2345678900000000)),
 ];
 
 #[test]
@@ -158,11 +154,11 @@ fn numbers(rt: HostRuntime) -> Result<(), Fail> {
 
 /// A seal stops stores that touch it, and no patch.
 const SEALS: [Case; 5] = [
-    (BASE + 0x4010, Store(Eight, 0x77), Err(Sealed)),
-    (BASE + 0x4013, Store(One, 0x77), Err(Sealed)),
-    (BASE + 0x4011, Store(One, 0x77), Ok(0)),
-    (BASE + 0x4014, Store(Four, 0x77), Ok(0)),
-    (BASE + 0x4010, Load(Eight), Ok(0x77abcd7734)),
+    Case(BASE + 0x4010, Store(Eight, 0x77), Err(Sealed)),
+    Case(BASE + 0x4013, Store(One, 0x77), Err(Sealed)),
+    Case(BASE + 0x4011, Store(One, 0x77), Ok(0)),
+    Case(BASE + 0x4014, Store(Four, 0x77), Ok(0)),
+    Case(BASE + 0x4010, Load(Eight), Ok(0x77abcd7734)),
 ];
 
 #[test]
@@ -181,9 +177,9 @@ fn seals(rt: HostRuntime) -> Result<(), Fail> {
 
 /// A region's seals and bytes go with it.
 const MAPPED_AGAIN: [Case; 3] = [
-    (BASE + 0xeff8, Store(Eight, 0x13), Ok(0)),
-    (BASE + 0xeff8, Fetch, Ok(0x13)),
-    (BASE + 0xfff8, Load(Eight), Ok(0)),
+    Case(BASE + 0xeff8, Store(Eight, 0x13), Ok(0)),
+    Case(BASE + 0xeff8, Fetch, Ok(0x13)),
+    Case(BASE + 0xfff8, Load(Eight), Ok(0)),
 ];
 
 #[test]
@@ -206,20 +202,26 @@ fn mapped_again(rt: HostRuntime) -> Result<(), Fail> {
 }
 
 /// Three flags, and the bits of the set.
-const PERMISSIONS: [(bool, bool, bool, u8); 5] = [
-    (false, false, false, 0),
-    (true, false, false, 1),
-    (true, true, false, 3),
-    (true, false, true, 5),
-    (true, true, true, 7),
+struct Allowed(bool, bool, bool, u8);
+
+const PERMISSIONS: [Allowed; 5] = [
+    Allowed(false, false, false, 0),
+    Allowed(true, false, false, 1),
+    Allowed(true, true, false, 3),
+    Allowed(true, false, true, 5),
+    Allowed(true, true, true, 7),
 ];
 
 #[test]
 fn permissions(rt: HostRuntime) {
-    for (read, write, exec, bits) in PERMISSIONS {
-        let permission = Permission { read, write, exec };
+    for case in &PERMISSIONS {
+        let permission = Permission {
+            read: case.0,
+            write: case.1,
+            exec: case.2,
+        };
         let perm = Perm::of(permission);
-        assert_eq!(rt; perm.bits(), bits);
+        assert!(rt; perm.bits() == case.3);
         assert_eq!(rt; perm.permission(), permission);
     }
 }

@@ -1,4 +1,8 @@
+ghost use Rattle.cell_world.specs.Pages.{IsSpace};
+
 use cell_place::*;
+use std::alloc::{AllocError, Global};
+use std::process::Abort;
 use std::test::*;
 
 fn run(page: u32, count: u32) -> Result<Run, NoRun> {
@@ -9,20 +13,36 @@ fn no_run(wanted: u32, largest: u32) -> Result<Run, NoRun> {
     Err(NoRun { wanted, largest })
 }
 
+/// So many pages, and the first page of the run that is taken, or how long the longest run is.
+struct Taking(u32, Result<u32, u32>);
+
+const TAKINGS: [Taking; 7] = [
+    Taking(17, Err(16)),
+    Taking(u32::MAX, Err(16)),
+    Taking(1, Ok(0)),
+    Taking(11, Ok(1)),
+    Taking(5, Err(4)),
+    Taking(4, Ok(12)),
+    Taking(1, Err(0)),
+];
+
+fn wanted(case: &Taking) -> Result<Run, NoRun> {
+    match case.1 {
+        Ok(page) => run(page, case.0),
+        Err(largest) => no_run(case.0, largest),
+    }
+}
+
+fn is_taken(space: &mut Space, case: &Taking) -> bool {
+    case.0 > 0 && space.take(case.0) == wanted(case)
+}
+
 /// Runs are taken from the lowest page on, until none is long enough.
 #[test]
 fn runs_of_a_fresh_space(rt: HostRuntime) -> Result<(), Fail> {
     let mut space = Space::new(rt.alloc(), 0x10000000, 16)?;
-    for (count, want) in [
-        (17, no_run(17, 16)),
-        (u32::MAX, no_run(u32::MAX, 16)),
-        (1, run(0, 1)),
-        (11, run(1, 11)),
-        (5, no_run(5, 4)),
-        (4, run(12, 4)),
-        (1, no_run(1, 0)),
-    ] {
-        assert_eq!(rt; space.take(count), want, "{count} pages");
+    for (number, case) in TAKINGS.iter().enumerate() {
+        assert!(rt; is_taken(&mut space, case), "taking {number}");
     }
     Ok(())
 }
@@ -46,24 +66,27 @@ fn holes(rt: HostRuntime) -> Result<(), Fail> {
     Ok(())
 }
 
+/// The address of the last page, once all pages are taken.
+fn last_address(rt: &impl Abort, alloc: Global, base: u64, pages: u32) -> Result<u64, AllocError>
+    requires { IsSpace base pages }
+{
+    let mut space = Space::new(alloc, base, pages)?;
+    assert_eq!(rt; space.base(), base);
+    assert_eq!(rt; space.pages(), pages);
+    assert_eq!(rt; space.take(pages - 1), run(0, pages - 1));
+    assert_eq!(rt; space.take(1), run(pages - 1, 1));
+    Ok(space.address_of(Run {
+        page: pages - 1,
+        count: 1,
+    }))
+}
+
 /// The ends of the limits.
 #[test]
 fn addresses(rt: HostRuntime) -> Result<(), Fail> {
-    for (base, pages, last) in [
-        (0x1000, 16, 0x10000),
-        (0x7fffffff000, 16, 0x8000000e000),
-        (0x7fffffff000, 4096, 0x80000ffe000),
-    ] {
-        let mut space = Space::new(rt.alloc(), base, pages)?;
-        assert_eq!(rt; space.base(), base);
-        assert_eq!(rt; space.pages(), pages);
-        assert_eq!(rt; space.take(pages - 1), run(0, pages - 1));
-        assert_eq!(rt; space.take(1), run(pages - 1, 1));
-        let end = Run {
-            page: pages - 1,
-            count: 1,
-        };
-        assert_eq!(rt; space.address_of(end), last);
-    }
+    let alloc = rt.alloc();
+    assert!(rt; last_address(&rt, alloc, 0x1000, 16)? == 0x10000);
+    assert!(rt; last_address(&rt, alloc, 0x7fffffff000, 16)? == 0x8000000e000);
+    assert!(rt; last_address(&rt, alloc, 0x7fffffff000, 4096)? == 0x80000ffe000);
     Ok(())
 }

@@ -1,4 +1,4 @@
-ghost use Rattle.std.specs.Prelude.{◌≡◌, ◌+◌, ◌<◌, ◌≤◌, ◌^◌, IfOk, None, Some, true, is_some, length, vec_capacity, vec_len};
+ghost use Rattle.std.specs.Prelude.{◌≡◌, ◌+◌, ◌<◌, ◌≤◌, IfOk, None, Some, true, is_some, length, vec_capacity, vec_len};
 ghost use Rattle.cell_mem.specs.State.{region_from};
 ghost use Rattle.cell_world.specs.World.{Task as WorldTask};
 ghost use Rattle.cell_task.specs.State.{live_in};
@@ -12,23 +12,6 @@ use std::test::*;
 const BASE: u64 = 0x1000_0000;
 
 const STACK: u64 = 0x1000_1000;
-
-/// Puts out `A`, 0, 2^64 - 1, yields, and ends with 7.
-const OUTPUT: [u32; 13] = [
-    0x1410_0513, // addi x10, x0, 0x141
-    0x0010_0893, // addi x17, x0, 1
-    0x0000_0073, // ecall
-    0x0000_0513, // addi x10, x0, 0
-    0x0020_0893, // addi x17, x0, 2
-    0x0000_0073, // ecall
-    0xfff0_0513, // addi x10, x0, -1
-    0x0000_0073, // ecall
-    0x0030_0893, // addi x17, x0, 3
-    0x0000_0073, // ecall
-    0x0070_0513, // addi x10, x0, 7
-    0x0000_0893, // addi x17, x0, 0
-    0x0000_0073, // ecall
-];
 
 /// A page that begins with these words.
 fn page(alloc: Global, words: &[u32]) -> Result<Vec<u8>, Fail>
@@ -115,74 +98,6 @@ fn run_code(alloc: Global, code: &[u32], turns: u32) -> Result<Run, Fail> {
         out,
         answers,
     })
-}
-
-/// Starts a task, where a number is left.
-fn start(tasks: &mut Tasks, arg: u64, stack: u64) -> Result<u32, Fail>
-    requires { stack < 2 ^ 63 }
-{
-    if tasks.next() > 65535 {
-        return Ok(Err("no number is left")?);
-    }
-    Ok(tasks.spawn(BASE, arg, stack, CellId(3))?)
-}
-
-/// Ends a task, where it is live.
-fn end(tasks: &mut Tasks, task: u32) -> Result<u64, Fail> {
-    if tasks.get(task).is_none() {
-        return Ok(Err("not live")?);
-    }
-    Ok(tasks.kill(task))
-}
-
-fn live_numbers(alloc: Global, tasks: &Tasks) -> Result<Vec<u32>, Fail> {
-    let mut live = Vec::new(alloc);
-    for number in tasks.live() {
-        live.push(number)?;
-    }
-    Ok(live)
-}
-
-/// The number of a task that was ended isn't used again.
-#[test]
-fn numbers(rt: HostRuntime) -> Result<(), Fail> {
-    let mut tasks = Tasks::new(rt.alloc());
-    assert_eq!(rt; start(&mut tasks, 5, STACK)?, 1);
-    assert_eq!(rt; start(&mut tasks, 6, STACK + 0x4000)?, 2);
-    assert_eq!(rt; end(&mut tasks, 1)?, STACK);
-    assert!(rt; tasks.get(1).is_none());
-    assert_eq!(rt; tasks.count(), 1);
-    assert_eq!(rt; start(&mut tasks, 7, STACK)?, 3);
-    let live = live_numbers(rt.alloc(), &tasks)?;
-    assert_eq!(rt; live.as_slice(), [2, 3].as_slice());
-    Ok(())
-}
-
-#[test]
-fn output(rt: HostRuntime) -> Result<(), Fail> {
-    let run = run_code(rt.alloc(), &OUTPUT, 100)?;
-    assert_eq!(rt; run.out.as_slice(), b"A018446744073709551615".as_slice());
-    assert_eq!(rt; run.answers.len(), 13);
-    assert_eq!(rt; run.answers[8], Turned::Ready);
-    assert_eq!(rt; run.answers[9], Turned::Yield);
-    assert_eq!(rt; run.answers[12], Turned::Done(7));
-    assert_eq!(rt; run.tasks.count(), 0);
-    assert!(rt; run.memory.bytes(STACK, 1).is_none());
-    Ok(())
-}
-
-#[test]
-fn returns(rt: HostRuntime) -> Result<(), Fail> {
-    // addi x10, x10, 1; jalr x0, 0(x1)
-    let run = run_code(rt.alloc(), &[0x0015_0513, 0x0000_8067], 100)?;
-    assert_eq!(rt;
-        run.answers.as_slice(),
-        [Turned::Ready, Turned::Done(6)].as_slice()
-    );
-    assert!(rt; run.tasks.get(1).is_none());
-    assert!(rt; run.memory.bytes(STACK, 1).is_none());
-    assert!(rt; run.memory.bytes(BASE, 1).is_some());
-    Ok(())
 }
 
 /// Two instructions, and why the second traps.

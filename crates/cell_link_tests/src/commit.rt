@@ -1,4 +1,5 @@
 ghost use Rattle.std.specs.Prelude.{◌≡◌, ◌≤◌, ◌∷◌, [], Some, None, IfOk, length, Contains};
+ghost use Rattle.cell_mem.specs.State.{HasWrites};
 
 use cell_commit::*;
 use cell_graph::{Graph, LinkRow};
@@ -31,15 +32,9 @@ fn page(alloc: Global, start: u64, write: bool) -> Result<Region, Fail>
 }
 
 /// Data in page 4 and code in page 0, with a field in each.
-#[test]
-fn regions_and_fields(rt: HostRuntime) -> Result<(), Fail> {
-    let alloc = rt.alloc();
-    let mut memory = Memory::new(alloc, BASE, 16)?;
-    memory.reserve(2)?;
-    let mut regions = Vec::new(alloc);
-    regions.push(page(alloc, BASE + 0x4000, true)?)?;
-    regions.push(page(alloc, BASE, false)?)?;
-    map_regions(&mut memory, regions);
+fn with_fields(alloc: Global) -> Result<Memory, Fail>
+    ensures { IfOk result (λ m. HasWrites m 1) }
+{
     let fields = [
         FieldValue {
             addr: BASE + 0x4010,
@@ -52,11 +47,29 @@ fn regions_and_fields(rt: HostRuntime) -> Result<(), Fail> {
             value: 0xabcd,
         },
     ];
+    let mut memory = Memory::new(alloc, BASE, 16)?;
+    memory.reserve(2)?;
+    let mut regions = Vec::new(alloc);
+    regions.push(page(alloc, BASE + 0x4000, true)?)?;
+    regions.push(page(alloc, BASE, false)?)?;
+    map_regions(&mut memory, regions);
     write_fields(&mut memory, &fields);
-    let data = memory.bytes(BASE + 0x400f, 6).ok_or("no data")?;
-    assert!(rt; data == [7, 0x44, 0x33, 0x22, 0x11, 7].as_slice());
-    let code = memory.bytes(BASE + 0xffd, 3).ok_or("no code")?;
-    assert!(rt; code == [7, 0xcd, 0xab].as_slice());
+    Ok(memory)
+}
+
+fn has_bytes(memory: &Memory, addr: u64, bytes: &[u8]) -> bool {
+    match memory.bytes(addr, bytes.len() as u64) {
+        Some(found) => found == bytes,
+        None => false,
+    }
+}
+
+#[test]
+fn regions_and_fields(rt: HostRuntime) -> Result<(), Fail> {
+    let mut memory = with_fields(rt.alloc())?;
+    let data = [7, 0x44, 0x33, 0x22, 0x11, 7];
+    assert!(rt; has_bytes(&memory, BASE + 0x400f, &data));
+    assert!(rt; has_bytes(&memory, BASE + 0xffd, &[7, 0xcd, 0xab]));
     assert_eq!(rt; memory.maps(), 2);
     assert_eq!(rt; memory.patches(), 2);
     assert_eq!(rt; memory.store(BASE + 0x4010, 1, 0), Err(MemFault::Sealed));
@@ -185,15 +198,15 @@ fn with_newcomers(alloc: Global) -> Result<Spaces, AllocError>
 fn two_newcomers(rt: HostRuntime) -> Result<(), Fail> {
     let alloc = rt.alloc();
     let spaces = with_newcomers(alloc)?;
-    assert_eq!(rt; spaces.cell_at(1, b"a"), Some(CellId(6)));
-    assert_eq!(rt; spaces.cell_at(2, b"a"), Some(CellId(7)));
+    assert!(rt; spaces.cell_at(1, b"a") == Some(CellId(6)));
+    assert!(rt; spaces.cell_at(2, b"a") == Some(CellId(7)));
     let of_k = spaces.path(alloc, 0)?;
-    assert_eq!(rt; spaces.clash_name(&of_k, b"a::x"), Some(CellId(6)));
+    assert!(rt; spaces.clash_name(&of_k, b"a::x") == Some(CellId(6)));
     let provider = Provider {
         cell: CellId(7),
         symbol: 1,
     };
-    assert_eq!(rt; spaces.provider(Scope::Space(2), b"a::x"), Some(provider));
-    assert_eq!(rt; spaces.provider(Scope::Space(0), b"a::x"), None);
+    assert!(rt; spaces.provider(Scope::Space(2), b"a::x") == Some(provider));
+    assert!(rt; spaces.provider(Scope::Space(0), b"a::x") == None);
     Ok(())
 }

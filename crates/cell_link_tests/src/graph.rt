@@ -95,11 +95,25 @@ fn has_users(alloc: Global, graph: &Graph) -> Result<bool, AllocError>
 }
 
 #[test]
-fn links_both_ways(rt: HostRuntime) -> Result<(), Fail> {
+fn own_links(rt: HostRuntime) -> Result<(), Fail> {
     let alloc = rt.alloc();
     let graph = both_ways(alloc)?;
     assert!(rt; has_own(alloc, &graph)?);
+    Ok(())
+}
+
+#[test]
+fn links_from_a_section(rt: HostRuntime) -> Result<(), Fail> {
+    let alloc = rt.alloc();
+    let graph = both_ways(alloc)?;
     assert!(rt; has_deps(alloc, &graph)?);
+    Ok(())
+}
+
+#[test]
+fn links_into_a_section(rt: HostRuntime) -> Result<(), Fail> {
+    let alloc = rt.alloc();
+    let graph = both_ways(alloc)?;
     assert!(rt; has_users(alloc, &graph)?);
     Ok(())
 }
@@ -133,22 +147,46 @@ fn make_moves<L: Ledger>(graph: &mut Graph, moves: &[LinkRow], blank: Blank)
 }
 
 /// Cell 1 needs a section of cell 2 by two entries; one of them moves.
-#[test]
-fn users_move(rt: HostRuntime) -> Result<(), Fail> {
-    let alloc = rt.alloc();
+fn with_a_move(alloc: Global) -> Result<Graph, AllocError>
+    ensures { IfOk result (λ g. g.sections ≡ key_of 1 1 ∷ key_of 1 3 ∷ key_of 2 1 ∷ key_of 2 2 ∷ key_of 3 1 ∷ []) }
+{
     let (a, b, c) = (key(1, 1), key(2, 1), key(2, 2));
     let mut graph = sections(alloc)?;
     graph.bind(link(a, 7, b));
     graph.bind(link(a, 0, b));
     make_moves::<Brand>(&mut graph, &[link(a, 7, c)], Blank::new(1));
-    assert_eq!(rt;
-        deps(alloc, &graph, a)?.as_slice(),
-        [link(a, 0, b), link(a, 7, c)].as_slice()
-    );
-    assert_eq!(rt;
-        users(alloc, &graph, b)?.as_slice(),
-        [link(a, 0, b)].as_slice()
-    );
+    Ok(graph)
+}
+
+fn has_moved(alloc: Global, graph: &Graph) -> Result<bool, AllocError>
+    requires { Contains graph.now.sections (key_of 1 1) }
+{
+    let (a, b, c) = (key(1, 1), key(2, 1), key(2, 2));
+    let rows = [link(a, 0, b), link(a, 7, c)];
+    Ok(deps(alloc, graph, a)?.as_slice() == rows.as_slice())
+}
+
+fn has_stayed(alloc: Global, graph: &Graph) -> Result<bool, AllocError>
+    requires { Contains graph.now.sections (key_of 2 1) }
+{
+    let (a, b) = (key(1, 1), key(2, 1));
+    let rows = [link(a, 0, b)];
+    Ok(users(alloc, graph, b)?.as_slice() == rows.as_slice())
+}
+
+#[test]
+fn a_user_moves(rt: HostRuntime) -> Result<(), Fail> {
+    let alloc = rt.alloc();
+    let graph = with_a_move(alloc)?;
+    assert!(rt; has_moved(alloc, &graph)?);
+    Ok(())
+}
+
+#[test]
+fn another_user_stays(rt: HostRuntime) -> Result<(), Fail> {
+    let alloc = rt.alloc();
+    let graph = with_a_move(alloc)?;
+    assert!(rt; has_stayed(alloc, &graph)?);
     Ok(())
 }
 

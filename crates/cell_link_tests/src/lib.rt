@@ -6,8 +6,6 @@ mod commit;
 #[cfg(test)]
 mod depot;
 #[cfg(test)]
-mod gather;
-#[cfg(test)]
 mod graph;
 #[cfg(test)]
 mod link;

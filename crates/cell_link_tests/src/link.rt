@@ -65,117 +65,153 @@ fn cell(alloc: Global, bytes: &[u8], entries: &[Entry]) -> Result<NewCell, Alloc
     })
 }
 
-/// An entry of section 1 that names symbol 1.
-fn entry(offset: u32, kind: RelKind) -> Entry {
+/// An entry of section 1 at an offset, its kind, and the number that it names.
+struct Part(u32, RelKind, u64);
+
+fn entry(part: &Part) -> Entry {
     Entry {
         section: 1,
-        offset,
-        kind,
+        offset: part.0,
+        kind: part.1,
         symbol: 1,
         addend: 0,
     }
 }
 
-/// Whether the fields of a cell with these bytes and two entries hold these numbers.
-fn holds(
-    alloc: Global,
-    bytes: &[u8],
-    entries: &[Entry; 2],
-    targets: &[Target; 2],
-    numbers: &[u64],
-) -> Result<bool, LinkFail> {
-    let cell = cell(alloc, bytes, entries)?;
-    let fields = link_cell(alloc, &cell, targets)?;
-    let fields = fields.as_slice();
-    let mut same = fields.len() == numbers.len();
-    for (field, number) in fields.iter().zip(numbers) {
-        same = same && field.value == *number;
-    }
-    Ok(same)
+/// A word that is a field: its offset in the section, and its number.
+struct Word(u32, u64);
+
+/// The bytes of a section with two entries, its fields, and by itself the field of each entry.
+struct Case {
+    bytes: &'static [u8],
+    parts: [Part; 2],
+    fields: Result<&'static [Word], LinkFail>,
+    alone: [Result<Word, Overflow>; 2],
 }
 
-const fn number(value: u64) -> Target {
-    Target::Number { value }
-}
-
-/// A word of the section at an offset.
-fn word(offset: u32, value: u64) -> FieldValue {
-    FieldValue {
-        addr: START + u64::from(offset),
-        width: 4,
-        value,
-    }
-}
-
-/// `lui a0, %hi(x)` and `addi a0, a0, %lo(x)` for x at 0x10000800.
+/// `lui a0, %hi(x)` and `addi a0, a0, %lo(x)`.
 const UPPER_AND_LOWER: [u8; 8] = [0x37, 0x05, 0, 0, 0x13, 0x05, 0x05, 0];
 
 /// `auipc a0, %pcrel_hi(x)` and `addi a0, a0, %pcrel_lo(..)`.
 const PC_RELATIVE: [u8; 8] = [0x17, 0x05, 0, 0, 0x13, 0x05, 0x05, 0];
 
+const NEAR: u64 = 0x1000_0800;
+
+/// The distance from the section's start is 0x1900.
+const FAR: u64 = START + 0x1900;
+
+const CASES: [Case; 5] = [
+    Case {
+        bytes: &UPPER_AND_LOWER,
+        parts: [Part(0, RelKind::Hi20, NEAR), Part(4, RelKind::Lo12I, NEAR)],
+        fields: Ok(&[Word(0, 0x1000_1537), Word(4, 0x8005_0513)]),
+        alone: [Ok(Word(0, 0x1000_1537)), Ok(Word(4, 0x8005_0513))],
+    },
+    // Both at one field.
+    Case {
+        bytes: &[7, 0, 0, 0],
+        parts: [
+            Part(0, RelKind::Add32, 0x1014),
+            Part(0, RelKind::Sub32, 0x1000),
+        ],
+        fields: Ok(&[Word(0, 0x1b)]),
+        alone: [Ok(Word(0, 0x1b)), Ok(Word(0, 0x1b))],
+    },
+    // A lower part takes its upper part, in both orders of the table.
+    Case {
+        bytes: &PC_RELATIVE,
+        parts: [
+            Part(0, RelKind::PcrelHi20, FAR),
+            Part(4, RelKind::PcrelLo12I, FAR),
+        ],
+        fields: Ok(&[Word(0, 0x0000_2517), Word(4, 0x9005_0513)]),
+        alone: [Ok(Word(0, 0x0000_2517)), Ok(Word(4, 0x9005_0513))],
+    },
+    Case {
+        bytes: &PC_RELATIVE,
+        parts: [
+            Part(4, RelKind::PcrelLo12I, FAR),
+            Part(0, RelKind::PcrelHi20, FAR),
+        ],
+        fields: Ok(&[Word(4, 0x9005_0513), Word(0, 0x0000_2517)]),
+        alone: [Ok(Word(4, 0x9005_0513)), Ok(Word(0, 0x0000_2517))],
+    },
+    // An upper part reaches 2^31 - 0x801 at most.
+    Case {
+        bytes: &UPPER_AND_LOWER,
+        parts: [
+            Part(0, RelKind::Hi20, 0x7fff_f7ff),
+            Part(4, RelKind::Hi20, 0x7fff_f800),
+        ],
+        fields: Err(LinkFail::Overflow { entry: 1 }),
+        alone: [Ok(Word(0, 0x7fff_f537)), Err(Overflow { entry: 1 })],
+    },
+];
+
+fn is_word(field: &FieldValue, word: &Word) -> bool {
+    field.addr == START + u64::from(word.0) && field.width == 4 && field.value == word.1
+}
+
+fn are_words(fields: &[FieldValue], words: &[Word]) -> bool {
+    let mut pairs = fields.iter().zip(words.iter());
+    fields.len() == words.len() && pairs.all(|(field, word)| is_word(field, word))
+}
+
+/// Whether linking gives these fields.
+fn has_fields(
+    alloc: Global,
+    cell: &NewCell,
+    targets: &[Target; 2],
+    wanted: Result<&[Word], LinkFail>,
+) -> bool
+    requires two { length cell.now.object.entries ≡ 2 }
+    requires low { All (λ p. p.start < 2 ^ 63) cell.now.places }
+{
+    match (link_cell(alloc, cell, targets), wanted) {
+        (Ok(fields), Ok(words)) => are_words(fields.as_slice(), words),
+        (Err(fail), Err(wanted)) => fail == wanted,
+        _ => false,
+    }
+}
+
+/// Whether the field of one of the entries is this.
+fn has_field(
+    cell: &NewCell,
+    targets: &[Target; 2],
+    place: u32,
+    wanted: &Result<Word, Overflow>,
+) -> bool
+    requires two { length cell.now.object.entries ≡ 2 }
+    requires low { All (λ p. p.start < 2 ^ 63) cell.now.places }
+    requires inside { place < 2 }
+{
+    match (field_value(cell, targets, place), wanted) {
+        (Ok(field), Ok(word)) => is_word(&field, word),
+        (Err(overflow), Err(wanted)) => overflow == *wanted,
+        _ => false,
+    }
+}
+
+fn is_linked(alloc: Global, case: &Case) -> Result<bool, AllocError> {
+    let [first, second] = &case.parts;
+    let cell = cell(alloc, case.bytes, &[entry(first), entry(second)])?;
+    let targets = [
+        Target::Number { value: first.2 },
+        Target::Number { value: second.2 },
+    ];
+    let fields = case.fields;
+    let [of_first, of_second] = &case.alone;
+    Ok(
+        has_fields(alloc, &cell, &targets, fields)
+            && has_field(&cell, &targets, 0, of_first)
+            && has_field(&cell, &targets, 1, of_second),
+    )
+}
+
 #[test]
 fn fields_of_cells(rt: HostRuntime) -> Result<(), Fail> {
-    let x = number(0x1000_0800);
-    let alloc = rt.alloc();
-    let absolute = [entry(0, RelKind::Hi20), entry(4, RelKind::Lo12I)];
-    assert!(rt;
-        holds(
-            alloc,
-            &UPPER_AND_LOWER,
-            &absolute,
-            &[x, x],
-            &[0x1000_1537, 0x8005_0513]
-        ) == Ok(true)
-    );
-    let cell = cell(alloc, &UPPER_AND_LOWER, &absolute)?;
-    assert!(rt; field_value(&cell, &[x, x], 0) == Ok(word(0, 0x1000_1537)));
-    assert!(rt; field_value(&cell, &[x, x], 1) == Ok(word(4, 0x8005_0513)));
-    let difference = [entry(0, RelKind::Add32), entry(0, RelKind::Sub32)];
-    let ends = [number(0x1014), number(0x1000)];
-    assert!(rt; holds(alloc, &[7, 0, 0, 0], &difference, &ends, &[0x1b]) == Ok(true));
-    Ok(())
-}
-
-/// The distance from the upper part's own place is 0x1900, in both orders of the table.
-#[test]
-fn a_lower_part_takes_its_upper_part(rt: HostRuntime) -> Result<(), Fail> {
-    let x = number(START + 0x1900);
-    let alloc = rt.alloc();
-    let rising = [entry(0, RelKind::PcrelHi20), entry(4, RelKind::PcrelLo12I)];
-    assert!(rt;
-        holds(
-            alloc,
-            &PC_RELATIVE,
-            &rising,
-            &[x, x],
-            &[0x0000_2517, 0x9005_0513]
-        ) == Ok(true)
-    );
-    let falling = [entry(4, RelKind::PcrelLo12I), entry(0, RelKind::PcrelHi20)];
-    assert!(rt;
-        holds(
-            alloc,
-            &PC_RELATIVE,
-            &falling,
-            &[x, x],
-            &[0x9005_0513, 0x0000_2517]
-        ) == Ok(true)
-    );
-    Ok(())
-}
-
-/// An upper part reaches 2^31 - 0x801 at most.
-#[test]
-fn an_entry_that_does_not_fit(rt: HostRuntime) -> Result<(), Fail> {
-    let targets = [number(0x7fff_f7ff), number(0x7fff_f800)];
-    let entries = [entry(0, RelKind::Hi20), entry(4, RelKind::Hi20)];
-    let alloc = rt.alloc();
-    assert!(rt;
-        holds(alloc, &UPPER_AND_LOWER, &entries, &targets, &[])
-            == Err(LinkFail::Overflow { entry: 1 })
-    );
-    let cell = cell(alloc, &UPPER_AND_LOWER, &entries)?;
-    assert!(rt; field_value(&cell, &targets, 1) == Err(Overflow { entry: 1 }));
-    assert!(rt; field_value(&cell, &targets, 0) == Ok(word(0, 0x7fff_f537)));
+    for (number, case) in CASES.iter().enumerate() {
+        assert!(rt; is_linked(rt.alloc(), case)?, "case {number}");
+    }
     Ok(())
 }

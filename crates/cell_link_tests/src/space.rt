@@ -7,20 +7,25 @@ use cell_space::*;
 use std::alloc::{AllocError, Global};
 use std::test::*;
 
+/// A name, how long the name of its crate is, and how long it is without its hash.
+struct Parts(&'static [u8], Option<usize>, usize);
+
+const PARTS: [Parts; 8] = [
+    Parts(b"log::put::h01", Some(3), 8),
+    Parts(b"log::put::h", Some(3), 11),
+    Parts(b"log::put::h0g", Some(3), 13),
+    Parts(b"a::h1::h2", Some(1), 5),
+    Parts(b"main", None, 4),
+    Parts(b"::x", Some(0), 3),
+    Parts(b"a:b", None, 3),
+    Parts(b"::h1", Some(0), 0),
+];
+
 #[test]
 fn parts_of_names(rt: HostRuntime) {
-    for (name, front, base) in [
-        (b"log::put::h01".as_slice(), Some(3), 8),
-        (b"log::put::h", Some(3), 11),
-        (b"log::put::h0g", Some(3), 13),
-        (b"a::h1::h2", Some(1), 5),
-        (b"main", None, 4),
-        (b"::x", Some(0), 3),
-        (b"a:b", None, 3),
-        (b"::h1", Some(0), 0),
-    ] {
-        assert_eq!(rt; crate_of(name), front);
-        assert_eq!(rt; base_name(name), base);
+    for (number, case) in PARTS.iter().enumerate() {
+        assert!(rt; crate_of(case.0) == case.1, "name {number}");
+        assert!(rt; base_name(case.0) == case.2, "name {number}");
     }
 }
 
@@ -157,8 +162,8 @@ fn put_aside_together(rt: HostRuntime) -> Result<(), Fail> {
     let alloc = rt.alloc();
     assert_eq!(rt; second_in_k(alloc)?, Some(CellId(2)));
     let spaces = put_aside(alloc)?;
-    assert_eq!(rt; spaces.cell_at(0, b"b"), None);
-    assert_eq!(rt; spaces.provider(Scope::Space(0), b"a::x"), None);
+    assert!(rt; spaces.cell_at(0, b"b") == None);
+    assert!(rt; spaces.provider(Scope::Space(0), b"a::x") == None);
     Ok(())
 }
 
@@ -167,7 +172,7 @@ fn put_aside_together(rt: HostRuntime) -> Result<(), Fail> {
 fn group_partners(rt: HostRuntime) -> Result<(), Fail> {
     let alloc = rt.alloc();
     let copy = put_aside(alloc)?.copy(alloc)?;
-    assert_eq!(rt; copy.provider(Scope::Cell(CellId(2)), b"a::x"), Some(FIRST));
+    assert!(rt; copy.provider(Scope::Cell(CellId(2)), b"a::x") == Some(FIRST));
     assert_eq!(rt; copy.state(CellId(2)), CellState::Detached(1));
     assert_eq!(rt; copy.names(CellId(1)).len(), 1);
     assert!(rt; copy.ns_name(0).bytes() == b"k".as_slice());
@@ -207,7 +212,7 @@ fn is_found(ahead: &Ahead<'_>) -> bool
 fn new_cells_ahead(rt: HostRuntime) -> Result<(), Fail> {
     let alloc = rt.alloc();
     let spaces = with_first(alloc, 0)?;
-    assert_eq!(rt; Ahead::of(alloc, &spaces).provider(1, b"b::y"), None);
+    assert!(rt; Ahead::of(alloc, &spaces).provider(1, b"b::y") == None);
     let ahead = with_new(alloc, &spaces)?;
     assert!(rt; is_found(&ahead));
     Ok(())
@@ -220,7 +225,7 @@ fn new_cells_clash(rt: HostRuntime) -> Result<(), Fail> {
     let spaces = with_first(alloc, 0)?;
     let ahead = with_new(alloc, &spaces)?;
     let path = ahead.path(alloc, 0)?;
-    assert_eq!(rt; ahead.clash_name(&path, b"b::y"), Some(CellId(2)));
-    assert_eq!(rt; ahead.clash_stem(&path, b"a"), Some(CellId(1)));
+    assert!(rt; ahead.clash_name(&path, b"b::y") == Some(CellId(2)));
+    assert!(rt; ahead.clash_stem(&path, b"a") == Some(CellId(1)));
     Ok(())
 }

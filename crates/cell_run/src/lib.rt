@@ -21,6 +21,3 @@ pub use shelf::Shelf;
 pub use status::Status;
 pub use summary::Summary;
 pub use top::cells;
-
-#[cfg(test)]
-mod tests;

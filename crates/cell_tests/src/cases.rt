@@ -1,6 +1,6 @@
 //! Scripts over the same files.
 
-use crate::folder::outcome;
+use crate::folder::{ObjectFile, outcome};
 use crate::sources::{SourceFile, object_files};
 use cell_run::Status;
 use std::alloc::Global;
@@ -15,6 +15,23 @@ pub struct Case {
     pub text: &'static str,
 }
 
+/// Does a script over these files, with these words, and sees that this comes of it.
+pub fn try_script(
+    rt: &impl Abort,
+    alloc: Global,
+    words: &[&str],
+    files: &[ObjectFile],
+    script: &str,
+    status: Status,
+    text: &str,
+) -> Result<(), Fail> {
+    let (found, sink) = outcome(alloc, words, script, files)?;
+    let written = std::str::from_utf8(sink.written()).ok().ok_or("UTF-8")?;
+    assert!(rt; written == text, "{script} gave {written}");
+    assert!(rt; found == status, "{script} gave {found:?}");
+    Ok(())
+}
+
 /// Does each script over all the files, with these words.
 pub fn try_all(
     rt: &impl Abort,
@@ -25,10 +42,15 @@ pub fn try_all(
 ) -> Result<(), Fail> {
     let files = object_files(alloc, sources)?;
     for case in cases {
-        let (status, sink) = outcome(alloc, words, case.script, &files)?;
-        let text = std::str::from_utf8(sink.written()).ok().ok_or("UTF-8")?;
-        assert!(rt; text == case.text, "{} gave {}", case.script, text);
-        assert!(rt; status == case.status, "{} gave {:?}", case.script, status);
+        try_script(
+            rt,
+            alloc,
+            words,
+            &files,
+            case.script,
+            case.status,
+            case.text,
+        )?;
     }
     Ok(())
 }

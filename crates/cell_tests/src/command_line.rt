@@ -1,8 +1,9 @@
 //! Command lines, and what comes of them.
 
+use crate::cases::try_script;
 use crate::folder::outcome;
 use crate::samples::first_example;
-use crate::sources::{SourceFile, object_file, object_files};
+use crate::sources::{SourceFile, object_files};
 use cell_run::Status;
 use std::alloc::{AllocError, Global};
 use std::process::Abort;
@@ -62,10 +63,13 @@ const LINES: [Line; 8] = [
 ];
 
 /// Command lines without a reading.
-const UNREADABLE: [&str; 14] = [
+const UNREADABLE: [&str; 17] = [
     "d",
     "",
     "d s x",
+    "d s s",
+    "-d s",
+    "d -s",
     "d s --help",
     "d s --base",
     "d s --base 0x10000001",
@@ -130,6 +134,61 @@ fn generated_runs(rt: HostRuntime) -> Result<(), Fail> {
     Ok(())
 }
 
+/// How many crates are made at most.
+const CRATES: u64 = 400;
+
+/// How many of the draws for so many crates name the crate that they are drawn for. A draw takes the high
+/// bits of a linear congruential generator.
+fn own_draws(seed: u64) -> u64 {
+    let mut state = seed;
+    let mut own: u64 = 0;
+    for number in 1..CRATES + 1 {
+        for _ in 0..3 {
+            state = state
+                .wrapping_mul(6364136223846793005)
+                .wrapping_add(1442695040888963407);
+            if 1 + (state >> 33) % CRATES == number {
+                own = own.saturating_add(1);
+            }
+        }
+    }
+    own
+}
+
+/// The numbers among the words of a line.
+fn numbers_in(alloc: Global, line: &str) -> Result<Vec<u64>, AllocError> {
+    let mut numbers = Vec::new(alloc);
+    for word in line.trim_end().split(' ') {
+        if let Ok(number) = word.parse::<u64>() {
+            numbers.push(number)?;
+        }
+    }
+    Ok(numbers)
+}
+
+/// Of each crate a load patches three fields, a swap three in the new cell, and one more for each draw that
+/// names another crate.
+#[test]
+fn generated_totals(rt: HostRuntime) -> Result<(), Fail> {
+    let alloc = rt.alloc();
+    for seed in 0..2 {
+        let last = format!(in alloc; "{seed}")?;
+        let words = ["--generate", "400", "--seed", last.as_str()];
+        let (status, sink) = outcome(alloc, &words, "", &[])?;
+        assert!(rt; status == Status::SomeRefused, "seed {seed}");
+        let text = std::str::from_utf8(sink.written()).ok().ok_or("UTF-8")?;
+        let numbers = numbers_in(alloc, text)?;
+        let [commands, accepted, refused, cells, patched] = numbers.as_slice() else {
+            return Err(Fail::from("there are not five numbers"));
+        };
+        assert_eq!(rt; *commands, 2 * CRATES + 1);
+        assert_eq!(rt; accepted.saturating_add(*refused), *commands);
+        assert_eq!(rt; *cells, CRATES);
+        assert_eq!(rt; patched.saturating_add(own_draws(seed)), 9 * CRATES);
+    }
+    Ok(())
+}
+
 #[test]
 fn command_lines(rt: HostRuntime) -> Result<(), Fail> {
     for line in &LINES {
@@ -152,11 +211,8 @@ fn command_lines_without_a_reading(rt: HostRuntime) -> Result<(), Fail> {
 }
 
 #[test]
-fn a_script_without_a_reading(rt: HostRuntime) -> Result<(), Fail> {
-    let (status, sink) = outcome(rt.alloc(), &["d", "s"], "load k", &[])?;
-    assert!(rt; status == Status::BadScript { line: 1 });
-    assert!(rt; sink.written() == b"bad script line 1\n".as_slice());
-    Ok(())
+fn no_words(rt: HostRuntime) -> Result<(), Fail> {
+    try_script(&rt, rt.alloc(), &[], &[], "", Status::Usage, USAGE)
 }
 
 #[test]
@@ -164,14 +220,11 @@ fn another_base(rt: HostRuntime) -> Result<(), Fail> {
     let files = first_example(rt.alloc())?;
     let words = ["d", "s", "--pages", "16", "--base", "0x7ff0000"];
     let script = "load k a\nload k b\ndump 2 1\n";
-    let (status, sink) = outcome(rt.alloc(), &words, script, &files)?;
-    assert!(rt; status == Status::Done);
-    let text = b"1 ok load #1 patched 0\n\
+    let text = "1 ok load #1 patched 0\n\
         2 ok load #2 patched 1\n\
         3 ok dump #2.1\n  \
         7ff1000 04 00 ff 07 00 00 00 00 01 00 00 00 00 00 00 00\n";
-    assert!(rt; sink.written() == text.as_slice());
-    Ok(())
+    try_script(&rt, rt.alloc(), &words, &files, script, Status::Done, text)
 }
 
 /// A source at the end of the memory that HI20 reaches, and what comes of it.
@@ -203,10 +256,17 @@ fn the_end_of_the_range(rt: HostRuntime) -> Result<(), Fail> {
             name: "k#h.o",
             source: upper.source,
         };
-        let files = [object_file(rt.alloc(), &file)?];
-        let (status, sink) = outcome(rt.alloc(), &words, "load k h\ndump 1 1", &files)?;
-        assert!(rt; status == upper.status);
-        assert!(rt; sink.written() == upper.text.as_bytes());
+        let files = object_files(rt.alloc(), &[file])?;
+        let script = "load k h\ndump 1 1";
+        try_script(
+            &rt,
+            rt.alloc(),
+            &words,
+            &files,
+            script,
+            upper.status,
+            upper.text,
+        )?;
     }
     Ok(())
 }
@@ -237,14 +297,19 @@ fn the_first_that_does_not_fit(rt: HostRuntime) -> Result<(), Fail> {
     let files = object_files(rt.alloc(), &OUT_OF_REACH)?;
     let words = ["d", "s", "--base", "0x7fffe000", "--pages", "16"];
     let script = "load k h\nload k g\nload k e\nmap";
-    let (status, sink) = outcome(rt.alloc(), &words, script, files.as_slice())?;
-    assert!(rt; status == Status::SomeRefused);
-    let text = b"1 E12 overflow #1.1+4 HI20\n\
+    let text = "1 E12 overflow #1.1+4 HI20\n\
         2 E12 overflow #2.1+0 HI20\n\
         3 ok load #1 patched 0\n\
         4 ok map\n  \
         #1 k/e attached k#e.o\n    \
         1 rw 7fffe000 8\n";
-    assert!(rt; sink.written() == text.as_slice());
-    Ok(())
+    try_script(
+        &rt,
+        rt.alloc(),
+        &words,
+        &files,
+        script,
+        Status::SomeRefused,
+        text,
+    )
 }

@@ -1,8 +1,10 @@
 //! Which cells a load brings: from the nearest depot, the first need first; and what it is refused for.
 
-use crate::folder::outcome;
+use crate::cases::try_script;
 use crate::sources::{SourceFile, object_files};
 use cell_run::Status;
+use std::alloc::Global;
+use std::process::Abort;
 use std::test::Fail;
 
 /// What `load` and `map` are asked after `ns u under k` and `ns v under k`, the object files, and what comes of it
@@ -222,16 +224,25 @@ const CASES: [Case; 10] = [
     },
 ];
 
+fn try_case(rt: &impl Abort, alloc: Global, case: &Case) -> Result<(), Fail> {
+    let files = object_files(alloc, case.files)?;
+    let script = format!(in alloc; "{NAMESPACES}{}", case.script)?;
+    let wanted = format!(in alloc; "1 ok ns u\n2 ok ns v\n{}", case.text)?;
+    try_script(
+        rt,
+        alloc,
+        &["d", "s"],
+        &files,
+        &script,
+        case.status,
+        &wanted,
+    )
+}
+
 #[test]
 fn gathering(rt: HostRuntime) -> Result<(), Fail> {
     for case in &CASES {
-        let files = object_files(rt.alloc(), case.files)?;
-        let script = format!(in rt.alloc(); "{NAMESPACES}{}", case.script)?;
-        let wanted = format!(in rt.alloc(); "1 ok ns u\n2 ok ns v\n{}", case.text)?;
-        let (status, sink) = outcome(rt.alloc(), &["d", "s"], &script, &files)?;
-        let text = std::str::from_utf8(sink.written()).ok().ok_or("UTF-8")?;
-        assert!(rt; text == wanted.as_str(), "{} gave {}", case.script, text);
-        assert!(rt; status == case.status, "{} gave {:?}", case.script, status);
+        try_case(&rt, rt.alloc(), case)?;
     }
     Ok(())
 }

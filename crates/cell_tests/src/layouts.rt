@@ -1,7 +1,8 @@
 //! A file whose sections stand in another order than ours, with more than is loaded.
 
+use crate::cases::try_script;
 use crate::crowded::CROWDED;
-use crate::folder::{ObjectFile, outcome};
+use crate::folder::ObjectFile;
 use crate::sources::{SourceFile, object_file};
 use cell_run::Status;
 use std::test::Fail;
@@ -28,8 +29,14 @@ fn sections_that_nothing_uses(rt: HostRuntime) -> Result<(), Fail> {
         bytes: Vec::from_slice(rt.alloc(), &CROWDED)?,
     };
     let files = [caller, object_file(rt.alloc(), &CALLED)?];
-    let (status, sink) = outcome(rt.alloc(), &["d", "s"], "load k m\nmap\n", &files)?;
-    assert!(rt; status == Status::Done);
-    assert!(rt; sink.written() == TEXT.as_bytes());
-    Ok(())
+    let script = "load k m\nmap\n";
+    try_script(
+        &rt,
+        rt.alloc(),
+        &["d", "s"],
+        &files,
+        script,
+        Status::Done,
+        TEXT,
+    )
 }

@@ -1,6 +1,6 @@
 //! Scripts over several namespaces, and loads that bring what they need.
 
-use crate::folder::outcome;
+use crate::cases::try_script;
 use crate::sources::{SourceFile, object_files};
 use cell_run::Status;
 use std::test::Fail;
@@ -145,10 +145,15 @@ const CASES: [Case; 7] = [
 fn spaces(rt: HostRuntime) -> Result<(), Fail> {
     for case in &CASES {
         let files = object_files(rt.alloc(), case.files)?;
-        let (status, sink) = outcome(rt.alloc(), &["d", "s"], case.script, &files)?;
-        let text = std::str::from_utf8(sink.written()).ok().ok_or("UTF-8")?;
-        assert!(rt; text == case.text, "{} gave {}", case.script, text);
-        assert!(rt; status == case.status, "{} gave {:?}", case.script, status);
+        try_script(
+            &rt,
+            rt.alloc(),
+            &["d", "s"],
+            &files,
+            case.script,
+            case.status,
+            case.text,
+        )?;
     }
     Ok(())
 }

@@ -1,7 +1,7 @@
 //! Swaps that are refused, and the same swaps once the cause is gone.
 
-use crate::cases::{Case, try_all};
-use crate::folder::{ObjectFile, outcome};
+use crate::cases::{Case, try_all, try_script};
+use crate::folder::ObjectFile;
 use crate::sources::{SourceFile, object_files};
 use crate::swap_keeping::{CALLER, GIVES_ONE, NINE};
 use cell_run::Status;
@@ -362,9 +362,10 @@ fn with_broken(alloc: Global) -> Result<Vec<ObjectFile>, Fail> {
 #[test]
 fn files_that_are_no_objects(rt: HostRuntime) -> Result<(), Fail> {
     let files = with_broken(rt.alloc())?;
-    let (status, sink) = outcome(rt.alloc(), &["d", "s"], OF_BROKEN.script, &files)?;
-    let text = std::str::from_utf8(sink.written()).ok().ok_or("UTF-8")?;
-    assert!(rt; text == OF_BROKEN.text, "{text}");
-    assert_eq!(rt; status, OF_BROKEN.status);
-    Ok(())
+    let Case {
+        script,
+        status,
+        text,
+    } = OF_BROKEN;
+    try_script(&rt, rt.alloc(), &["d", "s"], &files, script, status, text)
 }

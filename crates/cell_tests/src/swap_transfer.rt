@@ -12,7 +12,7 @@ const VALUE: &str = ".data\n.globl s::v\ns::v: .quad 1";
 const BARE: &str = ".text\n.globl c::f\nc::f: ret";
 
 /// A value, a crate, and two forms of that whose routine changes the value.
-static MOVES: [SourceFile; 4] = [
+pub static MOVES: [SourceFile; 4] = [
     SourceFile {
         name: "k#s.o",
         source: VALUE,
@@ -31,16 +31,21 @@ static MOVES: [SourceFile; 4] = [
     },
 ];
 
+/// The routine fails, lacks one turn, and carries the value over.
+pub const MOVING: &str = "load k s\nload k c\nswap k/c=n#c-2.o transfer c::mv\ndump 1 1\n\
+    swap k/c=n#c-3.o transfer c::mv budget 5\nswap k/c=n#c-3.o transfer c::mv budget 6\ndump 1 1\n";
+
+pub const MOVING_TEXT: &str =
+    "1 ok load #1 patched 0\n2 ok load #2 patched 0\n3 E14 transfer c::mv returned 7\n\
+    4 ok dump #1.1\n  10000000 01 00 00 00 00 00 00 00\n5 E14 transfer c::mv budget\n\
+    6 ok swap 1 new #3 patched 2 removed #2 kept -\n\
+    7 ok dump #1.1\n  10000000 09 00 00 00 00 00 00 00\n";
+
 static OF_MOVES: [Case; 2] = [
-    // The routine fails, lacks one turn, and carries the value over.
     Case {
-        script: "load k s\nload k c\nswap k/c=n#c-2.o transfer c::mv\ndump 1 1\n\
-            swap k/c=n#c-3.o transfer c::mv budget 5\nswap k/c=n#c-3.o transfer c::mv budget 6\ndump 1 1\n",
+        script: MOVING,
         status: Status::SomeRefused,
-        text: "1 ok load #1 patched 0\n2 ok load #2 patched 0\n3 E14 transfer c::mv returned 7\n\
-            4 ok dump #1.1\n  10000000 01 00 00 00 00 00 00 00\n5 E14 transfer c::mv budget\n\
-            6 ok swap 1 new #3 patched 2 removed #2 kept -\n\
-            7 ok dump #1.1\n  10000000 09 00 00 00 00 00 00 00\n",
+        text: MOVING_TEXT,
     },
     // A task stands in the old crate until it ends.
     Case {

@@ -1,5 +1,6 @@
 //! Tasks over whole scripts.
 
+use crate::cases::try_script;
 use crate::folder::outcome;
 use crate::sources::{SourceFile, object_files};
 use cell_run::Status;
@@ -185,10 +186,15 @@ fn scripts(rt: HostRuntime) -> Result<(), Fail> {
         };
         let files = object_files(rt.alloc(), &[file])?;
         let words = all_words(rt.alloc(), case.words)?;
-        let (status, sink) = outcome(rt.alloc(), &words, case.script, &files)?;
-        let text = std::str::from_utf8(sink.written()).ok().ok_or("UTF-8")?;
-        assert!(rt; text == case.text, "{} gave {}", case.script, text);
-        assert!(rt; status == case.status, "{} gave {:?}", case.script, status);
+        try_script(
+            &rt,
+            rt.alloc(),
+            &words,
+            &files,
+            case.script,
+            case.status,
+            case.text,
+        )?;
     }
     Ok(())
 }

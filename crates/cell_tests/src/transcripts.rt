@@ -1,7 +1,8 @@
 //! What the program writes.
 
 use crate::broken::LONE_LOW;
-use crate::folder::{ObjectFile, outcome};
+use crate::cases::try_script;
+use crate::folder::ObjectFile;
 use crate::gnu::{GNU_CODE, GNU_KINDS, GNU_POINTER};
 use crate::samples::{POINTER, SEVEN, ZEROS_FULL, ZEROS_OVER};
 use cell_run::Status;
@@ -194,10 +195,15 @@ fn files_of(alloc: Global, names: &'static [&'static str]) -> Result<Vec<ObjectF
 fn scripts(rt: HostRuntime) -> Result<(), Fail> {
     for case in &CASES {
         let files = files_of(rt.alloc(), case.files)?;
-        let (status, sink) = outcome(rt.alloc(), &["d", "s"], case.script, &files)?;
-        let text = std::str::from_utf8(sink.written()).ok().ok_or("UTF-8")?;
-        assert!(rt; text == case.text, "{} gave {}", case.script, text);
-        assert!(rt; status == case.status, "{} gave {:?}", case.script, status);
+        try_script(
+            &rt,
+            rt.alloc(),
+            &["d", "s"],
+            &files,
+            case.script,
+            case.status,
+            case.text,
+        )?;
     }
     Ok(())
 }
@@ -210,60 +216,14 @@ fn a_file_cut_short(rt: HostRuntime) -> Result<(), Fail> {
         name: "k#a.o",
         bytes,
     }];
-    let (status, sink) = outcome(rt.alloc(), &["d", "s"], "load k a", &files)?;
-    assert!(rt; sink.written() == b"1 E7 object k#a.o rule 6 at 40\n".as_slice());
-    assert!(rt; status == Status::SomeRefused);
-    Ok(())
-}
-
-const USAGE: &str = "usage: cells DIR SCRIPT [--base HEX] [--pages N] | --generate N --seed S\n";
-
-/// Words over a folder with the empty script `s`, and what comes of them.
-struct Invocation {
-    words: &'static [&'static str],
-    status: Status,
-    text: &'static str,
-}
-
-const WORDS: [Invocation; 6] = [
-    Invocation {
-        words: &[],
-        status: Status::Usage,
-        text: USAGE,
-    },
-    Invocation {
-        words: &["d"],
-        status: Status::Usage,
-        text: USAGE,
-    },
-    Invocation {
-        words: &["d", "s", "s"],
-        status: Status::Usage,
-        text: USAGE,
-    },
-    Invocation {
-        words: &["-d", "s"],
-        status: Status::Usage,
-        text: USAGE,
-    },
-    Invocation {
-        words: &["d", "-s"],
-        status: Status::Usage,
-        text: USAGE,
-    },
-    Invocation {
-        words: &["d", "t"],
-        status: Status::NoScript,
-        text: "no script t\n",
-    },
-];
-
-#[test]
-fn words(rt: HostRuntime) -> Result<(), Fail> {
-    for case in &WORDS {
-        let (status, sink) = outcome(rt.alloc(), case.words, "", &[])?;
-        assert!(rt; status == case.status, "{:?} gave {:?}", case.words, status);
-        assert!(rt; sink.written() == case.text.as_bytes(), "{:?}", case.words);
-    }
-    Ok(())
+    let text = "1 E7 object k#a.o rule 6 at 40\n";
+    try_script(
+        &rt,
+        rt.alloc(),
+        &["d", "s"],
+        &files,
+        "load k a",
+        Status::SomeRefused,
+        text,
+    )
 }

@@ -2,6 +2,7 @@
 
 use cell_num::Name;
 use cell_script::*;
+use cell_world::{CellName, SwapItem};
 use std::alloc::{AllocError, Global};
 use std::test::*;
 
@@ -30,34 +31,71 @@ fn are_named(names: &[&Name], wanted: &[&str]) -> bool {
             .all(|(name, want)| name.bytes() == want.as_bytes())
 }
 
-/// Whether the command is what is said of it.
-fn is_said(alloc: Global, command: &Command, said: &Said) -> Result<bool, AllocError> {
-    Ok(match command {
+/// Whether an unload of these cells is what is said of it.
+fn is_unload(alloc: Global, cells: &[CellName], said: &Said) -> Result<bool, AllocError> {
+    let mut names = Vec::new(alloc);
+    for cell in cells {
+        names.push(&cell.ns)?;
+        names.push(&cell.stem)?;
+    }
+    Ok(said.is("unload", names.as_slice(), &[]))
+}
+
+/// Whether a swap of these items, with these routines and numbers, is what is said of it.
+fn is_swap(
+    alloc: Global,
+    items: &[SwapItem],
+    routines: &[Name],
+    numbers: &[u64],
+    said: &Said,
+) -> Result<bool, AllocError> {
+    let mut names = Vec::new(alloc);
+    for item in items {
+        names.push(&item.ns)?;
+        names.push(&item.stem)?;
+        names.push(&item.file)?;
+    }
+    for routine in routines {
+        names.push(routine)?;
+    }
+    Ok(said.is("swap", names.as_slice(), numbers))
+}
+
+/// Whether a command with names is what is said of it.
+fn is_named(command: &Command, said: &Said) -> bool {
+    match command {
         Command::Ns { name, parent } => said.is("ns", &[name, parent], &[]),
         Command::Load { ns, stem } => said.is("load", &[ns, stem], &[]),
         Command::Spawn { ns, symbol, arg } => said.is("spawn", &[ns, symbol], &[*arg]),
+        Command::Find { ns, symbol } => said.is("find", &[ns, symbol], &[]),
+        _ => false,
+    }
+}
+
+/// Whether a command of numbers alone is what is said of it.
+fn is_numbered(command: &Command, said: &Said) -> bool {
+    match command {
         Command::Step { task, turns } => {
             said.is("step", &[], &[u64::from(*task), u64::from(*turns)])
         }
         Command::Run { turns } => said.is("run", &[], &[u64::from(*turns)]),
         Command::Kill { task } => said.is("kill", &[], &[u64::from(*task)]),
-        Command::Unload { cells } => {
-            let mut names = Vec::new(alloc);
-            for cell in cells.as_slice() {
-                names.push(&cell.ns)?;
-                names.push(&cell.stem)?;
-            }
-            said.is("unload", names.as_slice(), &[])
-        }
         Command::Purge => said.is("purge", &[], &[]),
         Command::Tasks => said.is("tasks", &[], &[]),
-        Command::Find { ns, symbol } => said.is("find", &[ns, symbol], &[]),
         Command::Deps { cell } => said.is("deps", &[], &[u64::from(*cell)]),
         Command::Users { cell } => said.is("users", &[], &[u64::from(*cell)]),
         Command::Map => said.is("map", &[], &[]),
         Command::Dump { cell, section } => {
             said.is("dump", &[], &[u64::from(*cell), u64::from(*section)])
         }
+        _ => false,
+    }
+}
+
+/// Whether the command is what is said of it.
+fn is_said(alloc: Global, command: &Command, said: &Said) -> Result<bool, AllocError> {
+    match command {
+        Command::Unload { cells } => is_unload(alloc, cells.as_slice(), said),
         Command::Swap {
             items,
             reexport,
@@ -65,24 +103,17 @@ fn is_said(alloc: Global, command: &Command, said: &Said) -> Result<bool, AllocE
             routines,
             budget,
         } => {
-            let mut names = Vec::new(alloc);
-            for item in items.as_slice() {
-                names.push(&item.ns)?;
-                names.push(&item.stem)?;
-                names.push(&item.file)?;
-            }
-            for routine in routines.as_slice() {
-                names.push(routine)?;
-            }
+            let routines = routines.as_slice();
             let numbers = [
                 u64::from(*reexport),
                 u64::from(*strict),
-                routines.as_slice().len() as u64,
+                routines.len() as u64,
                 u64::from(*budget),
             ];
-            said.is("swap", names.as_slice(), &numbers)
+            is_swap(alloc, items.as_slice(), routines, &numbers, said)
         }
-    })
+        _ => Ok(is_named(command, said) || is_numbered(command, said)),
+    }
 }
 
 /// A script, and what its lines say.

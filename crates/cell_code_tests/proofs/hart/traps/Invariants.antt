@@ -2,5 +2,5 @@ use Rattle.std.proofs.Common.{◌≡◌, None}
 use Rattle.cell_code_tests.proofs.hart.traps.Given as goal
 
 -- no undo is begun
-abbrev pub invariant-loop-pc : goal.invariant-loop-pc
-invariant-loop-pc g l = l.memory.undo ≡ None
+abbrev pub invariant-loop-number : goal.invariant-loop-number
+invariant-loop-number g l = l.memory.undo ≡ None
