@@ -21,7 +21,9 @@ pub struct RealHost<R> {
 }
 
 impl<R> RealHost<R> {
-    pub fn new(rt: R) -> Self {
+    pub fn new(rt: R) -> Self
+        ensures faults { result.faults ≡ 0 }
+    {
         RealHost { rt, faults: 0 }
     }
 }

@@ -15,7 +15,9 @@ pub struct StdSink<W> {
 }
 
 impl<W> StdSink<W> {
-    pub fn new(stream: W) -> Self {
+    pub fn new(stream: W) -> Self
+        ensures faults { result.faults ≡ 0 }
+    {
         StdSink { stream, faults: 0 }
     }
 }

@@ -1,6 +1,6 @@
 //! What the entries of a cell name.
 
-ghost use Rattle.std.specs.Prelude.{◌≡◌, ◌<◌, ◌++◌, IfOk, OnOk, length};
+ghost use Rattle.std.specs.Prelude.{◌≡◌, ◌<◌, ◌++◌, [], IfOk, OnOk, length};
 ghost use Rattle.cell_world.specs.Target.{targets_of};
 ghost use Rattle.cell_num.specs.Lists.{In};
 ghost use Rattle.cell_target.specs.Named.{IsNamed, world_of};
@@ -24,7 +24,9 @@ pub struct Targets {
 
 impl Targets {
     /// Of no cell yet.
-    pub fn none(alloc: Global) -> Targets {
+    pub fn none(alloc: Global) -> Targets
+        ensures { result.entries.items ≡ [] }
+    {
         Targets {
             entries: Vec::new(alloc),
             symbols: Vec::new(alloc),
