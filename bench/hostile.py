@@ -5,9 +5,10 @@
     hostile.py run [PROGRAM]     makes them, runs `cells` on each, and prints processor time and peak memory
 
 Without PROGRAM `run` proves and builds crates/cells first. A file has at most 1 MiB, the most that is
-read of one. `run` fails where a run takes a second of processor time or more, 150 MB or more, ends
-otherwise than by a status of its own, or takes more than 2.3 times as long at the whole size as at the
-half (where that is long enough to tell).
+read of one. `run` fails where a run takes a second of processor time or more, 150 MB or more, doesn't
+come to what is said of its kind below, or takes more than 2.3 times as long at the whole size as at the
+half (where that is long enough to tell). It also runs over an object file that is a pipe, a folder or a
+device, each of which has to be a fault of reading at once.
 """
 
 import os
@@ -210,33 +211,43 @@ def last_clashes(size):
     return file
 
 
+LOADED = (0, "1 ok load #1 patched ")
+NO_PAGES = (1, "1 E11 exhausted ")
+NO_MEMORY = (5, "")
+
+
+def broken(rule):
+    return 1, "1 E7 object k#a.o rule %d at " % rule
+
+
+# Each kind, and what a run over it has to come to: its status, and how its text begins.
 KINDS = {
-    "sections of the same bytes": same_bytes,
-    "sections of zeros": zero_sections,
-    "section names": section_names,
-    "names of loaded sections": loaded_names,
-    "section headers": headers,
-    "names of LOCALs": local_names,
-    "names of GLOBALs": global_names,
-    "a shared table of ADD8": shared_table(lambda n: [entry(0, ADD8)] * n, 1),
-    "a shared table of ADD64": shared_table(lambda n: [entry(0, ADD64)] * n, 8),
-    "a shared table of NONE": shared_table(lambda n: [entry(0, NONE)] * n, 8),
-    "tables of NONE that overlap": shared_table(lambda n: [entry(0, NONE)] * n, 8, step=24),
-    "tables at any byte": shared_table(lambda n: [bytes(24)] * n, 8, step=1),
-    "NONE and one ADD8": shared_table(lambda n: [entry(0, NONE)] * (n - 1) + [entry(0, ADD8)], 8),
-    "NONE and an unknown kind": shared_table(lambda n: [entry(0, NONE)] * (n - 1) + [entry(0, 200)], 8),
-    "one table of ADD8 on one byte": one_table(lambda number: entry(0, ADD8), 1),
-    "one table of 64": one_table(lambda number: entry(8 * number, R_64), 8),
-    "one table of HI20": one_table(lambda number: entry(4 * number, HI20), 4, ALLOC | EXECINSTR),
-    "pairs": pairs(False),
-    "pairs, the last one broken": pairs(True),
-    "fields, the last one clashes": last_clashes,
+    "sections of the same bytes": (same_bytes, NO_PAGES),
+    "sections of zeros": (zero_sections, NO_PAGES),
+    "section names": (section_names, LOADED),
+    "names of loaded sections": (loaded_names, LOADED),
+    "section headers": (headers, LOADED),
+    "names of LOCALs": (local_names, LOADED),
+    "names of GLOBALs": (global_names, LOADED),
+    "a shared table of ADD8": (shared_table(lambda n: [entry(0, ADD8)] * n, 1), NO_MEMORY),
+    "a shared table of ADD64": (shared_table(lambda n: [entry(0, ADD64)] * n, 8), NO_MEMORY),
+    "a shared table of NONE": (shared_table(lambda n: [entry(0, NONE)] * n, 8), LOADED),
+    "tables of NONE that overlap": (shared_table(lambda n: [entry(0, NONE)] * n, 8, step=24), LOADED),
+    "tables at any byte": (shared_table(lambda n: [bytes(24)] * n, 8, step=1), LOADED),
+    "NONE and one ADD8": (shared_table(lambda n: [entry(0, NONE)] * (n - 1) + [entry(0, ADD8)], 8), LOADED),
+    "NONE and an unknown kind": (shared_table(lambda n: [entry(0, NONE)] * (n - 1) + [entry(0, 200)], 8), broken(20)),
+    "one table of ADD8 on one byte": (one_table(lambda number: entry(0, ADD8), 1), LOADED),
+    "one table of 64": (one_table(lambda number: entry(8 * number, R_64), 8), LOADED),
+    "one table of HI20": (one_table(lambda number: entry(4 * number, HI20), 4, ALLOC | EXECINSTR), LOADED),
+    "pairs": (pairs(False), LOADED),
+    "pairs, the last one broken": (pairs(True), broken(24)),
+    "fields, the last one clashes": (last_clashes, broken(23)),
 }
 
 
 def folders(top):
     """Makes each kind at both sizes, and gives its name and the two folders."""
-    for number, (name, make) in enumerate(KINDS.items()):
+    for number, (name, (make, _)) in enumerate(KINDS.items()):
         both = []
         for size in (WHOLE // 2, WHOLE):
             folder = pathlib.Path(top, "%02d-%d" % (number, size))
@@ -250,27 +261,47 @@ def folders(top):
 
 
 def measured(program, folder):
-    """The status of a run, its seconds of processor time, its peak in MB, and its last line."""
+    """The status of a run, its seconds of processor time, its peak in MB, and how its text begins."""
     with tempfile.TemporaryFile() as out:
         run = subprocess.Popen([program, str(folder), "s"], stdout=out, stderr=subprocess.STDOUT)
         _, status, usage = os.wait4(run.pid, 0)
         run.returncode = os.waitstatus_to_exitcode(status)
         out.seek(0)
         text = out.read()
-    return run.returncode, usage.ru_utime + usage.ru_stime, usage.ru_maxrss / 1000, text[-60:].decode(errors="replace")
+    return run.returncode, usage.ru_utime + usage.ru_stime, usage.ru_maxrss / 1000, text[:60].decode(errors="replace")
 
 
 def check(name, half, whole):
     """What is wrong with two runs."""
-    for status, seconds, megabytes, _ in (half, whole):
-        if not 0 <= status <= 5:
-            yield "status %d" % status
+    wanted, begins = KINDS[name][1]
+    for status, seconds, megabytes, text in (half, whole):
+        if status != wanted or not text.startswith(begins) or bool(text) != bool(begins):
+            yield "status %d and %r, not %d and %r" % (status, text, wanted, begins)
         if seconds >= MOST_SECONDS:
             yield "%.2f s" % seconds
         if megabytes >= MOST_MEGABYTES:
             yield "%.0f MB" % megabytes
-    if whole[1] > TELLING_SECONDS and half[0] == whole[0] and whole[1] > MOST_GROWTH * half[1]:
+    if whole[1] > TELLING_SECONDS and whole[1] > MOST_GROWTH * half[1]:
         yield "%.1f times as long" % (whole[1] / half[1])
+
+
+def irregular(top):
+    """Folders in which the object file is a pipe, a folder and a device without an end."""
+    for name, make in (("a pipe", os.mkfifo), ("a folder", os.mkdir), ("a device", lambda path: os.symlink("/dev/zero", path))):
+        folder = pathlib.Path(top, name)
+        folder.mkdir()
+        make(folder / "k#a.o")
+        folder.joinpath("s").write_text("load k a\n")
+        yield name, folder
+
+
+def not_opened(program, folder):
+    """What is wrong with a run that has to end for a fault of reading, within a second and without a word."""
+    try:
+        run = subprocess.run([program, str(folder), "s"], stdout=subprocess.PIPE, stderr=subprocess.STDOUT, timeout=MOST_SECONDS)
+    except subprocess.TimeoutExpired:
+        return "it doesn't end"
+    return "" if (run.returncode, run.stdout) == (3, b"") else "status %d and %r" % (run.returncode, run.stdout[:60])
 
 
 def built():
@@ -288,8 +319,12 @@ def run(program):
             failed |= bool(wrong)
             print("%-32s %5.2f s %5.0f MB   %5.2f s %5.0f MB  status %d  %s%s" % (
                 name, runs[0][1], runs[0][2], runs[1][1], runs[1][2], runs[1][0],
-                runs[1][3].strip().splitlines()[-1][:40] if runs[1][3].strip() else "",
+                runs[1][3].strip().splitlines()[0][:40] if runs[1][3].strip() else "",
                 "   FAILED: " + wrong if wrong else ""), flush=True)
+        for name, folder in irregular(top):
+            wrong = not_opened(program, folder)
+            failed |= bool(wrong)
+            print("%-32s %s" % (name + " as object file", "FAILED: " + wrong if wrong else "is a fault of reading"))
     return 1 if failed else 0
 
 

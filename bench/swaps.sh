@@ -2,7 +2,8 @@
 # Prints how long one swap of one cell takes, among 500 and among 1000 cells of ten fields each and with 64 tasks: tasks
 # that have just begun, and tasks whose stacks are full of addresses. The cell that is swapped has ten users' fields and
 # ten of its own. And how long a script takes with 900 loads and then 2,000 swaps of a cell that these 900 name in 1,800
-# fields.
+# fields. It fails where one swap takes more than 3 ms of processor time, with twice the cells more than 2.3 times as long,
+# or that script more than a second.
 #
 #     bench/swaps.sh [CELLS CELLAS]
 #
@@ -24,6 +25,18 @@ else
 fi
 
 swaps=20
+most_ms=3
+most_times=2.3
+most_seconds=1
+failed=0
+
+# at_most WHAT NUMBER LIMIT: says so where the number is above the limit
+at_most() {
+    if awk -v n="$2" -v most="$3" 'BEGIN { exit !(n > most) }'; then
+        echo "  FAILED: $1 $2, at most $3"
+        failed=1
+    fi
+}
 
 # assemble FOLDER NAME: the object file of that name, of the source on standard input
 assemble() {
@@ -104,6 +117,7 @@ one_swap() {
     swapped $swaps 20
     one=$(awk -v a="$before" -v b="$with" -v n=$swaps 'BEGIN { printf "%.3f", (b - a) * 1000 / n }')
     printf 'one swap among %4d cells, and 64 tasks with %4d words on their stacks: %8.3f ms\n' "$1" "$2" "$one"
+    at_most ms "$one" $most_ms
 }
 
 crowd=$work/crowd
@@ -114,7 +128,9 @@ for words in 0 2047; do
     one_swap 500 $words
     half=$one
     one_swap 1000 $words
-    awk -v a="$half" -v b="$one" 'BEGIN { printf "  with twice the cells %.2f times as long\n", b / a }'
+    times=$(awk -v a="$half" -v b="$one" 'BEGIN { printf "%.2f", b / a }')
+    echo "  with twice the cells $times times as long"
+    at_most times "$times" $most_times
 done
 
 users=$work/users
@@ -128,3 +144,5 @@ loads=$(seconds "$users" loads)
 all=$(seconds "$users" all)
 swapped 2000 1800
 awk -v a="$loads" -v b="$all" 'BEGIN { printf "900 loads: %.3f s; with 2,000 swaps of 1,800 fields: %.3f s, %.3f ms each\n", a, b, (b - a) / 2 }'
+at_most seconds "$all" $most_seconds
+exit $failed

@@ -10,12 +10,14 @@ const NINE: &str =
     "load k c1\nload k c2\nload k c3\nload k c4\nload k c5\nload k c6\nload k c7\nload k c8\nload k c9\n\
     unload k/c1 k/c2 k/c3 k/c4 k/c5 k/c6 k/c7 k/c8 k/c9\n";
 
-/// 7,281 times nine cells come and go, which are 65,529. Of seven more the last has no number.
+/// 7,281 times nine cells come and go, which are 65,529. Of seven more the last has no number, and neither has one in
+/// the place of another.
 fn many_cells(alloc: Global) -> Result<String, AllocError> {
     let mut script = String::new(alloc);
     add_times(&mut script, 7281, NINE)?;
     script.push_str(
-        "load k c1\nload k c2\nload k c3\nload k c4\nload k c5\nload k c6\nload k c7\n",
+        "load k c1\nload k c2\nload k c3\nload k c4\nload k c5\nload k c6\nload k c7\n\
+        swap k/c1=k#c1.o\n",
     )?;
     Ok(script)
 }
@@ -39,7 +41,8 @@ fn many_tasks(alloc: Global) -> Result<String, AllocError> {
 fn too_many_cell_numbers(rt: HostRuntime) -> Result<(), Fail> {
     let alloc = rt.alloc();
     let (status, sink) = outcome(alloc, 9, "", many_cells(alloc)?, 4000000)?;
-    let end = b"\n72816 ok load #65535 patched 0\n72817 E4 too-many cell-numbers 65535\n";
+    let end = b"\n72816 ok load #65535 patched 0\n72817 E4 too-many cell-numbers 65535\n\
+        72818 E4 too-many cell-numbers 65535\n";
     assert!(rt; sink.written().ends_with(end));
     assert_eq!(rt; status, Status::SomeRefused);
     Ok(())

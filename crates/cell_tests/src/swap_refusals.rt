@@ -216,7 +216,7 @@ fn needs_of_cells_put_aside(rt: HostRuntime) -> Result<(), Fail> {
 }
 
 /// A crate, and a form of it of twelve pages.
-static LARGE: [SourceFile; 2] = [
+static LARGE: [SourceFile; 3] = [
     SourceFile {
         name: "k#c.o",
         source: ".text\n.globl c::f\nc::f: ret",
@@ -225,14 +225,28 @@ static LARGE: [SourceFile; 2] = [
         name: "n#c-4.o",
         source: ".bss\n.globl c::f\nc::f: .zero 49152",
     },
+    SourceFile {
+        name: "n#c-5.o",
+        source: ".text\n.globl c::f\nc::f: ret\n.bss\n.zero 28672",
+    },
 ];
 
-static OF_LARGE: [Case; 1] = [Case {
-    script: "load k c\nspawn k c::f 0\nswap k/c=n#c-4.o\nkill 1\nswap k/c=n#c-4.o\n",
-    status: Status::SomeRefused,
-    text: "1 ok load #1 patched 0\n2 ok spawn t1 pc 10000000\n3 E11 exhausted 12 11\n4 ok kill t1\n\
+static OF_LARGE: [Case; 2] = [
+    // Of the new cell.
+    Case {
+        script: "load k c\nspawn k c::f 0\nswap k/c=n#c-4.o\nkill 1\nswap k/c=n#c-4.o\n",
+        status: Status::SomeRefused,
+        text: "1 ok load #1 patched 0\n2 ok spawn t1 pc 10000000\n3 E11 exhausted 12 11\n4 ok kill t1\n\
             5 ok swap 1 new #2 patched 0 removed #1 kept -\n",
-}];
+    },
+    // Of the routine's stack, once the new cell has its eight.
+    Case {
+        script: "load k c\nspawn k c::f 0\nswap k/c=n#c-5.o transfer c::f\nkill 1\nswap k/c=n#c-5.o transfer c::f\n",
+        status: Status::SomeRefused,
+        text: "1 ok load #1 patched 0\n2 ok spawn t1 pc 10000000\n3 E11 exhausted 4 3\n4 ok kill t1\n\
+            5 ok swap 1 new #2 patched 0 removed #1 kept -\n",
+    },
+];
 
 #[test]
 fn want_of_pages(rt: HostRuntime) -> Result<(), Fail> {
@@ -277,7 +291,7 @@ static FAR: [SourceFile; 7] = [
     },
 ];
 
-static OF_FAR: [Case; 2] = [
+static OF_FAR: [Case; 3] = [
     // In the new cell.
     Case {
         script: "load k g\nload k h\nswap k/h=n#h-2.o\nunload k/g\nswap k/h=n#h-2.o\nfind k h::f\n",
@@ -285,6 +299,15 @@ static OF_FAR: [Case; 2] = [
         text: "1 ok load #1 patched 0\n2 ok load #2 patched 0\n3 E12 overflow #3.1+0 HI20\n\
             4 ok unload removed #1\n5 ok swap 1 new #3 patched 1 removed #2 kept -\n\
             6 ok find #3.1+0 7fffe000\n",
+    },
+    // The routine's stack comes before all numbers.
+    Case {
+        script: "load k g\nload k h\nspawn k g::f 0\nspawn k g::f 0\nspawn k g::f 0\n\
+            swap k/h=n#h-2.o transfer h::f\nkill 3\nswap k/h=n#h-2.o transfer h::f\n",
+        status: Status::SomeRefused,
+        text: "1 ok load #1 patched 0\n2 ok load #2 patched 0\n3 ok spawn t1 pc 7fffe000\n\
+            4 ok spawn t2 pc 7fffe000\n5 ok spawn t3 pc 7fffe000\n6 E11 exhausted 4 1\n7 ok kill t3\n\
+            8 E12 overflow #3.1+0 HI20\n",
     },
     // In a cell that needs the old one, after those in the new cell.
     Case {

@@ -142,7 +142,7 @@ const BEFORE_ROUTINE: &str =
 const BEHIND_ROUTINE: &str =
     "\n.data\n.globl c::own\nc::own: .quad 5\n.rodata\nc::name: .byte 99,58,58,102\n";
 
-static FAILING: [Failing; 26] = [
+static FAILING: [Failing; 28] = [
     // Each cause of a trap.
     Failing {
         code: "jalr zero,8(zero)",
@@ -245,6 +245,11 @@ static FAILING: [Failing; 26] = [
         refusal: "E14 transfer c::mv returned 268464128",
     },
     Failing {
+        code: "la a0,c::name\nli a1,3\nli a7,4\necall\nsltiu a0,a0,1\nret",
+        words: "transfer c::mv",
+        refusal: "E14 transfer c::mv returned 1",
+    },
+    Failing {
         code: "la a0,c::name\nli a1,3\nli a7,5\necall\nsltiu a0,a0,1\nret",
         words: "transfer c::mv",
         refusal: "E14 transfer c::mv returned 1",
@@ -266,6 +271,12 @@ static FAILING: [Failing; 26] = [
         words: "transfer c::mv transfer c::end",
         refusal: "E14 transfer c::end returned 3",
     },
+    // The routine is in a crate that is brought.
+    Failing {
+        code: "call d::mv\nret",
+        words: "transfer d::mv",
+        refusal: "E14 transfer d::mv returned 4",
+    },
     // Names that are no entry, and one of a cell that isn't new.
     Failing {
         code: "ret",
@@ -285,16 +296,16 @@ static FAILING: [Failing; 26] = [
     },
 ];
 
-/// A task that reads from its stack what it stored there; a value and a field; the crate that is swapped; and a
-/// form of it without a routine.
-static STANDING: [SourceFile; 4] = [
+/// A task that reads from its stack what it stored there; a value, a field that leads to it, and one that leads to
+/// the crate that is swapped; that crate; a form of it without a routine; and a crate that one with a routine needs.
+static STANDING: [SourceFile; 5] = [
     SourceFile {
         name: "k#t.o",
         source: ".text\n.globl t::go\nt::go: sd a0,0(sp)\nli a7,3\necall\nld a0,0(sp)\nret",
     },
     SourceFile {
         name: "k#s.o",
-        source: ".data\n.globl s::v\ns::v: .quad 1\n.globl s::p\ns::p: .quad s::v",
+        source: ".data\n.globl s::v\ns::v: .quad 1\n.globl s::p\ns::p: .quad s::v\n.quad c::f",
     },
     SourceFile {
         name: "k#c.o",
@@ -304,29 +315,40 @@ static STANDING: [SourceFile; 4] = [
         name: "n#c-3.o",
         source: BARE,
     },
+    SourceFile {
+        name: "k#d.o",
+        source: ".text\n.globl d::mv\nd::mv: la t0,s::v\nsd t0,0(t0)\nli a0,4\nret",
+    },
 ];
 
-/// What stands before the swap, in lines of the script and of the transcript.
-const FIRST_LINES: &str = "load k t\nload k s\nload k c\nspawn k t::go 5\nstep 1 3\n";
+/// What stands before a swap, in lines of the script and of the transcript, and then all that shows of the machine.
+#[derive(Drop)]
+struct Scene {
+    lines: &'static str,
+    answers: &'static str,
+    shown: &'static str,
+}
 
-const FIRST_ANSWERS: &str =
-    "1 ok load #1 patched 0\n2 ok load #2 patched 1\n3 ok load #3 patched 0\n\
-    4 ok spawn t1 pc 10000000\n5 ok step t1 turns 3 ready\n";
+/// At the end a swap that isn't refused, the task and a second one.
+const OF_STANDING: Scene = Scene {
+    lines: "load k t\nload k s\n# c comes with s\nspawn k t::go 5\nstep 1 3\n",
+    answers: "1 ok load #1 patched 0\n2 ok load #2 #3 patched 2\n\
+        4 ok spawn t1 pc 10000000\n5 ok step t1 turns 3 ready\n",
+    shown: "map\ntasks\ndump 1 1\ndump 2 1\ndump 3 1\ndeps 1\ndeps 2\ndeps 3\nusers 1\nusers 2\nusers 3\n\
+        find k s::v\nfind k c::f\nfind k c::mv\nswap k/c=n#c-3.o\nspawn k t::go 6\nmap\nstep 1 9\nstep 2 9\n",
+};
 
-/// All that shows of the machine, and then what comes of a swap that isn't refused, of the task and of a second one.
-const SHOWN: &str =
-    "map\ntasks\ndump 1 1\ndump 2 1\ndump 3 1\ndeps 1\ndeps 2\ndeps 3\nusers 1\nusers 2\nusers 3\n\
-    find k s::v\nfind k c::f\nfind k c::mv\nswap k/c=n#c-3.o\nspawn k t::go 6\nmap\nstep 1 9\nstep 2 9\n";
-
-/// What is written for the line, and then for what shows.
-fn shown_after(alloc: Global, files: &[ObjectFile], line: &str) -> Result<String, Fail> {
-    let script = format!(in alloc; "{FIRST_LINES}{line}\n{SHOWN}")?;
-    let (_, sink) = outcome(alloc, &["d", "s"], script.as_str(), files)?;
-    let text = std::str::from_utf8(sink.written()).ok().ok_or("UTF-8")?;
-    let rest = text
-        .strip_prefix(FIRST_ANSWERS)
-        .ok_or("other first answers")?;
-    Ok(String::from_str(alloc, rest)?)
+impl Scene {
+    /// What is written for the line, and then for what shows.
+    fn shown_after(&self, alloc: Global, files: &[ObjectFile], line: &str) -> Result<String, Fail> {
+        let script = format!(in alloc; "{}{line}\n{}", self.lines, self.shown)?;
+        let (_, sink) = outcome(alloc, &["d", "s"], script.as_str(), files)?;
+        let text = std::str::from_utf8(sink.written()).ok().ok_or("UTF-8")?;
+        let rest = text
+            .strip_prefix(self.answers)
+            .ok_or("other first answers")?;
+        Ok(String::from_str(alloc, rest)?)
+    }
 }
 
 /// The files of the tests, with a new crate of that routine.
@@ -342,12 +364,12 @@ fn files_with(alloc: Global, code: &str) -> Result<Vec<ObjectFile>, Fail> {
 fn routines_that_fail(rt: HostRuntime) -> Result<(), Fail> {
     let alloc = rt.alloc();
     let files = object_files(alloc, &STANDING)?;
-    let before = shown_after(alloc, files.as_slice(), "#")?;
+    let before = OF_STANDING.shown_after(alloc, files.as_slice(), "#")?;
     assert!(rt; before.contains(" ok step t1 turns 2 done 5\n"), "{before}");
     for failing in &FAILING {
         let files = files_with(alloc, failing.code)?;
         let line = format!(in alloc; "swap k/c=n#c-2.o {}", failing.words)?;
-        let text = shown_after(alloc, files.as_slice(), line.as_str())?;
+        let text = OF_STANDING.shown_after(alloc, files.as_slice(), line.as_str())?;
         let wanted = format!(in alloc; "6 {}\n{before}", failing.refusal)?;
         assert!(rt;
             text == wanted,
@@ -356,5 +378,59 @@ fn routines_that_fail(rt: HostRuntime) -> Result<(), Fail> {
             failing.words
         );
     }
+    Ok(())
+}
+
+/// Two crates that need each other, one that needs the first of them, and forms of the two whose names have other
+/// hashes, with a routine that fails or succeeds.
+static PAIR: [SourceFile; 6] = [
+    SourceFile {
+        name: "k#u.o",
+        source: ".data\n.globl u::p\nu::p: .quad a::f::h1",
+    },
+    SourceFile {
+        name: "k#a.o",
+        source: ".text\n.globl a::f::h1\na::f::h1: call b::g::h1\nret",
+    },
+    SourceFile {
+        name: "k#b.o",
+        source: ".text\n.globl b::g::h1\nb::g::h1: call a::f::h1\nret",
+    },
+    SourceFile {
+        name: "n#a-2.o",
+        source: ".text\n.globl a::f::h2\na::f::h2: call b::g::h2\nret\n.globl a::mv\na::mv: li a0,1\nret",
+    },
+    SourceFile {
+        name: "n#a-3.o",
+        source: ".text\n.globl a::f::h2\na::f::h2: call b::g::h2\nret\n.globl a::mv\na::mv: li a0,0\nret",
+    },
+    SourceFile {
+        name: "n#b-2.o",
+        source: ".text\n.globl b::g::h2\nb::g::h2: ret",
+    },
+];
+
+/// At the end the swap with the routine that succeeds.
+const OF_PAIR: Scene = Scene {
+    lines: "load k u\n",
+    answers: "1 ok load #1 #2 #3 patched 3\n",
+    shown: "map\ndump 1 1\ndump 2 1\ndump 3 1\ndeps 1\ndeps 2\ndeps 3\nusers 1\nusers 2\nusers 3\n\
+        find k a::f::h1\nfind k a::f::h2\nfind k b::g::h1\nfind k b::g::h2\n\
+        swap k/a=n#a-3.o k/b=n#b-2.o reexport transfer a::mv\nfind k a::f::h1\nfind k a::f::h2\ndump 1 1\n",
+};
+
+/// Two cells of one group are attached again, with their names alone, and what led into them does so again.
+#[test]
+fn a_routine_of_two_new_cells_that_fails(rt: HostRuntime) -> Result<(), Fail> {
+    let alloc = rt.alloc();
+    let files = object_files(alloc, &PAIR)?;
+    let before = OF_PAIR.shown_after(alloc, files.as_slice(), "#")?;
+    let end = "17 ok swap 1 new #4 #5 patched 2 removed #2 #3 kept -\n18 ok find #4.1+0 10003000\n\
+        19 ok find #4.1+0 10003000\n20 ok dump #1.1\n  10000000 00 30 00 10 00 00 00 00\n";
+    assert!(rt; before.ends_with(end), "{before}");
+    let line = "swap k/a=n#a-2.o k/b=n#b-2.o reexport transfer a::mv";
+    let text = OF_PAIR.shown_after(alloc, files.as_slice(), line)?;
+    let wanted = format!(in alloc; "2 E14 transfer a::mv returned 1\n{before}")?;
+    assert!(rt; text == wanted, "{text}");
     Ok(())
 }

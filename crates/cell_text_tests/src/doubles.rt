@@ -92,8 +92,8 @@ impl OpenFile for Steps {
     }
 }
 
-/// A file system in which each path is one file of these bytes, or no regular file, and each folder
-/// has these names, each ended by a zero byte.
+/// A file system in which each path is one file of these bytes, or no regular file, which is out of
+/// memory when it is opened, and each folder has these names, each ended by a zero byte.
 #[derive(Drop)]
 pub struct Disk {
     pub alloc: Global,
@@ -129,6 +129,9 @@ impl Files for Disk {
     type Dir = Steps;
 
     fn open_file(&self, _how: &OpenOptions, _path: &str) -> io::Result<Steps> {
+        if !self.regular {
+            return Err(Error::from(ErrorKind::OutOfMemory));
+        }
         Ok(Steps {
             steps: self.steps,
             taken: Vec::new(self.alloc),

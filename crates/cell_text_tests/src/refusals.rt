@@ -1,7 +1,7 @@
 //! The lines of refusals.
 
 use crate::lines::{name, refuses};
-use cell_num::{Cause, CellId, Holder, RelKind};
+use cell_num::{Cause, CellId, Holder, RelKind, Why};
 use cell_world::{Many, Refusal};
 use std::test::*;
 
@@ -114,18 +114,48 @@ fn of_too_many(rt: HostRuntime) -> Result<(), Fail> {
 }
 
 /// The trap of task 12 at 0x10000a1c, and the line.
-struct Faulted(Cause, &'static str);
+struct Faulted {
+    cause: Cause,
+    text: &'static str,
+}
 
 const FAULTED: [Faulted; 9] = [
-    Faulted(Cause::Fetch, "7 E3 faulted t12 fetch 10000a1c\n"),
-    Faulted(Cause::Jump, "7 E3 faulted t12 jump 10000a1c\n"),
-    Faulted(Cause::Illegal, "7 E3 faulted t12 illegal 10000a1c\n"),
-    Faulted(Cause::Break, "7 E3 faulted t12 break 10000a1c\n"),
-    Faulted(Cause::LoadAlign, "7 E3 faulted t12 load-align 10000a1c\n"),
-    Faulted(Cause::Load, "7 E3 faulted t12 load 10000a1c\n"),
-    Faulted(Cause::StoreAlign, "7 E3 faulted t12 store-align 10000a1c\n"),
-    Faulted(Cause::Store, "7 E3 faulted t12 store 10000a1c\n"),
-    Faulted(Cause::Call, "7 E3 faulted t12 call 10000a1c\n"),
+    Faulted {
+        cause: Cause::Fetch,
+        text: "7 E3 faulted t12 fetch 10000a1c\n",
+    },
+    Faulted {
+        cause: Cause::Jump,
+        text: "7 E3 faulted t12 jump 10000a1c\n",
+    },
+    Faulted {
+        cause: Cause::Illegal,
+        text: "7 E3 faulted t12 illegal 10000a1c\n",
+    },
+    Faulted {
+        cause: Cause::Break,
+        text: "7 E3 faulted t12 break 10000a1c\n",
+    },
+    Faulted {
+        cause: Cause::LoadAlign,
+        text: "7 E3 faulted t12 load-align 10000a1c\n",
+    },
+    Faulted {
+        cause: Cause::Load,
+        text: "7 E3 faulted t12 load 10000a1c\n",
+    },
+    Faulted {
+        cause: Cause::StoreAlign,
+        text: "7 E3 faulted t12 store-align 10000a1c\n",
+    },
+    Faulted {
+        cause: Cause::Store,
+        text: "7 E3 faulted t12 store 10000a1c\n",
+    },
+    Faulted {
+        cause: Cause::Call,
+        text: "7 E3 faulted t12 call 10000a1c\n",
+    },
 ];
 
 #[test]
@@ -133,10 +163,10 @@ fn of_faulted_tasks(rt: HostRuntime) -> Result<(), Fail> {
     for case in &FAULTED {
         let refusal = Refusal::NotRunnable {
             task: 12,
-            cause: case.0,
+            cause: case.cause,
             pc: 0x1000_0a1c,
         };
-        refuses(rt.alloc(), refusal, case.1)?;
+        refuses(rt.alloc(), refusal, case.text)?;
     }
     Ok(())
 }
@@ -153,4 +183,35 @@ fn of_held_cells(rt: HostRuntime) -> Result<(), Fail> {
         holder: Holder::Cell(CellId(12)),
     };
     refuses(rt.alloc(), by_cell, "7 E15 held #3 #12\n")
+}
+
+/// How the routine `c::mv` ended, and the line.
+struct Failed {
+    why: Why,
+    text: &'static str,
+}
+
+const FAILED: [Failed; 3] = [
+    Failed {
+        why: Why::Returned(u64::MAX),
+        text: "7 E14 transfer c::mv returned 18446744073709551615\n",
+    },
+    Failed {
+        why: Why::Trap(Cause::Store, 0x1000_0a1c),
+        text: "7 E14 transfer c::mv trap store at 10000a1c\n",
+    },
+    Failed {
+        why: Why::Budget,
+        text: "7 E14 transfer c::mv budget\n",
+    },
+];
+
+#[test]
+fn of_failed_routines(rt: HostRuntime) -> Result<(), Fail> {
+    for case in &FAILED {
+        let name = name(rt.alloc(), "c::mv")?;
+        let why = case.why;
+        refuses(rt.alloc(), Refusal::Transfer { name, why }, case.text)?;
+    }
+    Ok(())
 }

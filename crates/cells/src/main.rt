@@ -1,5 +1,6 @@
 //! `cells DIR SCRIPT [--base HEX] [--pages N]`: does the commands of a script over the object files of
-//! a folder, and writes the transcript to standard output.
+//! a folder, and writes the transcript to standard output. `cells --generate N --seed S [--base HEX]
+//! [--pages N]`: makes a large run, does it, and writes what its answers come to.
 #![tactic(auto)]
 
 ghost use Rattle.std.specs.Prelude.{◌≡◌};
