@@ -32,12 +32,24 @@ use Rattle.cell_print.specs.Words.{many_word, kind_word, cause_word}
 abbrev pub line : List (List ℕ) → List ℕ
 line parts = concat parts ++ 10 ∷ []
 
--- the cells, each with a space before it, or a dash where there is none
 abbrev pub cell_word : CellId → List ℕ
-cell_word cell = codes " #" ++ decimal cell.0
+cell_word cell = codes "#" ++ decimal cell.0
 
+abbrev pub task_word : ℕ → List ℕ
+task_word task = codes "t" ++ decimal task
+
+-- behind a space
+abbrev pub spaced : List ℕ → List ℕ
+spaced word = 32 ∷ word
+
+-- the cells, with a space between, or a dash where there is none
 abbrev pub cells_word : List CellId → List ℕ
-cells_word cells = if length cells == 0 then codes " -" else flat_map cell_word cells
+cells_word [] = codes "-"
+cells_word (cell ∷ cells) = cell_word cell ++ flat_map (λ c. spaced (cell_word c)) cells
+
+-- the number of a command's line and the words of its answer, and then what they are about, each with a space before it
+abbrev pub answer_line : ℕ → List ℕ → List (List ℕ) → List ℕ
+answer_line n words parts = line (decimal n ∷ codes " " ∷ words ∷ flat_map spaced parts ∷ [])
 
 -- an address and the bytes from there on
 abbrev pub byte_word : ℕ → List ℕ
@@ -56,7 +68,7 @@ unfoldable pub rows : ℕ → List ℕ → List ℕ
 rows addr bytes = rows_within ((length bytes + 15) / 16) addr bytes
 
 abbrev pub key_word : SecKey → List ℕ
-key_word key = concat (codes "#" ∷ decimal key.cell.0 ∷ codes "." ∷ decimal key.section ∷ [])
+key_word key = concat (cell_word key.cell ∷ codes "." ∷ decimal key.section ∷ [])
 
 -- a place in a section and its address, or a dash
 abbrev pub found_word : Option Found → List ℕ
@@ -127,25 +139,10 @@ abbrev pub link_line : LinkLine → List ℕ
 link_line l =
     line (codes "  " ∷ place_word l.user l.offset ∷ codes " " ∷ kind_word l.kind ∷ codes " -> " ∷ key_word l.target ∷ [])
 
--- the cells that a command removed, behind its words
-abbrev pub removed_line : ℕ → List ℕ → List CellId → List ℕ
-removed_line n words removed = line (decimal n ∷ words ∷ cells_word removed ∷ [])
-
--- a cell behind the words of a command, and then links
-abbrev pub links_lines : ℕ → List ℕ → CellId → List LinkLine → List ℕ
-links_lines n words cell links = line (decimal n ∷ words ∷ decimal cell.0 ∷ []) ++ flat_map link_line links
-
 -- what keeps a cell: a task, or another cell
 abbrev pub holder_word : Holder → List ℕ
-holder_word (TaskHolder task) = codes "t" ++ decimal task
-holder_word (CellHolder cell) = codes "#" ++ decimal cell.0
-
--- what a swap did: its number, the new cells, how many fields were patched, the cells that went, and those that are put aside
-abbrev pub swap_line : ℕ → ℕ → List CellId → ℕ → List CellId → List CellId → List ℕ
-swap_line n number fresh patched removed kept =
-    line
-    (decimal n ∷ codes " ok swap " ∷ decimal number ∷ codes " new" ∷ cells_word fresh ∷ codes " patched " ∷ decimal patched ∷ codes " removed"
-    ∷ cells_word removed ∷ codes " kept" ∷ cells_word kept ∷ [])
+holder_word (TaskHolder task) = task_word task
+holder_word (CellHolder cell) = cell_word cell
 
 -- how a transfer routine ended that failed
 unfoldable pub why_word : Why → List ℕ
@@ -154,43 +151,44 @@ why_word (Trap cause pc) = concat (codes "trap " ∷ cause_word cause ∷ codes 
 why_word Budget = codes "budget"
 
 abbrev pub reply_lines : ℕ → Reply → List ℕ
-reply_lines n (Ns name) = line (decimal n ∷ codes " ok ns " ∷ name ∷ [])
-reply_lines n (Load fresh patched) = line (decimal n ∷ codes " ok load" ∷ cells_word fresh ∷ codes " patched " ∷ decimal patched ∷ [])
-reply_lines n (Spawn task pc) = line (decimal n ∷ codes " ok spawn t" ∷ decimal task ∷ codes " pc " ∷ hex pc ∷ [])
+reply_lines n (Ns name) = answer_line n (codes "ok ns") (name ∷ [])
+reply_lines n (Load fresh patched) = answer_line n (codes "ok load") (cells_word fresh ∷ codes "patched" ∷ decimal patched ∷ [])
+reply_lines n (Spawn task pc) = answer_line n (codes "ok spawn") (task_word task ∷ codes "pc" ∷ hex pc ∷ [])
 reply_lines n (Step run) = run_lines (decimal n ++ codes " ok step t") run
-reply_lines n (Run runs) = line (decimal n ∷ codes " ok run" ∷ []) ++ flat_map (run_lines (codes "  t")) runs
-reply_lines n (Kill task) = line (decimal n ∷ codes " ok kill t" ∷ decimal task ∷ [])
-reply_lines n (Swap number fresh patched removed kept) = swap_line n number fresh patched removed kept
-reply_lines n (Unload removed) = removed_line n (codes " ok unload removed") removed
-reply_lines n (Purge removed) = removed_line n (codes " ok purge removed") removed
-reply_lines n (Tasks tasks) = line (decimal n ∷ codes " ok tasks" ∷ []) ++ flat_map task_line tasks
-reply_lines n (Find found) = line (decimal n ∷ codes " ok find " ∷ found_word found ∷ [])
-reply_lines n (Deps cell links) = links_lines n (codes " ok deps #") cell links
-reply_lines n (Users cell links) = links_lines n (codes " ok users #") cell links
-reply_lines n (Map cells) = line (decimal n ∷ codes " ok map" ∷ []) ++ flat_map cell_lines cells
-reply_lines n (Dump key start bytes) = line (decimal n ∷ codes " ok dump " ∷ key_word key ∷ []) ++ rows start bytes
+reply_lines n (Run runs) = answer_line n (codes "ok run") [] ++ flat_map (run_lines (codes "  t")) runs
+reply_lines n (Kill task) = answer_line n (codes "ok kill") (task_word task ∷ [])
+reply_lines n (Swap number fresh patched removed kept) =
+    answer_line n (codes "ok swap")
+    (decimal number ∷ codes "new" ∷ cells_word fresh ∷ codes "patched" ∷ decimal patched
+    ∷ codes "removed" ∷ cells_word removed ∷ codes "kept" ∷ cells_word kept ∷ [])
+reply_lines n (Unload removed) = answer_line n (codes "ok unload removed") (cells_word removed ∷ [])
+reply_lines n (Purge removed) = answer_line n (codes "ok purge removed") (cells_word removed ∷ [])
+reply_lines n (Tasks tasks) = answer_line n (codes "ok tasks") [] ++ flat_map task_line tasks
+reply_lines n (Find found) = answer_line n (codes "ok find") (found_word found ∷ [])
+reply_lines n (Deps cell links) = answer_line n (codes "ok deps") (cell_word cell ∷ []) ++ flat_map link_line links
+reply_lines n (Users cell links) = answer_line n (codes "ok users") (cell_word cell ∷ []) ++ flat_map link_line links
+reply_lines n (Map cells) = answer_line n (codes "ok map") [] ++ flat_map cell_lines cells
+reply_lines n (Dump key start bytes) = answer_line n (codes "ok dump") (key_word key ∷ []) ++ rows start bytes
+
+abbrev pub place_in : CellId → ℕ → ℕ → List ℕ
+place_in cell section offset = place_word (record { cell = cell; section = section }) offset
 
 abbrev pub refusal_line : ℕ → Refusal → List ℕ
-refusal_line n (Unknown word) = line (decimal n ∷ codes " E1 unknown " ∷ word ∷ [])
-refusal_line n (NameTaken word) = line (decimal n ∷ codes " E2 taken " ∷ word ∷ [])
-refusal_line n (NotRunnable task cause pc) =
-    line (decimal n ∷ codes " E3 faulted t" ∷ decimal task ∷ codes " " ∷ cause_word cause ∷ codes " " ∷ hex pc ∷ [])
-refusal_line n (TooMany kind limit) = line (decimal n ∷ codes " E4 too-many " ∷ many_word kind ∷ codes " " ∷ decimal limit ∷ [])
-refusal_line n (NoObject stem) = line (decimal n ∷ codes " E5 no-object " ∷ stem ∷ [])
-refusal_line n (Ambiguous one two) = line (decimal n ∷ codes " E6 ambiguous " ∷ one ∷ codes " " ∷ two ∷ [])
-refusal_line n (BadObject file rule at) =
-    line (decimal n ∷ codes " E7 object " ∷ file ∷ codes " rule " ∷ decimal rule ∷ codes " at " ∷ decimal at ∷ [])
-refusal_line n (Duplicate name holder) = line (decimal n ∷ codes " E8 duplicate " ∷ name ∷ codes " #" ∷ decimal holder.0 ∷ [])
-refusal_line n (Missing name needed_by) = line (decimal n ∷ codes " E9 missing " ∷ name ∷ codes " #" ∷ decimal needed_by.0 ∷ [])
-refusal_line n (NoEntry name) = line (decimal n ∷ codes " E10 no-entry " ∷ name ∷ [])
-refusal_line n (Exhausted wanted largest) =
-    line (decimal n ∷ codes " E11 exhausted " ∷ decimal wanted ∷ codes " " ∷ decimal largest ∷ [])
-refusal_line n (Overflow cell section offset kind) =
-    line (decimal n ∷ codes " E12 overflow #" ∷ decimal cell.0 ∷ codes "." ∷ decimal section ∷ codes "+" ∷ hex offset ∷ codes " " ∷ kind_word kind ∷ [])
-refusal_line n (Torn task cell section offset) =
-    line (decimal n ∷ codes " E13 torn t" ∷ decimal task ∷ codes " #" ∷ decimal cell.0 ∷ codes "." ∷ decimal section ∷ codes "+" ∷ hex offset ∷ [])
-refusal_line n (Transfer name why) = line (decimal n ∷ codes " E14 transfer " ∷ name ∷ codes " " ∷ why_word why ∷ [])
-refusal_line n (Held cell holder) = line (decimal n ∷ codes " E15 held #" ∷ decimal cell.0 ∷ codes " " ∷ holder_word holder ∷ [])
+refusal_line n (Unknown word) = answer_line n (codes "E1 unknown") (word ∷ [])
+refusal_line n (NameTaken word) = answer_line n (codes "E2 taken") (word ∷ [])
+refusal_line n (NotRunnable task cause pc) = answer_line n (codes "E3 faulted") (task_word task ∷ cause_word cause ∷ hex pc ∷ [])
+refusal_line n (TooMany kind limit) = answer_line n (codes "E4 too-many") (many_word kind ∷ decimal limit ∷ [])
+refusal_line n (NoObject stem) = answer_line n (codes "E5 no-object") (stem ∷ [])
+refusal_line n (Ambiguous one two) = answer_line n (codes "E6 ambiguous") (one ∷ two ∷ [])
+refusal_line n (BadObject file rule at) = answer_line n (codes "E7 object") (file ∷ codes "rule" ∷ decimal rule ∷ codes "at" ∷ decimal at ∷ [])
+refusal_line n (Duplicate name holder) = answer_line n (codes "E8 duplicate") (name ∷ cell_word holder ∷ [])
+refusal_line n (Missing name needed_by) = answer_line n (codes "E9 missing") (name ∷ cell_word needed_by ∷ [])
+refusal_line n (NoEntry name) = answer_line n (codes "E10 no-entry") (name ∷ [])
+refusal_line n (Exhausted wanted largest) = answer_line n (codes "E11 exhausted") (decimal wanted ∷ decimal largest ∷ [])
+refusal_line n (Overflow cell section offset kind) = answer_line n (codes "E12 overflow") (place_in cell section offset ∷ kind_word kind ∷ [])
+refusal_line n (Torn task cell section offset) = answer_line n (codes "E13 torn") (task_word task ∷ place_in cell section offset ∷ [])
+refusal_line n (Transfer name why) = answer_line n (codes "E14 transfer") (name ∷ why_word why ∷ [])
+refusal_line n (Held cell holder) = answer_line n (codes "E15 held") (cell_word cell ∷ holder_word holder ∷ [])
 
 abbrev pub lines_of : ℕ → Result Reply Refusal → List ℕ
 lines_of n (Ok reply) = reply_lines n reply

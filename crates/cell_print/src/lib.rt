@@ -10,7 +10,7 @@ mod reply;
 mod tasks;
 mod word;
 
-pub use line::put_line;
+pub use line::{put_answer, put_line};
 pub use piece::Piece;
 pub use refusal::put_refusal;
 pub use reply::put_reply;

@@ -1,13 +1,12 @@
 //! Lines of links.
 
-ghost use Rattle.std.specs.Prelude.{◌≡◌, ◌++◌, OnOk};
+ghost use Rattle.std.specs.Prelude.{◌≡◌, ◌++◌, ◌∷◌, [], OnOk};
 ghost use Rattle.std.specs.List.{flat_map};
 ghost use Rattle.cell_world.specs.declared.reply.Reply.TheVariants.{Deps, Users};
-ghost use Rattle.cell_print.specs.Lines.{link_line, links_lines, reply_lines, Extends};
+ghost use Rattle.cell_print.specs.Lines.{answer_line, cell_word, link_line, reply_lines, Extends};
 
-use crate::Piece::{Dec, Key, Place, Text};
-use crate::put_line;
-use crate::word::kind_word;
+use crate::Piece::{Cell, Key, Kind, Place, Text};
+use crate::{put_answer, put_line};
 use cell_num::CellId;
 use cell_world::LinkLine;
 use std::alloc::AllocError;
@@ -22,7 +21,7 @@ pub fn put_deps(
     ensures ok { OnOk result (into.new.items ≡ into.old.items ++ reply_lines line (Deps cell links.now)) }
     ensures extends { Extends into.old.items into.new.items }
 {
-    put_links(line, b" ok deps #", cell, links, into)
+    put_links(line, b"ok deps", cell, links, into)
 }
 
 /// Appends the links into a cell.
@@ -35,7 +34,7 @@ pub fn put_users(
     ensures ok { OnOk result (into.new.items ≡ into.old.items ++ reply_lines line (Users cell links.now)) }
     ensures extends { Extends into.old.items into.new.items }
 {
-    put_links(line, b" ok users #", cell, links, into)
+    put_links(line, b"ok users", cell, links, into)
 }
 
 /// Appends a cell, on a line with the words of a command, and then links.
@@ -46,10 +45,10 @@ fn put_links(
     links: &[LinkLine],
     into: &mut Vec<u8>,
 ) -> Result<(), AllocError>
-    ensures ok { OnOk result (into.new.items ≡ into.old.items ++ links_lines line words.now cell links.now) }
+    ensures ok { OnOk result (into.new.items ≡ into.old.items ++ answer_line line words.now (cell_word cell ∷ []) ++ flat_map link_line links.now) }
     ensures extends { Extends into.old.items into.new.items }
 {
-    put_line(&[Dec(line), Text(words), Dec(cell.0)], into)?;
+    put_answer(line, words, &[Cell(cell)], into)?;
     put_each(links, into)
 }
 
@@ -72,7 +71,7 @@ fn put_link(link: LinkLine, into: &mut Vec<u8>) -> Result<(), AllocError>
             Text(b"  "),
             Place(link.user, link.offset),
             Text(b" "),
-            Text(kind_word(link.kind)),
+            Kind(link.kind),
             Text(b" -> "),
             Key(link.target),
         ],

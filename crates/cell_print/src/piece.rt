@@ -3,14 +3,14 @@
 ghost use Rattle.std.specs.Prelude.{◌≡◌, [], ◌∷◌, ◌++◌, codes, OnOk};
 ghost use Rattle.std.specs.List.{concat, flat_map};
 ghost use Rattle.cell_text.specs.Number.{hex};
-ghost use Rattle.cell_print.specs.Lines.{cells_word, escaped, found_word, holder_word, is_plain, key_word, live_word, place_word, standing_word, state_word, why_word, Extends};
+ghost use Rattle.cell_print.specs.Lines.{cell_word, cells_word, escaped, found_word, holder_word, is_plain, key_word, live_word, place_word, spaced, standing_word, state_word, task_word, why_word, Extends};
 ghost use Rattle.cell_print.specs.Pieces.{text};
 ghost use Rattle.cell_print.specs.Words.{cause_word};
 
-use crate::word::cause_word;
-use cell_num::{Cause, CellId, Holder, Name, SecKey, Why};
+use crate::word::{cause_word, kind_word, many_word};
+use cell_num::{Cause, CellId, Holder, Name, RelKind, SecKey, Why};
 use cell_text::{put_dec, put_hex, put_hex_byte};
-use cell_world::{Found, TaskState};
+use cell_world::{Found, Many, TaskState};
 use std::alloc::AllocError;
 
 /// A piece of a line, before it is text.
@@ -24,16 +24,18 @@ pub enum Piece<'a> {
     Long(u64),
     /// A number in lower-case hex.
     Hex(u64),
+    Cell(CellId),
     /// A section of a cell.
     Key(SecKey),
     /// An offset in a section.
     Place(SecKey, u32),
-    /// The cells, each with a space before it, or a dash where there is none.
+    /// The cells, with a space between, or a dash where there is none.
     Cells(&'a [CellId]),
     /// The place and its address, or a dash where there is none.
     Found(Option<Found>),
     /// What a cell is: attached, or put aside by the swap of that number.
     Standing(Option<u32>),
+    Task(u32),
     /// How a task stands after its turns.
     State(TaskState),
     /// How a live task stands: ready at this pc, or faulted there.
@@ -42,8 +44,14 @@ pub enum Piece<'a> {
     Out(&'a [u8]),
     /// What keeps a cell: a task, or another cell.
     Holder(Holder),
+    /// The trap that ended a task's turns.
+    Cause(Cause),
     /// How a transfer routine ended that failed.
     Why(Why),
+    /// A kind of relocation.
+    Kind(RelKind),
+    /// What there may be only so many of.
+    Many(Many),
 }
 
 /// Appends the text of a piece.
@@ -57,26 +65,46 @@ pub fn put_piece(piece: Piece<'_>, into: &mut Vec<u8>) -> Result<(), AllocError>
         Piece::Dec(value) => put_dec(u64::from(value), into),
         Piece::Long(value) => put_dec(value, into),
         Piece::Hex(value) => put_hex(value, into),
+        Piece::Cell(cell) => put_cell(cell, into),
         Piece::Key(key) => put_key(key, into),
         Piece::Place(key, offset) => put_place(key, offset, into),
         Piece::Cells(cells) => put_cells(cells, into),
         Piece::Found(found) => put_found(found, into),
         Piece::Standing(group) => put_standing(group, into),
+        Piece::Task(task) => put_task(task, into),
         Piece::State(state) => put_state(state, into),
         Piece::Live(fault, pc) => put_live(fault, pc, into),
         Piece::Out(bytes) => put_out(bytes, into),
         Piece::Holder(holder) => put_holder(holder, into),
+        Piece::Cause(cause) => into.extend_from_slice(cause_word(cause)),
         Piece::Why(why) => put_why(why, into),
+        Piece::Kind(kind) => into.extend_from_slice(kind_word(kind)),
+        Piece::Many(many) => into.extend_from_slice(many_word(many)),
     }
+}
+
+fn put_cell(cell: CellId, into: &mut Vec<u8>) -> Result<(), AllocError>
+    ensures ok { OnOk result (into.new.items ≡ into.old.items ++ cell_word cell) }
+    ensures extends { Extends into.old.items into.new.items }
+{
+    into.push(b'#')?;
+    put_dec(u64::from(cell.0), into)
+}
+
+fn put_task(task: u32, into: &mut Vec<u8>) -> Result<(), AllocError>
+    ensures ok { OnOk result (into.new.items ≡ into.old.items ++ task_word task) }
+    ensures extends { Extends into.old.items into.new.items }
+{
+    into.push(b't')?;
+    put_dec(u64::from(task), into)
 }
 
 fn put_key(key: SecKey, into: &mut Vec<u8>) -> Result<(), AllocError>
     ensures ok { OnOk result (into.new.items ≡ into.old.items ++ key_word key) }
     ensures extends { Extends into.old.items into.new.items }
 {
-    into.extend_from_slice(b"#")?;
-    put_dec(u64::from(key.cell.0), into)?;
-    into.extend_from_slice(b".")?;
+    put_cell(key.cell, into)?;
+    into.push(b'.')?;
     put_dec(u64::from(key.section), into)
 }
 
@@ -93,12 +121,21 @@ fn put_cells(cells: &[CellId], into: &mut Vec<u8>) -> Result<(), AllocError>
     ensures ok { OnOk result (into.new.items ≡ into.old.items ++ cells_word cells.now) }
     ensures extends { Extends into.old.items into.new.items }
 {
-    if cells.is_empty() {
-        return into.extend_from_slice(b" -");
-    }
+    let [first, others @ ..] = cells else {
+        return into.extend_from_slice(b"-");
+    };
+    put_cell(*first, into)?;
+    put_others(others, into)
+}
+
+/// Appends cells that others stand before.
+fn put_others(cells: &[CellId], into: &mut Vec<u8>) -> Result<(), AllocError>
+    ensures ok { OnOk result (into.new.items ≡ into.old.items ++ flat_map (λ cell. spaced (cell_word cell)) cells.now) }
+    ensures extends { Extends into.old.items into.new.items }
+{
     for cell in cells {
-        into.extend_from_slice(b" #")?;
-        put_dec(u64::from(cell.0), into)?;
+        into.push(b' ')?;
+        put_cell(*cell, into)?;
     }
     Ok(())
 }
@@ -187,14 +224,8 @@ fn put_holder(holder: Holder, into: &mut Vec<u8>) -> Result<(), AllocError>
     ensures extends { Extends into.old.items into.new.items }
 {
     match holder {
-        Holder::Task(task) => {
-            into.extend_from_slice(b"t")?;
-            put_dec(u64::from(task), into)
-        }
-        Holder::Cell(cell) => {
-            into.extend_from_slice(b"#")?;
-            put_dec(u64::from(cell.0), into)
-        }
+        Holder::Task(task) => put_task(task, into),
+        Holder::Cell(cell) => put_cell(cell, into),
     }
 }
 

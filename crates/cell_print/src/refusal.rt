@@ -3,9 +3,9 @@
 ghost use Rattle.std.specs.Prelude.{◌≡◌, ◌++◌, Err, OnOk};
 ghost use Rattle.cell_print.specs.Lines.{lines_of, Extends};
 
-use crate::Piece::{Dec, Hex, Holder, Long, Name, Text, Why};
-use crate::put_line;
-use crate::word::{cause_word, kind_word, many_word};
+use crate::Piece::{Cause, Cell, Dec, Hex, Holder, Kind, Long, Many, Name, Place, Task, Text, Why};
+use crate::put_answer;
+use cell_num::SecKey;
 use cell_world::Refusal;
 use std::alloc::AllocError;
 
@@ -15,105 +15,41 @@ pub fn put_refusal(line: u32, refusal: &Refusal, into: &mut Vec<u8>) -> Result<(
     ensures extends { Extends into.old.items into.new.items }
 {
     match refusal {
-        Refusal::Unknown { word } => {
-            put_line(&[Dec(line), Text(b" E1 unknown "), Name(word)], into)
-        }
-        Refusal::NameTaken { word } => {
-            put_line(&[Dec(line), Text(b" E2 taken "), Name(word)], into)
-        }
+        Refusal::Unknown { word } => put_answer(line, b"E1 unknown", &[Name(word)], into),
+        Refusal::NameTaken { word } => put_answer(line, b"E2 taken", &[Name(word)], into),
         Refusal::NotRunnable { task, cause, pc } => {
-            put_line(
-                &[
-                    Dec(line),
-                    Text(b" E3 faulted t"),
-                    Dec(*task),
-                    Text(b" "),
-                    Text(cause_word(*cause)),
-                    Text(b" "),
-                    Hex(*pc),
-                ],
+            put_answer(
+                line,
+                b"E3 faulted",
+                &[Task(*task), Cause(*cause), Hex(*pc)],
                 into,
             )
         }
         Refusal::TooMany { kind, limit } => {
-            put_line(
-                &[
-                    Dec(line),
-                    Text(b" E4 too-many "),
-                    Text(many_word(*kind)),
-                    Text(b" "),
-                    Dec(*limit),
-                ],
-                into,
-            )
+            put_answer(line, b"E4 too-many", &[Many(*kind), Dec(*limit)], into)
         }
-        Refusal::NoObject { stem } => {
-            put_line(&[Dec(line), Text(b" E5 no-object "), Name(stem)], into)
-        }
+        Refusal::NoObject { stem } => put_answer(line, b"E5 no-object", &[Name(stem)], into),
         Refusal::Ambiguous { one, two } => {
-            put_line(
-                &[
-                    Dec(line),
-                    Text(b" E6 ambiguous "),
-                    Name(one),
-                    Text(b" "),
-                    Name(two),
-                ],
-                into,
-            )
+            put_answer(line, b"E6 ambiguous", &[Name(one), Name(two)], into)
         }
         Refusal::BadObject { file, rule, at } => {
-            put_line(
-                &[
-                    Dec(line),
-                    Text(b" E7 object "),
-                    Name(file),
-                    Text(b" rule "),
-                    Dec(u32::from(*rule)),
-                    Text(b" at "),
-                    Long(*at),
-                ],
+            let rule = Dec(u32::from(*rule));
+            put_answer(
+                line,
+                b"E7 object",
+                &[Name(file), Text(b"rule"), rule, Text(b"at"), Long(*at)],
                 into,
             )
         }
         Refusal::Duplicate { name, holder } => {
-            put_line(
-                &[
-                    Dec(line),
-                    Text(b" E8 duplicate "),
-                    Name(name),
-                    Text(b" #"),
-                    Dec(holder.0),
-                ],
-                into,
-            )
+            put_answer(line, b"E8 duplicate", &[Name(name), Cell(*holder)], into)
         }
         Refusal::Missing { name, needed_by } => {
-            put_line(
-                &[
-                    Dec(line),
-                    Text(b" E9 missing "),
-                    Name(name),
-                    Text(b" #"),
-                    Dec(needed_by.0),
-                ],
-                into,
-            )
+            put_answer(line, b"E9 missing", &[Name(name), Cell(*needed_by)], into)
         }
-        Refusal::NoEntry { name } => {
-            put_line(&[Dec(line), Text(b" E10 no-entry "), Name(name)], into)
-        }
+        Refusal::NoEntry { name } => put_answer(line, b"E10 no-entry", &[Name(name)], into),
         Refusal::Exhausted { wanted, largest } => {
-            put_line(
-                &[
-                    Dec(line),
-                    Text(b" E11 exhausted "),
-                    Dec(*wanted),
-                    Text(b" "),
-                    Dec(*largest),
-                ],
-                into,
-            )
+            put_answer(line, b"E11 exhausted", &[Dec(*wanted), Dec(*largest)], into)
         }
         Refusal::Overflow {
             cell,
@@ -121,20 +57,14 @@ pub fn put_refusal(line: u32, refusal: &Refusal, into: &mut Vec<u8>) -> Result<(
             offset,
             kind,
         } => {
-            put_line(
-                &[
-                    Dec(line),
-                    Text(b" E12 overflow #"),
-                    Dec(cell.0),
-                    Text(b"."),
-                    Dec(u32::from(*section)),
-                    Text(b"+"),
-                    Hex(u64::from(*offset)),
-                    Text(b" "),
-                    Text(kind_word(*kind)),
-                ],
-                into,
-            )
+            let place = Place(
+                SecKey {
+                    cell: *cell,
+                    section: *section,
+                },
+                *offset,
+            );
+            put_answer(line, b"E12 overflow", &[place, Kind(*kind)], into)
         }
         Refusal::Torn {
             task,
@@ -142,44 +72,20 @@ pub fn put_refusal(line: u32, refusal: &Refusal, into: &mut Vec<u8>) -> Result<(
             section,
             offset,
         } => {
-            put_line(
-                &[
-                    Dec(line),
-                    Text(b" E13 torn t"),
-                    Dec(*task),
-                    Text(b" #"),
-                    Dec(cell.0),
-                    Text(b"."),
-                    Dec(u32::from(*section)),
-                    Text(b"+"),
-                    Hex(u64::from(*offset)),
-                ],
-                into,
-            )
+            let place = Place(
+                SecKey {
+                    cell: *cell,
+                    section: *section,
+                },
+                *offset,
+            );
+            put_answer(line, b"E13 torn", &[Task(*task), place], into)
         }
         Refusal::Transfer { name, why } => {
-            put_line(
-                &[
-                    Dec(line),
-                    Text(b" E14 transfer "),
-                    Name(name),
-                    Text(b" "),
-                    Why(*why),
-                ],
-                into,
-            )
+            put_answer(line, b"E14 transfer", &[Name(name), Why(*why)], into)
         }
         Refusal::Held { cell, holder } => {
-            put_line(
-                &[
-                    Dec(line),
-                    Text(b" E15 held #"),
-                    Dec(cell.0),
-                    Text(b" "),
-                    Holder(*holder),
-                ],
-                into,
-            )
+            put_answer(line, b"E15 held", &[Cell(*cell), Holder(*holder)], into)
         }
     }
 }

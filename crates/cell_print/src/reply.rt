@@ -4,10 +4,10 @@ ghost use Rattle.std.specs.Prelude.{◌≡◌, ◌++◌, ◌≤◌, Ok, length, 
 ghost use Rattle.cell_world.specs.declared.reply.Reply.TheVariants.{Step};
 ghost use Rattle.cell_print.specs.Lines.{reply_lines, row, rows, lines_of, Extends};
 
-use crate::Piece::{Cells, Dec, Found, Hex, Key, Name, Text};
+use crate::Piece::{Cells, Dec, Found, Hex, Key, Name, Task, Text};
 use crate::links::{put_deps, put_users};
 use crate::map::put_cells;
-use crate::put_line;
+use crate::put_answer;
 use crate::tasks::{put_run, put_runs, put_tasks};
 use cell_text::{put_dec, put_hex, put_hex_byte};
 use cell_world::{Reply, TaskRun};
@@ -19,37 +19,30 @@ pub fn put_reply(line: u32, reply: &Reply, into: &mut Vec<u8>) -> Result<(), All
     ensures extends { Extends into.old.items into.new.items }
 {
     match reply {
-        Reply::Ns { name } => put_line(&[Dec(line), Text(b" ok ns "), Name(name)], into),
+        Reply::Ns { name } => put_answer(line, b"ok ns", &[Name(name)], into),
         Reply::Load { fresh, patched } => {
-            put_line(
-                &[
-                    Dec(line),
-                    Text(b" ok load"),
-                    Cells(fresh.as_slice()),
-                    Text(b" patched "),
-                    Dec(*patched),
-                ],
+            let fresh = Cells(fresh.as_slice());
+            put_answer(
+                line,
+                b"ok load",
+                &[fresh, Text(b"patched"), Dec(*patched)],
                 into,
             )
         }
         Reply::Spawn { task, pc } => {
-            put_line(
-                &[
-                    Dec(line),
-                    Text(b" ok spawn t"),
-                    Dec(*task),
-                    Text(b" pc "),
-                    Hex(*pc),
-                ],
+            put_answer(
+                line,
+                b"ok spawn",
+                &[Task(*task), Text(b"pc"), Hex(*pc)],
                 into,
             )
         }
         Reply::Step { run } => put_step(line, run, into),
         Reply::Run { runs } => {
-            put_line(&[Dec(line), Text(b" ok run")], into)?;
+            put_answer(line, b"ok run", &[], into)?;
             put_runs(runs.as_slice(), into)
         }
-        Reply::Kill { task } => put_line(&[Dec(line), Text(b" ok kill t"), Dec(*task)], into),
+        Reply::Kill { task } => put_answer(line, b"ok kill", &[Task(*task)], into),
         Reply::Swap {
             number,
             fresh,
@@ -57,56 +50,52 @@ pub fn put_reply(line: u32, reply: &Reply, into: &mut Vec<u8>) -> Result<(), All
             removed,
             kept,
         } => {
-            put_line(
+            put_answer(
+                line,
+                b"ok swap",
                 &[
-                    Dec(line),
-                    Text(b" ok swap "),
                     Dec(*number),
-                    Text(b" new"),
+                    Text(b"new"),
                     Cells(fresh.as_slice()),
-                    Text(b" patched "),
+                    Text(b"patched"),
                     Dec(*patched),
-                    Text(b" removed"),
+                    Text(b"removed"),
                     Cells(removed.as_slice()),
-                    Text(b" kept"),
+                    Text(b"kept"),
                     Cells(kept.as_slice()),
                 ],
                 into,
             )
         }
         Reply::Unload { removed } => {
-            put_line(
-                &[
-                    Dec(line),
-                    Text(b" ok unload removed"),
-                    Cells(removed.as_slice()),
-                ],
+            put_answer(
+                line,
+                b"ok unload removed",
+                &[Cells(removed.as_slice())],
                 into,
             )
         }
         Reply::Purge { removed } => {
-            put_line(
-                &[
-                    Dec(line),
-                    Text(b" ok purge removed"),
-                    Cells(removed.as_slice()),
-                ],
+            put_answer(
+                line,
+                b"ok purge removed",
+                &[Cells(removed.as_slice())],
                 into,
             )
         }
         Reply::Tasks { tasks } => {
-            put_line(&[Dec(line), Text(b" ok tasks")], into)?;
+            put_answer(line, b"ok tasks", &[], into)?;
             put_tasks(tasks.as_slice(), into)
         }
-        Reply::Find { found } => { put_line(&[Dec(line), Text(b" ok find "), Found(*found)], into) }
+        Reply::Find { found } => put_answer(line, b"ok find", &[Found(*found)], into),
         Reply::Deps { cell, links } => put_deps(line, *cell, links.as_slice(), into),
         Reply::Users { cell, links } => put_users(line, *cell, links.as_slice(), into),
         Reply::Map { cells } => {
-            put_line(&[Dec(line), Text(b" ok map")], into)?;
+            put_answer(line, b"ok map", &[], into)?;
             put_cells(cells.as_slice(), into)
         }
         Reply::Dump { key, start, bytes } => {
-            put_line(&[Dec(line), Text(b" ok dump "), Key(*key)], into)?;
+            put_answer(line, b"ok dump", &[Key(*key)], into)?;
             put_rows(*start, bytes.as_slice(), into)
         }
     }
