@@ -1,3 +1,4 @@
+pub mod Numbers
 pub mod Ruled
 pub mod Stored
 pub mod Rows

@@ -1,8 +1,7 @@
 -- What the rules ask of each part of an object that can be written.
 use Rattle.std.specs.Prelude.{◌≡◌, ℕ, ◌+◌, ◌-◌, ◌^◌, ◌<◌, ◌≤◌, Bool, true, false, not, ◌&&◌, ◌||◌, ◌==◌, List, [], length, take, slice_get, FitsSigned, Some, ◌%◌}
-use Rattle.std.specs.List.{list_any, flat_map}
+use Rattle.std.specs.List.{list_any}
 use Rattle.std.specs.Int.{w64}
-use Rattle.cell_num.specs.Lists.{numbered_from}
 use Rattle.cell_num.specs.Kinds.{width_of, is_instruction}
 use Rattle.cell_object.specs.Parts.{is_global, is_local}
 use Rattle.cell_object.specs.Sections.{is_alignment}
@@ -20,8 +19,8 @@ use Rattle.cell_object.specs.declared.object.Home.{Home}
 use Rattle.cell_object.specs.declared.object.Home.TheVariants.{Undef, Abs, Inside, Elsewhere}
 use Rattle.cell_object.specs.declared.object.Fill.{Fill}
 use Rattle.cell_object.specs.declared.object.Fill.TheVariants.{Prog, Note, Zero}
-use Rattle.cell_object.specs.ImageParts.{entries_for, symbol_strings, section_strings, parts, offset_after}
-use Rattle.cell_object.specs.Image.{local_count, section_rows}
+use Rattle.cell_object.specs.ImageParts.{entries_for}
+use Rattle.cell_object.specs.Image.{local_count}
 use Rattle.cell_object.specs.Writable.{IsPlain, is_file, FitsImage}
 
 -- as many bytes as the size says, or none where the section is filled with zeros

@@ -1,6 +1,8 @@
-//! The law of an object's image: what can be written is read again; and an example. Each is the
-//! contract of a function with an empty body.
+//! An object's image: how numbers stand in it; and, as contracts of functions with an empty body, its
+//! law, that what can be written is read again, and an example.
 #![tactic(auto)]
+
+mod number;
 
 ghost use Rattle.std.specs.Prelude.{◌≡◌, Ok};
 ghost use Rattle.cell_object.specs.Reads.{reads};
@@ -9,6 +11,7 @@ ghost use Rattle.cell_image.specs.Example.{pointer};
 ghost use Rattle.cell_object.specs.Writable.{IsWritable};
 
 use cell_object::Object;
+pub use number::put_number;
 
 /// The image of a writable object is read as the object again. So `write_object` of `cell_elfw` writes
 /// it, or lacks memory.

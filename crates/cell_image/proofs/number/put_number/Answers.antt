@@ -1,5 +1,5 @@
-use Rattle.cell_elfw.proofs.Numbers.{byte_put}
-use Rattle.cell_elfw.proofs.number.put_number.Goals as goal
+use Rattle.cell_image.proofs.Numbers.{byte_put}
+use Rattle.cell_image.proofs.number.put_number.Goals as goal
 
 pub loop-preserved : goal.loop-preserved
 loop-preserved c =
