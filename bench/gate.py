@@ -1,8 +1,8 @@
 #!/usr/bin/env python3
 """Where the minutes of the gate go, crate by crate: proof, tests, edits.
 
-    bench/gate.py run FILE            runs `rt ci`, shows what it prints, writes to FILE how long each of its checks took,
-                                      and prints the table
+    bench/gate.py run FILE [CRATE..]  runs `rt ci`, or `rt ci CRATE..`, shows what it prints, writes to FILE how long each of
+                                      its checks took, and prints the table
     bench/gate.py table FILE          prints the table of such a FILE: minutes of one processor for each crate, the chain of
                                       crates that stand on each other whose proofs take longest, and the ten dearest edits
     bench/gate.py functions CRATE..   proves these crates from nothing in a copy, with their tests, and prints the ten
@@ -60,8 +60,8 @@ def kind(tests, folder):
     return "tests" if tests else "proof"
 
 
-def run(path):
-    gate, seen = subprocess.Popen(["rt", "ci"]), {}
+def run(path, *crates):
+    gate, seen = subprocess.Popen(["rt", "ci", *crates]), {}
     while gate.poll() is None:
         with open("/proc/uptime") as file:
             now = float(file.read().split()[0])
@@ -159,9 +159,9 @@ def main():
         for crate in sys.argv[2:]:
             functions(crate)
         return
-    if len(sys.argv) != 3 or sys.argv[1] not in ("run", "table"):
+    if len(sys.argv) < 3 or sys.argv[1] not in ("run", "table"):
         sys.exit(__doc__)
-    status = run(sys.argv[2]) if sys.argv[1] == "run" else 0
+    status = run(*sys.argv[2:]) if sys.argv[1] == "run" else 0
     table(sys.argv[2])
     sys.exit(status)
 
