@@ -40,7 +40,7 @@ use Rattle.cell_world.specs.declared.state.SecPlace.{SecPlace}
 use Rattle.cell_swap.specs.declared.planning.Plan.{Plan}
 use Rattle.cell_swap.specs.declared.swapping.Ready.{Ready}
 use Rattle.cell_swap.specs.Back.{CanGoBack}
-use Rattle.cell_swap.specs.Before.{begun_in}
+use Rattle.cell_swap.specs.Before.{begun_in, suspended}
 use Rattle.cell_swap.specs.Swapped.{IsPlanned, IsReadyFor}
 use Rattle.cell_swap.specs.declared.swapping.Options.{Options}
 use Rattle.cell_unload.proofs.AllRemoved.{all_named, can_leave, keys_left, known_left, numbers, places_rise, starts_are, stay, tabled}
@@ -50,7 +50,7 @@ use Rattle.cell_commit.specs.Seals.{seal_table}
 use Rattle.cell_mem.specs.Index.{IsLaid}
 use Rattle.cell_place.specs.Space.{SpaceState}
 use Rattle.cell_machine.specs.Same.{IsSame}
-use Rattle.cell_swap.proofs.Suspended.{committable_begun, committed_without, suspended}
+use Rattle.cell_swap.proofs.Suspended.{committable_begun, committed_without}
 use Rattle.cell_swap.proofs.Journals.{end_base, end_pages, gone_back, mid, still_begun, writes_left}
 use Rattle.cell_swap.proofs.LinksBack.{bound_still, links_of_cells, rows_back, rows_left, unused}
 use Rattle.cell_swap.proofs.MemoryBack.{memory_back, other}
@@ -129,10 +129,10 @@ module _ (m : Machine) {o : Options} (p : Plan) (x : IsPlanned m o p) (k : Machi
   fresh = new m p x k r y
 
   pub numbers_are : numbers r.fresh ≡ numbers_of fresh
-  numbers_are = ap numbers (fresh_are m p x k r y (suspended n) whole) ∙ numbers_again (numbers_of fresh)
+  numbers_are = ap numbers (fresh_are m p x k r y) ∙ numbers_again (numbers_of fresh)
 
   is_below : (c : Cell) → In c old → c.id.0 < m.next
-  is_below = below m p x k r y (suspended n) whole
+  is_below = below m p x k r y
 
   is_above : (c : Cell) → In c fresh → m.next ≤ c.id.0
   is_above = numbers_new (world_of m) x.ready.new p.staged x.ready.staged x.ready.there
@@ -153,7 +153,7 @@ module _ (m : Machine) {o : Options} (p : Plan) (x : IsPlanned m o p) (k : Machi
   pub shapes_again : map shape_of (without_cells w (numbers r.fresh)).regions ≡ map shape_of k.memory.regions
   shapes_again =
       shapes_left w sound.coherent (numbers r.fresh)
-      ∙ wanted_same (without_cells w (numbers r.fresh)) before (ap (map placed_of) cells_left ∙ old_placed m p x k r y (suspended n) whole) same_tasks
+      ∙ wanted_same (without_cells w (numbers r.fresh)) before (ap (map placed_of) cells_left ∙ old_placed m p x k r y) same_tasks
       ∙ sym x.begun.sound.coherent.ready.regions
       ∙ ap (map shape_of) (sym same_regions)
 

@@ -27,6 +27,8 @@ pub mod Suspended
 pub mod GoneBack
 pub mod LinksBack
 pub mod SwapEnded
+pub mod Tried
+pub mod SwapLeft
 pub mod LinksBefore
 mod BeginsPlain
 mod RoutinesRun

@@ -50,7 +50,7 @@ use Rattle.cell_schedule.proofs.Marks.{marks_are_fields}
 use Rattle.cell_schedule.proofs.Unsealed.{unsealed}
 use Rattle.cell_xfer.specs.Carried.{said, with_zeros}
 use Rattle.cell_xfer.proofs.AlikeTransfer.{transferred_alike}
-use Rattle.cell_swap.proofs.Suspended.{suspended}
+use Rattle.cell_swap.specs.Before.{suspended}
 use Rattle.cell_swap.proofs.TableBack.{same_table}
 
 -- regions apart, in a space

@@ -11,15 +11,9 @@ use Rattle.cell_space.specs.declared.cell.SpaceCell.{SpaceCell}
 use Rattle.cell_machine.specs.declared.machine.Machine.{Machine}
 use Rattle.cell_machine.specs.declared.staged.Staged.{Staged}
 use Rattle.cell_machine.specs.Staged.{IsCommitted}
-use Rattle.cell_swap.specs.Before.{begun_in}
+use Rattle.cell_swap.specs.Before.{begun_in, suspended, with_undo}
 use Rattle.cell_load.specs.declared.prepared.Prepared.{Prepared}
 use Rattle.cell_load.specs.Adding.{IsCommittable, memory_with}
-
-abbrev pub with_undo : Option UndoState → MemoryState → MemoryState
-with_undo o m = record m { undo = o }
-
-abbrev pub suspended : Machine → Machine
-suspended m = record m { memory = with_undo None m.memory }
 
 -- mapping leaves the undo as it is, and is left by it
 pub mapped_with : (o : Option UndoState) (m : MemoryState) (regions : List Region) → all_mapped (with_undo o m) regions ≡ with_undo o (all_mapped m regions)

@@ -1,10 +1,9 @@
--- The last steps of a swap, from its commit on.
-use Rattle.std.proofs.Common.{◌≡◌, refl, sym, ap, ap₂, subst, ◌∙◌, arith, ℕ, suc, ◌+◌, ◌-◌, ◌*◌, ◌^◌, ◌≤◌, ◌<◌, Bool, inl, inr, List, [], ◌∷◌, Option, Some, None, length, map}
-use Rattle.std.specs.Prelude.{All, Result, Ok, Err, if◌then◌else◌, is_some, true}
+-- The machine once the new cells are added, and after the routines.
+use Rattle.std.proofs.Common.{◌≡◌, refl, sym, ap, ap₂, subst, ◌∙◌, arith, ℕ, suc, ◌+◌, ◌-◌, ◌*◌, ◌^◌, ◌≤◌, ◌<◌, Bool, inl, inr, List, [], ◌∷◌, ◌++◌, Option, Some, None, length, map}
+use Rattle.std.specs.Prelude.{All, Result, Ok, Err, flat_map, is_some, true}
 use Rattle.std.proofs.lemmas.List.{length-map}
 use Rattle.cell_num.specs.Lists.{numbered_from, In}
 use Rattle.cell_num.specs.declared.ids.CellId.{CellId}
-use Rattle.cell_world.specs.Kept.{Holding, holding_of}
 use Rattle.cell_world.specs.Outcome.{Outcome, ◌>>=◌, ◌>>◌, refused_by}
 use Rattle.cell_world.specs.Pages.{longest_run, lowest_run}
 use Rattle.cell_world.specs.Place.{page_table, start_of_run}
@@ -12,7 +11,6 @@ use Rattle.cell_world.specs.SwapCommand.{Wanted, addresses_of, first_held_old, w
 use Rattle.cell_world.specs.SwapTransfer.{Begin, addresses_in, transferred_by}
 use Rattle.cell_world.specs.Transfer.{Addresses, transfer}
 use Rattle.cell_world.specs.Undo.{AreBytes}
-use Rattle.cell_world.specs.UnloadCommand.{first_held, put_aside}
 use Rattle.cell_world.specs.World.{Cell, World}
 use Rattle.cell_world.specs.Names.{names_of}
 use Rattle.cell_world.specs.declared.refusal.Refusal.{Refusal}
@@ -26,13 +24,16 @@ use Rattle.cell_lemmas.proofs.Appended.{ok_same}
 use Rattle.cell_num.proofs.Elements.{In-All}
 use Rattle.cell_lemmas.specs.Loads.{Taken, placed_cells}
 use Rattle.cell_world.specs.Pages.{filled}
-use Rattle.cell_num.proofs.Sublists.{In-fixed}
 use Rattle.cell_commit.specs.Commit.{IsLaidOut, all_mapped, field_patched, fields_patched}
 use Rattle.cell_commit.proofs.Mapping.{mapped_spare}
 use Rattle.cell_commit.proofs.Writing.{written_spare}
 use Rattle.cell_layout.specs.Placing.{extra_start}
 use Rattle.cell_link.specs.declared.value.FieldValue.{FieldValue}
-use Rattle.cell_load.specs.Adding.{IsCommittable}
+use Rattle.cell_graph.specs.Moves.{moved}
+use Rattle.cell_commit.specs.Cells.{arrived}
+use Rattle.cell_machine.specs.Does.{cell_shapes}
+use Rattle.cell_machine.specs.Staged.{IsCommitted}
+use Rattle.cell_load.specs.Adding.{IsCommittable, memory_with}
 use Rattle.cell_machine.proofs.StagedWorld.{kept_placed}
 use Rattle.cell_machine.specs.Same.{raised}
 use Rattle.cell_machine.specs.declared.machine.Machine.{Machine}
@@ -48,18 +49,17 @@ use Rattle.cell_xfer.specs.Named.{addresses_as}
 use Rattle.cell_xfer.specs.declared.carrying.Transfer.{Transfer}
 use Rattle.cell_swap.specs.declared.planning.Plan.{Plan}
 use Rattle.cell_swap.specs.declared.swapping.Ready.{Ready}
-use Rattle.cell_unload.specs.declared.survey.Survey.{Survey}
-use Rattle.cell_swap.specs.Back.{CanGoBack, CanUndo}
-use Rattle.cell_swap.specs.Before.{AreAsTheyWere, begun_in}
+use Rattle.cell_swap.specs.Back.{CanGoBack}
+use Rattle.cell_swap.specs.Before.{AreAsTheyWere, begun_in, suspended, with_undo}
+use Rattle.cell_swap.specs.Entering.{IsEntered, IsOpen}
 use Rattle.cell_swap.specs.Swapped.{CanFinish, ended}
-use Rattle.cell_unload.specs.Sweep.{IsSurvey, IsSwept, Removes, aside_in, holding_in}
 use Rattle.cell_swap.specs.Transferring.{CanRun, Gives, HasRun, IsGiven, new_rows, old_rows, pages_for, stacks_for, turns_in}
 use Rattle.cell_swap.proofs.AddressesSaid.{new_said, old_said}
 use Rattle.cell_swap.proofs.Began.{sources, v, wants}
 use Rattle.cell_swap.proofs.GoneBack.{sound, still, turns_left, whole}
 use Rattle.cell_swap.proofs.RoutinesRun.{room, sound_after, transfer_done, transfer_failed, unsealed_stack}
-use Rattle.cell_swap.proofs.Suspended.{committable_begun, suspended}
-use Rattle.cell_swap.proofs.SwapFinished.{HasAdded, committable, linked}
+use Rattle.cell_swap.proofs.Suspended.{committable_begun}
+use Rattle.cell_swap.proofs.SwapFinished.{HasAdded, added as is_added, cells_are, committable, fresh_is, has_added, linked, looked, maps_are, patches_are}
 
 -- a stack in the lowest free run
 some_is : {X : Type 0} (a b : X) → Some a ≡ Some b → a ≡ b
@@ -109,7 +109,10 @@ names_below cells n [] r i = absurd i
 names_below cells n (b ∷ bs) r (inl e) = omega (arith, ap (λ (x : Routine). x.name) e)
 names_below cells n (b ∷ bs) r (inr i) = let rest = names_below cells (suc n) bs r i in omega (arith, rest)
 
-module _ (first : Machine) (old : List CellId) (r : Ready) (q : CanFinish first old r) where
+raised_more : (count a b : ℕ) → raised (raised count a) b ≡ raised count (a + b)
+raised_more count a b = omega arith
+
+module _ {first : Machine} {old : List CellId} {r : Ready} (q : CanFinish first old r) where
   abbrev pub m : Machine
   m = q.before
 
@@ -151,23 +154,24 @@ module _ (first : Machine) (old : List CellId) (r : Ready) (q : CanFinish first 
   pub failed_so : (e : Refusal) (strict : Bool) → with_transfer q.is.plan words budget ≡ Err e → ended q.is.plan q.options strict ≡ Err e
   failed_so e strict is = ap (λ (x : Outcome World). x >>= (λ w. refused_by (first_held_old strict w q.is.plan) >> Ok w)) is
 
-  module _ (n : Machine) (committed : HasAdded first r n) where
-    pub added : HasAdded (begun_in k r.writes) r n
-    added = subst (λ (x : Machine). HasAdded x r n) q.begun committed
+  module _ (n : Machine) (values : List FieldValue) (links : List LinkRow) (as_patched : values ≡ r.plan.patches.items) (as_moved : links ≡ r.plan.moves.items)
+      (committed : IsCommitted first (memory_with first.memory r.plan.staged.regions.items values) (moved first.graph.rows links) (map arrived r.prepared.newcomers.items) r.plan.staged n) where
+    added : HasAdded (begun_in k r.writes) r n
+    added = subst (λ (x : Machine). HasAdded x r n) q.begun (has_added first r n values links as_patched as_moved committed)
 
-    pub all_added : HasAdded k r (suspended n)
+    all_added : HasAdded k r (suspended n)
     all_added = whole m p q.is k r q.ready r.writes n added
 
-    pub sound_then : IsSound (suspended n)
+    sound_then : IsSound (suspended n)
     sound_then = sound m p q.is k r q.ready r.writes n added
 
-    pub linked_is : world_of (suspended n) ≡ q.is.plan.linked
+    linked_is : world_of (suspended n) ≡ q.is.plan.linked
     linked_is = linked m p q.is k r q.ready (suspended n) all_added
 
-    pub links_then : AreAsTheyWere k.graph.rows r.plan.moves.items r.back.items
+    links_then : AreAsTheyWere k.graph.rows r.plan.moves.items r.links_before.items
     links_then =
-        subst (λ (ls : List LinkRow). AreAsTheyWere ls r.plan.moves.items r.back.items) (sym q.ready.same.rows)
-        (subst (λ (ls : List LinkRow). AreAsTheyWere m.graph.rows ls r.back.items) (sym (ap (λ (o : Plan). o.moves.items) q.ready.plan)) q.ready.back)
+        subst (λ (ls : List LinkRow). AreAsTheyWere ls r.plan.moves.items r.links_before.items) (sym q.ready.same.rows)
+        (subst (λ (ls : List LinkRow). AreAsTheyWere m.graph.rows ls r.links_before.items) (sym (ap (λ (o : Plan). o.moves.items) q.ready.plan)) q.ready.links)
 
     -- the stack of the routines
     stack_there : extra_start (world_of (suspended n)).base (page_table (world_of (suspended n))) (pages_for words) ≡ Ok p.stack
@@ -191,8 +195,8 @@ module _ (first : Machine) (old : List CellId) (r : Ready) (q : CanFinish first 
 
     module _ (laid : IsLaidOut (all_mapped first.memory r.plan.staged.regions.items)) (bytes : AreBytes (all_mapped first.memory r.plan.staged.regions.items).regions)
         (now_laid : IsLaid n.memory.base n.memory.regions (n.memory.base + 4096 * n.memory.pages)) where
-      abbrev can_go_back : (back : List LinkRow) → back ≡ r.back.items → (fresh : List CellId) → fresh ≡ r.fresh → CanGoBack n back fresh
-      can_go_back back b fresh f = record {
+      abbrev can_go_back : CanGoBack n r.links_before.items r.fresh
+      can_go_back = record {
         before = m;
         old = old;
         options = q.options;
@@ -206,20 +210,15 @@ module _ (first : Machine) (old : List CellId) (r : Ready) (q : CanFinish first 
         added = added;
         laid = subst (λ (y : Machine). IsLaidOut (all_mapped y.memory r.plan.staged.regions.items)) q.begun laid;
         bytes = subst (λ (y : Machine). AreBytes (all_mapped y.memory r.plan.staged.regions.items).regions) q.begun bytes;
-        links = subst (λ (ls : List LinkRow). AreAsTheyWere k.graph.rows r.plan.moves.items ls) (sym b) links_then;
-        fresh_are = f;
+        links = links_then;
+        fresh_are = refl;
       }
 
-      pub begun_then : is_some n.memory.undo ≡ true
-      begun_then = still n r.back.items r.fresh (can_go_back r.back.items refl r.fresh refl)
+      begun_then : is_some n.memory.undo ≡ true
+      begun_then = still n r.links_before.items r.fresh can_go_back
 
       writes_for : HasWrites n.memory (turns_in r.transfer)
-      writes_for = turns_left n r.back.items r.fresh (can_go_back r.back.items refl r.fresh refl) (turns_in r.transfer) enough
-
-      -- the way back from a machine that differs by what an undo takes back
-      abbrev pub can_undo : (x : Machine) → x ≡ record n { memory = x.memory } → undone_at x.memory ≡ undone_at n.memory → is_some x.memory.undo ≡ true
-          → (back : List LinkRow) → back ≡ r.back.items → (fresh : List CellId) → fresh ≡ r.fresh → CanUndo x back fresh
-      can_undo x like undone begun back b fresh f = record { added = n; can = can_go_back back b fresh f; laid = now_laid; like = like; undone = undone; begun = begun }
+      writes_for = turns_left n r.links_before.items r.fresh can_go_back (turns_in r.transfer) enough
 
       -- a transfer of the plan
       module _ (t : Transfer) (given : IsGiven m old p words budget t) where
@@ -285,22 +284,22 @@ module _ (first : Machine) (old : List CellId) (r : Ready) (q : CanFinish first 
           go (Some t) given writes = can_carry t given writes
 
       -- the machine after the routines
-      pub record IsSecond (s : MemoryState) : Type 0 where
-        pub sound : IsSound (suspended (record n { memory = s }))
-        pub patches : s.patches ≡ n.memory.patches
-        pub maps : s.maps ≡ raised n.memory.maps (stacks_for words)
-        pub is : with_transfer q.is.plan words budget ≡ Ok (world_of (suspended (record n { memory = s })))
+      record IsSecond (s : MemoryState) : Type 0 where
+        sound : IsSound (suspended (record n { memory = s }))
+        patches : s.patches ≡ n.memory.patches
+        maps : s.maps ≡ raised n.memory.maps (stacks_for words)
+        is : with_transfer q.is.plan words budget ≡ Ok (world_of (suspended (record n { memory = s })))
 
-      pub record Ran (result : Result (Unit {0}) Refusal) (s : MemoryState) : Type 0 where
-        pub back : undone_at s ≡ undone_at n.memory
-        pub begun : is_some s.undo ≡ true
-        pub done : result ≡ Ok tt → IsSecond s
-        pub failed : (e : Refusal) → result ≡ Err e → with_transfer q.is.plan words budget ≡ Err e
+      record Ran (result : Result (Unit {0}) Refusal) (s : MemoryState) : Type 0 where
+        back : undone_at s ≡ undone_at n.memory
+        begun : is_some s.undo ≡ true
+        done : result ≡ Ok tt → IsSecond s
+        failed : (e : Refusal) → result ≡ Err e → with_transfer q.is.plan words budget ≡ Err e
 
       no_failure : (e : Refusal) (result : Result (Unit {0}) Refusal) → result ≡ Ok tt → result ≡ Err e → ⊥
       no_failure e result a b = cc (sym a ∙ b)
 
-      pub ran : (result : Result (Unit {0}) Refusal) (s : MemoryState) → HasRun n.memory r.transfer result s → Ran result s
+      ran : (result : Result (Unit {0}) Refusal) (s : MemoryState) → HasRun n.memory r.transfer result s → Ran result s
       ran result s has = go r.transfer q.ready.given has
         where
           none_ran : p.stack ≡ None → s ≡ n.memory → result ≡ Ok tt → Ran result s
@@ -341,22 +340,29 @@ module _ (first : Machine) (old : List CellId) (r : Ready) (q : CanFinish first 
           go None given has = none_ran given has.0 has.1
           go (Some t) given has = some_ran t given has
 
-      -- what the swap comes to, by what a strict one is refused for
-      module _ (s : MemoryState) (second : IsSecond s) where
-        abbrev after : Machine
-        after = record n { memory = s }
+      way_back : (s : MemoryState) → undone_at s ≡ undone_at n.memory → is_some s.undo ≡ true → IsOpen q (record n { memory = s })
+      way_back s undone begun = record { undo = record { added = n; can = can_go_back; laid = now_laid; like = refl; undone = undone; begun = begun }; leads = refl }
 
-        nothing_aside : aside_in (suspended after) [] ≡ world_of (suspended after)
-        nothing_aside = ap (λ (cells : List Cell). let w : World = record (world_of (suspended after)) { cells = cells } in w) (In-fixed (put_aside (suc (world_of (suspended after)).swaps) []) (world_of (suspended after)).cells (λ c i. refl))
+      pub is_entered : (s : MemoryState) → HasRun n.memory r.transfer (Ok tt) s → IsEntered q r.plan.outlook (record n { memory = s })
+      is_entered s has =
+          let x : Ran (Ok tt) s = ran (Ok tt) s has in
+          let second : IsSecond s = x.done refl in
+          record {
+            way_back = way_back s x.back x.begun;
+            entered = record {
+              sound = second.sound;
+              is = second.is;
+              cells = cells_are m p q.is k r q.ready (suspended n) all_added ∙ ap (λ (cs : List Cell). (world_of m).cells ++ cs) (sym (fresh_is m p q.is k r q.ready));
+              placed = (is_added m p q.is k r q.ready (suspended n) all_added).is.cells;
+              patches = second.patches ∙ patches_are m p q.is k r q.ready (suspended n) all_added;
+              maps = second.maps
+                  ∙ (ap (λ (count : ℕ). raised count (stacks_for words)) (maps_are m p q.is k r q.ready (suspended n) all_added)
+                  ∙ raised_more k.memory.maps (length (flat_map cell_shapes q.is.plan.fresh)) (stacks_for words));
+            };
+            looked = looked m p q.is k r q.ready (suspended n) all_added (with_undo None s) second.sound;
+          }
 
-        held_is : (strict : Bool) → (if strict then first_held (holding_in (suspended after) []) (map (λ c. c.0) old) else None) ≡ first_held_old strict (world_of (suspended after)) q.is.plan
-        held_is strict = ap₂ (λ (h : Holding) (ns : List ℕ). if strict then first_held h ns else None) (ap holding_of nothing_aside) q.olds
-
-        pub ended_so : (strict : Bool) (o : Option Refusal) → o ≡ (if strict then first_held (holding_in (suspended after) []) (map (λ c. c.0) old) else None)
-            → ended q.is.plan q.options strict ≡ (refused_by o >> Ok (world_of (suspended after)))
-        ended_so strict o e =
-            ap (λ (x : Outcome World). x >>= (λ w. refused_by (first_held_old strict w q.is.plan) >> Ok w)) second.is
-            ∙ ap (λ (x : Option Refusal). refused_by x >> (let y : Outcome World = Ok (world_of (suspended after)) in y)) (sym (e ∙ held_is strict))
-
-        pub swept_is : (removed : List CellId) (l : Machine) (x : Survey) → Removes (suspended after) x removed l → IsSurvey (suspended after) [] x → IsSwept (suspended after) [] removed l
-        swept_is removed l x removes survey = let both = removes [] survey in record { free = refl; are = both.0; left = both.1 }
+      pub not_entered : (e : Refusal) (s : MemoryState) → HasRun n.memory r.transfer (Err e) s → (with_transfer q.is.plan words budget ≡ Err e) × IsOpen q (record n { memory = s })
+      not_entered e s has =
+          let x : Ran (Err e) s = ran (Err e) s has in
+          (x.failed e refl, way_back s x.back x.begun)

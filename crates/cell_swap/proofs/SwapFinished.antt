@@ -1,21 +1,14 @@
 -- The last steps of a swap come to what the definition says of its plan.
-use Rattle.std.proofs.Common.{◌≡◌, refl, sym, ◌∙◌, ap, ap₂, subst, arith, ℕ, ◌+◌, ◌<◌, ◌≤◌, List, [], ◌∷◌, ◌++◌, map, length}
-use Rattle.std.specs.Prelude.{filter, flat_map, not}
-use Rattle.std.proofs.lemmas.List.{length-append, length-map}
-use Rattle.cell_num.specs.Lists.{holds, In}
+use Rattle.std.proofs.Common.{◌≡◌, refl, sym, ◌∙◌, ap, ap₂, subst, arith, ℕ, ◌+◌, ◌<◌, List, [], ◌++◌, map, length}
+use Rattle.std.specs.Prelude.{flat_map}
+use Rattle.cell_num.specs.Lists.{In}
 use Rattle.cell_num.specs.declared.ids.CellId.{CellId}
-use Rattle.cell_world.specs.declared.reply.Reply.{Reply}
-use Rattle.cell_world.specs.declared.reply.Reply.TheVariants.{Purge as PurgeDone, Swap as SwapDone}
 use Rattle.cell_world.specs.declared.state.LinkRow.{LinkRow}
 use Rattle.cell_world.specs.declared.state.NewCell.{NewCell}
-use Rattle.cell_world.specs.Answer.{Done, ids, numbers_of}
+use Rattle.cell_world.specs.Answer.{ids, numbers_of}
 use Rattle.cell_world.specs.LoadCommand.{field_count}
-use Rattle.cell_world.specs.SwapCommand.{swap_reply}
-use Rattle.cell_world.specs.UnloadCommand.{detached_of, garbage_of, next_purge, purged}
 use Rattle.cell_world.specs.World.{World, Cell, Attached}
-use Rattle.cell_lemmas.proofs.Appended.{ok_same}
 use Rattle.cell_num.proofs.Elements.{In-map, map-In}
-use Rattle.cell_num.proofs.Sublists.{length-filter_le}
 use Rattle.cell_lemmas.proofs.Relinked.{map_twice}
 use Rattle.cell_lemmas.proofs.Loads.{older}
 use Rattle.cell_commit.specs.Cells.{arrived}
@@ -25,39 +18,27 @@ use Rattle.cell_mem.specs.State.{MemoryState}
 use Rattle.cell_space.specs.Joined.{placed_of}
 use Rattle.cell_task.specs.State.{TasksState}
 use Rattle.cell_machine.specs.declared.machine.Machine.{Machine}
-use Rattle.cell_machine.specs.Does.{HasDone, answer_in, cell_shapes, new_cells, new_runs}
+use Rattle.cell_machine.specs.Does.{cell_shapes}
 use Rattle.cell_machine.specs.Machine.{IsSound, world_of}
 use Rattle.cell_machine.specs.Same.{raised}
 use Rattle.cell_machine.specs.Staged.{IsCommitted, arrivals}
 use Rattle.cell_machine.proofs.NewFields.{count_is}
 use Rattle.cell_machine.proofs.Same.{maps_same, patches_same}
-use Rattle.cell_machine.proofs.StagedWorld.{F, W, numbers_new, standing}
+use Rattle.cell_machine.proofs.StagedWorld.{F, W, standing}
 use Rattle.cell_load.specs.Adding.{HasRoomFor, IsAdded, IsCommittable, memory_with}
 use Rattle.cell_load.proofs.Added.{maps_now, more_regions, patches_now, sound as sound_after, world_added}
 use Rattle.cell_load.proofs.Committing.{committable_then}
 use Rattle.cell_load.proofs.Ready.{added_same}
 use Rattle.cell_swap.specs.declared.planning.Plan.{Plan}
 use Rattle.cell_swap.specs.declared.swapping.Ready.{Ready}
-use Rattle.cell_swap.specs.Swapped.{HasSwapped, IsPlanned, IsReadyFor}
+use Rattle.cell_swap.specs.Swapped.{IsPlanned, IsReadyFor}
 use Rattle.cell_swap.specs.declared.swapping.Options.{Options}
-use Rattle.cell_unload.specs.Sweep.{IsOutlook, IsSwept}
+use Rattle.cell_unload.specs.Sweep.{IsOutlook}
 use Rattle.cell_swap.proofs.SwapOutlook.{outlook_after}
-use Rattle.cell_swap.proofs.SwapRuns.{came, stay_all}
-use Rattle.cell_unload.proofs.Swept.{purge_done}
-
-abbrev removed_by : Reply → List CellId
-removed_by (PurgeDone removed) = removed
-removed_by _ = []
+use Rattle.cell_swap.proofs.SwapRuns.{came}
 
 ids_placed : (cells : List Cell) → map (λ (c : NewCell). c.id) (map placed_of cells) ≡ ids (numbers_of cells)
 ids_placed cells = map_twice (λ (c : NewCell). c.id) placed_of cells ∙ sym (map_twice (λ (n : ℕ). let id : CellId = record { 0 = n } in id) (λ (c : Cell). c.id.0) cells)
-
-ids_numbers : (cells : List Cell) → map (λ (id : CellId). id.0) (ids (numbers_of cells)) ≡ numbers_of cells
-ids_numbers [] = refl
-ids_numbers (c ∷ cells) = ap (λ (ns : List ℕ). c.id.0 ∷ ns) (ids_numbers cells)
-
-raised_more : (count a b : ℕ) → raised (raised count a) b ≡ raised count (a + b)
-raised_more count a b = omega arith
 
 -- the staged cells are in the machine, and the others lead to them
 abbrev pub HasAdded : Machine → Ready → Machine → Type 0
@@ -83,6 +64,27 @@ module _ (m : Machine) {o : Options} (p : Plan) (x : IsPlanned m o p) (k : Machi
   pub stand : (c : Cell) → In c new → c.standing ≡ Attached
   stand = standing (world_of m) x.ready.new p.staged x.ready.staged
 
+  pub fresh_is : x.plan.fresh ≡ new
+  fresh_is = x.fresh
+
+  -- the cells that were there are those of before
+  pub old_placed : map placed_of (world_of m).cells ≡ map placed_of (world_of x.begun.before).cells
+  old_placed = x.ready.parts.joined.placed ∙ (x.begun.aside.cells ∙ sym x.begun.sound.joined.placed)
+
+  pub below : (c : Cell) → In c (world_of m).cells → c.id.0 < m.next
+  below c i =
+      let d = In-map placed_of (world_of x.begun.before).cells c.placed (subst (λ (cs : List NewCell). In c.placed cs) old_placed (map-In placed_of (world_of m).cells c i)) in
+      let low : d.0.id.0 < x.begun.before.next = older (world_of x.begun.before) x.begun.sound.coherent d.0 d.1 in
+      let same : c.id.0 ≡ d.0.id.0 = ap (λ (e : NewCell). e.id.0) d.2 in
+      let next = x.begun.aside.next in
+      omega (arith, low, same, next)
+
+  pub fields_are : field_count x.plan.fresh ≡ length p.staged.fields.items
+  fields_are = ap field_count x.fresh ∙ (count_is (W (world_of m) x.ready.new p.staged x.ready.staged) new ∙ ap length (sym x.ready.staged.fields))
+
+  pub fresh_are : r.fresh ≡ ids (numbers_of new)
+  fresh_are = y.fresh ∙ (ap (map (λ (c : NewCell). c.id)) x.ready.staged.cells ∙ ids_placed new)
+
   module _ (n : Machine) (committed : HasAdded k r n) where
     pub added : IsAdded m p.patches.items p.moves.items p.staged (arrivals p.staged.cells.items p.staged.names.items) n
     added =
@@ -101,21 +103,6 @@ module _ (m : Machine) {o : Options} (p : Plan) (x : IsPlanned m o p) (k : Machi
     pub cells_are : (world_of n).cells ≡ (world_of m).cells ++ new
     cells_are = ap (λ (w : World). w.cells) (comes ∙ x.ready.comes.is)
 
-    pub fits : length n.cells.items ≡ length m.cells.items + length p.staged.cells.items
-    fits = ap length added.is.cells ∙ length-append m.cells.items p.staged.cells.items
-
-    -- the cells that were there are those of before
-    pub old_placed : map placed_of (world_of m).cells ≡ map placed_of (world_of x.begun.before).cells
-    old_placed = x.ready.parts.joined.placed ∙ (x.begun.aside.cells ∙ sym x.begun.sound.joined.placed)
-
-    pub below : (c : Cell) → In c (world_of m).cells → c.id.0 < m.next
-    below c i =
-        let d = In-map placed_of (world_of x.begun.before).cells c.placed (subst (λ (cs : List NewCell). In c.placed cs) old_placed (map-In placed_of (world_of m).cells c i)) in
-        let low : d.0.id.0 < x.begun.before.next = older (world_of x.begun.before) x.begun.sound.coherent d.0 d.1 in
-        let same : c.id.0 ≡ d.0.id.0 = ap (λ (e : NewCell). e.id.0) d.2 in
-        let next = x.begun.aside.next in
-        omega (arith, low, same, next)
-
     regions_before : length m.memory.regions ≡ length x.begun.before.memory.regions
     regions_before = ap (λ (s : MemoryState). length s.regions) x.begun.aside.memory
 
@@ -124,83 +111,18 @@ module _ (m : Machine) {o : Options} (p : Plan) (x : IsPlanned m o p) (k : Machi
         came (world_of x.begun.before) (world_of n) x.begun.sound.coherent after.coherent (world_of m).cells new cells_are old_placed (ap (λ (ts : TasksState). ts.tasks) (added.is.tasks ∙ x.begun.aside.tasks)) (length p.staged.regions.items)
         (more_regions m n p.staged p.patches.items p.moves.items (moved m.graph.rows p.moves.items) refl x.changed x.patches x.ready added ∙ ap (λ (more : ℕ). more + length p.staged.regions.items) regions_before)
 
-    pub fields_are : field_count x.plan.fresh ≡ length p.staged.fields.items
-    fields_are = ap field_count x.fresh ∙ (count_is (W (world_of m) x.ready.new p.staged x.ready.staged) new ∙ ap length (sym x.ready.staged.fields))
+    pub patches_are : n.memory.patches ≡ raised k.memory.patches r.patched
+    patches_are =
+        patches_now m n p.staged p.patches.items p.moves.items (moved m.graph.rows p.moves.items) refl x.changed x.patches x.ready added
+        ∙ ap₂ raised (sym (patches_same m k y.same)) (let e = y.patched in let sum : length p.patches.items + length p.staged.fields.items ≡ r.patched = omega (arith, e) in sum)
 
-    pub fresh_are : r.fresh ≡ ids (numbers_of new)
-    fresh_are = y.fresh ∙ (ap (map (λ (c : NewCell). c.id)) x.ready.staged.cells ∙ ids_placed new)
+    pub maps_are : n.memory.maps ≡ raised k.memory.maps (length (flat_map cell_shapes x.plan.fresh))
+    maps_are =
+        maps_now m n p.staged p.patches.items p.moves.items (moved m.graph.rows p.moves.items) refl x.changed x.patches x.ready added
+        ∙ ap₂ raised (sym (maps_same m k y.same)) (brought ∙ ap (λ (cs : List Cell). length (flat_map cell_shapes cs)) (sym fresh_is))
 
     -- the memory may be another by then, after routines
-    module _ (memory : MemoryState) (stacks : ℕ) (sound : IsSound (record n { memory = memory })) (same_patches : memory.patches ≡ n.memory.patches) (more_maps : memory.maps ≡ raised n.memory.maps stacks) where
-      abbrev second : Machine
-      second = record n { memory = memory }
-
-      pub looked : IsOutlook second [] r.plan.outlook
-      looked =
-          outlook_after x.begun.before x.asked.replaced.items m second x.begun.sound x.begun.aside sound new cells_are stand added.is.tasks p.staged.cells.items x.ready.staged.cells added.is.cells r.plan.outlook
-          (ap (λ (q : Plan). q.outlook.places) y.plan ∙ x.places) (ap (λ (q : Plan). q.outlook.roots.items) y.plan ∙ x.rooted)
-
-      module _ (removed : List CellId) (l : Machine) (swept : IsSwept second [] removed l) where
-        gone : HasDone (next_purge (world_of second)) 0 second (PurgeDone removed) l
-        gone = purge_done second sound removed l swept
-
-        purge_is : answer_in (purged (world_of second)) (PurgeDone (ids (garbage_of (world_of second)))) ≡ answer_in (world_of l) (PurgeDone removed)
-        purge_is = ok_same (answer_in (purged (world_of second)) (PurgeDone (ids (garbage_of (world_of second))))) (answer_in (world_of l) (PurgeDone removed)) gone.is.step
-
-        left : world_of l ≡ purged (world_of second)
-        left = sym (ap (λ (d : Done). d.world) purge_is)
-
-        removed_are : removed ≡ ids (garbage_of (world_of second))
-        removed_are = sym (ap (λ (d : Done). removed_by d.reply) purge_is)
-
-        pub sound_left : IsSound l
-        sound_left = gone.sound
-
-        pub left_few : length l.cells.items ≤ length n.cells.items
-        left_few =
-            let here = ap length sound_left.joined.placed in
-            let there = ap length sound.joined.placed in
-            let mapped = length-map (world_of l).cells placed_of in
-            let mapped_there = length-map (world_of second).cells placed_of in
-            let fewer = length-filter_le (λ (c : Cell). not (holds (garbage_of (world_of second)) c.id.0)) (world_of second).cells in
-            let same = ap (λ (w : World). length w.cells) left in
-            omega (arith, here, there, mapped, mapped_there, fewer, same)
-
-        module _ (detached : List CellId) (out : detached ≡ ids (detached_of (world_of l))) where
-          abbrev reply : Reply
-          reply = SwapDone l.swaps r.fresh r.patched removed detached
-
-          said : reply ≡ swap_reply x.plan (world_of second)
-          said =
-              ap (λ (w : World). SwapDone w.swaps r.fresh r.patched removed detached) left
-              ∙ (ap (λ (fresh : List CellId). SwapDone (world_of second).swaps fresh r.patched removed detached) (fresh_are ∙ ap (λ (cs : List Cell). ids (numbers_of cs)) (sym x.fresh))
-              ∙ (ap (λ (patched : ℕ). SwapDone (world_of second).swaps (ids (numbers_of x.plan.fresh)) patched removed detached) (y.patched ∙ ap₂ (λ (a b : ℕ). a + b) (sym fields_are) x.count)
-              ∙ (ap (λ (gone : List CellId). SwapDone (world_of second).swaps (ids (numbers_of x.plan.fresh)) (field_count x.plan.fresh + length x.plan.changed) gone detached) removed_are
-              ∙ ap (λ (kept : List CellId). SwapDone (world_of second).swaps (ids (numbers_of x.plan.fresh)) (field_count x.plan.fresh + length x.plan.changed) (ids (garbage_of (world_of second))) kept)
-              (out ∙ ap (λ (w : World). ids (detached_of w)) left))))
-
-          stay : new_cells reply (world_of l) ≡ new
-          stay =
-              ap (λ (w : World). filter (λ (c : Cell). holds (map (λ (id : CellId). id.0) r.fresh) c.id.0) w.cells) left
-              ∙ (ap (λ (ns : List ℕ). filter (λ (c : Cell). holds ns c.id.0) (purged (world_of second)).cells) (ap (map (λ (id : CellId). id.0)) fresh_are ∙ ids_numbers new)
-              ∙ stay_all (world_of second) (world_of m).cells new cells_are m.next below (numbers_new (world_of m) x.ready.new p.staged x.ready.staged x.ready.there) stand)
-
-          runs_are : length p.staged.regions.items ≡ new_runs reply (world_of l)
-          runs_are = brought ∙ ap (λ (cs : List Cell). length (flat_map cell_shapes cs)) (sym stay)
-
-          pub swapped : HasSwapped x.plan (world_of second) stacks k reply l
-          swapped = record {
-            sound = gone.sound;
-            said = said;
-            world = left;
-            patches = swept.left.patches
-                ∙ (same_patches
-                ∙ (patches_now m n p.staged p.patches.items p.moves.items (moved m.graph.rows p.moves.items) refl x.changed x.patches x.ready added
-                ∙ ap₂ raised (sym (patches_same m k y.same)) (let e = y.patched in let sum : length p.patches.items + length p.staged.fields.items ≡ r.patched = omega (arith, e) in sum)));
-            maps = swept.left.maps
-                ∙ (more_maps
-                ∙ (ap (λ (count : ℕ). raised count stacks)
-                (maps_now m n p.staged p.patches.items p.moves.items (moved m.graph.rows p.moves.items) refl x.changed x.patches x.ready added
-                ∙ ap₂ raised (sym (maps_same m k y.same)) runs_are)
-                ∙ raised_more k.memory.maps (new_runs reply (world_of l)) stacks));
-          }
+    pub looked : (memory : MemoryState) → IsSound (record n { memory = memory }) → IsOutlook (record n { memory = memory }) [] r.plan.outlook
+    looked memory sound =
+        outlook_after x.begun.before x.asked.replaced.items m (record n { memory = memory }) x.begun.sound x.begun.aside sound new cells_are stand added.is.tasks p.staged.cells.items x.ready.staged.cells added.is.cells r.plan.outlook
+        (ap (λ (q : Plan). q.outlook.places) y.plan ∙ x.places) (ap (λ (q : Plan). q.outlook.roots.items) y.plan ∙ x.rooted)

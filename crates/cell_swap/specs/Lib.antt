@@ -5,3 +5,4 @@ pub mod Planning
 pub mod Swapped
 pub mod Back
 pub mod Before
+pub mod Entering

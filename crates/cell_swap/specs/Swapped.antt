@@ -71,7 +71,7 @@ pub record IsReadyFor (m : Machine) (old : List CellId) (o : Options) (p : Plan)
   pub patched : r.patched ≡ length p.staged.fields.items + length p.patches.items
   pub writes : r.writes ≡ r.patched + turns_in r.transfer
   pub given : Gives m old p o.routines.now o.budget r.transfer
-  pub back : AreAsTheyWere m.graph.rows p.moves.items r.back.items
+  pub links : AreAsTheyWere m.graph.rows p.moves.items r.links_before.items
 
 -- the plan was made before there was room for it
 pub record CanFinish (n : Machine) (old : List CellId) (r : Ready) : Type 0 where

@@ -10,14 +10,14 @@ use cell_unload::take_away;
 use cell_world::LinkRow;
 
 /// Gives the fields and the links of other cells and all that routines wrote back, and takes the new
-/// cells away. `back` are the links as they were.
-pub fn go_back(machine: &mut Machine, back: &[LinkRow], fresh: &[CellId])
-    requires { CanUndo machine.old back.now fresh.now }
-    ensures { (c : CanUndo machine.old back.now fresh.now) → IsSame c.can.room machine.new }
+/// cells away. `links_before` are the links as they were.
+pub fn undo_new_cells(machine: &mut Machine, links_before: &[LinkRow], fresh: &[CellId])
+    requires { CanUndo machine.old links_before.now fresh.now }
+    ensures { (c : CanUndo machine.old links_before.now fresh.now) → IsSame c.can.room machine.new }
 {
     machine.memory.undo();
     machine.memory.laid_out();
-    move_rows(&mut machine.graph, back);
+    move_rows(&mut machine.graph, links_before);
     take_away(machine, fresh);
     machine.next -= fresh.len() as u32;
 }

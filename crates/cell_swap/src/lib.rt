@@ -4,6 +4,7 @@
 mod affected;
 mod asked;
 mod back;
+mod entering;
 mod old_cells;
 mod planning;
 mod standing;

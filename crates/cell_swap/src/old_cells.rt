@@ -39,7 +39,7 @@ pub fn put_aside(machine: &mut Machine, old: &[CellId])
 }
 
 /// Attaches a cell again, unless it was already.
-fn take_one_back(spaces: &mut Spaces, cell: CellId)
+fn reattach_one(spaces: &mut Spaces, cell: CellId)
     requires there { HasCell spaces.old cell.0 }
     requires free { HasDetached spaces.old cell.0 → HasNoRival spaces.old cell.0 }
     ensures known { (before : List Known) (k : ℕ) (p : ℕ → Bool) → IsPut before k p spaces.old.cells → AreAttached before cell.0 → IsPut before k (λ n. p n && not (n == cell.0)) spaces.new.cells }
@@ -52,12 +52,12 @@ fn take_one_back(spaces: &mut Spaces, cell: CellId)
 }
 
 /// Attaches the cells again that the last swap put aside, which doesn't count then.
-pub fn take_back(machine: &mut Machine, old: &[CellId])
+pub fn reattach(machine: &mut Machine, old: &[CellId])
     requires { CanReturn machine.old old.now }
     ensures { (r : CanReturn machine.old old.now) → IsSame r.before machine.new }
 {
     for cell in old {
-        take_one_back(&mut machine.spaces, *cell);
+        reattach_one(&mut machine.spaces, *cell);
     }
     machine.swaps -= 1;
 }

@@ -1,6 +1,6 @@
 //! `swap`
 
-ghost use Rattle.std.specs.Prelude.{◌≡◌, ◌+◌, ◌<◌, ◌≤◌, ◌++◌, ◌^◌, ℕ, [], All, IfOk, IsTrue, nat_lt, None, length, map, vec_capacity, vec_len, if◌then◌else◌};
+ghost use Rattle.std.specs.Prelude.{◌≡◌, ◌+◌, ◌<◌, ◌≤◌, ◌++◌, ◌^◌, ℕ, [], All, IfOk, IsTrue, nat_lt, length, map, vec_capacity, vec_len};
 ghost use Rattle.cell_machine.specs.Does.{Does};
 ghost use Rattle.cell_machine.specs.Machine.{IsSound, world_of};
 ghost use Rattle.cell_machine.specs.Same.{IsSame};
@@ -8,27 +8,27 @@ ghost use Rattle.cell_world.specs.Answer.{ids};
 ghost use Rattle.cell_world.specs.Gather.{source_of};
 ghost use Rattle.cell_world.specs.Limits.{max_file_bytes};
 ghost use Rattle.cell_world.specs.SwapCommand.{next_swap};
-ghost use Rattle.cell_world.specs.UnloadCommand.{detached_of, first_held as held_among};
+ghost use Rattle.cell_world.specs.UnloadCommand.{detached_of};
 ghost use Rattle.cell_graph.specs.Links.{is_bound};
 ghost use Rattle.cell_graph.specs.Moves.{AreApart};
 ghost use Rattle.cell_swap.specs.Before.{AreAsTheyWere};
-ghost use Rattle.cell_unload.specs.Sweep.{IsSurvey, holding_in};
 ghost use Rattle.cell_swap.specs.Transferring.{AreOld, stacks_for, turns_in};
 ghost use Rattle.cell_num.specs.Lists.{each_pair};
 ghost use Rattle.cell_placed.specs.Low.{IsLow};
 ghost use Rattle.cell_swap.specs.Swapped.{AreEmpty, CanFinish, Exchanges, Finishes, HasBegun, IsReadyFor, unless_attached};
 
 use crate::asked::Asked;
-use crate::back::go_back;
-use crate::old_cells::{put_aside, take_back};
+use crate::back::undo_new_cells;
+use crate::entering::try_new_cells;
+use crate::old_cells::{put_aside, reattach};
 use crate::planning::{Plan, plan_swap};
-use crate::transferring::{run_routines, transfer_for};
+use crate::transferring::transfer_for;
 use cell_depot::Depot;
 use cell_hold::Root;
-use cell_load::{Prepared, commit, count, numbers, reserve};
+use cell_load::{Prepared, count, numbers, reserve};
 use cell_machine::Machine;
 use cell_num::{CellId, Listed, Name};
-use cell_unload::{Survey, remove_unkept, roots};
+use cell_unload::{remove_unkept, roots};
 use cell_world::{Fail, LinkRow, Refusal, Reply, SwapItem};
 use cell_xfer::Transfer;
 use std::alloc::{AllocError, Global};
@@ -94,7 +94,7 @@ struct Ready {
     /// What the routines take, if there are any.
     transfer: Option<Transfer>,
     /// The links that are moved, as they lead before.
-    back: Vec<LinkRow>,
+    links_before: Vec<LinkRow>,
 }
 
 /// The links of the users and entries that are moved, as they lead now.
@@ -115,17 +115,6 @@ fn links_before(
         near = next;
     }
     Ok(back)
-}
-
-/// The refusal of a strict swap: the first of the old cells that is kept.
-fn first_held(machine: &Machine, survey: &Survey, strict: bool, old: &[CellId]) -> Option<Refusal>
-    ensures { IsSurvey machine.now [] survey.now → result ≡ (if strict then held_among (holding_in machine.now []) (map (λ c. c.0) old.now) else None) }
-{
-    if strict {
-        survey.first_held(machine, old)
-    } else {
-        None
-    }
 }
 
 impl Ready {
@@ -152,7 +141,7 @@ impl Ready {
         let fresh = numbers(alloc, &plan.staged.cells)?;
         let transfer = transfer_for(alloc, machine, old, &plan, options.routines, options.budget)?;
         let writes = count(patched as usize + turns_of(&transfer) as usize)?;
-        let back = links_before(alloc, machine, &plan.moves)?;
+        let links_before = links_before(alloc, machine, &plan.moves)?;
         let names = replace(&mut plan.staged.names, Vec::new(alloc));
         let prepared = Prepared::of(alloc, &plan.staged.cells, names)?;
         reserve(machine, &plan.staged, &prepared)?;
@@ -166,7 +155,7 @@ impl Ready {
             patched,
             writes,
             transfer,
-            back,
+            links_before,
         })
     }
 
@@ -185,34 +174,20 @@ impl Ready {
             patched,
             writes: _,
             transfer,
-            back,
+            links_before,
         } = self;
-        let Plan {
-            staged,
-            patches,
-            moves,
-            outlook,
-            begins: _,
-            stack: _,
-        } = plan;
         let Lists {
             kept,
             mut removed,
             mut detached,
         } = lists;
-        commit(machine, staged, prepared, &patches, &moves);
-        machine.memory.laid_out();
-        if let Err(refusal) = run_routines(&mut machine.memory, transfer) {
-            go_back(machine, &back, fresh.as_slice());
-            return Err(refusal);
-        }
-        let undo = machine.memory.suspend_undo();
-        let survey = Survey::read(machine, outlook, kept);
-        if let Some(refusal) = first_held(machine, &survey, strict, old) {
-            machine.memory.resume_undo(undo);
-            go_back(machine, &back, fresh.as_slice());
-            return Err(refusal);
-        }
+        let survey = match try_new_cells(machine, plan, prepared, transfer, kept, strict, old) {
+            Ok(survey) => survey,
+            Err(refusal) => {
+                undo_new_cells(machine, &links_before, fresh.as_slice());
+                return Err(refusal);
+            }
+        };
         remove_unkept(machine, &survey, &mut removed);
         list_detached(machine, &mut detached);
         Ok(Reply::Swap {
@@ -235,7 +210,7 @@ fn add_detached(cell: CellId, group: Option<u32>, into: &mut Vec<CellId>)
     if group.is_none() {
         return;
     }
-    let _ = into.push(cell);
+    into.push_reserved(cell);
 }
 
 /// Lists the cells that are put aside, ascending, in a list that is empty and has room for all cells.
@@ -309,7 +284,7 @@ pub fn swap(
     match exchange(alloc, depot, machine, &asked, options, roots) {
         Ok(reply) => Ok(reply),
         Err(fail) => {
-            take_back(machine, &asked.replaced);
+            reattach(machine, &asked.replaced);
             Err(fail)
         }
     }

@@ -31,8 +31,8 @@ exchange-requires c =
       rooted = (c.in_ok-roots.ensures {u = tt}) ∙ ap (roots_without m) c.deref.ensures.value;
     }
 
-pub take_back-requires : goal.take_back-requires
-take_back-requires c =
+pub reattach-requires : goal.reattach-requires
+reattach-requires c =
     let m = c.args.machine.now in
     let asked = c.in_ok-asked.asked in
     let aside = subst (λ (old : List CellId). IsAside m old c.put_aside.new.machine) c.deref-2.ensures.value c.put_aside.ensures in
@@ -65,5 +65,5 @@ returns c =
       there = subst (AreThere m.spaces.cells) (sym c.deref-in-Err.ensures.value) (old_there c.args.depot.now m c.requires.sound c.args.items.now asked c.in_ok-asked.ensures);
       aside = subst (λ (old : List CellId). IsAside m old c.exchange.new.machine) (sym c.deref-in-Err.ensures.value) (aside_same m asked.replaced.items c.put_aside.new.machine c.exchange.new.machine aside same);
     } in
-    taken_back c.args.depot.now m c.requires.sound c.args.items.now c.args.options.now asked c.in_ok-asked.ensures c.requires.small c.requires.some c.put_aside.new.machine aside c.in-Err.fail c.exchange.new.machine c.take_back.new.machine (c.in-Err.ensures h)
-    (c.take_back.ensures r)
+    taken_back c.args.depot.now m c.requires.sound c.args.items.now c.args.options.now asked c.in_ok-asked.ensures c.requires.small c.requires.some c.put_aside.new.machine aside c.in-Err.fail c.exchange.new.machine c.reattach.new.machine (c.in-Err.ensures h)
+    (c.reattach.ensures r)

@@ -13,8 +13,8 @@ returns-in_err-fresh-clause-same c = same_itself c.args.machine.now
 pub returns-in_err-prepared-clause-same : goal.returns-in_err-prepared-clause-same
 returns-in_err-prepared-clause-same c = same_itself c.args.machine.now
 
-pub returns-in_err-back-clause-same : goal.returns-in_err-back-clause-same
-returns-in_err-back-clause-same c = same_itself c.args.machine.now
+pub returns-in_err-links_before-clause-same : goal.returns-in_err-links_before-clause-same
+returns-in_err-links_before-clause-same c = same_itself c.args.machine.now
 
 pub returns-in_err-transfer-clause-same : goal.returns-in_err-transfer-clause-same
 returns-in_err-transfer-clause-same c = same_itself c.args.machine.now

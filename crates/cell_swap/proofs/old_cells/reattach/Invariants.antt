@@ -1,7 +1,7 @@
 use Rattle.std.proofs.Common.{◌≡◌, ◌+◌}
 use Rattle.cell_swap.specs.OldCells.{CanReturn, IsPut}
 use Rattle.cell_swap.proofs.Returning.{still_aside}
-use Rattle.cell_swap.proofs.old_cells.take_back.Given as goal
+use Rattle.cell_swap.proofs.old_cells.reattach.Given as goal
 
 -- the cells so far are attached again, and nothing else changes
 abbrev pub invariant-loop-cell : goal.invariant-loop-cell

@@ -6,7 +6,7 @@ use Rattle.cell_num.specs.declared.ids.SecKey.{SecKey}
 use Rattle.cell_world.specs.declared.state.LinkRow.{LinkRow}
 use Rattle.cell_machine.specs.declared.machine.Machine.{Machine}
 use Rattle.cell_swap.proofs.GoneBack.{bound_back, can_go_back, present_back, went_back}
-use Rattle.cell_swap.proofs.back.go_back.Goals as goal
+use Rattle.cell_swap.proofs.back.undo_new_cells.Goals as goal
 
 pub undo-requires : goal.undo-requires
 undo-requires c = c.requires.begun
@@ -14,24 +14,24 @@ undo-requires c = c.requires.begun
 pub move_rows-requires-clause-bound : goal.move_rows-requires-clause-bound
 move_rows-requires-clause-bound c =
     let x = c.requires in
-    subst (λ (ls : List LinkRow). All (λ (b : LinkRow). IsTrue (is_bound ls b.user b.entry)) c.args.back.now) (sym (ap (λ (n : Machine). n.graph.rows) x.like)) (bound_back x.added c.args.back.now c.args.fresh.now x.can)
+    subst (λ (ls : List LinkRow). All (λ (b : LinkRow). IsTrue (is_bound ls b.user b.entry)) c.args.links_before.now) (sym (ap (λ (n : Machine). n.graph.rows) x.like)) (bound_back x.added c.args.links_before.now c.args.fresh.now x.can)
 
 pub move_rows-requires-clause-present : goal.move_rows-requires-clause-present
 move_rows-requires-clause-present c =
     let x = c.requires in
-    subst (λ (keys : List SecKey). All (λ (b : LinkRow). Contains keys b.target) c.args.back.now) (sym (ap (λ (n : Machine). n.graph.sections) x.like)) (present_back x.added c.args.back.now c.args.fresh.now x.can)
+    subst (λ (keys : List SecKey). All (λ (b : LinkRow). Contains keys b.target) c.args.links_before.now) (sym (ap (λ (n : Machine). n.graph.sections) x.like)) (present_back x.added c.args.links_before.now c.args.fresh.now x.can)
 
 pub take_away-requires : goal.take_away-requires
 take_away-requires c =
     let x = c.requires in
-    can_go_back x.added c.args.back.now c.args.fresh.now x.can _ (c.undo.ensures ∙ x.undone)
-    (c.move_rows.ensures.rows ∙ ap (λ (n : Machine). moved n.graph.rows c.args.back.now) x.like) (c.move_rows.ensures.sections ∙ ap (λ (n : Machine). n.graph.sections) x.like)
+    can_go_back x.added c.args.links_before.now c.args.fresh.now x.can _ (c.undo.ensures ∙ x.undone)
+    (c.move_rows.ensures.rows ∙ ap (λ (n : Machine). moved n.graph.rows c.args.links_before.now) x.like) (c.move_rows.ensures.sections ∙ ap (λ (n : Machine). n.graph.sections) x.like)
     (ap (λ (n : Machine). n.cells.items) x.like) (ap (λ (n : Machine). n.spaces.cells) x.like) (ap (λ (n : Machine). n.space) x.like)
 
 pub returns : goal.returns
 returns c x =
-    went_back x.added c.args.back.now c.args.fresh.now x.can _ (c.undo.ensures ∙ x.undone)
-    (c.move_rows.ensures.rows ∙ ap (λ (n : Machine). moved n.graph.rows c.args.back.now) x.like) (c.move_rows.ensures.sections ∙ ap (λ (n : Machine). n.graph.sections) x.like)
+    went_back x.added c.args.links_before.now c.args.fresh.now x.can _ (c.undo.ensures ∙ x.undone)
+    (c.move_rows.ensures.rows ∙ ap (λ (n : Machine). moved n.graph.rows c.args.links_before.now) x.like) (c.move_rows.ensures.sections ∙ ap (λ (n : Machine). n.graph.sections) x.like)
     (ap (λ (n : Machine). n.cells.items) x.like) (ap (λ (n : Machine). n.spaces.cells) x.like) (ap (λ (n : Machine). n.space) x.like)
     c.take_away.new.machine c.take_away.ensures x.laid c.laid_out.ensures
     (ap (λ (n : Machine). n.next) x.like) (ap (λ (n : Machine). n.swaps) x.like) (ap (λ (n : Machine). n.spaces.namespaces) x.like) (ap (λ (n : Machine). n.tasks) x.like)

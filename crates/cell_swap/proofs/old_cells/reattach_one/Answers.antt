@@ -4,7 +4,7 @@ use Rattle.cell_space.specs.declared.cell.CellState.{CellState}
 use Rattle.cell_space.specs.declared.cell.CellState.TheVariants.{Attached, Detached}
 use Rattle.cell_space.specs.Named.{is_state}
 use Rattle.cell_swap.proofs.Returning.{attached_again, found_in, less_aside}
-use Rattle.cell_swap.proofs.old_cells.take_one_back.Goals as goal
+use Rattle.cell_swap.proofs.old_cells.reattach_one.Goals as goal
 
 pub reattach-requires-clause-detached : goal.reattach-requires-clause-detached
 reattach-requires-clause-detached c =

@@ -3,7 +3,7 @@ use Rattle.std.specs.Prelude.{if◌then◌else◌}
 use Rattle.cell_num.specs.declared.ids.CellId.{CellId}
 use Rattle.cell_world.specs.UnloadCommand.{first_held}
 use Rattle.cell_unload.specs.Sweep.{holding_in}
-use Rattle.cell_swap.proofs.swapping.first_held.Goals as goal
+use Rattle.cell_swap.proofs.entering.first_held.Goals as goal
 
 pub returns-then-strict : goal.returns-then-strict
 returns-then-strict c survey =

@@ -3,10 +3,10 @@ use Rattle.cell_num.specs.declared.ids.CellId.{CellId}
 use Rattle.cell_machine.specs.declared.machine.Machine.{Machine}
 use Rattle.cell_swap.proofs.OldRivals.{are_attached, no_rival}
 use Rattle.cell_swap.proofs.Returning.{has_state, left_next, none_left, put_none, put_same, still_aside, told}
-use Rattle.cell_swap.proofs.old_cells.take_back.Goals as goal
+use Rattle.cell_swap.proofs.old_cells.reattach.Goals as goal
 
-pub take_one_back-requires-clause-there : goal.take_one_back-requires-clause-there
-take_one_back-requires-clause-there c =
+pub reattach_one-requires-clause-there : goal.reattach_one-requires-clause-there
+reattach_one-requires-clause-there c =
     let none : CellId = record { 0 = 0 } in
     let old = c.args.old.now in
     let place = c.loop-cell.cell-index in
@@ -15,8 +15,8 @@ take_one_back-requires-clause-there c =
     (get_or old place none).0 (r.there place none (omega arith)) in
     has_state c.loop-cell.machine.spaces.cells (get_or old place none).0 _ put
 
-pub take_one_back-requires-clause-free : goal.take_one_back-requires-clause-free
-take_one_back-requires-clause-free c =
+pub reattach_one-requires-clause-free : goal.reattach_one-requires-clause-free
+reattach_one-requires-clause-free c =
     let none : CellId = record { 0 = 0 } in
     let old = c.args.old.now in
     let place = c.loop-cell.cell-index in
@@ -31,11 +31,11 @@ loop-cell-preserved c =
     let place = c.loop-cell.cell-index in
     let below : place < length old = omega arith in
     record {
-      known = λ r. put_same r.before.spaces.cells (r.before.swaps + 1) _ (still_aside old (place + 1)) c.take_one_back.new.spaces.cells (λ n. left_next old place below n)
-          (c.take_one_back.ensures.known r.before.spaces.cells (r.before.swaps + 1) (still_aside old place) (c.loop-cell.invariant.known r)
+      known = λ r. put_same r.before.spaces.cells (r.before.swaps + 1) _ (still_aside old (place + 1)) c.reattach_one.new.spaces.cells (λ n. left_next old place below n)
+          (c.reattach_one.ensures.known r.before.spaces.cells (r.before.swaps + 1) (still_aside old place) (c.loop-cell.invariant.known r)
           (are_attached r.before r.sound (get_or old place none).0 (r.there place none below)));
-      namespaces = c.take_one_back.ensures.namespaces ∙ c.loop-cell.invariant.namespaces;
-      others = ap (λ (m : Machine). record m { spaces = c.take_one_back.new.spaces }) c.loop-cell.invariant.others;
+      namespaces = c.reattach_one.ensures.namespaces ∙ c.loop-cell.invariant.namespaces;
+      others = ap (λ (m : Machine). record m { spaces = c.reattach_one.new.spaces }) c.loop-cell.invariant.others;
     }
 
 pub returns : goal.returns
