@@ -1,8 +1,8 @@
 -- The words that a statement begins with.
 --     directive text        the directive of that word
 --     mnemonic text         the instruction of that word, or what is short for instructions
-use Rattle.std.specs.Prelude.{ℕ, List, [], ◌∷◌, ◌++◌, codes, Option, option_map, find, bytes_eq, pos}
-use Rattle.cell_asm.specs.Types.{Op, Text, Rodata, Data, Bss, Shape, Registers, ShapeImmediate as Immediate, ShapeShift as Shift, ShapeShiftWord as ShiftWord, Load, Store, Branch, Jump, ShapeUpper as Upper, ShapeUpperPcrel as UpperPcrel, Alone, Move, LoadNumber, Return, JumpTo, Call, LoadAddress, Byte, Half, WidthWord as Word, Quad, Mnemonic, Directive, DirectiveChoose as Choose, DirectiveGlobal as Global, Numbers, DirectiveZeros as Zeros, DirectiveAlign as Align}
+use Rattle.std.specs.Prelude.{ℕ, true, false, List, [], ◌∷◌, ◌++◌, codes, Option, Some, None, option_map, find, bytes_eq, pos}
+use Rattle.cell_asm.specs.Types.{Op, Text, Rodata, Data, Bss, Form, Low, LowStore, FormUpper as Upper, FormUpperPcrel as UpperPcrel, FormShift as Shift, FormShiftWord as ShiftWord, Small, FormBranch as Branch, FormJump as Jump, FormCall as Call, Address, Slot, Rd, Rs1, Rs2, SlotValue as Value, SlotMemory as Memory, Fixed, Byte, Half, WidthWord as Word, Quad, Mnemonic, Directive, DirectiveChoose as Choose, DirectiveGlobal as Global, Numbers, DirectiveZeros as Zeros, DirectiveAlign as Align}
 use Rattle.cell_isa.specs.declared.insn.Op.TheVariants.{Lui, Auipc, Jal, Jalr, Beq, Bne, Blt, Bge, Bltu, Bgeu, Lb, Lh, Lw, Ld, Lbu, Lhu, Lwu, Sb, Sh, Sw, Sd, Addi, Slti, Sltiu, Xori, Ori, Andi, Slli, Srli, Srai, Add, Sub, Sll, Slt, Sltu, Xor, Srl, Sra, Or, And, Addiw, Slliw, Srliw, Sraiw, Addw, Subw, Sllw, Srlw, Sraw, Mul, Mulh, Mulhsu, Mulhu, Div, Divu, Rem, Remu, Mulw, Divw, Divuw, Remw, Remuw, Fence, Ecall, Ebreak}
 
 -- the row of a table with that word
@@ -19,55 +19,88 @@ directives =
 abbrev pub directive : List ℕ → Option Directive
 directive text = row_of directives text
 
-abbrev pub row : List ℕ → Op → Shape → List ℕ × (Op × Shape)
-row text op shape = (text, (op, shape))
+-- an instruction: its operation, what its operands fill in their order, and what none says
+abbrev pub Row : Type 0
+Row = Op × List Slot × Fixed
 
--- what stands for instructions of another spelling
-abbrev pub shorthands : List (List ℕ × (Op × Shape))
+abbrev pub said : Mnemonic → Row
+said m = (m.0, m.1.now, m.2)
+
+-- zeros in the fields that no operand fills, and no second instruction
+abbrev pub free : Fixed
+free = record { rd = 0; rs1 = 0; number = pos 0; then = None }
+
+abbrev pub row : List Slot → List ℕ → Op → List ℕ × Row
+row slots text op = (text, (op, slots, free))
+
+-- rd,rs1,rs2
+abbrev pub registers : List ℕ → Op → List ℕ × Row
+registers = row (Rd ∷ Rs1 ∷ Rs2 ∷ [])
+
+-- rd,rs1 and a value
+abbrev pub immediate : Form → List ℕ → Op → List ℕ × Row
+immediate form = row (Rd ∷ Rs1 ∷ Value form ∷ [])
+
+-- rd and a value
+abbrev pub to_rd : Form → List ℕ → Op → List ℕ × Row
+to_rd form = row (Rd ∷ Value form ∷ [])
+
+abbrev pub load : List ℕ → Op → List ℕ × Row
+load = row (Rd ∷ Memory Low ∷ [])
+
+abbrev pub store : List ℕ → Op → List ℕ × Row
+store = row (Rs2 ∷ Memory LowStore ∷ [])
+
+abbrev pub branch : List ℕ → Op → List ℕ × Row
+branch = row (Rs1 ∷ Rs2 ∷ Value Branch ∷ [])
+
+-- what stands for instructions of another spelling; ra is register 1
+abbrev pub shorthands : List (List ℕ × Row)
 shorthands =
-    row (codes "nop") Addi (Alone (pos 0)) ∷ row (codes "mv") Addi Move ∷ row (codes "li") Addi LoadNumber
-    ∷ row (codes "ret") Jalr Return ∷ row (codes "j") Jal JumpTo
-    ∷ row (codes "call") Auipc Call ∷ row (codes "la") Auipc LoadAddress ∷ []
+    row [] (codes "nop") Addi ∷ row (Rd ∷ Rs1 ∷ []) (codes "mv") Addi ∷ to_rd Small (codes "li") Addi
+    ∷ (codes "ret", (Jalr, [], record free { rs1 = 1 })) ∷ row (Value Jump ∷ []) (codes "j") Jal
+    ∷ (codes "call", (Auipc, Value Call ∷ [], record free { rd = 1; then = Some (record { op = Jalr; made = false }) }))
+    ∷ (codes "la", (Auipc, Rd ∷ Value Address ∷ [], record free { then = Some (record { op = Addi; made = true }) })) ∷ []
 
-abbrev pub jumps : List (List ℕ × (Op × Shape))
+abbrev pub jumps : List (List ℕ × Row)
 jumps =
-    row (codes "lui") Lui Upper ∷ row (codes "auipc") Auipc UpperPcrel
-    ∷ row (codes "jal") Jal Jump ∷ row (codes "jalr") Jalr Load
-    ∷ row (codes "beq") Beq Branch ∷ row (codes "bne") Bne Branch ∷ row (codes "blt") Blt Branch
-    ∷ row (codes "bge") Bge Branch ∷ row (codes "bltu") Bltu Branch ∷ row (codes "bgeu") Bgeu Branch
-    ∷ row (codes "fence") Fence (Alone (pos 255)) ∷ row (codes "ecall") Ecall (Alone (pos 0)) ∷ row (codes "ebreak") Ebreak (Alone (pos 0)) ∷ []
+    to_rd Upper (codes "lui") Lui ∷ to_rd UpperPcrel (codes "auipc") Auipc
+    ∷ to_rd Jump (codes "jal") Jal ∷ load (codes "jalr") Jalr
+    ∷ branch (codes "beq") Beq ∷ branch (codes "bne") Bne ∷ branch (codes "blt") Blt
+    ∷ branch (codes "bge") Bge ∷ branch (codes "bltu") Bltu ∷ branch (codes "bgeu") Bgeu
+    ∷ (codes "fence", (Fence, [], record free { number = pos 255 })) ∷ row [] (codes "ecall") Ecall ∷ row [] (codes "ebreak") Ebreak ∷ []
 
-abbrev pub transfers : List (List ℕ × (Op × Shape))
+abbrev pub transfers : List (List ℕ × Row)
 transfers =
-    row (codes "lb") Lb Load ∷ row (codes "lh") Lh Load ∷ row (codes "lw") Lw Load ∷ row (codes "ld") Ld Load
-    ∷ row (codes "lbu") Lbu Load ∷ row (codes "lhu") Lhu Load ∷ row (codes "lwu") Lwu Load
-    ∷ row (codes "sb") Sb Store ∷ row (codes "sh") Sh Store ∷ row (codes "sw") Sw Store ∷ row (codes "sd") Sd Store ∷ []
+    load (codes "lb") Lb ∷ load (codes "lh") Lh ∷ load (codes "lw") Lw ∷ load (codes "ld") Ld
+    ∷ load (codes "lbu") Lbu ∷ load (codes "lhu") Lhu ∷ load (codes "lwu") Lwu
+    ∷ store (codes "sb") Sb ∷ store (codes "sh") Sh ∷ store (codes "sw") Sw ∷ store (codes "sd") Sd ∷ []
 
-abbrev pub with_number : List (List ℕ × (Op × Shape))
+abbrev pub with_number : List (List ℕ × Row)
 with_number =
-    row (codes "addi") Addi Immediate ∷ row (codes "slti") Slti Immediate ∷ row (codes "sltiu") Sltiu Immediate
-    ∷ row (codes "xori") Xori Immediate ∷ row (codes "ori") Ori Immediate ∷ row (codes "andi") Andi Immediate
-    ∷ row (codes "addiw") Addiw Immediate
-    ∷ row (codes "slli") Slli Shift ∷ row (codes "srli") Srli Shift ∷ row (codes "srai") Srai Shift
-    ∷ row (codes "slliw") Slliw ShiftWord ∷ row (codes "srliw") Srliw ShiftWord ∷ row (codes "sraiw") Sraiw ShiftWord ∷ []
+    immediate Low (codes "addi") Addi ∷ immediate Low (codes "slti") Slti ∷ immediate Low (codes "sltiu") Sltiu
+    ∷ immediate Low (codes "xori") Xori ∷ immediate Low (codes "ori") Ori ∷ immediate Low (codes "andi") Andi
+    ∷ immediate Low (codes "addiw") Addiw
+    ∷ immediate Shift (codes "slli") Slli ∷ immediate Shift (codes "srli") Srli ∷ immediate Shift (codes "srai") Srai
+    ∷ immediate ShiftWord (codes "slliw") Slliw ∷ immediate ShiftWord (codes "srliw") Srliw ∷ immediate ShiftWord (codes "sraiw") Sraiw ∷ []
 
-abbrev pub with_registers : List (List ℕ × (Op × Shape))
+abbrev pub with_registers : List (List ℕ × Row)
 with_registers =
-    row (codes "add") Add Registers ∷ row (codes "sub") Sub Registers ∷ row (codes "sll") Sll Registers
-    ∷ row (codes "slt") Slt Registers ∷ row (codes "sltu") Sltu Registers ∷ row (codes "xor") Xor Registers
-    ∷ row (codes "srl") Srl Registers ∷ row (codes "sra") Sra Registers ∷ row (codes "or") Or Registers ∷ row (codes "and") And Registers
-    ∷ row (codes "addw") Addw Registers ∷ row (codes "subw") Subw Registers ∷ row (codes "sllw") Sllw Registers
-    ∷ row (codes "srlw") Srlw Registers ∷ row (codes "sraw") Sraw Registers ∷ []
+    registers (codes "add") Add ∷ registers (codes "sub") Sub ∷ registers (codes "sll") Sll
+    ∷ registers (codes "slt") Slt ∷ registers (codes "sltu") Sltu ∷ registers (codes "xor") Xor
+    ∷ registers (codes "srl") Srl ∷ registers (codes "sra") Sra ∷ registers (codes "or") Or ∷ registers (codes "and") And
+    ∷ registers (codes "addw") Addw ∷ registers (codes "subw") Subw ∷ registers (codes "sllw") Sllw
+    ∷ registers (codes "srlw") Srlw ∷ registers (codes "sraw") Sraw ∷ []
 
-abbrev pub products : List (List ℕ × (Op × Shape))
+abbrev pub products : List (List ℕ × Row)
 products =
-    row (codes "mul") Mul Registers ∷ row (codes "mulh") Mulh Registers ∷ row (codes "mulhsu") Mulhsu Registers ∷ row (codes "mulhu") Mulhu Registers
-    ∷ row (codes "div") Div Registers ∷ row (codes "divu") Divu Registers ∷ row (codes "rem") Rem Registers ∷ row (codes "remu") Remu Registers
-    ∷ row (codes "mulw") Mulw Registers ∷ row (codes "divw") Divw Registers ∷ row (codes "divuw") Divuw Registers
-    ∷ row (codes "remw") Remw Registers ∷ row (codes "remuw") Remuw Registers ∷ []
+    registers (codes "mul") Mul ∷ registers (codes "mulh") Mulh ∷ registers (codes "mulhsu") Mulhsu ∷ registers (codes "mulhu") Mulhu
+    ∷ registers (codes "div") Div ∷ registers (codes "divu") Divu ∷ registers (codes "rem") Rem ∷ registers (codes "remu") Remu
+    ∷ registers (codes "mulw") Mulw ∷ registers (codes "divw") Divw ∷ registers (codes "divuw") Divuw
+    ∷ registers (codes "remw") Remw ∷ registers (codes "remuw") Remuw ∷ []
 
-abbrev pub mnemonics : List (List ℕ × (Op × Shape))
+abbrev pub mnemonics : List (List ℕ × Row)
 mnemonics = shorthands ++ (jumps ++ (transfers ++ (with_number ++ (with_registers ++ products))))
 
-abbrev pub mnemonic : List ℕ → Option Mnemonic
-mnemonic text = option_map (λ p. record { op = p.0; shape = p.1 }) (row_of mnemonics text)
+abbrev pub mnemonic : List ℕ → Option Row
+mnemonic text = row_of mnemonics text

@@ -1,9 +1,10 @@
 //! A line: its label, its statement, its comment.
 
-ghost use Rattle.std.specs.Prelude.{◌≡◌, ◌≤◌, ◌-◌, ◌==◌, map, length, not, IfOk};
+ghost use Rattle.std.specs.Prelude.{◌≡◌, ◌≤◌, ◌-◌, ◌==◌, map, option_map, length, not, IfOk};
 ghost use Rattle.std.specs.List.{prefix_len, suffix_len, slice_split};
 ghost use Rattle.cell_asm.specs.Faults.{Gives};
 ghost use Rattle.cell_asm.specs.Lines.{is_blank as blank, is_inked as inked, trimmed as trimmed_of, code_of as code_of_line, first_word as first_word_of, after_word as after_word_of, operand_texts, spelled, operands as operands_of, statement_in as statement_in_text, has_label as labelled, label_name, line_of};
+ghost use Rattle.cell_asm.specs.Mnemonics.{said};
 ghost use Rattle.cell_asm.specs.Statements.{statement as statement_of, instructed as instructed_of};
 
 use crate::directive::directed;
@@ -210,7 +211,7 @@ fn instructed<'a>(
     mnemonic: Option<Mnemonic>,
     operands: &[Operand<'a>],
 ) -> Result<Statement<'a>, Stop>
-    ensures { Gives result (instructed_of mnemonic operands.now) }
+    ensures { Gives result (instructed_of (option_map said mnemonic) operands.now) }
 {
     let Some(mnemonic) = mnemonic else {
         return Err(Stop::Fault(AsmKind::Word));
