@@ -22,8 +22,8 @@ use Rattle.cell_asm.specs.Operands.{is_sign, less, with_rest, expression, modifi
 use Rattle.cell_asm.specs.Operands as operands
 use Rattle.cell_asm.specs.Types.{AsmKind, Key, KeyNamed as Named, KeyMade as Made, Expression, ExpressionName as Name, Sum, Difference, Whole, Immediate, Number, ImmediatePart as Part, Operand, OperandValue as Value, OperandMemory as Memory}
 use Rattle.cell_asm.specs.declared.kind.AsmKind.TheVariants as faults
-use Rattle.cell_num.proofs.Elements.{In, In-append, In-left, In-right, flat_map-In}
-use Rattle.cell_asm.proofs.ListLemmas.{take_le, drop_le, total, total-append, total_le, total-map, itself, least, le_trans}
+use Rattle.cell_num.proofs.Elements.{In, In-append, flat_map-In}
+use Rattle.cell_asm.proofs.ListLemmas.{take_le, drop_le, total, total-append, total_le, total-map, le_trans}
 
 abbrev pub Any : {A : Type 0} → A → Type 0
 Any a = Unit {0}
@@ -245,31 +245,9 @@ join_named m n ms ns h k = record {
   few = let f : cost ms ≤ m = h.few in let g : cost ns ≤ n = k.few in omega (arith, f, g, cost-append ms ns);
 }
 
--- SOME OF THESE NAMES
-
--- each of them is one of all, and they take no more bytes
-pub record IsPart (ns all : List (List ℕ)) : Type 0 where
-  pub each : (n : List ℕ) → In n ns → In n all
-  pub few : cost ns ≤ cost all
-
-pub part_none : (all : List (List ℕ)) → IsPart [] all
-part_none all = record { each = λ n k. absurd k; few = least (cost all) }
-
-pub part_self : (ns : List (List ℕ)) → IsPart ns ns
-part_self ns = record { each = λ n k. k; few = itself (cost ns) }
-
-pub part_join : (ms ns ks ls : List (List ℕ)) → IsPart ms ks → IsPart ns ls → IsPart (ms ++ ns) (ks ++ ls)
-part_join ms ns ks ls p q = record {
-  each = λ n k. go n (In-append ms ns n k);
-  few = let a : cost ms ≤ cost ks = p.few in let b : cost ns ≤ cost ls = q.few in omega (arith, a, b, cost-append ms ns, cost-append ks ls);
-}
-  where
-    go : (n : List ℕ) → In n ms ⊎ In n ns → In n (ks ++ ls)
-    go n (inl i) = In-left ks ls n (p.each n i)
-    go n (inr i) = In-right ks ls n (q.each n i)
-
-pub part_named : (m : ℕ) (ns all : List (List ℕ)) → IsPart ns all → IsNamed m all → IsNamed m ns
-part_named m ns all p h = record { named = λ n k. h.named n (p.each n k); few = le_trans (cost ns) (cost all) m p.few h.few }
+-- those are some of all: what is known of all is known of them
+abbrev pub IsPart : List (List ℕ) → List (List ℕ) → Type 0
+IsPart ns all = (m : ℕ) → IsNamed m all → IsNamed m ns
 
 -- OPERANDS
 
@@ -376,7 +354,7 @@ abbrev pub all_names : List Operand → List (List ℕ)
 all_names os = flat_map operand_names os
 
 pub part_in : (os : List Operand) (o : Operand) → In o os → IsPart (operand_names o) (all_names os)
-part_in os o k = record { each = λ n i. flat_map-In operand_names os o n k i; few = go os k }
+part_in os o k m h = record { named = λ n i. h.named n (flat_map-In operand_names os o n k i); few = le_trans (cost (operand_names o)) (cost (all_names os)) m (go os k) h.few }
   where
     go : (ps : List Operand) → In o ps → cost (operand_names o) ≤ cost (all_names ps)
     go [] i = absurd i

@@ -17,7 +17,7 @@ use Rattle.cell_asm.specs.Mnemonics.{Row, directive, mnemonic}
 use Rattle.cell_asm.specs.Statements.{layout_of, numbers, count, unit_of, unit, none, one, directed, worded, statement}
 use Rattle.cell_asm.specs.Lines.{is_inked, read_with, statement_in, spelled, operand_texts, first_word, after_word, has_label, label_name, labelled, line_of, code_of, operands}
 use Rattle.cell_asm.proofs.ListLemmas.{take_le, drop_le, le_trans, itself, le_of}
-use Rattle.cell_asm.proofs.NamesFit.{Any, Yields, Finds, yields_value, yields_any, yields_ok, yields_weaker, IsNamed, none_named, one_named, join_named, more_named, IsPart, part_none, part_self, part_named, split_length, trimmed_le, all_names, NamesAll, operands_named, name_fits}
+use Rattle.cell_asm.proofs.NamesFit.{Any, Yields, Finds, yields_value, yields_any, yields_ok, yields_weaker, IsNamed, none_named, one_named, join_named, more_named, IsPart, split_length, trimmed_le, all_names, NamesAll, operands_named, name_fits}
 use Rattle.cell_asm.proofs.GoodBlocks.{IsUnit, IsGoodStatement}
 use Rattle.cell_asm.proofs.StatementBlocks.{IsNamedBlock, IsGoodRow, mnemonic_good, instruction_good, numbers_good}
 
@@ -48,16 +48,16 @@ one_read P read make (o ∷ p ∷ os) h made = tt
 
 -- the name of one operand
 one_name : (o : Operand) → Yields (λ n. IsPart (n ∷ []) (all_names (o ∷ []))) (name o)
-one_name (Value (Part Whole (Name n))) = part_self (n ∷ [])
+one_name (Value (Part Whole (Name n))) = λ m h. h
 one_name _ = tt
 
 directed_read : (d : Directive) (os : List Operand) → Yields (IsRead os) (directed d os)
-directed_read (directives.Choose part) os = none_read os (Choose part) (record { good = tt; part = part_none (all_names os) })
+directed_read (directives.Choose part) os = none_read os (Choose part) (record { good = tt; part = λ m h. none_named m })
 directed_read directives.Global os = one_read (λ all n. IsPart (n ∷ []) (all_names all)) name (λ n. Global n) os one_name (λ n p. record { good = tt; part = p })
 directed_read (directives.Numbers w) os =
     yields_value (IsNamedBlock (layout_of w).content (all_names os)) (IsRead os) (λ b. Bytes (layout_of w).content b) (numbers w os) (λ b g. record { good = g.good; part = g.part }) (numbers_good w os)
-directed_read directives.Zeros os = one_read (λ all. Any) count (λ n. Zeros n) os (λ o. yields_any (count o)) (λ n u. record { good = tt; part = part_none (all_names os) })
-directed_read directives.Align os = one_read (λ all. IsUnit) unit (λ n. Align n) os (λ o. unit_good (count o)) (λ n u. record { good = u; part = part_none (all_names os) })
+directed_read directives.Zeros os = one_read (λ all. Any) count (λ n. Zeros n) os (λ o. yields_any (count o)) (λ n u. record { good = tt; part = λ m h. none_named m })
+directed_read directives.Align os = one_read (λ all. IsUnit) unit (λ n. Align n) os (λ o. unit_good (count o)) (λ n u. record { good = u; part = λ m h. none_named m })
 
 -- STATEMENTS
 
@@ -74,7 +74,7 @@ record IsReadIn (m : ℕ) (s : Statement) : Type 0 where
 
 with_operands : (m : ℕ) (word : List ℕ) (r : Result (List Operand) AsmKind) → Yields (NamesAll m) r → Yields (IsReadIn m) (read_with (statement word) r)
 with_operands m word (Ok os) h =
-    yields_weaker (IsRead os) (IsReadIn m) (statement word os) (λ s r. record { good = r.good; names = part_named m (statement_names s) (all_names os) r.part h })
+    yields_weaker (IsRead os) (IsReadIn m) (statement word os) (λ s r. record { good = r.good; names = r.part m h })
     (worded_read (directive word) (mnemonic word) os (mnemonic_good word))
 with_operands m word (Err k) h = tt
 

@@ -1,8 +1,8 @@
 -- The bytes of instructions and of numbers in lists, and the entries for them, from their operands.
 --     mnemonic_good text                            the row that is found is a good one
 --     instruction_good row os, numbers_good w os    good bytes, with names of the operands
-use Rattle.std.proofs.Common.{Result, ◌≡◌, ◌≤◌, ◌<◌, ◌+◌, ◌%◌, ◌^◌, ℕ, Bool, true, false, ◌||◌, not, List, [], ◌∷◌, ◌++◌, length, ℤ, pos, negsuc, Ok, Err, Some, None, inl, inr, refl, sym, subst, ap, ◌∙◌, true≢false, append-nil, arith}
-use Rattle.std.specs.Prelude.{Option, if◌then◌else◌, nat_le, int_le, FitsSigned, ◌&&◌, flat_map, find, bytes_eq}
+use Rattle.std.proofs.Common.{Result, ◌≡◌, ◌≤◌, ◌<◌, ◌+◌, ◌%◌, ◌^◌, ℕ, Bool, true, false, ◌||◌, not, List, [], ◌∷◌, ◌++◌, length, ℤ, pos, negsuc, Ok, Err, Some, None, inl, inr, refl, sym, subst, ap, ◌∙◌, true≢false, append-nil, cond, arith}
+use Rattle.std.specs.Prelude.{Option, if◌then◌else◌, nat_le, int_le, FitsSigned, ◌&&◌, flat_map, find, option_map, bytes_eq}
 use Rattle.std.specs.List.{list_any, list_all}
 use Rattle.std.specs.Option.{option_map_or}
 use Rattle.std.specs.Int.{w64}
@@ -25,7 +25,7 @@ use Rattle.cell_asm.specs.Statements.{layout_of, stored, datum, numbers}
 use Rattle.cell_asm.specs.Statements as statements
 use Rattle.cell_num.proofs.Elements.{In, all-In, any-Has}
 use Rattle.cell_asm.proofs.ListLemmas.{itself, le_of, or_none}
-use Rattle.cell_asm.proofs.NamesFit.{Any, Yields, yields_value, yields_joined, yields_any, yields_weaker, yields_gathered, Finds, finds_map, finds_if, IsPart, part_none, part_self, part_join, part_in, expression_names, immediate_names, operand_names, all_names}
+use Rattle.cell_asm.proofs.NamesFit.{Any, Yields, yields_value, yields_joined, yields_any, yields_weaker, yields_gathered, Finds, IsNamed, none_named, IsPart, part_in, expression_names, immediate_names, operand_names, all_names}
 use Rattle.cell_asm.proofs.GoodBlocks.{is_code, any_upper, lo12_code, hi20_code, IsGoodFix, AreStacking, InFours, IsWithin, AreWithin, IsSound, IsGoodBlock, IsGoodPiece, one_there, both_there, piece_sound, empty_sound}
 
 -- ENTRIES
@@ -66,35 +66,35 @@ fit_of content width kind e =
     same true false e = absurd (true≢false (sym e))
     same false false e = refl
 
--- entries for some of these names, of kinds that pass the test
-module _ (test : RelKind → Bool) (all : List (List ℕ)) where
-  record IsGiven (f : Fix) : Type 0 where
+-- entries for these names, of kinds that pass the test
+module _ (test : RelKind → Bool) where
+  record IsGiven (ns : List (List ℕ)) (f : Fix) : Type 0 where
     kind : test f.kind ≡ true
     addend : FitsSigned w64 f.addend
     plain : is_pcrel_lo12 f.kind ≡ true → f.addend ≡ pos 0
     own : is_made f.target ≡ false
-    named : IsPart (target_names f.target) all
+    named : target_names f.target ≡ ns
 
-  fix_given : (kind : RelKind) (n : List ℕ) (by : ℤ) → test kind ≡ true → IsPart (n ∷ []) all → FitsSigned w64 by → (is_pcrel_lo12 kind ≡ true → by ≡ pos 0) → IsGiven (fix kind n by)
-  fix_given kind n by t p near low = record { kind = t; addend = near; plain = low; own = refl; named = p }
+  fix_given : (kind : RelKind) (n : List ℕ) (by : ℤ) → test kind ≡ true → FitsSigned w64 by → (is_pcrel_lo12 kind ≡ true → by ≡ pos 0) → IsGiven (n ∷ []) (fix kind n by)
+  fix_given kind n by t near low = record { kind = t; addend = near; plain = low; own = refl; named = refl }
 
-  sum_given : (kind : RelKind) (n : List ℕ) (by : ℤ) (b : Bool) → (int_le (negsuc 0x7fffffffffffffff) by && int_le by (pos 0x7fffffffffffffff)) ≡ b → is_bare kind ≡ false → test kind ≡ true → IsPart (n ∷ []) all
-      → Yields IsGiven (with_value (fix kind n) (if b then Ok by else Err faults.Range))
-  sum_given kind n by true e bare t p = fix_given kind n by t p (within_fits by e) (λ low. absurd (true≢false (sym (low_bare kind low) ∙ bare)))
-  sum_given kind n by false e bare t p = tt
+  sum_given : (kind : RelKind) (n : List ℕ) (by : ℤ) (b : Bool) → (int_le (negsuc 0x7fffffffffffffff) by && int_le by (pos 0x7fffffffffffffff)) ≡ b → is_bare kind ≡ false → test kind ≡ true
+      → Yields (IsGiven (n ∷ [])) (with_value (fix kind n) (if b then Ok by else Err faults.Range))
+  sum_given kind n by true e bare t = fix_given kind n by t (within_fits by e) (λ low. absurd (true≢false (sym (low_bare kind low) ∙ bare)))
+  sum_given kind n by false e bare t = tt
 
-  moved_given : (kind : RelKind) (n : List ℕ) (by : ℤ) (b : Bool) → is_bare kind ≡ b → test kind ≡ true → IsPart (n ∷ []) all → Yields IsGiven (moved kind n by b)
-  moved_given kind n by true e t p = tt
-  moved_given kind n by false e t p = sum_given kind n by (int_le (negsuc 0x7fffffffffffffff) by && int_le by (pos 0x7fffffffffffffff)) refl e t p
+  moved_given : (kind : RelKind) (n : List ℕ) (by : ℤ) (b : Bool) → is_bare kind ≡ b → test kind ≡ true → Yields (IsGiven (n ∷ [])) (moved kind n by b)
+  moved_given kind n by true e t = tt
+  moved_given kind n by false e t = sum_given kind n by (int_le (negsuc 0x7fffffffffffffff) by && int_le by (pos 0x7fffffffffffffff)) refl e t
 
-  entry_given : (o : Option RelKind) (e : Expression) → option_map_or test o true ≡ true → IsPart (expression_names e) all → Yields IsGiven (entry o e)
-  entry_given None e t p = tt
-  entry_given (Some kind) (Name n) t p = fix_given kind n (pos 0) t p zero_fits (λ low. refl)
-  entry_given (Some kind) (Sum n by) t p = moved_given kind n by (is_bare kind) refl t p
-  entry_given (Some kind) (Difference a b) t p = tt
+  entry_given : (o : Option RelKind) (e : Expression) → option_map_or test o true ≡ true → Yields (IsGiven (expression_names e)) (entry o e)
+  entry_given None e t = tt
+  entry_given (Some kind) (Name n) t = fix_given kind n (pos 0) t zero_fits (λ low. refl)
+  entry_given (Some kind) (Sum n by) t = moved_given kind n by (is_bare kind) refl t
+  entry_given (Some kind) (Difference a b) t = tt
 
-  given_good : (content : Content) (width : ℕ) (f : Fix) → IsFit content width f.kind → IsGiven f → IsGoodFix content f
-  given_good content width f k g = record { known = k.known; addend = g.addend; code = k.code; plain = g.plain; made = λ e. absurd (true≢false (sym e ∙ g.own)) }
+  given_good : (content : Content) (width : ℕ) (ns : List (List ℕ)) (f : Fix) → IsFit content width f.kind → IsGiven ns f → IsGoodFix content f
+  given_good content width ns f k g = record { known = k.known; addend = g.addend; code = k.code; plain = g.plain; made = λ e. absurd (true≢false (sym e ∙ g.own)) }
 
 -- THE ROWS OF THE TABLE
 
@@ -135,16 +135,15 @@ is_good_slot t _ = true
 abbrev is_good_row : Row → Bool
 is_good_row row = list_all (is_good_slot row.2.then) row.1 && (not (makes row.2.then) || list_any has_form row.1)
 
--- what is found passes a test that each passes
-found_passes : {X : Type 0} (p test : X → Bool) (rows : List X) → list_all test rows ≡ true → Finds (λ x. test x ≡ true) (find p rows)
-found_passes p test [] e = tt
-found_passes p test (x ∷ rows) e =
-    let t = and_parts (test x) (list_all test rows) e in
-    finds_if (λ y. test y ≡ true) (p x) (Some x) (find p rows) (λ b. t.0) (found_passes p test rows t.1)
-
+-- what is found in a table passes a test that each row passes
 row_passes : {A : Type 0} (test : A → Bool) (rows : List (List ℕ × A)) (text : List ℕ) → list_all (λ row. test row.1) rows ≡ true → Finds (λ a. test a ≡ true) (row_of rows text)
-row_passes test rows text e =
-    finds_map (λ row. test row.1 ≡ true) (λ a. test a ≡ true) (λ row. row.1) (find (λ row. bytes_eq text row.0) rows) (λ row t. t) (found_passes (λ row. bytes_eq text row.0) (λ row. test row.1) rows e)
+row_passes test [] text e = tt
+row_passes test (row ∷ rows) text e = go (bytes_eq text row.0) (and_parts (test row.1) (list_all (λ r. test r.1) rows) e) (row_passes test rows text)
+  where
+    go : (b : Bool) → (test row.1 ≡ true) × (list_all (λ r. test r.1) rows ≡ true) → (list_all (λ r. test r.1) rows ≡ true → Finds (λ a. test a ≡ true) (row_of rows text))
+        → Finds (λ a. test a ≡ true) (option_map (λ r. r.1) (cond b (Some row) (find (λ r. bytes_eq text r.0) rows)))
+    go true t f = t.0
+    go false t f = f t.1
 
 abbrev pub IsGoodRow : Row → Type 0
 IsGoodRow row = is_good_row row ≡ true
@@ -170,7 +169,7 @@ module _ (t : Option Then) (all : List (List ℕ)) where
   -- the operands' entry, which there is where a label is made
   abbrev IsRowFix : Option Fix → Type 0
   IsRowFix None = makes t ≡ false
-  IsRowFix (Some f) = IsGiven (is_first t) all f
+  IsRowFix (Some f) = (ns : List (List ℕ)) × IsGiven (is_first t) ns f × IsPart ns all
 
   abbrev IsRowField : Field → Type 0
   IsRowField x = IsRowFix x.fix
@@ -178,41 +177,33 @@ module _ (t : Option Then) (all : List (List ℕ)) where
   field_good : (form : Form) (i : Immediate) → is_good_form t form ≡ true → IsPart (immediate_names i) all → Yields IsRowField (field form i)
   field_good form (Number n) e p = yields_value (λ (z : ℤ). makes t ≡ false) IsRowField plain (fitting form n) (λ z g. g) (number_good (makes t) form n (and_parts (kinds_fit t form) (not (makes t) || is_address form) e).1)
   field_good form (Part m x) e p =
-      yields_value (IsGiven (is_first t) all) IsRowField under (entry (kind_of form m) x) (λ f g. g)
-      (entry_given (is_first t) all (kind_of form m) x (all-In (λ k. option_map_or (is_first t) (kind_of form k) true) modifiers (and_parts (kinds_fit t form) (not (makes t) || is_address form) e).0 m (modifier_in m)) p)
+      yields_value (IsGiven (is_first t) (expression_names x)) IsRowField under (entry (kind_of form m) x) (λ f g. (expression_names x, g, p))
+      (entry_given (is_first t) (kind_of form m) x (all-In (λ k. option_map_or (is_first t) (kind_of form k) true) modifiers (and_parts (kinds_fit t form) (not (makes t) || is_address form) e).0 m (modifier_in m)))
 
-  -- what an operand puts into the immediate
-  abbrev Puts : Slot → Operand → Type 0
-  Puts (slots.Value form) o = Yields IsRowField (value form o)
-  Puts (slots.Memory form) o = Yields (λ m. IsRowField m.0) (memory form o)
-  Puts _ o = Unit {0}
+  value_good : (form : Form) (o : Operand) → is_good_form t form ≡ true → IsPart (operand_names o) all → Yields IsRowField (value form o)
+  value_good form (Value i) e p = field_good form i e p
+  value_good form (Memory i base) e p = tt
 
-  slot_good : (slot : Slot) (o : Operand) → is_good_slot t slot ≡ true → IsPart (operand_names o) all → Puts slot o
-  slot_good (slots.Value form) (Value i) e p = field_good form i e p
-  slot_good (slots.Value form) (Memory i base) e p = tt
-  slot_good (slots.Memory form) (Memory i base) e p = yields_value IsRowField (λ (m : Field × ℕ). IsRowField m.0) (λ x. (x, base)) (field form i) (λ x g. g) (field_good form i e p)
-  slot_good (slots.Memory form) (Value i) e p = tt
-  slot_good _ o e p = tt
+  memory_good : (form : Form) (o : Operand) → is_good_form t form ≡ true → IsPart (operand_names o) all → Yields (λ m. IsRowField m.0) (memory form o)
+  memory_good form (Memory i base) e p = yields_value IsRowField (λ (m : Field × ℕ). IsRowField m.0) (λ x. (x, base)) (field form i) (λ x g. g) (field_good form i e p)
+  memory_good form (Value i) e p = tt
 
   abbrev Holds : Result Fields AsmKind → Type 0
   Holds r = Yields (λ f. IsRowField f.field) r
 
-  put_register : (set : Fields → ℕ → Fields) (r : Result Fields AsmKind) (o : Operand) → ((f : Fields) (n : ℕ) → (set f n).field ≡ f.field) → Holds r → Holds (joined set r (register o))
-  put_register set r o same h = yields_joined (λ f. IsRowField f.field) Any (λ f. IsRowField f.field) set r (register o) (λ f n g u. subst IsRowField (sym (same f n)) g) h (yields_any (register o))
-
-  put_holds : (r : Result Fields AsmKind) (slot : Slot) (o : Operand) → Puts slot o → (has_form slot ≡ false → Holds r) → Holds (put r slot o)
-  put_holds r Rd o g h = put_register (λ f n. record f { rd = n }) r o (λ f n. refl) (h refl)
-  put_holds r Rs1 o g h = put_register (λ f n. record f { rs1 = n }) r o (λ f n. refl) (h refl)
-  put_holds r Rs2 o g h = put_register (λ f n. record f { rs2 = n }) r o (λ f n. refl) (h refl)
-  put_holds r (slots.Value form) o g h = yields_joined Any IsRowField (λ (f : Fields). IsRowField f.field) (λ f x. record f { field = x }) r (value form o) (λ f x u k. k) (yields_any r) g
-  put_holds r (slots.Memory form) o g h =
-      yields_joined Any (λ (m : Field × ℕ). IsRowField m.0) (λ (f : Fields). IsRowField f.field) (λ f m. record f { rs1 = m.1; field = m.0 }) r (memory form o) (λ f m u k. k) (yields_any r) g
+  -- so it is behind an operand that puts an immediate, and behind another if it is so before
+  put_holds : (r : Result Fields AsmKind) (slot : Slot) (o : Operand) → is_good_slot t slot ≡ true → IsPart (operand_names o) all → (has_form slot ≡ false → Holds r) → Holds (put r slot o)
+  put_holds r Rd o e p h = yields_joined (λ f. IsRowField f.field) Any (λ f. IsRowField f.field) (λ f n. record f { rd = n }) r (register o) (λ f n g u. g) (h refl) (yields_any (register o))
+  put_holds r Rs1 o e p h = yields_joined (λ f. IsRowField f.field) Any (λ f. IsRowField f.field) (λ f n. record f { rs1 = n }) r (register o) (λ f n g u. g) (h refl) (yields_any (register o))
+  put_holds r Rs2 o e p h = yields_joined (λ f. IsRowField f.field) Any (λ f. IsRowField f.field) (λ f n. record f { rs2 = n }) r (register o) (λ f n g u. g) (h refl) (yields_any (register o))
+  put_holds r (slots.Value form) o e p h = yields_joined Any IsRowField (λ (f : Fields). IsRowField f.field) (λ f x. record f { field = x }) r (value form o) (λ f x u g. g) (yields_any r) (value_good form o e p)
+  put_holds r (slots.Memory form) o e p h =
+      yields_joined Any (λ (m : Field × ℕ). IsRowField m.0) (λ (f : Fields). IsRowField f.field) (λ f m. record f { rs1 = m.1; field = m.0 }) r (memory form o) (λ f m u g. g) (yields_any r) (memory_good form o e p)
 
   miscounted_holds : (r : Result Fields AsmKind) → Holds (miscounted r)
   miscounted_holds (Ok f) = tt
   miscounted_holds (Err k) = tt
 
-  -- so it is at the end, and where no operand puts an immediate, if it is so before
   filled_holds : (r : Result Fields AsmKind) (ss : List Slot) (os : List Operand) → ((s : Slot) → In s ss → is_good_slot t s ≡ true) → ((o : Operand) → In o os → IsPart (operand_names o) all) → (list_any has_form ss ≡ false → Holds r)
       → Holds (filled r ss os)
   filled_holds r [] [] g p h = h refl
@@ -220,7 +211,7 @@ module _ (t : Option Then) (all : List (List ℕ)) where
   filled_holds r (s ∷ ss) [] g p h = miscounted_holds r
   filled_holds r (s ∷ ss) (o ∷ os) g p h =
       filled_holds (put r s o) ss os (λ x k. g x (inr k)) (λ x k. p x (inr k))
-      (λ e. put_holds r s o (slot_good s o (g s (inl refl)) (p o (inl refl))) (λ f. h (neither (has_form s) (list_any has_form ss) f e)))
+      (λ e. put_holds r s o (g s (inl refl)) (p o (inl refl)) (λ f. h (neither (has_form s) (list_any has_form ss) f e)))
     where
       neither : (a b : Bool) → a ≡ false → b ≡ false → (a || b) ≡ false
       neither true b e f = absurd (true≢false e)
@@ -249,8 +240,8 @@ hi20_fit : (kind : RelKind) → is_pcrel_hi20 kind ≡ true → is_fit Code 4 ki
 hi20_fit PcrelHi20 e = refl
 hi20_fit _ e = absurd cc
 
-part_nil : (ns all : List (List ℕ)) → IsPart ns all → IsPart (ns ++ []) all
-part_nil ns all p = subst (λ xs. IsPart xs all) (sym (append-nil ns)) p
+part_one : (ns ms all : List (List ℕ)) → ns ≡ ms → IsPart ms all → IsPart (ns ++ []) all
+part_one ns ms all e p = subst (λ xs. IsPart xs all) (sym (append-nil ns ∙ e)) p
 
 -- the second instruction's entry
 abbrev low : Mark
@@ -263,31 +254,31 @@ module _ (all : List (List ℕ)) where
   -- one entry for all bytes, or none
   one_good : (bytes : List ℕ) (n : ℕ) (t : Option Then) (o : Option Fix) → length bytes ≡ n → 4 ≤ n → n % 4 ≡ 0 → ((kind : RelKind) → is_first t kind ≡ true → is_fit Code n kind ≡ true) → IsRowFix t all o
       → IsNamedBlock Code all (record { bytes = bytes; marks = marks_at 0 o })
-  one_good bytes n t None e some fours fits h = record { good = record { sound = code_sound bytes n [] e some fours (omega arith) ((λ m k. absurd k), tt); made = λ u. absurd (true≢false (sym u)) }; part = part_none all }
+  one_good bytes n t None e some fours fits h = record { good = record { sound = code_sound bytes n [] e some fours (omega arith) ((λ m k. absurd k), tt); made = λ u. absurd (true≢false (sym u)) }; part = λ m p. none_named m }
   one_good bytes n t (Some f) e some fours fits h =
-      let k : IsFit Code n f.kind = fit_of Code n f.kind (fits f.kind h.kind) in
+      let k : IsFit Code n f.kind = fit_of Code n f.kind (fits f.kind h.1.kind) in
       let m : Mark = record { at = 0; fix = f } in
       record {
         good = record {
-          sound = code_sound bytes n (m ∷ []) e some fours (omega arith) (one_there Code 0 n m (first_mark n f (given_good (is_first t) all Code n f k h) k.fits));
-          made = λ u. absurd (true≢false (sym u ∙ or_none (is_made f.target) ∙ h.own));
+          sound = code_sound bytes n (m ∷ []) e some fours (omega arith) (one_there Code 0 n m (first_mark n f (given_good (is_first t) Code n h.0 f k h.1) k.fits));
+          made = λ u. absurd (true≢false (sym u ∙ or_none (is_made f.target) ∙ h.1.own));
         };
-        part = part_nil (target_names f.target) all h.named;
+        part = part_one (target_names f.target) h.0 all h.1.named h.2;
       }
 
   -- an entry at each of two instructions
-  two_good : (bytes : List ℕ) (f : Fix) → length bytes ≡ 8 → IsGiven is_pcrel_hi20 all f → IsNamedBlock Code all (record { bytes = bytes; marks = record { at = 0; fix = f } ∷ low ∷ [] })
+  two_good : (bytes : List ℕ) (f : Fix) → length bytes ≡ 8 → (ns : List (List ℕ)) × IsGiven is_pcrel_hi20 ns f × IsPart ns all → IsNamedBlock Code all (record { bytes = bytes; marks = record { at = 0; fix = f } ∷ low ∷ [] })
   two_good bytes f e h =
-      let k : IsFit Code 4 f.kind = fit_of Code 4 f.kind (hi20_fit f.kind h.kind) in
+      let k : IsFit Code 4 f.kind = fit_of Code 4 f.kind (hi20_fit f.kind h.1.kind) in
       let wide : width_of f.kind ≤ 4 = k.fits in
       let m : Mark = record { at = 0; fix = f } in
       record {
         good = record {
           sound = code_sound bytes 8 (m ∷ low ∷ []) e (omega arith) refl (omega arith)
-              (both_there Code 0 8 m low (first_mark 8 f (given_good is_pcrel_hi20 all Code 4 f k h) (omega (arith, wide))) low_there (inl (omega (arith, wide))));
-          made = λ u. ap (λ b. b || any_upper (low ∷ [])) h.kind;
+              (both_there Code 0 8 m low (first_mark 8 f (given_good is_pcrel_hi20 Code 4 h.0 f k h.1) (omega (arith, wide))) low_there (inl (omega (arith, wide))));
+          made = λ u. ap (λ b. b || any_upper (low ∷ [])) h.1.kind;
         };
-        part = part_nil (target_names f.target) all h.named;
+        part = part_one (target_names f.target) h.0 all h.1.named h.2;
       }
 
   block_good : (op : Op) (t : Option Then) (f : Fields) → IsRowFix t all f.field.fix → IsNamedBlock Code all (block op t f)
@@ -353,22 +344,22 @@ module _ (w : Width) where
   -- a number with its names
   record IsDatum (o : Operand) (p : Piece) : Type 0 where
     good : IsGoodPiece content p
-    part : IsPart (fix_names p.fix ++ fix_names p.second) (operand_names o)
+    names : fix_names p.fix ++ fix_names p.second ≡ operand_names o
 
-  there : (l : IsLayout) (all : List (List ℕ)) (n : ℕ) (f : Fix) → InFours content n → IsGiven (is_fit content bytes) all f → IsWithin content n (n + bytes) (record { at = n; fix = f })
-  there l all n f fours g =
+  there : (l : IsLayout) (ns : List (List ℕ)) (n : ℕ) (f : Fix) → InFours content n → IsGiven (is_fit content bytes) ns f → IsWithin content n (n + bytes) (record { at = n; fix = f })
+  there l ns n f fours g =
       let k : IsFit content bytes f.kind = fit_of content bytes f.kind g.kind in
       let wide : width_of f.kind ≤ bytes = k.fits in
-      record { fix = given_good (is_fit content bytes) all content bytes f k g; from = itself n; inside = omega (arith, wide); fours = fours; head = λ u. absurd (true≢false (sym (hi20_code f.kind u) ∙ k.code ∙ l.code)) }
+      record { fix = given_good (is_fit content bytes) content bytes ns f k g; from = itself n; inside = omega (arith, wide); fours = fours; head = λ u. absurd (true≢false (sym (hi20_code f.kind u) ∙ k.code ∙ l.code)) }
 
   entry_datum : (l : IsLayout) (e : Expression) → Yields (IsDatum (Value (Part Whole e))) (with_value (λ f. statements.filled w 0 (Some f) None) (entry (layout_of w).address e))
   entry_datum l e =
       yields_value (IsGiven (is_fit content bytes) (expression_names e)) (IsDatum (Value (Part Whole e))) (λ f. statements.filled w 0 (Some f) None) (entry (layout_of w).address e)
       (λ f g. record {
         good = record { low = l.low; in_fours = l.fours; stands = λ n fours. one_there content n (n + bytes) (record { at = n; fix = f }) (there l (expression_names e) n f fours g) };
-        part = part_nil (target_names f.target) (expression_names e) g.named;
+        names = append-nil (target_names f.target) ∙ g.named;
       })
-      (entry_given (is_fit content bytes) (expression_names e) (layout_of w).address e l.address (part_self (expression_names e)))
+      (entry_given (is_fit content bytes) (layout_of w).address e l.address)
 
   difference_datum : (l : IsLayout) (a b : List ℕ) → IsDatum (Value (Part Whole (Difference a b))) (statements.filled w 0 (Some (fix (layout_of w).add a (pos 0))) (Some (fix (layout_of w).sub b (pos 0))))
   difference_datum l a b =
@@ -379,17 +370,17 @@ module _ (w : Width) where
           low = l.low;
           in_fours = l.fours;
           stands = λ n fours. both_there content n (n + bytes) (record { at = n; fix = f }) (record { at = n; fix = s })
-              (there l (a ∷ []) n f fours (fix_given (is_fit content bytes) (a ∷ []) (layout_of w).add a (pos 0) l.add (part_self (a ∷ [])) zero_fits (λ e. refl)))
-              (there l (b ∷ []) n s fours (fix_given (is_fit content bytes) (b ∷ []) (layout_of w).sub b (pos 0) l.sub (part_self (b ∷ [])) zero_fits (λ e. refl)))
+              (there l (a ∷ []) n f fours (fix_given (is_fit content bytes) (layout_of w).add a (pos 0) l.add zero_fits (λ e. refl)))
+              (there l (b ∷ []) n s fours (fix_given (is_fit content bytes) (layout_of w).sub b (pos 0) l.sub zero_fits (λ e. refl)))
               (inr (refl, record { first = l.stacking.first; second = l.stacking.second; same = l.stacking.same }));
         };
-        part = part_self (a ∷ b ∷ []);
+        names = refl;
       }
 
   datum_good : IsLayout → (o : Operand) → Yields (IsDatum o) (datum w o)
   datum_good l (Value (Number n)) =
       yields_value Any (IsDatum (Value (Number n))) (λ k. statements.filled w k None None) (stored w n)
-      (λ k u. record { good = record { low = l.low; in_fours = l.fours; stands = λ n fours. ((λ m i. absurd i), tt) }; part = part_self [] }) (yields_any (stored w n))
+      (λ k u. record { good = record { low = l.low; in_fours = l.fours; stands = λ n fours. ((λ m i. absurd i), tt) }; names = refl }) (yields_any (stored w n))
   datum_good l (Value (Part Whole (Difference a b))) = difference_datum l a b
   datum_good l (Value (Part Whole (Name n))) = entry_datum l (Name n)
   datum_good l (Value (Part Whole (Sum n by))) = entry_datum l (Sum n by)
@@ -398,18 +389,16 @@ module _ (w : Width) where
 
   -- numbers so far, and their names
   abbrev AreData : List Operand → Block → Type 0
-  AreData done b = IsSound content b × IsPart (names_of b.marks) (all_names done)
+  AreData done b = IsSound content b × (names_of b.marks ≡ all_names done)
 
   datum_more : (done : List Operand) (o : Operand) (b : Block) (p : Piece) → AreData done b → IsDatum o p → AreData (done ++ o ∷ []) (appended b p)
-  datum_more done o b p h d =
-      let new : List (List ℕ) = fix_names p.fix ++ fix_names p.second in (
-        piece_sound content b p h.0 d.good,
-        subst (λ ns. IsPart ns (all_names (done ++ o ∷ []))) (sym (piece_names b p))
-            (subst (IsPart (names_of b.marks ++ new)) (sym (flat_map-append operand_names done (o ∷ []) ∙ ap (λ ns. all_names done ++ ns) (append-nil (operand_names o)))) (part_join (names_of b.marks) new (all_names done) (operand_names o) h.1 d.part)),
-      )
+  datum_more done o b p h d = (
+    piece_sound content b p h.0 d.good,
+    piece_names b p ∙ ap (λ ns. ns ++ (fix_names p.fix ++ fix_names p.second)) h.1 ∙ ap (λ ns. all_names done ++ ns) (d.names ∙ sym (append-nil (operand_names o))) ∙ sym (flat_map-append operand_names done (o ∷ [])),
+  )
 
   data_good : (os : List Operand) (b : Block) → is_code content ≡ false → AreData os b → IsNamedBlock content (all_names os) b
-  data_good os b plain h = record { good = record { sound = h.0; made = λ e. absurd (unmade e) }; part = h.1 }
+  data_good os b plain h = record { good = record { sound = h.0; made = λ e. absurd (unmade e) }; part = λ m p. subst (IsNamed m) (sym h.1) p }
     where
       unmade : list_any (λ m. is_made m.fix.target) b.marks ≡ true → ⊥
       unmade e =
@@ -427,4 +416,4 @@ pub numbers_good : (w : Width) (os : List Operand) → Yields (IsNamedBlock (lay
 numbers_good w [] = tt
 numbers_good w (o ∷ os) =
     yields_weaker (AreData w (o ∷ os)) (IsNamedBlock (layout_of w).content (all_names (o ∷ os))) (numbers w (o ∷ os)) (λ b h. data_good w (o ∷ os) b (laid_out w).code h)
-    (yields_gathered (AreData w) (IsDatum w) appended (datum w) (datum_more w) (o ∷ os) [] (Ok empty) (datum_good w (laid_out w)) (empty_sound (layout_of w).content, part_self []))
+    (yields_gathered (AreData w) (IsDatum w) appended (datum w) (datum_more w) (o ∷ os) [] (Ok empty) (datum_good w (laid_out w)) (empty_sound (layout_of w).content, refl))

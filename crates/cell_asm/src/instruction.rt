@@ -3,7 +3,7 @@
 ghost use Rattle.std.specs.Prelude.{◌≡◌, length, IfOk};
 ghost use Rattle.cell_asm.specs.Faults.{Gives};
 ghost use Rattle.cell_asm.specs.Mnemonics.{said};
-ghost use Rattle.cell_asm.specs.Instructions.{put as put_of, miscounted as miscounted_of, filled, word as word_of, single as single_of, behind as behind_of, block as block_of, instruction as instruction_of};
+ghost use Rattle.cell_asm.specs.Instructions.{put as put_of, miscounted as miscounted_of, filled, single as single_of, behind as behind_of, block as block_of, instruction as instruction_of};
 
 use crate::kind::{AsmKind, Stop, both, earlier, or_stop};
 use crate::mnemonic::{Mnemonic, Slot, Then};
@@ -89,27 +89,20 @@ fn fill<'a>(
 
 /// The word of an instruction. Each that is asked for has one.
 #[tactic(auto, unfolding(crate::specs::Instructions::word))]
-fn word(op: Op, rd: u8, rs1: u8, rs2: u8, imm: i32) -> u32
-    ensures { result ≡ word_of op rd rs1 rs2 imm }
-{
-    let insn = Insn {
-        op,
-        rd,
-        rs1,
-        rs2,
-        imm,
-    };
-    encode(&insn).unwrap_or(0)
-}
-
 fn single<'a>(op: Op, fields: Fields<'a>) -> Piece<'a>
     ensures { result ≡ single_of op fields.entry }
 {
-    let Field { number, fix } = fields.field;
+    let insn = Insn {
+        op,
+        rd: fields.rd,
+        rs1: fields.rs1,
+        rs2: fields.rs2,
+        imm: fields.field.number,
+    };
     Piece {
         width: 4,
-        value: u64::from(word(op, fields.rd, fields.rs1, fields.rs2, number)),
-        fix,
+        value: u64::from(encode(&insn).unwrap_or(0)),
+        fix: fields.field.fix,
         second: None,
     }
 }
@@ -131,23 +124,6 @@ fn behind<'a>(rd: u8, made: bool) -> Fields<'a>
     }
 }
 
-fn block<'a>(
-    alloc: Global,
-    op: Op,
-    then: Option<Then>,
-    fields: Fields<'a>,
-) -> Result<Block<'a>, AllocError>
-    ensures { IfOk result (λ b. b ≡ block_of op then fields.entry) }
-{
-    let mut draft = Draft::new(alloc);
-    let rd = fields.rd;
-    draft.add(single(op, fields))?;
-    if let Some(then) = then {
-        draft.add(single(then.op, behind(rd, then.made)))?;
-    }
-    Ok(draft.finished())
-}
-
 /// The instruction of these operands.
 pub fn instruction<'a>(
     alloc: Global,
@@ -164,5 +140,11 @@ pub fn instruction<'a>(
         field: plain(fixed.number),
     };
     let fields = or_stop(fill(Ok(fields), slots, operands))?;
-    Ok(block(alloc, op, fixed.then, fields)?)
+    let mut draft = Draft::new(alloc);
+    let rd = fields.rd;
+    draft.add(single(op, fields))?;
+    if let Some(then) = fixed.then {
+        draft.add(single(then.op, behind(rd, then.made)))?;
+    }
+    Ok(draft.finished())
 }

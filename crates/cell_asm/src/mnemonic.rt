@@ -131,7 +131,7 @@ const CALL: Fixed = Fixed {
 };
 
 /// `addi rd,rd` under an entry behind it
-const ADDRESS: Fixed = Fixed {
+const LA: Fixed = Fixed {
     then: Some(Then {
         op: Op::Addi,
         made: true,
@@ -151,6 +151,9 @@ const SHIFT: &[Slot] = &[Rd, Rs1, Value(Form::Shift)];
 /// `rd,rs1,N` with N from 0 to 31
 const SHIFT_WORD: &[Slot] = &[Rd, Rs1, Value(Form::ShiftWord)];
 
+/// `rd,U` or `rd,%pcrel_hi(E)`
+const UPPER_PCREL: &[Slot] = &[Rd, Value(Form::UpperPcrel)];
+
 /// `rd,I(rs1)`
 const LOAD: &[Slot] = &[Rd, Memory(Form::Low)];
 
@@ -163,32 +166,26 @@ const BRANCH: &[Slot] = &[Rs1, Rs2, Value(Form::Branch)];
 /// The instructions, and what is short for some. RISC-V unprivileged manual, "RV32/64G Instruction
 /// Set Listings"
 static MNEMONICS: [(&[u8], Mnemonic); 72] = [
+    (b"ret", Mnemonic(Op::Jalr, &[], RETURN)),
+    (b"fence", Mnemonic(Op::Fence, &[], FENCE)),
+    (b"call", Mnemonic(Op::Auipc, &[Value(Form::Call)], CALL)),
+    (b"la", Mnemonic(Op::Auipc, &[Rd, Value(Form::Address)], LA)),
     (b"nop", Mnemonic(Op::Addi, &[], FREE)),
+    (b"ecall", Mnemonic(Op::Ecall, &[], FREE)),
+    (b"ebreak", Mnemonic(Op::Ebreak, &[], FREE)),
     (b"mv", Mnemonic(Op::Addi, &[Rd, Rs1], FREE)),
     (b"li", Mnemonic(Op::Addi, &[Rd, Value(Form::Small)], FREE)),
-    (b"ret", Mnemonic(Op::Jalr, &[], RETURN)),
     (b"j", Mnemonic(Op::Jal, &[Value(Form::Jump)], FREE)),
-    (b"call", Mnemonic(Op::Auipc, &[Value(Form::Call)], CALL)),
-    (
-        b"la",
-        Mnemonic(Op::Auipc, &[Rd, Value(Form::Address)], ADDRESS),
-    ),
-    (b"lui", Mnemonic(Op::Lui, &[Rd, Value(Form::Upper)], FREE)),
-    (
-        b"auipc",
-        Mnemonic(Op::Auipc, &[Rd, Value(Form::UpperPcrel)], FREE),
-    ),
     (b"jal", Mnemonic(Op::Jal, &[Rd, Value(Form::Jump)], FREE)),
-    (b"jalr", Mnemonic(Op::Jalr, LOAD, FREE)),
+    (b"lui", Mnemonic(Op::Lui, &[Rd, Value(Form::Upper)], FREE)),
+    (b"auipc", Mnemonic(Op::Auipc, UPPER_PCREL, FREE)),
     (b"beq", Mnemonic(Op::Beq, BRANCH, FREE)),
     (b"bne", Mnemonic(Op::Bne, BRANCH, FREE)),
     (b"blt", Mnemonic(Op::Blt, BRANCH, FREE)),
     (b"bge", Mnemonic(Op::Bge, BRANCH, FREE)),
     (b"bltu", Mnemonic(Op::Bltu, BRANCH, FREE)),
     (b"bgeu", Mnemonic(Op::Bgeu, BRANCH, FREE)),
-    (b"fence", Mnemonic(Op::Fence, &[], FENCE)),
-    (b"ecall", Mnemonic(Op::Ecall, &[], FREE)),
-    (b"ebreak", Mnemonic(Op::Ebreak, &[], FREE)),
+    (b"jalr", Mnemonic(Op::Jalr, LOAD, FREE)),
     (b"lb", Mnemonic(Op::Lb, LOAD, FREE)),
     (b"lh", Mnemonic(Op::Lh, LOAD, FREE)),
     (b"lw", Mnemonic(Op::Lw, LOAD, FREE)),
