@@ -19,12 +19,7 @@ use Rattle.cell_asm.specs.Lines.{is_inked, read_with, statement_in, spelled, ope
 use Rattle.cell_asm.proofs.ListLemmas.{take_le, drop_le, le_trans, itself, le_of}
 use Rattle.cell_asm.proofs.NamesFit.{Any, Yields, Finds, yields_value, yields_any, yields_ok, yields_weaker, IsNamed, none_named, one_named, join_named, more_named, IsPart, split_length, trimmed_le, all_names, NamesAll, operands_named, name_fits}
 use Rattle.cell_asm.proofs.GoodBlocks.{IsUnit, IsGoodStatement}
-use Rattle.cell_asm.proofs.StatementBlocks.{IsNamedBlock, IsGoodRow, mnemonic_good, instruction_good, numbers_good}
-
--- a good statement, with names of the operands
-record IsRead (os : List Operand) (s : Statement) : Type 0 where
-  good : IsGoodStatement s
-  part : IsPart (statement_names s) (all_names os)
+use Rattle.cell_asm.proofs.StatementBlocks.{IsRead, IsGoodRow, mnemonic_good, instruction_good, numbers_good}
 
 -- DIRECTIVES
 
@@ -36,14 +31,14 @@ unit_good : (r : Result ℕ AsmKind) → Yields IsUnit (unit_of r)
 unit_good (Ok k) = unit_by k (nat_le k 12) refl
 unit_good (Err kind) = tt
 
-none_read : (os : List Operand) (s : Statement) → IsRead os s → Yields (IsRead os) (none s os)
+none_read : (os : List Operand) (s : Statement) → IsRead (all_names os) s → Yields (IsRead (all_names os)) (none s os)
 none_read [] s r = r
 none_read (o ∷ os) s r = tt
 
 one_read : {A : Type 0} (P : List Operand → A → Type 0) (read : Operand → Result A AsmKind) (make : A → Statement) (os : List Operand)
-    → ((o : Operand) → Yields (P (o ∷ [])) (read o)) → ((a : A) → P os a → IsRead os (make a)) → Yields (IsRead os) (one read make os)
+    → ((o : Operand) → Yields (P (o ∷ [])) (read o)) → ((a : A) → P os a → IsRead (all_names os) (make a)) → Yields (IsRead (all_names os)) (one read make os)
 one_read P read make [] h made = tt
-one_read P read make (o ∷ []) h made = yields_value (P (o ∷ [])) (IsRead (o ∷ [])) make (read o) made (h o)
+one_read P read make (o ∷ []) h made = yields_value (P (o ∷ [])) (IsRead (all_names (o ∷ []))) make (read o) made (h o)
 one_read P read make (o ∷ p ∷ os) h made = tt
 
 -- the name of one operand
@@ -51,30 +46,35 @@ one_name : (o : Operand) → Yields (λ n. IsPart (n ∷ []) (all_names (o ∷ [
 one_name (Value (Part Whole (Name n))) = λ m h. h
 one_name _ = tt
 
-directed_read : (d : Directive) (os : List Operand) → Yields (IsRead os) (directed d os)
+directed_read : (d : Directive) (os : List Operand) → Yields (IsRead (all_names os)) (directed d os)
 directed_read (directives.Choose part) os = none_read os (Choose part) (record { good = tt; part = λ m h. none_named m })
 directed_read directives.Global os = one_read (λ all n. IsPart (n ∷ []) (all_names all)) name (λ n. Global n) os one_name (λ n p. record { good = tt; part = p })
-directed_read (directives.Numbers w) os =
-    yields_value (IsNamedBlock (layout_of w).content (all_names os)) (IsRead os) (λ b. Bytes (layout_of w).content b) (numbers w os) (λ b g. record { good = g.good; part = g.part }) (numbers_good w os)
+directed_read (directives.Numbers w) os = numbers_good w os
 directed_read directives.Zeros os = one_read (λ all. Any) count (λ n. Zeros n) os (λ o. yields_any (count o)) (λ n u. record { good = tt; part = λ m h. none_named m })
 directed_read directives.Align os = one_read (λ all. IsUnit) unit (λ n. Align n) os (λ o. unit_good (count o)) (λ n u. record { good = u; part = λ m h. none_named m })
 
 -- STATEMENTS
 
-worded_read : (d : Option Directive) (i : Option Row) (os : List Operand) → Finds IsGoodRow i → Yields (IsRead os) (worded d i os)
+worded_read : (d : Option Directive) (i : Option Row) (os : List Operand) → Finds IsGoodRow i → Yields (IsRead (all_names os)) (worded d i os)
 worded_read (Some d) i os h = directed_read d os
 worded_read None None os h = tt
-worded_read None (Some i) os h =
-    yields_value (IsNamedBlock Code (all_names os)) (IsRead os) (λ b. Bytes Code b) (instruction i os) (λ b g. record { good = g.good; part = g.part }) (instruction_good i os h)
+worded_read None (Some i) os h = instruction_good i os h
 
--- a good statement, whose names take so many bytes
-record IsReadIn (m : ℕ) (s : Statement) : Type 0 where
-  good : IsGoodStatement s
-  names : IsNamed m (statement_names s)
+abbrev pub line_names : Line → List (List ℕ)
+line_names line = label_names line.label ++ statement_names line.statement
+
+-- a line that is read, whose names take so many bytes
+pub record IsReadLine (m : ℕ) (line : Line) : Type 0 where
+  pub good : IsGoodStatement line.statement
+  pub names : IsNamed m (line_names line)
+
+-- the same of a statement
+abbrev IsReadIn : ℕ → Statement → Type 0
+IsReadIn m s = IsReadLine m (record { label = None; statement = s })
 
 with_operands : (m : ℕ) (word : List ℕ) (r : Result (List Operand) AsmKind) → Yields (NamesAll m) r → Yields (IsReadIn m) (read_with (statement word) r)
 with_operands m word (Ok os) h =
-    yields_weaker (IsRead os) (IsReadIn m) (statement word os) (λ s r. record { good = r.good; names = r.part m h })
+    yields_weaker (IsRead (all_names os)) (IsReadIn m) (statement word os) (λ s r. record { good = r.good; names = r.part m h })
     (worded_read (directive word) (mnemonic word) os (mnemonic_good word))
 with_operands m word (Err k) h = tt
 
@@ -88,14 +88,6 @@ statement_read (b ∷ bs) m l =
     (operands_named (after_word (b ∷ bs)) m (omega (arith, (after_le (b ∷ bs)), l)))
 
 -- LINES
-
-abbrev pub line_names : Line → List (List ℕ)
-line_names line = label_names line.label ++ statement_names line.statement
-
--- a line that is read, whose names take so many bytes
-pub record IsReadLine (m : ℕ) (line : Line) : Type 0 where
-  pub good : IsGoodStatement line.statement
-  pub names : IsNamed m (line_names line)
 
 -- a line of a text, behind a label that takes so many bytes
 line_made : (k n : ℕ) (label : Option (List ℕ)) (text : List ℕ) → IsNamed k (label_names label) → k + suc (length text) ≤ n

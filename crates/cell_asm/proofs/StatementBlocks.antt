@@ -9,7 +9,7 @@ use Rattle.std.specs.Int.{w64}
 use Rattle.std.proofs.lemmas.Bool.{and_parts}
 use Rattle.std.proofs.lemmas.Bool.Decides.{nat_tests}
 use Rattle.std.proofs.lemmas.List.Concat.{flat_map-append}
-use Rattle.cell_asm.specs.Types.{RelKind, PcrelHi20, PcrelLo12I, PcrelLo12S, Op, AsmKind, Then, Expression, ExpressionName as Name, Sum, Difference, Modifier, Whole, Hi, Lo, PcrelHi, PcrelLo, Immediate, Number, ImmediatePart as Part, Operand, OperandValue as Value, OperandMemory as Memory, Form, Address, Slot, Rd, Rs1, Rs2, Fields, Width, Byte, Half, WidthWord as Word, Quad, Content, Code, Mark, Block, Piece, Fix, TargetMade as Made, Field}
+use Rattle.cell_asm.specs.Types.{RelKind, PcrelHi20, PcrelLo12I, PcrelLo12S, Op, AsmKind, Then, Expression, ExpressionName as Name, Sum, Difference, Modifier, Whole, Hi, Lo, PcrelHi, PcrelLo, Immediate, Number, ImmediatePart as Part, Operand, OperandValue as Value, OperandMemory as Memory, Form, Address, Slot, Rd, Rs1, Rs2, Fields, Width, Byte, Half, WidthWord as Word, Quad, Content, Code, Mark, Block, Piece, Fix, TargetMade as Made, Field, Statement, Bytes}
 use Rattle.cell_num.specs.Kinds.{width_of, is_instruction, is_pcrel_lo12, is_pcrel_hi20}
 use Rattle.cell_object.specs.Sound.{is_known_kind}
 use Rattle.cell_asm.specs.declared.kind.AsmKind.TheVariants as faults
@@ -17,8 +17,8 @@ use Rattle.cell_asm.specs.declared.mnemonic.Slot.TheVariants as slots
 use Rattle.cell_asm.specs.Faults.{joined, with_value}
 use Rattle.cell_asm.specs.Blocks.{marks_at, appended, empty}
 use Rattle.cell_asm.specs.Places.{is_made}
-use Rattle.cell_asm.specs.Objects.{target_names}
-use Rattle.cell_asm.specs.Wanted.{register, is_bare, fix, moved, entry, fitting, kind_of, plain, under, field, value, memory}
+use Rattle.cell_asm.specs.Objects.{target_names, statement_names}
+use Rattle.cell_asm.specs.Wanted.{register, is_bare, fix, within, entry, fitting, kind_of, plain, under, field, value, memory}
 use Rattle.cell_asm.specs.Mnemonics.{Row, row_of, mnemonics, mnemonic}
 use Rattle.cell_asm.specs.Instructions.{unfilled, put, miscounted, filled, made_fix, block, instruction}
 use Rattle.cell_asm.specs.Statements.{layout_of, stored, datum, numbers}
@@ -26,7 +26,7 @@ use Rattle.cell_asm.specs.Statements as statements
 use Rattle.cell_num.proofs.Elements.{In, all-In, any-Has}
 use Rattle.cell_asm.proofs.ListLemmas.{itself, le_of, or_none}
 use Rattle.cell_asm.proofs.NamesFit.{Any, Yields, yields_value, yields_joined, yields_any, yields_weaker, yields_gathered, Finds, IsNamed, none_named, IsPart, part_in, expression_names, immediate_names, operand_names, all_names}
-use Rattle.cell_asm.proofs.GoodBlocks.{is_code, any_upper, lo12_code, hi20_code, IsGoodFix, AreStacking, InFours, IsWithin, AreWithin, IsSound, IsGoodBlock, IsGoodPiece, one_there, both_there, piece_sound, empty_sound}
+use Rattle.cell_asm.proofs.GoodBlocks.{is_code, any_upper, lo12_code, hi20_code, IsGoodFix, AreStacking, InFours, IsWithin, AreWithin, IsSound, IsGoodStatement, IsGoodPiece, one_there, both_there, piece_sound, empty_sound}
 
 -- ENTRIES
 
@@ -83,7 +83,8 @@ module _ (test : RelKind → Bool) where
   sum_given kind n by true e bare t = fix_given kind n by t (within_fits by e) (λ low. absurd (true≢false (sym (low_bare kind low) ∙ bare)))
   sum_given kind n by false e bare t = tt
 
-  moved_given : (kind : RelKind) (n : List ℕ) (by : ℤ) (b : Bool) → is_bare kind ≡ b → test kind ≡ true → Yields (IsGiven (n ∷ [])) (moved kind n by b)
+  moved_given : (kind : RelKind) (n : List ℕ) (by : ℤ) (b : Bool) → is_bare kind ≡ b → test kind ≡ true
+      → Yields (IsGiven (n ∷ [])) (if b then Err faults.Operand else with_value (fix kind n) (within (negsuc 0x7fffffffffffffff) (pos 0x7fffffffffffffff) by))
   moved_given kind n by true e t = tt
   moved_given kind n by false e t = sum_given kind n by (int_le (negsuc 0x7fffffffffffffff) by && int_le by (pos 0x7fffffffffffffff)) refl e t
 
@@ -219,13 +220,13 @@ module _ (t : Option Then) (all : List (List ℕ)) where
 
 -- BLOCKS
 
-abbrev pub names_of : List Mark → List (List ℕ)
+abbrev names_of : List Mark → List (List ℕ)
 names_of marks = flat_map (λ x. target_names x.fix.target) marks
 
--- a good block, with some of these names
-pub record IsNamedBlock (content : Content) (all : List (List ℕ)) (b : Block) : Type 0 where
-  pub good : IsGoodBlock content b
-  pub part : IsPart (names_of b.marks) all
+-- a good statement, with some of these names
+pub record IsRead (all : List (List ℕ)) (s : Statement) : Type 0 where
+  pub good : IsGoodStatement s
+  pub part : IsPart (statement_names s) all
 
 code_sound : (bytes : List ℕ) (n : ℕ) (marks : List Mark) → length bytes ≡ n → 4 ≤ n → n % 4 ≡ 0 → length marks ≤ 2 → AreWithin Code 0 n marks → IsSound Code (record { bytes = bytes; marks = marks })
 code_sound bytes n marks e some fours few h = record {
@@ -253,7 +254,7 @@ low_there = record { fix = record { known = refl; addend = zero_fits; code = ref
 module _ (all : List (List ℕ)) where
   -- one entry for all bytes, or none
   one_good : (bytes : List ℕ) (n : ℕ) (t : Option Then) (o : Option Fix) → length bytes ≡ n → 4 ≤ n → n % 4 ≡ 0 → ((kind : RelKind) → is_first t kind ≡ true → is_fit Code n kind ≡ true) → IsRowFix t all o
-      → IsNamedBlock Code all (record { bytes = bytes; marks = marks_at 0 o })
+      → IsRead all (Bytes Code (record { bytes = bytes; marks = marks_at 0 o }))
   one_good bytes n t None e some fours fits h = record { good = record { sound = code_sound bytes n [] e some fours (omega arith) ((λ m k. absurd k), tt); made = λ u. absurd (true≢false (sym u)) }; part = λ m p. none_named m }
   one_good bytes n t (Some f) e some fours fits h =
       let k : IsFit Code n f.kind = fit_of Code n f.kind (fits f.kind h.1.kind) in
@@ -267,7 +268,7 @@ module _ (all : List (List ℕ)) where
       }
 
   -- an entry at each of two instructions
-  two_good : (bytes : List ℕ) (f : Fix) → length bytes ≡ 8 → (ns : List (List ℕ)) × IsGiven is_pcrel_hi20 ns f × IsPart ns all → IsNamedBlock Code all (record { bytes = bytes; marks = record { at = 0; fix = f } ∷ low ∷ [] })
+  two_good : (bytes : List ℕ) (f : Fix) → length bytes ≡ 8 → (ns : List (List ℕ)) × IsGiven is_pcrel_hi20 ns f × IsPart ns all → IsRead all (Bytes Code (record { bytes = bytes; marks = record { at = 0; fix = f } ∷ low ∷ [] }))
   two_good bytes f e h =
       let k : IsFit Code 4 f.kind = fit_of Code 4 f.kind (hi20_fit f.kind h.1.kind) in
       let wide : width_of f.kind ≤ 4 = k.fits in
@@ -281,27 +282,28 @@ module _ (all : List (List ℕ)) where
         part = part_one (target_names f.target) h.0 all h.1.named h.2;
       }
 
-  block_good : (op : Op) (t : Option Then) (f : Fields) → IsRowFix t all f.field.fix → IsNamedBlock Code all (block op t f)
+  block_good : (op : Op) (t : Option Then) (f : Fields) → IsRowFix t all f.field.fix → IsRead all (Bytes Code (block op t f))
   block_good op None f h =
-      subst (λ marks. IsNamedBlock Code all (record (block op None f) { marks = marks })) (sym (append-nil (marks_at 0 f.field.fix)))
+      subst (λ marks. IsRead all (Bytes Code (record (block op None f) { marks = marks }))) (sym (append-nil (marks_at 0 f.field.fix)))
       (one_good (block op None f).bytes 4 None f.field.fix refl (omega arith) refl (λ kind e. e) h)
   block_good op (Some t) f h = go t.made f.field.fix h
     where
       go : (made : Bool) (o : Option Fix) → IsRowFix (Some (record t { made = made })) all o
-          → IsNamedBlock Code all (record (block op (Some t) f) { marks = (marks_at 0 o ++ []) ++ (marks_at 4 (made_fix made) ++ []) })
+          → IsRead all (Bytes Code (record (block op (Some t) f) { marks = (marks_at 0 o ++ []) ++ (marks_at 4 (made_fix made) ++ []) }))
       go false None h = one_good (block op (Some t) f).bytes 8 (Some (record t { made = false })) None refl (omega arith) refl (λ kind e. e) h
       go false (Some x) h = one_good (block op (Some t) f).bytes 8 (Some (record t { made = false })) (Some x) refl (omega arith) refl (λ kind e. e) h
       go true None h = absurd (true≢false h)
       go true (Some x) h = two_good (block op (Some t) f).bytes x refl h
 
-pub instruction_good : (row : Row) (os : List Operand) → IsGoodRow row → Yields (IsNamedBlock Code (all_names os)) (instruction row os)
+pub instruction_good : (row : Row) (os : List Operand) → IsGoodRow row → Yields (IsRead (all_names os)) (with_value (λ b. Bytes Code b) (instruction row os))
 instruction_good row os e =
     let t : Option Then = row.2.then in
     let all : List (List ℕ) = all_names os in
     let p = and_parts (list_all (is_good_slot t) row.1) (not (makes t) || list_any has_form row.1) e in
-    yields_value (λ (f : Fields). IsRowFix t all f.field.fix) (IsNamedBlock Code (all_names os)) (block row.0 t) (filled (Ok (unfilled row.2)) row.1 os)
+    yields_value (λ b. IsRead all (Bytes Code b)) (IsRead all) (λ b. Bytes Code b) (instruction row os) (λ b r. r)
+    (yields_value (λ (f : Fields). IsRowFix t all f.field.fix) (λ b. IsRead all (Bytes Code b)) (block row.0 t) (filled (Ok (unfilled row.2)) row.1 os)
     (block_good all row.0 t)
-    (filled_holds t all (Ok (unfilled row.2)) row.1 os (all-In (is_good_slot t) row.1 p.0) (part_in os) (unmade (makes t) (list_any has_form row.1) p.1))
+    (filled_holds t all (Ok (unfilled row.2)) row.1 os (all-In (is_good_slot t) row.1 p.0) (part_in os) (unmade (makes t) (list_any has_form row.1) p.1)))
   where
     unmade : (a b : Bool) → (not a || b) ≡ true → b ≡ false → a ≡ false
     unmade true b e f = absurd (true≢false (sym e ∙ f))
@@ -397,7 +399,7 @@ module _ (w : Width) where
     piece_names b p ∙ ap (λ ns. ns ++ (fix_names p.fix ++ fix_names p.second)) h.1 ∙ ap (λ ns. all_names done ++ ns) (d.names ∙ sym (append-nil (operand_names o))) ∙ sym (flat_map-append operand_names done (o ∷ [])),
   )
 
-  data_good : (os : List Operand) (b : Block) → is_code content ≡ false → AreData os b → IsNamedBlock content (all_names os) b
+  data_good : (os : List Operand) (b : Block) → is_code content ≡ false → AreData os b → IsRead (all_names os) (Bytes content b)
   data_good os b plain h = record { good = record { sound = h.0; made = λ e. absurd (unmade e) }; part = λ m p. subst (IsNamed m) (sym h.1) p }
     where
       unmade : list_any (λ m. is_made m.fix.target) b.marks ≡ true → ⊥
@@ -412,8 +414,8 @@ laid_out Half = record { low = omega arith; fours = λ wide. absurd (wide refl);
 laid_out Word = record { low = omega arith; fours = λ wide. refl; code = refl; address = refl; add = refl; sub = refl; stacking = record { first = refl; second = refl; same = refl } }
 laid_out Quad = record { low = omega arith; fours = λ wide. refl; code = refl; address = refl; add = refl; sub = refl; stacking = record { first = refl; second = refl; same = refl } }
 
-pub numbers_good : (w : Width) (os : List Operand) → Yields (IsNamedBlock (layout_of w).content (all_names os)) (numbers w os)
+pub numbers_good : (w : Width) (os : List Operand) → Yields (IsRead (all_names os)) (with_value (λ b. Bytes (layout_of w).content b) (numbers w os))
 numbers_good w [] = tt
 numbers_good w (o ∷ os) =
-    yields_weaker (AreData w (o ∷ os)) (IsNamedBlock (layout_of w).content (all_names (o ∷ os))) (numbers w (o ∷ os)) (λ b h. data_good w (o ∷ os) b (laid_out w).code h)
+    yields_value (AreData w (o ∷ os)) (IsRead (all_names (o ∷ os))) (λ b. Bytes (layout_of w).content b) (numbers w (o ∷ os)) (λ b h. data_good w (o ∷ os) b (laid_out w).code h)
     (yields_gathered (AreData w) (IsDatum w) appended (datum w) (datum_more w) (o ∷ os) [] (Ok empty) (datum_good w (laid_out w)) (empty_sound (layout_of w).content, refl))

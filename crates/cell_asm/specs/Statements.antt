@@ -72,13 +72,10 @@ directed (directives.Numbers w) operands = with_value (λ b. Bytes (layout_of w)
 directed directives.Zeros operands = one count (λ n. Zeros n) operands
 directed directives.Align operands = one unit (λ n. Align n) operands
 
-abbrev pub instructed : Option Row → List Operand → Result Statement AsmKind
-instructed None operands = Err faults.Word
-instructed (Some row) operands = with_value (λ b. Bytes Code b) (instruction row operands)
-
 abbrev pub worded : Option Directive → Option Row → List Operand → Result Statement AsmKind
 worded (Some d) row operands = directed d operands
-worded None row operands = instructed row operands
+worded None (Some row) operands = with_value (λ b. Bytes Code b) (instruction row operands)
+worded None None operands = Err faults.Word
 
 abbrev pub statement : List ℕ → List Operand → Result Statement AsmKind
 statement text operands = worded (directive text) (mnemonic text) operands
