@@ -14,7 +14,7 @@ use Rattle.cell_object.specs.Sound.{is_known_kind}
 use Rattle.cell_asm.specs.Blocks.{marks_at, marks_of, appended, empty}
 use Rattle.cell_asm.specs.Objects.{part_number, symbol_number, target_key, marks_in, entry_of, entries_of}
 use Rattle.cell_asm.specs.Places.{is_made, taken, takes, lays_nothing}
-use Rattle.cell_asm.specs.Types.{RelKind, PcrelHi20, PcrelLo12I, PcrelLo12S, Mark, Block, Content, Code, Narrow, Wide, Fix, Piece, Statement, Nothing, StatementChoose as Choose, StatementGlobal as Global, StatementZeros as Zeros, StatementAlign as Align, Bytes, Entry, Part, Text, Rodata, Data, Bss, Laid}
+use Rattle.cell_asm.specs.Types.{RelKind, PcrelHi20, PcrelLo12I, PcrelLo12S, Mark, Block, Content, Code, Narrow, Wide, Fix, Piece, Statement, StatementZeros as Zeros, StatementAlign as Align, Bytes, Entry, Part, Text, Rodata, Data, Bss, Laid}
 use Rattle.cell_num.proofs.Elements.{In, In-append, In-map}
 use Rattle.cell_asm.proofs.ListLemmas.{or_second, itself, le_trans, least, not_less, same_test}
 
@@ -95,12 +95,9 @@ abbrev pub IsUnit : ℕ → Type 0
 IsUnit unit = (k : ℕ) × (k ≤ 12) × (unit ≡ 2 ^ k)
 
 abbrev pub IsGoodStatement : Statement → Type 0
-IsGoodStatement Nothing = Unit {0}
-IsGoodStatement (Choose part) = Unit {0}
-IsGoodStatement (Global name) = Unit {0}
-IsGoodStatement (Zeros n) = Unit {0}
 IsGoodStatement (Align unit) = IsUnit unit
 IsGoodStatement (Bytes content b) = IsGoodBlock content b
+IsGoodStatement _ = Unit {0}
 
 -- ENTRIES BETWEEN TWO PLACES
 

@@ -14,7 +14,7 @@ use Rattle.cell_num.specs.Kinds.{width_of, is_instruction, is_pcrel_lo12, is_pcr
 use Rattle.cell_object.specs.Sound.{is_known_kind}
 use Rattle.cell_asm.specs.declared.kind.AsmKind.TheVariants as faults
 use Rattle.cell_asm.specs.declared.mnemonic.Slot.TheVariants as slots
-use Rattle.cell_asm.specs.Faults.{joined, with_value}
+use Rattle.cell_asm.specs.Faults.{with_value}
 use Rattle.cell_asm.specs.Blocks.{marks_at, appended, empty}
 use Rattle.cell_asm.specs.Places.{is_made}
 use Rattle.cell_asm.specs.Objects.{target_names, statement_names}

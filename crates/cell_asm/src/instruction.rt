@@ -1,18 +1,18 @@
 //! The words of an instruction from its operands, and the entries for them.
 
-ghost use Rattle.std.specs.Prelude.{◌≡◌, length, IfOk};
+ghost use Rattle.std.specs.Prelude.{◌≡◌};
 ghost use Rattle.cell_asm.specs.Faults.{Gives};
 ghost use Rattle.cell_asm.specs.Mnemonics.{said};
-ghost use Rattle.cell_asm.specs.Instructions.{put as put_of, miscounted as miscounted_of, filled, single as single_of, behind as behind_of, block as block_of, instruction as instruction_of};
+ghost use Rattle.cell_asm.specs.Instructions.{put as put_of, miscounted as miscounted_of, filled, single as single_of, behind as behind_of, instruction as instruction_of};
 
 use crate::kind::{AsmKind, Stop, both, earlier, or_stop};
-use crate::mnemonic::{Mnemonic, Slot, Then};
+use crate::mnemonic::{Mnemonic, Slot};
 use crate::operand::Operand;
 use crate::statement::{Block, Draft, Field, Fix, Piece, Target};
 use crate::wanted::{memory, plain, register, value};
 use cell_isa::{Insn, Op, encode};
 use cell_num::RelKind;
-use std::alloc::{AllocError, Global};
+use std::alloc::Global;
 
 /// The fields of an instruction.
 #[derive(Drop)]
@@ -87,7 +87,7 @@ fn fill<'a>(
     }
 }
 
-/// The word of an instruction. Each that is asked for has one.
+/// One instruction. Each that is asked for has a word.
 #[tactic(auto, unfolding(crate::specs::Instructions::word))]
 fn single<'a>(op: Op, fields: Fields<'a>) -> Piece<'a>
     ensures { result ≡ single_of op fields.entry }
