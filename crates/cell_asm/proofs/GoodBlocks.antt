@@ -12,13 +12,11 @@ use Rattle.cell_num.specs.Kinds.{width_of, is_instruction, is_stacking, is_pcrel
 use Rattle.cell_object.specs.Relocations.{is_shared, is_stack, is_clash}
 use Rattle.cell_object.specs.Sound.{is_known_kind}
 use Rattle.cell_asm.specs.Blocks.{marks_at, marks_of, appended, empty}
-use Rattle.cell_asm.specs.Names.{is_name}
-use Rattle.cell_asm.specs.Objects.{target_names, part_number, symbol_number, target_key, marks_in, entry_of, entries_of}
+use Rattle.cell_asm.specs.Objects.{part_number, symbol_number, target_key, marks_in, entry_of, entries_of}
 use Rattle.cell_asm.specs.Places.{is_made, taken, takes, lays_nothing}
-use Rattle.cell_asm.specs.Types.{RelKind, PcrelHi20, PcrelLo12I, PcrelLo12S, Mark, Block, Content, Code, Narrow, Wide, Fix, Piece, Statement, Nothing, StatementChoose as Choose, StatementGlobal as Global, StatementZeros as Zeros, StatementAlign as Align, Bytes, Entry, Part, Text, Rodata, Data, Bss, Laid}
+use Rattle.cell_asm.specs.Types.{RelKind, PcrelHi20, PcrelLo12I, PcrelLo12S, Mark, Block, Content, Code, Narrow, Wide, Fix, Piece, Statement, StatementZeros as Zeros, StatementAlign as Align, Bytes, Entry, Part, Text, Rodata, Data, Bss, Laid}
 use Rattle.cell_num.proofs.Elements.{In, In-append, In-map}
 use Rattle.cell_asm.proofs.ListLemmas.{or_second, itself, le_trans, least, not_less, same_test}
-use Rattle.cell_asm.proofs.NamesFit.{AreNames}
 
 abbrev pub is_code : Content → Bool
 is_code Code = true
@@ -38,14 +36,12 @@ lo12_code kind e = label_code kind (ap (λ b. b || is_pcrel_hi20 kind) e)
 pub hi20_code : (kind : RelKind) → is_pcrel_hi20 kind ≡ true → is_instruction kind ≡ true
 hi20_code kind e = label_code kind (or_second (is_pcrel_lo12 kind) (is_pcrel_hi20 kind) e)
 
--- an entry of a name
 pub record IsGoodFix (content : Content) (f : Fix) : Type 0 where
   pub known : is_known_kind f.kind ≡ true
   pub addend : FitsSigned w64 f.addend
   -- the kinds of instructions stand at instructions alone
   pub code : is_instruction f.kind ≡ is_code content
   pub plain : is_pcrel_lo12 f.kind ≡ true → f.addend ≡ pos 0
-  pub named : AreNames (target_names f.target)
   pub made : is_made f.target ≡ true → is_pcrel_lo12 f.kind ≡ true
 
 -- two kinds that add to a field of one width
@@ -71,6 +67,8 @@ pub record IsWithin (content : Content) (low high : ℕ) (m : Mark) : Type 0 whe
   pub from : low ≤ m.at
   pub inside : m.at + width_of m.fix.kind ≤ high
   pub fours : InFours content m.at
+  -- a %pcrel_hi stands first
+  pub head : is_pcrel_hi20 m.fix.kind ≡ true → m.at ≡ 0
 
 abbrev pub AreWithin : Content → ℕ → ℕ → List Mark → Type 0
 AreWithin content low high marks = ((m : Mark) → In m marks → IsWithin content low high m) × AllApart marks
@@ -89,9 +87,7 @@ any_upper marks = list_any (λ m. is_pcrel_hi20 m.fix.kind) marks
 
 pub record IsGoodBlock (content : Content) (b : Block) : Type 0 where
   pub sound : IsSound content b
-  -- a %pcrel_hi stands first
-  pub headed : any_upper b.marks ≡ true → (m : Mark) × In m b.marks × (m.at ≡ 0) × (is_pcrel_hi20 m.fix.kind ≡ true)
-  -- where a label is made, there is one
+  -- where a label is made, there is a %pcrel_hi
   pub made : list_any (λ m. is_made m.fix.target) b.marks ≡ true → any_upper b.marks ≡ true
 
 -- a power of two, of at most 4096
@@ -99,12 +95,9 @@ abbrev pub IsUnit : ℕ → Type 0
 IsUnit unit = (k : ℕ) × (k ≤ 12) × (unit ≡ 2 ^ k)
 
 abbrev pub IsGoodStatement : Statement → Type 0
-IsGoodStatement Nothing = Unit {0}
-IsGoodStatement (Choose part) = Unit {0}
-IsGoodStatement (Global name) = is_name name ≡ true
-IsGoodStatement (Zeros n) = Unit {0}
 IsGoodStatement (Align unit) = IsUnit unit
 IsGoodStatement (Bytes content b) = IsGoodBlock content b
+IsGoodStatement _ = Unit {0}
 
 -- ENTRIES BETWEEN TWO PLACES
 
@@ -125,7 +118,7 @@ apart_join (m ∷ xs) ys h k c = (λ n i. go n (In-append xs ys n i), apart_join
 
 module _ (content : Content) where
   widen : (a b c d : ℕ) (m : Mark) → c ≤ a → b ≤ d → IsWithin content a b m → IsWithin content c d m
-  widen a b c d m l h g = record { fix = g.fix; from = le_trans c a m.at l g.from; inside = le_trans (m.at + width_of m.fix.kind) b d g.inside h; fours = g.fours }
+  widen a b c d m l h g = record { fix = g.fix; from = le_trans c a m.at l g.from; inside = le_trans (m.at + width_of m.fix.kind) b d g.inside h; fours = g.fours; head = g.head }
 
   pub join : (a b d : ℕ) (xs ys : List Mark) → a ≤ b → b ≤ d → AreWithin content a b xs → AreWithin content b d ys → AreWithin content a d (xs ++ ys)
   join a b d xs ys l h f g =
@@ -161,9 +154,9 @@ pub record IsGoodPiece (content : Content) (p : Piece) : Type 0 where
   pub in_fours : InFours content p.width
   pub stands : (n : ℕ) → InFours content n → AreWithin content n (n + p.width) (marks_of n p)
 
-one_most : (base at : ℕ) (o : Option Fix) → length (marks_at base at o) ≤ 1
-one_most base at None = omega arith
-one_most base at (Some f) = omega arith
+one_most : (at : ℕ) (o : Option Fix) → length (marks_at at o) ≤ 1
+one_most at None = omega arith
+one_most at (Some f) = omega arith
 
 two_more : (a c d e n w m : ℕ) → a ≤ 2 * n → c ≤ 1 → d ≤ 1 → e ≡ a + (c + d) → 1 ≤ w → m ≡ n + w → e ≤ 2 * m
 two_more a c d e n w m x y z q l is = omega arith
@@ -172,18 +165,18 @@ pub piece_sound : (content : Content) (b : Block) (p : Piece) → IsSound conten
 piece_sound content b p h g =
     let n : ℕ = length b.bytes in
     let size : length (appended b p).bytes ≡ n + p.width = length-append b.bytes (bytes_of p.width p.value) ∙ ap (λ k. n + k) (bytes_count p.width p.value) in
-    let one : List Mark = marks_at n 0 p.fix in
-    let two : List Mark = marks_at n p.apart p.second in
+    let one : List Mark = marks_at n p.fix in
+    let two : List Mark = marks_at n p.second in
     record {
       marks_are = record {
         stand = subst (λ k. AreWithin content 0 k (appended b p).marks) (sym size) (join content 0 n (n + p.width) b.marks (marks_of n p) (least n) (more n p.width) h.marks_are.stand (g.stands n h.whole));
         few = two_more (length b.marks) (length one) (length two) (length (appended b p).marks) n p.width (length (appended b p).bytes)
-            h.marks_are.few (one_most n 0 p.fix) (one_most n p.apart p.second) (length-append b.marks (marks_of n p) ∙ ap (λ k. length b.marks + k) (length-append one two)) g.low size;
+            h.marks_are.few (one_most n p.fix) (one_most n p.second) (length-append b.marks (marks_of n p) ∙ ap (λ k. length b.marks + k) (length-append one two)) g.low size;
       };
       whole = λ wide. omega (arith, (h.whole wide), (g.in_fours wide), size);
     }
 
-no_marks : (content : Content) (n : ℕ) → AreMarks content n []
+pub no_marks : (content : Content) (n : ℕ) → AreMarks content n []
 no_marks content n = record { stand = (λ m k. absurd k, tt); few = least (2 * n) }
 
 pub empty_sound : (content : Content) → IsSound content empty

@@ -1,7 +1,7 @@
 -- What is read, where it is read.
 --     Yields P r        P holds of the value, where there is one
 --     Finds P o         the same of an option
-use Rattle.std.proofs.Common.{◌≡◌, Bool, true, false, Result, Ok, Err, Some, None, refl, subst, ℕ, zero, suc, ◌+◌, ◌/◌, ◌%◌, ◌<◌, ◌≤◌, not, ◌&&◌, ◌==◌, List, [], ◌∷◌, ◌++◌, length, codes, decimal, nat_le, nat_lt, ◌⊎◌, inl, inr, arith, ◌-◌, cond, map, take, drop, sym, ap, ◌∙◌, length-append, take-append-drop, add_assoc, append-nil}
+use Rattle.std.proofs.Common.{◌≡◌, Bool, true, false, Result, Ok, Err, Some, None, refl, subst, ℕ, zero, suc, ◌+◌, ◌/◌, ◌%◌, ◌<◌, ◌≤◌, not, ◌&&◌, ◌==◌, List, [], ◌∷◌, ◌++◌, length, codes, decimal, nat_le, nat_lt, ◌⊎◌, inl, inr, arith, ◌-◌, cond, map, take, drop, sym, ap, ◌∙◌, length-append, take-append-drop, append_assoc, append-nil}
 use Rattle.std.proofs.lemmas.Bool.{ltb-true, le-leb, ne_eqb, and_parts, and_from, or_from}
 use Rattle.std.proofs.lemmas.List.Concat.{flat_map-append}
 use Rattle.std.proofs.lemmas.Bool.Decides.{nat_tests}
@@ -22,7 +22,7 @@ use Rattle.cell_asm.specs.Operands.{is_sign, less, with_rest, expression, modifi
 use Rattle.cell_asm.specs.Operands as operands
 use Rattle.cell_asm.specs.Types.{AsmKind, Key, KeyNamed as Named, KeyMade as Made, Expression, ExpressionName as Name, Sum, Difference, Whole, Immediate, Number, ImmediatePart as Part, Operand, OperandValue as Value, OperandMemory as Memory}
 use Rattle.cell_asm.specs.declared.kind.AsmKind.TheVariants as faults
-use Rattle.cell_num.proofs.Elements.{In, In-append}
+use Rattle.cell_num.proofs.Elements.{In, In-append, flat_map-In}
 use Rattle.cell_asm.proofs.ListLemmas.{take_le, drop_le, total, total-append, total_le, total-map, le_trans}
 
 abbrev pub Any : {A : Type 0} → A → Type 0
@@ -44,17 +44,14 @@ yields_joined P Q R f (Ok a) (Err l) go h k = tt
 yields_joined P Q R f (Err j) (Ok b) go h k = tt
 yields_joined P Q R f (Err j) (Err l) go h k = tt
 
--- what is gathered, with the sum of what the values take
-pub yields_gathered : {X A B : Type 0} (P : ℕ → A → Type 0) (Q : X → B → Type 0) (w : X → ℕ) (f : A → B → A) (g : X → Result B AsmKind)
-    → ((n : ℕ) (x : X) (a : A) (b : B) → P n a → Q x b → P (n + w x) (f a b)) → (xs : List X) (n : ℕ) (r : Result A AsmKind) → ((x : X) → In x xs → Yields (Q x) (g x)) → Yields (P n) r
-    → Yields (P (n + total w xs)) (fold (joined f) r (map g xs))
-yields_gathered P Q w f g more [] n r q h = subst (λ k. Yields (P k) r) (sym (none_more n)) h
-  where
-    none_more : (n : ℕ) → n + 0 ≡ n
-    none_more n = omega arith
-yields_gathered P Q w f g more (x ∷ xs) n r q h =
-    subst (λ k. Yields (P k) (fold (joined f) (joined f r (g x)) (map g xs))) (add_assoc n (w x) (total w xs))
-    (yields_gathered P Q w f g more xs (n + w x) (joined f r (g x)) (λ y k. q y (inr k)) (yields_joined (P n) (Q x) (P (n + w x)) f r (g x) (more n x) h (q x (inl refl))))
+-- what is gathered, of the values that were read
+pub yields_gathered : {X A B : Type 0} (P : List X → A → Type 0) (Q : X → B → Type 0) (f : A → B → A) (g : X → Result B AsmKind)
+    → ((done : List X) (x : X) (a : A) (b : B) → P done a → Q x b → P (done ++ x ∷ []) (f a b)) → (xs done : List X) (r : Result A AsmKind) → ((x : X) → Yields (Q x) (g x)) → Yields (P done) r
+    → Yields (P (done ++ xs)) (fold (joined f) r (map g xs))
+yields_gathered P Q f g more [] done r q h = subst (λ ys. Yields (P ys) r) (sym (append-nil done)) h
+yields_gathered P Q f g more (x ∷ xs) done r q h =
+    subst (λ ys. Yields (P ys) (fold (joined f) (joined f r (g x)) (map g xs))) (append_assoc done (x ∷ []) xs)
+    (yields_gathered P Q f g more xs (done ++ x ∷ []) (joined f r (g x)) q (yields_joined (P done) (Q x) (P (done ++ x ∷ [])) f r (g x) (more done x) h (q x)))
 
 pub yields_any : {A : Type 0} (r : Result A AsmKind) → Yields Any r
 yields_any (Ok a) = tt
@@ -248,6 +245,10 @@ join_named m n ms ns h k = record {
   few = let f : cost ms ≤ m = h.few in let g : cost ns ≤ n = k.few in omega (arith, f, g, cost-append ms ns);
 }
 
+-- those are some of all: what is known of all is known of them
+abbrev pub IsPart : List (List ℕ) → List (List ℕ) → Type 0
+IsPart ns all = (m : ℕ) → IsNamed m all → IsNamed m ns
+
 -- OPERANDS
 
 abbrev pub expression_names : Expression → List (List ℕ)
@@ -352,18 +353,27 @@ spelled_by m (Some o) h = h
 abbrev pub all_names : List Operand → List (List ℕ)
 all_names os = flat_map operand_names os
 
+pub part_in : (os : List Operand) (o : Operand) → In o os → IsPart (operand_names o) (all_names os)
+part_in os o k m h = record { named = λ n i. h.named n (flat_map-In operand_names os o n k i); few = le_trans (cost (operand_names o)) (cost (all_names os)) m (go os k) h.few }
+  where
+    go : (ps : List Operand) → In o ps → cost (operand_names o) ≤ cost (all_names ps)
+    go [] i = absurd i
+    go (p ∷ ps) (inl e) = subst (λ x. cost (operand_names x) ≤ cost (all_names (p ∷ ps))) (sym e) (omega (arith, cost-append (operand_names p) (all_names ps)))
+    go (p ∷ ps) (inr i) = omega (arith, go ps i, cost-append (operand_names p) (all_names ps))
+
 abbrev pub NamesAll : ℕ → List Operand → Type 0
 NamesAll m os = IsNamed m (all_names os)
 
-named_more : (n : ℕ) (text : List ℕ) (os : List Operand) (o : Operand) → NamesAll n os → NamesOperand (room text) o → NamesAll (n + room text) (os ++ o ∷ [])
-named_more n text os o h k =
-    subst (IsNamed (n + room text)) (sym (flat_map-append operand_names os (o ∷ []) ∙ ap (λ ns. all_names os ++ ns) (append-nil (operand_names o))))
-    (join_named n (room text) (all_names os) (operand_names o) h k)
+named_more : (done : List (List ℕ)) (text : List ℕ) (os : List Operand) (o : Operand) → NamesAll (total room done) os → NamesOperand (room text) o → NamesAll (total room (done ++ text ∷ [])) (os ++ o ∷ [])
+named_more done text os o h k =
+    more_named (total room done + room text) (total room (done ++ text ∷ [])) (all_names (os ++ o ∷ [])) (omega (arith, total-append room done (text ∷ [])))
+    (subst (IsNamed (total room done + room text)) (sym (flat_map-append operand_names os (o ∷ []) ∙ ap (λ ns. all_names os ++ ns) (append-nil (operand_names o))))
+    (join_named (total room done) (room text) (all_names os) (operand_names o) h k))
 
-texts_named : (texts : List (List ℕ)) → Yields (NamesAll (0 + total room texts)) (operands_of (map spelled texts))
+texts_named : (texts : List (List ℕ)) → Yields (NamesAll (total room texts)) (operands_of (map spelled texts))
 texts_named texts =
-    yields_gathered NamesAll (λ text o. NamesOperand (room text) o) room (λ os o. os ++ o ∷ []) spelled named_more texts 0 (Ok [])
-    (λ text k. spelled_by (room text) (operand text) (operand_named text)) (none_named 0)
+    yields_gathered (λ done. NamesAll (total room done)) (λ text. NamesOperand (room text)) (λ os o. os ++ o ∷ []) spelled named_more texts [] (Ok [])
+    (λ text. spelled_by (room text) (operand text) (operand_named text)) (none_named 0)
 
 onto_total : (b : ℕ) (parts : List (List ℕ)) (n : ℕ) → total room parts ≤ suc n → total room (onto_first b parts) ≤ suc (suc n)
 onto_total b [] n h = omega arith
@@ -391,9 +401,6 @@ operands_total (b ∷ bs) =
 
 pub operands_named : (text : List ℕ) (m : ℕ) → suc (length text) ≤ m → Yields (NamesAll m) (operands_of (map spelled (operand_texts text)))
 operands_named text m l =
-    yields_weaker (NamesAll (0 + total room (operand_texts text))) (NamesAll m) (operands_of (map spelled (operand_texts text)))
-    (λ os h. more_named (0 + total room (operand_texts text)) m (all_names os) (within (total room (operand_texts text)) (room text) (operands_total text) l) h)
+    yields_weaker (NamesAll (total room (operand_texts text))) (NamesAll m) (operands_of (map spelled (operand_texts text)))
+    (λ os h. more_named (total room (operand_texts text)) m (all_names os) (le_trans (total room (operand_texts text)) (room text) m (operands_total text) l) h)
     (texts_named (operand_texts text))
-  where
-    within : (a b : ℕ) → a ≤ b → b ≤ m → 0 + a ≤ m
-    within a b h k = omega arith

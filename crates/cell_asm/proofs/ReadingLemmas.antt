@@ -122,6 +122,10 @@ pub row_found : {X A : Type 0} (h : X → List ℕ × A) (text : List ℕ) (rows
 row_found h text [] = refl
 row_found h text (x ∷ rows) = here h (bytes_eq text (h x).0) x _ _ (row_found h text rows)
 
+pub map_twice : {X A B : Type 0} (f : A → B) (g : X → A) (o : Option X) → option_map f (option_map g o) ≡ option_map (λ x. f (g x)) o
+map_twice f g None = refl
+map_twice f g (Some x) = refl
+
 -- Slots that are filled from operands, one after the other.
 
 abbrev pub rest : {X : Type 0} → List X → List X

@@ -193,7 +193,9 @@ line_upper lines part l i p s h =
     }
   where
     head_of : (s : Statement) → IsGoodStatement s → any_upper (marks_in s) ≡ true → (m : Mark) × In m (marks_in s) × (m.at ≡ 0) × (is_pcrel_hi20 m.fix.kind ≡ true)
-    head_of (Bytes content b) g t = g.headed t
+    head_of (Bytes content b) g t =
+        let r : (m : Mark) × In m b.marks × (is_pcrel_hi20 m.fix.kind ≡ true) = any-Has (λ m. is_pcrel_hi20 m.fix.kind) b.marks t in
+        (r.0, r.1, (g.sound.marks_are.stand.0 r.0 r.1).head r.2, r.2)
     head_of _ g t = absurd (true≢false (sym t))
 
 -- THE LABEL

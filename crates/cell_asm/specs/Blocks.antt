@@ -1,16 +1,16 @@
 -- The bytes of pieces, one behind the other, and where in them their entries stand.
 --     appended b p      one piece more
-use Rattle.std.specs.Prelude.{ℕ, ◌+◌, List, [], ◌∷◌, ◌++◌, length, Option, Some, None}
+use Rattle.std.specs.Prelude.{ℕ, List, [], ◌∷◌, ◌++◌, length, Option, Some, None}
 use Rattle.cell_num.specs.Bits.{bytes_of}
 use Rattle.cell_asm.specs.Types.{Fix, Piece, Mark, Block, Draft}
 
--- an entry so far behind a place
-abbrev pub marks_at : ℕ → ℕ → Option Fix → List Mark
-marks_at base at None = []
-marks_at base at (Some f) = record { at = base + at; fix = f } ∷ []
+-- an entry at a place
+abbrev pub marks_at : ℕ → Option Fix → List Mark
+marks_at at None = []
+marks_at at (Some f) = record { at = at; fix = f } ∷ []
 
 abbrev pub marks_of : ℕ → Piece → List Mark
-marks_of base p = marks_at base 0 p.fix ++ marks_at base p.apart p.second
+marks_of at p = marks_at at p.fix ++ marks_at at p.second
 
 abbrev pub appended : Block → Piece → Block
 appended b p = record { bytes = b.bytes ++ bytes_of p.width p.value; marks = b.marks ++ marks_of (length b.bytes) p }

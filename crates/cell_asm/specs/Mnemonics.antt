@@ -1,8 +1,8 @@
 -- The words that a statement begins with.
 --     directive text        the directive of that word
 --     mnemonic text         the instruction of that word, or what is short for instructions
-use Rattle.std.specs.Prelude.{ℕ, List, [], ◌∷◌, ◌++◌, codes, Option, option_map, find, bytes_eq, pos}
-use Rattle.cell_asm.specs.Types.{Op, Text, Rodata, Data, Bss, Shape, Registers, ShapeImmediate as Immediate, ShapeShift as Shift, ShapeShiftWord as ShiftWord, Load, Store, Branch, Jump, ShapeUpper as Upper, ShapeUpperPcrel as UpperPcrel, Alone, Move, LoadNumber, Return, JumpTo, Call, LoadAddress, Byte, Half, WidthWord as Word, Quad, Mnemonic, Directive, DirectiveChoose as Choose, DirectiveGlobal as Global, Numbers, DirectiveZeros as Zeros, DirectiveAlign as Align}
+use Rattle.std.specs.Prelude.{ℕ, true, false, List, [], ◌∷◌, ◌++◌, map, codes, Option, Some, None, option_map, find, bytes_eq, pos}
+use Rattle.cell_asm.specs.Types.{Op, Text, Rodata, Data, Bss, Low, LowStore, FormUpper as Upper, FormUpperPcrel as UpperPcrel, FormShift as Shift, FormShiftWord as ShiftWord, Small, FormBranch as Branch, FormJump as Jump, FormCall as Call, Address, Slot, Rd, Rs1, Rs2, SlotValue as Value, SlotMemory as Memory, Fixed, Byte, Half, WidthWord as Word, Quad, Mnemonic, Directive, DirectiveChoose as Choose, DirectiveGlobal as Global, Numbers, DirectiveZeros as Zeros, DirectiveAlign as Align}
 use Rattle.cell_isa.specs.declared.insn.Op.TheVariants.{Lui, Auipc, Jal, Jalr, Beq, Bne, Blt, Bge, Bltu, Bgeu, Lb, Lh, Lw, Ld, Lbu, Lhu, Lwu, Sb, Sh, Sw, Sd, Addi, Slti, Sltiu, Xori, Ori, Andi, Slli, Srli, Srai, Add, Sub, Sll, Slt, Sltu, Xor, Srl, Sra, Or, And, Addiw, Slliw, Srliw, Sraiw, Addw, Subw, Sllw, Srlw, Sraw, Mul, Mulh, Mulhsu, Mulhu, Div, Divu, Rem, Remu, Mulw, Divw, Divuw, Remw, Remuw, Fence, Ecall, Ebreak}
 
 -- the row of a table with that word
@@ -19,55 +19,52 @@ directives =
 abbrev pub directive : List ℕ → Option Directive
 directive text = row_of directives text
 
-abbrev pub row : List ℕ → Op → Shape → List ℕ × (Op × Shape)
-row text op shape = (text, (op, shape))
+-- an instruction: its operation, what its operands fill in their order, and what none says
+abbrev pub Row : Type 0
+Row = Op × List Slot × Fixed
 
--- what stands for instructions of another spelling
-abbrev pub shorthands : List (List ℕ × (Op × Shape))
-shorthands =
-    row (codes "nop") Addi (Alone (pos 0)) ∷ row (codes "mv") Addi Move ∷ row (codes "li") Addi LoadNumber
-    ∷ row (codes "ret") Jalr Return ∷ row (codes "j") Jal JumpTo
-    ∷ row (codes "call") Auipc Call ∷ row (codes "la") Auipc LoadAddress ∷ []
+-- the row as the code has it
+abbrev pub said : Mnemonic → Row
+said m = (m.0, m.1.now, m.2)
 
-abbrev pub jumps : List (List ℕ × (Op × Shape))
-jumps =
-    row (codes "lui") Lui Upper ∷ row (codes "auipc") Auipc UpperPcrel
-    ∷ row (codes "jal") Jal Jump ∷ row (codes "jalr") Jalr Load
-    ∷ row (codes "beq") Beq Branch ∷ row (codes "bne") Bne Branch ∷ row (codes "blt") Blt Branch
-    ∷ row (codes "bge") Bge Branch ∷ row (codes "bltu") Bltu Branch ∷ row (codes "bgeu") Bgeu Branch
-    ∷ row (codes "fence") Fence (Alone (pos 255)) ∷ row (codes "ecall") Ecall (Alone (pos 0)) ∷ row (codes "ebreak") Ebreak (Alone (pos 0)) ∷ []
+-- zeros in the fields that no operand fills, and no second instruction
+abbrev pub free : Fixed
+free = record { rd = 0; rs1 = 0; number = pos 0; then = None }
 
-abbrev pub transfers : List (List ℕ × (Op × Shape))
-transfers =
-    row (codes "lb") Lb Load ∷ row (codes "lh") Lh Load ∷ row (codes "lw") Lw Load ∷ row (codes "ld") Ld Load
-    ∷ row (codes "lbu") Lbu Load ∷ row (codes "lhu") Lhu Load ∷ row (codes "lwu") Lwu Load
-    ∷ row (codes "sb") Sb Store ∷ row (codes "sh") Sh Store ∷ row (codes "sw") Sw Store ∷ row (codes "sd") Sd Store ∷ []
+-- instructions whose operands fill these slots, and of which nothing else is said
+abbrev pub rows : List Slot → List (List ℕ × Op) → List (List ℕ × Row)
+rows slots words = map (λ word. (word.0, (word.1, slots, free))) words
 
-abbrev pub with_number : List (List ℕ × (Op × Shape))
-with_number =
-    row (codes "addi") Addi Immediate ∷ row (codes "slti") Slti Immediate ∷ row (codes "sltiu") Sltiu Immediate
-    ∷ row (codes "xori") Xori Immediate ∷ row (codes "ori") Ori Immediate ∷ row (codes "andi") Andi Immediate
-    ∷ row (codes "addiw") Addiw Immediate
-    ∷ row (codes "slli") Slli Shift ∷ row (codes "srli") Srli Shift ∷ row (codes "srai") Srai Shift
-    ∷ row (codes "slliw") Slliw ShiftWord ∷ row (codes "srliw") Srliw ShiftWord ∷ row (codes "sraiw") Sraiw ShiftWord ∷ []
+-- those that fix a field, or stand for two instructions; ra is register 1
+abbrev pub special : List (List ℕ × Row)
+special =
+    (codes "ret", (Jalr, [], record free { rs1 = 1 })) ∷ (codes "fence", (Fence, [], record free { number = pos 255 }))
+    ∷ (codes "call", (Auipc, Value Call ∷ [], record free { rd = 1; then = Some (record { op = Jalr; made = false }) }))
+    ∷ (codes "la", (Auipc, Rd ∷ Value Address ∷ [], record free { then = Some (record { op = Addi; made = true }) })) ∷ []
 
-abbrev pub with_registers : List (List ℕ × (Op × Shape))
-with_registers =
-    row (codes "add") Add Registers ∷ row (codes "sub") Sub Registers ∷ row (codes "sll") Sll Registers
-    ∷ row (codes "slt") Slt Registers ∷ row (codes "sltu") Sltu Registers ∷ row (codes "xor") Xor Registers
-    ∷ row (codes "srl") Srl Registers ∷ row (codes "sra") Sra Registers ∷ row (codes "or") Or Registers ∷ row (codes "and") And Registers
-    ∷ row (codes "addw") Addw Registers ∷ row (codes "subw") Subw Registers ∷ row (codes "sllw") Sllw Registers
-    ∷ row (codes "srlw") Srlw Registers ∷ row (codes "sraw") Sraw Registers ∷ []
+abbrev pub mnemonics : List (List ℕ × Row)
+mnemonics =
+    special
+    ++ rows [] ((codes "nop", Addi) ∷ (codes "ecall", Ecall) ∷ (codes "ebreak", Ebreak) ∷ [])
+    ++ rows (Rd ∷ Rs1 ∷ []) ((codes "mv", Addi) ∷ [])
+    ++ rows (Rd ∷ Value Small ∷ []) ((codes "li", Addi) ∷ [])
+    ++ rows (Value Jump ∷ []) ((codes "j", Jal) ∷ [])
+    ++ rows (Rd ∷ Value Jump ∷ []) ((codes "jal", Jal) ∷ [])
+    ++ rows (Rd ∷ Value Upper ∷ []) ((codes "lui", Lui) ∷ [])
+    ++ rows (Rd ∷ Value UpperPcrel ∷ []) ((codes "auipc", Auipc) ∷ [])
+    ++ rows (Rs1 ∷ Rs2 ∷ Value Branch ∷ []) ((codes "beq", Beq) ∷ (codes "bne", Bne) ∷ (codes "blt", Blt) ∷ (codes "bge", Bge) ∷ (codes "bltu", Bltu) ∷ (codes "bgeu", Bgeu) ∷ [])
+    ++ rows (Rd ∷ Memory Low ∷ [])
+    ((codes "jalr", Jalr) ∷ (codes "lb", Lb) ∷ (codes "lh", Lh) ∷ (codes "lw", Lw) ∷ (codes "ld", Ld) ∷ (codes "lbu", Lbu) ∷ (codes "lhu", Lhu)
+    ∷ (codes "lwu", Lwu) ∷ [])
+    ++ rows (Rs2 ∷ Memory LowStore ∷ []) ((codes "sb", Sb) ∷ (codes "sh", Sh) ∷ (codes "sw", Sw) ∷ (codes "sd", Sd) ∷ [])
+    ++ rows (Rd ∷ Rs1 ∷ Value Low ∷ []) ((codes "addi", Addi) ∷ (codes "slti", Slti) ∷ (codes "sltiu", Sltiu) ∷ (codes "xori", Xori) ∷ (codes "ori", Ori) ∷ (codes "andi", Andi) ∷ (codes "addiw", Addiw) ∷ [])
+    ++ rows (Rd ∷ Rs1 ∷ Value Shift ∷ []) ((codes "slli", Slli) ∷ (codes "srli", Srli) ∷ (codes "srai", Srai) ∷ [])
+    ++ rows (Rd ∷ Rs1 ∷ Value ShiftWord ∷ []) ((codes "slliw", Slliw) ∷ (codes "srliw", Srliw) ∷ (codes "sraiw", Sraiw) ∷ [])
+    ++ rows (Rd ∷ Rs1 ∷ Rs2 ∷ [])
+    ((codes "add", Add) ∷ (codes "sub", Sub) ∷ (codes "sll", Sll) ∷ (codes "slt", Slt) ∷ (codes "sltu", Sltu) ∷ (codes "xor", Xor) ∷ (codes "srl", Srl)
+    ∷ (codes "sra", Sra) ∷ (codes "or", Or) ∷ (codes "and", And) ∷ (codes "addw", Addw) ∷ (codes "subw", Subw) ∷ (codes "sllw", Sllw) ∷ (codes "srlw", Srlw)
+    ∷ (codes "sraw", Sraw) ∷ (codes "mul", Mul) ∷ (codes "mulh", Mulh) ∷ (codes "mulhsu", Mulhsu) ∷ (codes "mulhu", Mulhu) ∷ (codes "div", Div) ∷ (codes "divu", Divu)
+    ∷ (codes "rem", Rem) ∷ (codes "remu", Remu) ∷ (codes "mulw", Mulw) ∷ (codes "divw", Divw) ∷ (codes "divuw", Divuw) ∷ (codes "remw", Remw) ∷ (codes "remuw", Remuw) ∷ [])
 
-abbrev pub products : List (List ℕ × (Op × Shape))
-products =
-    row (codes "mul") Mul Registers ∷ row (codes "mulh") Mulh Registers ∷ row (codes "mulhsu") Mulhsu Registers ∷ row (codes "mulhu") Mulhu Registers
-    ∷ row (codes "div") Div Registers ∷ row (codes "divu") Divu Registers ∷ row (codes "rem") Rem Registers ∷ row (codes "remu") Remu Registers
-    ∷ row (codes "mulw") Mulw Registers ∷ row (codes "divw") Divw Registers ∷ row (codes "divuw") Divuw Registers
-    ∷ row (codes "remw") Remw Registers ∷ row (codes "remuw") Remuw Registers ∷ []
-
-abbrev pub mnemonics : List (List ℕ × (Op × Shape))
-mnemonics = shorthands ++ (jumps ++ (transfers ++ (with_number ++ (with_registers ++ products))))
-
-abbrev pub mnemonic : List ℕ → Option Mnemonic
-mnemonic text = option_map (λ p. record { op = p.0; shape = p.1 }) (row_of mnemonics text)
+abbrev pub mnemonic : List ℕ → Option Row
+mnemonic text = row_of mnemonics text

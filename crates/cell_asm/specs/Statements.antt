@@ -2,13 +2,13 @@
 --     statement word operands      the statement, or the earliest fault
 use Rattle.std.specs.Prelude.{ℕ, ◌^◌, ◌*◌, ◌-◌, nat_le, List, [], ◌∷◌, map, Option, Some, None, if◌then◌else◌, ℤ, pos, negsuc, Result, Ok, Err}
 use Rattle.cell_num.specs.Bits.{modulo_2}
-use Rattle.cell_asm.specs.Types.{RelKind, AsmKind, Width, Byte, Half, WidthWord as Word, Quad, Mnemonic, Directive, Difference, Whole, Number, ImmediatePart as Part, Operand, OperandValue as Value, Content, Code, Narrow, Wide, Block, Piece, Fix, Statement, StatementChoose as Choose, StatementGlobal as Global, StatementZeros as Zeros, StatementAlign as Align, Bytes, Layout}
+use Rattle.cell_asm.specs.Types.{RelKind, AsmKind, Width, Byte, Half, WidthWord as Word, Quad, Directive, Difference, Whole, Number, ImmediatePart as Part, Operand, OperandValue as Value, Content, Code, Narrow, Wide, Block, Piece, Fix, Statement, StatementChoose as Choose, StatementGlobal as Global, StatementZeros as Zeros, StatementAlign as Align, Bytes, Layout}
 use Rattle.cell_num.specs.declared.kinds.RelKind.TheVariants as kinds
 use Rattle.cell_asm.specs.declared.kind.AsmKind.TheVariants as faults
 use Rattle.cell_asm.specs.declared.mnemonic.Directive.TheVariants as directives
 use Rattle.cell_asm.specs.Blocks.{appended, empty}
 use Rattle.cell_asm.specs.Faults.{with_value, gathered}
-use Rattle.cell_asm.specs.Mnemonics.{directive, mnemonic}
+use Rattle.cell_asm.specs.Mnemonics.{Row, directive, mnemonic}
 use Rattle.cell_asm.specs.Wanted.{name, within, entry, fix}
 use Rattle.cell_asm.specs.Instructions.{instruction}
 
@@ -29,7 +29,7 @@ stored w n =
     with_value (modulo_2 bits) (within (negsuc (2 ^ (bits - 1) - 1)) (pos (2 ^ bits - 1)) n)
 
 abbrev pub filled : Width → ℕ → Option Fix → Option Fix → Piece
-filled w value first second = record { width = (layout_of w).bytes; value = value; fix = first; apart = 0; second = second }
+filled w value first second = record { width = (layout_of w).bytes; value = value; fix = first; second = second }
 
 -- one of a list of numbers: a number, an address, or the difference of two
 abbrev pub datum : Width → Operand → Result Piece AsmKind
@@ -72,13 +72,10 @@ directed (directives.Numbers w) operands = with_value (λ b. Bytes (layout_of w)
 directed directives.Zeros operands = one count (λ n. Zeros n) operands
 directed directives.Align operands = one unit (λ n. Align n) operands
 
-abbrev pub instructed : Option Mnemonic → List Operand → Result Statement AsmKind
-instructed None operands = Err faults.Word
-instructed (Some m) operands = with_value (λ b. Bytes Code b) (instruction m operands)
-
-abbrev pub worded : Option Directive → Option Mnemonic → List Operand → Result Statement AsmKind
-worded (Some d) m operands = directed d operands
-worded None m operands = instructed m operands
+abbrev pub worded : Option Directive → Option Row → List Operand → Result Statement AsmKind
+worded (Some d) row operands = directed d operands
+worded None (Some row) operands = with_value (λ b. Bytes Code b) (instruction row operands)
+worded None None operands = Err faults.Word
 
 abbrev pub statement : List ℕ → List Operand → Result Statement AsmKind
 statement text operands = worded (directive text) (mnemonic text) operands

@@ -20,8 +20,8 @@ pub use Rattle.cell_asm.specs.declared.statement.Laid.{Laid}
 pub use Rattle.cell_asm.specs.declared.mnemonic.Directive.{Directive}
 pub use Rattle.cell_asm.specs.declared.mnemonic.Directive.TheVariants.{Choose as DirectiveChoose, Global as DirectiveGlobal, Numbers, Zeros as DirectiveZeros, Align as DirectiveAlign}
 pub use Rattle.cell_asm.specs.declared.mnemonic.Mnemonic.{Mnemonic}
-pub use Rattle.cell_asm.specs.declared.mnemonic.Shape.{Shape}
-pub use Rattle.cell_asm.specs.declared.mnemonic.Shape.TheVariants.{Registers, Immediate as ShapeImmediate, Shift as ShapeShift, ShiftWord as ShapeShiftWord, Load, Store, Branch, Jump, Upper as ShapeUpper, UpperPcrel as ShapeUpperPcrel, Alone, Move, LoadNumber, Return, JumpTo, Call, LoadAddress}
+pub use Rattle.cell_asm.specs.declared.mnemonic.Fixed.{Fixed}
+pub use Rattle.cell_asm.specs.declared.mnemonic.Then.{Then}
 pub use Rattle.cell_asm.specs.declared.mnemonic.Width.{Width}
 pub use Rattle.cell_asm.specs.declared.mnemonic.Width.TheVariants.{Byte, Half, Word as WidthWord, Quad}
 pub use Rattle.cell_asm.specs.declared.symbol.Numbering.{Numbering}

@@ -34,16 +34,12 @@ is_bare _ = false
 abbrev pub fix : RelKind → List ℕ → ℤ → Fix
 fix kind n addend = record { kind = kind; target = Named n; addend = addend }
 
--- a signed number of 64 bits is added, where the kind takes one
-abbrev pub moved : RelKind → List ℕ → ℤ → Bool → Result Fix AsmKind
-moved kind n by true = Err faults.Operand
-moved kind n by false = with_value (fix kind n) (within (negsuc 0x7fffffffffffffff) (pos 0x7fffffffffffffff) by)
-
--- an entry of that kind, where there is one
+-- an entry of that kind, where there is one; a signed number of 64 bits is added, where the kind takes one
 abbrev pub entry : Option RelKind → Expression → Result Fix AsmKind
 entry None e = Err faults.Operand
 entry (Some kind) (Name n) = Ok (fix kind n (pos 0))
-entry (Some kind) (Sum n by) = moved kind n by (is_bare kind)
+entry (Some kind) (Sum n by) =
+    if is_bare kind then Err faults.Operand else with_value (fix kind n) (within (negsuc 0x7fffffffffffffff) (pos 0x7fffffffffffffff) by)
 entry (Some kind) (Difference m n) = Err faults.Operand
 
 -- IMMEDIATES: the numbers that fit, and the kinds of the entries for an address and for parts of one

@@ -82,7 +82,6 @@ fn filled<'a>(width: Width, value: u64, fix: Option<Fix<'a>>, second: Option<Fix
         width: layout_of(width).bytes,
         value,
         fix,
-        apart: 0,
         second,
     }
 }

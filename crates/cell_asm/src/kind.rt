@@ -119,8 +119,5 @@ pub fn both<A: Drop, B: Drop>(
 pub fn or_stop<A: Drop>(outcome: Result<A, AsmKind>) -> Result<A, Stop>
     ensures { Gives result outcome }
 {
-    match outcome {
-        Ok(value) => Ok(value),
-        Err(kind) => Err(Stop::Fault(kind)),
-    }
+    outcome.map_err(Stop::Fault)
 }

@@ -24,7 +24,7 @@ pub use source::assemble;
 
 // What the definitions speak of, so that laws over them can name it.
 pub use instruction::Fields;
-pub use mnemonic::{Directive, Form, Mnemonic, Shape, Slot, Width};
+pub use mnemonic::{Directive, Fixed, Form, Mnemonic, Slot, Then, Width};
 pub use operand::{Expression, Immediate, Modifier, Operand};
 pub use statement::{
     Block, Content, Field, Fix, Key, Label, Laid, Line, Mark, Part, Piece, Statement, Target,

@@ -4,12 +4,12 @@ ghost use Rattle.std.specs.Prelude.{◌≡◌, ◌≤◌, ◌-◌, ◌==◌, map
 ghost use Rattle.std.specs.List.{prefix_len, suffix_len, slice_split};
 ghost use Rattle.cell_asm.specs.Faults.{Gives};
 ghost use Rattle.cell_asm.specs.Lines.{is_blank as blank, is_inked as inked, trimmed as trimmed_of, code_of as code_of_line, first_word as first_word_of, after_word as after_word_of, operand_texts, spelled, operands as operands_of, statement_in as statement_in_text, has_label as labelled, label_name, line_of};
-ghost use Rattle.cell_asm.specs.Statements.{statement as statement_of, instructed as instructed_of};
+ghost use Rattle.cell_asm.specs.Statements.{statement as statement_of};
 
 use crate::directive::directed;
 use crate::instruction::instruction;
 use crate::kind::{AsmKind, Stop};
-use crate::mnemonic::{Mnemonic, read_directive, read_mnemonic};
+use crate::mnemonic::{read_directive, read_mnemonic};
 use crate::names::is_name;
 use crate::operand::{Operand, read_operand};
 use crate::statement::{Content, Line, Statement};
@@ -22,22 +22,21 @@ pub fn read_line<'a>(alloc: Global, text: &'a [u8]) -> Result<Line<'a>, Stop>
     ensures { Gives result (line_of text.now) }
 {
     let code = code_of(text);
-    if has_label(code) {
-        let Some(label) = read_label(first_word(code)) else {
-            return Err(Stop::Fault(AsmKind::Word));
-        };
-        let statement = read_statement(alloc, after_word(code))?;
-        Ok(Line {
-            label: Some(label),
-            statement,
-        })
-    } else {
+    if !has_label(code) {
         let statement = read_statement(alloc, code)?;
-        Ok(Line {
+        return Ok(Line {
             label: None,
             statement,
-        })
+        });
     }
+    let Some(label) = read_label(first_word(code)) else {
+        return Err(Stop::Fault(AsmKind::Word));
+    };
+    let statement = read_statement(alloc, after_word(code))?;
+    Ok(Line {
+        label: Some(label),
+        statement,
+    })
 }
 
 /// The line without its comment and the blanks at its ends.
@@ -142,11 +141,7 @@ fn read_label<'a>(word: &'a [u8]) -> Option<Text<'a>>
     ensures { result ≡ label_name word.now }
 {
     let name = &word[..word.len().saturating_sub(1)];
-    if is_name(name) {
-        Some(Text::of(name))
-    } else {
-        None
-    }
+    is_name(name).then_some(Text::of(name))
 }
 
 /// The statement of a text that begins with its word.
@@ -199,20 +194,10 @@ fn statement<'a>(
 ) -> Result<Statement<'a>, Stop>
     ensures { Gives result (statement_of word.now operands.now) }
 {
-    match read_directive(word) {
-        Some(directive) => directed(alloc, directive, operands),
-        None => instructed(alloc, read_mnemonic(word), operands),
+    if let Some(directive) = read_directive(word) {
+        return directed(alloc, directive, operands);
     }
-}
-
-fn instructed<'a>(
-    alloc: Global,
-    mnemonic: Option<Mnemonic>,
-    operands: &[Operand<'a>],
-) -> Result<Statement<'a>, Stop>
-    ensures { Gives result (instructed_of mnemonic operands.now) }
-{
-    let Some(mnemonic) = mnemonic else {
+    let Some(mnemonic) = read_mnemonic(word) else {
         return Err(Stop::Fault(AsmKind::Word));
     };
     let block = instruction(alloc, mnemonic, operands)?;

@@ -1,201 +1,11 @@
 //! The words that a statement begins with.
 
 ghost use Rattle.std.specs.Prelude.{◌≡◌, map, bytes_eq, option_map, find};
-ghost use Rattle.cell_asm.specs.Mnemonics.{mnemonics, mnemonic as mnemonic_of, directive as directive_of, row_of};
+ghost use Rattle.cell_asm.specs.Mnemonics.{mnemonic as mnemonic_of, directive as directive_of, row_of, said};
 
 use crate::statement::Part;
+use Slot::{Memory, Rd, Rs1, Rs2, Value};
 use cell_isa::Op;
-
-/// What the operands of an instruction are.
-#[derive(Clone, Copy, Debug, PartialEq, Eq)]
-pub enum Shape {
-    /// `rd,rs1,rs2`
-    Registers,
-    /// `rd,rs1,I`
-    Immediate,
-    /// `rd,rs1,N` with N from 0 to 63
-    Shift,
-    /// `rd,rs1,N` with N from 0 to 31
-    ShiftWord,
-    /// `rd,I(rs1)`
-    Load,
-    /// `rs2,I(rs1)`
-    Store,
-    /// `rs1,rs2,NAME`
-    Branch,
-    /// `rd,NAME`
-    Jump,
-    /// `rd,U` or `rd,%hi(E)`
-    Upper,
-    /// `rd,U` or `rd,%pcrel_hi(E)`
-    UpperPcrel,
-    /// No operand; the instruction has this immediate.
-    Alone(i32),
-    /// `rd,rs` for `rd,rs,0`
-    Move,
-    /// `rd,N` for `rd,zero,N`
-    LoadNumber,
-    /// No operand, for `zero,0(ra)`
-    Return,
-    /// `NAME` for `zero,NAME`
-    JumpTo,
-    /// `E`, for two instructions under one entry
-    Call,
-    /// `rd,E`, for two instructions with an entry each
-    LoadAddress,
-}
-
-/// An instruction's operation, and what its operands are.
-#[derive(Clone, Copy, Debug, PartialEq, Eq)]
-pub struct Mnemonic {
-    pub op: Op,
-    pub shape: Shape,
-}
-
-/// The widths of data.
-#[derive(Clone, Copy, Debug, PartialEq, Eq)]
-pub enum Width {
-    Byte,
-    Half,
-    Word,
-    Quad,
-}
-
-/// What a directive does.
-#[derive(Clone, Copy, Debug, PartialEq, Eq)]
-pub enum Directive {
-    Choose(Part),
-    Global,
-    Numbers(Width),
-    Zeros,
-    Align,
-}
-
-/// The directives.
-static DIRECTIVES: [(&[u8], Directive); 11] = [
-    (b".text", Directive::Choose(Part::Text)),
-    (b".rodata", Directive::Choose(Part::Rodata)),
-    (b".data", Directive::Choose(Part::Data)),
-    (b".bss", Directive::Choose(Part::Bss)),
-    (b".globl", Directive::Global),
-    (b".byte", Directive::Numbers(Width::Byte)),
-    (b".half", Directive::Numbers(Width::Half)),
-    (b".word", Directive::Numbers(Width::Word)),
-    (b".quad", Directive::Numbers(Width::Quad)),
-    (b".zero", Directive::Zeros),
-    (b".align", Directive::Align),
-];
-
-/// The instructions, and what is short for some. RISC-V unprivileged manual, "RV32/64G Instruction
-/// Set Listings"
-static MNEMONICS: [(&[u8], (Op, Shape)); 72] = [
-    (b"nop", (Op::Addi, Shape::Alone(0))),
-    (b"mv", (Op::Addi, Shape::Move)),
-    (b"li", (Op::Addi, Shape::LoadNumber)),
-    (b"ret", (Op::Jalr, Shape::Return)),
-    (b"j", (Op::Jal, Shape::JumpTo)),
-    (b"call", (Op::Auipc, Shape::Call)),
-    (b"la", (Op::Auipc, Shape::LoadAddress)),
-    (b"lui", (Op::Lui, Shape::Upper)),
-    (b"auipc", (Op::Auipc, Shape::UpperPcrel)),
-    (b"jal", (Op::Jal, Shape::Jump)),
-    (b"jalr", (Op::Jalr, Shape::Load)),
-    (b"beq", (Op::Beq, Shape::Branch)),
-    (b"bne", (Op::Bne, Shape::Branch)),
-    (b"blt", (Op::Blt, Shape::Branch)),
-    (b"bge", (Op::Bge, Shape::Branch)),
-    (b"bltu", (Op::Bltu, Shape::Branch)),
-    (b"bgeu", (Op::Bgeu, Shape::Branch)),
-    (b"fence", (Op::Fence, Shape::Alone(255))),
-    (b"ecall", (Op::Ecall, Shape::Alone(0))),
-    (b"ebreak", (Op::Ebreak, Shape::Alone(0))),
-    (b"lb", (Op::Lb, Shape::Load)),
-    (b"lh", (Op::Lh, Shape::Load)),
-    (b"lw", (Op::Lw, Shape::Load)),
-    (b"ld", (Op::Ld, Shape::Load)),
-    (b"lbu", (Op::Lbu, Shape::Load)),
-    (b"lhu", (Op::Lhu, Shape::Load)),
-    (b"lwu", (Op::Lwu, Shape::Load)),
-    (b"sb", (Op::Sb, Shape::Store)),
-    (b"sh", (Op::Sh, Shape::Store)),
-    (b"sw", (Op::Sw, Shape::Store)),
-    (b"sd", (Op::Sd, Shape::Store)),
-    (b"addi", (Op::Addi, Shape::Immediate)),
-    (b"slti", (Op::Slti, Shape::Immediate)),
-    (b"sltiu", (Op::Sltiu, Shape::Immediate)),
-    (b"xori", (Op::Xori, Shape::Immediate)),
-    (b"ori", (Op::Ori, Shape::Immediate)),
-    (b"andi", (Op::Andi, Shape::Immediate)),
-    (b"addiw", (Op::Addiw, Shape::Immediate)),
-    (b"slli", (Op::Slli, Shape::Shift)),
-    (b"srli", (Op::Srli, Shape::Shift)),
-    (b"srai", (Op::Srai, Shape::Shift)),
-    (b"slliw", (Op::Slliw, Shape::ShiftWord)),
-    (b"srliw", (Op::Srliw, Shape::ShiftWord)),
-    (b"sraiw", (Op::Sraiw, Shape::ShiftWord)),
-    (b"add", (Op::Add, Shape::Registers)),
-    (b"sub", (Op::Sub, Shape::Registers)),
-    (b"sll", (Op::Sll, Shape::Registers)),
-    (b"slt", (Op::Slt, Shape::Registers)),
-    (b"sltu", (Op::Sltu, Shape::Registers)),
-    (b"xor", (Op::Xor, Shape::Registers)),
-    (b"srl", (Op::Srl, Shape::Registers)),
-    (b"sra", (Op::Sra, Shape::Registers)),
-    (b"or", (Op::Or, Shape::Registers)),
-    (b"and", (Op::And, Shape::Registers)),
-    (b"addw", (Op::Addw, Shape::Registers)),
-    (b"subw", (Op::Subw, Shape::Registers)),
-    (b"sllw", (Op::Sllw, Shape::Registers)),
-    (b"srlw", (Op::Srlw, Shape::Registers)),
-    (b"sraw", (Op::Sraw, Shape::Registers)),
-    (b"mul", (Op::Mul, Shape::Registers)),
-    (b"mulh", (Op::Mulh, Shape::Registers)),
-    (b"mulhsu", (Op::Mulhsu, Shape::Registers)),
-    (b"mulhu", (Op::Mulhu, Shape::Registers)),
-    (b"div", (Op::Div, Shape::Registers)),
-    (b"divu", (Op::Divu, Shape::Registers)),
-    (b"rem", (Op::Rem, Shape::Registers)),
-    (b"remu", (Op::Remu, Shape::Registers)),
-    (b"mulw", (Op::Mulw, Shape::Registers)),
-    (b"divw", (Op::Divw, Shape::Registers)),
-    (b"divuw", (Op::Divuw, Shape::Registers)),
-    (b"remw", (Op::Remw, Shape::Registers)),
-    (b"remuw", (Op::Remuw, Shape::Registers)),
-];
-
-/// The directive of that word.
-pub fn read_directive(text: &[u8]) -> Option<Directive>
-    ensures { result ≡ directive_of text.now }
-{
-    row_in(&DIRECTIVES, text)
-}
-
-/// What stands in the row with that word.
-pub fn row_in<T: Copy>(rows: &[(&[u8], T)], text: &[u8]) -> Option<T>
-    ensures { result ≡ row_of (map (λ row. (row.0.now, row.1)) rows.now) text.now }
-{
-    find_row(rows, text)
-}
-
-fn find_row<T: Copy>(rows: &[(&[u8], T)], text: &[u8]) -> Option<T>
-    ensures { result ≡ option_map (λ row. row.1) (find (λ row. bytes_eq text.now row.0.now) rows.now) }
-{
-    rows.iter().find(|row| text == row.0).map(|row| row.1)
-}
-
-/// The instruction of that word.
-pub fn read_mnemonic(text: &[u8]) -> Option<Mnemonic>
-    ensures { result ≡ mnemonic_of text.now }
-{
-    let (op, shape) = mnemonic_row(text)?;
-    Some(Mnemonic { op, shape })
-}
-
-fn mnemonic_row(text: &[u8]) -> Option<(Op, Shape)>
-    ensures { result ≡ row_of mnemonics text.now }
-{
-    row_in(&MNEMONICS, text)
-}
 
 /// What stands for an immediate: the numbers that fit, and the parts of an address.
 #[derive(Clone, Copy, Debug, PartialEq, Eq)]
@@ -233,4 +43,232 @@ pub enum Slot {
     Value(Form),
     /// `I(rs1)`
     Memory(Form),
+}
+
+/// A second instruction, whose rd and rs1 are the first one's rd; and whether it has an entry for a
+/// label that is made at the first.
+#[derive(Clone, Copy, Debug, PartialEq, Eq)]
+pub struct Then {
+    pub op: Op,
+    pub made: bool,
+}
+
+/// What no operand says: the fields that none fills, and what stands behind the instruction.
+#[derive(Clone, Copy, Debug, PartialEq, Eq)]
+pub struct Fixed {
+    pub rd: u8,
+    pub rs1: u8,
+    pub number: i32,
+    pub then: Option<Then>,
+}
+
+/// An instruction: its operation, what its operands fill in their order, and what none says.
+#[derive(Clone, Copy)]
+pub struct Mnemonic(pub Op, pub &'static [Slot], pub Fixed);
+
+/// The widths of data.
+#[derive(Clone, Copy, Debug, PartialEq, Eq)]
+pub enum Width {
+    Byte,
+    Half,
+    Word,
+    Quad,
+}
+
+/// What a directive does.
+#[derive(Clone, Copy, Debug, PartialEq, Eq)]
+pub enum Directive {
+    Choose(Part),
+    Global,
+    Numbers(Width),
+    Zeros,
+    Align,
+}
+
+/// The directives.
+static DIRECTIVES: [(&[u8], Directive); 11] = [
+    (b".text", Directive::Choose(Part::Text)),
+    (b".rodata", Directive::Choose(Part::Rodata)),
+    (b".data", Directive::Choose(Part::Data)),
+    (b".bss", Directive::Choose(Part::Bss)),
+    (b".globl", Directive::Global),
+    (b".byte", Directive::Numbers(Width::Byte)),
+    (b".half", Directive::Numbers(Width::Half)),
+    (b".word", Directive::Numbers(Width::Word)),
+    (b".quad", Directive::Numbers(Width::Quad)),
+    (b".zero", Directive::Zeros),
+    (b".align", Directive::Align),
+];
+
+/// ra, the register of return addresses
+const RA: u8 = 1;
+
+/// Zeros, and no second instruction.
+const FREE: Fixed = Fixed {
+    rd: 0,
+    rs1: 0,
+    number: 0,
+    then: None,
+};
+
+/// `zero,0(ra)`
+const RETURN: Fixed = Fixed { rs1: RA, ..FREE };
+
+/// `iorw,iorw`
+const FENCE: Fixed = Fixed {
+    number: 0xff,
+    ..FREE
+};
+
+/// `ra,0`, and `jalr ra,0(ra)` behind it
+const CALL: Fixed = Fixed {
+    rd: RA,
+    then: Some(Then {
+        op: Op::Jalr,
+        made: false,
+    }),
+    ..FREE
+};
+
+/// `addi rd,rd` under an entry behind it
+const LA: Fixed = Fixed {
+    then: Some(Then {
+        op: Op::Addi,
+        made: true,
+    }),
+    ..FREE
+};
+
+/// `rd,rs1,rs2`
+const REGISTERS: &[Slot] = &[Rd, Rs1, Rs2];
+
+/// `rd,rs1,I`
+const IMMEDIATE: &[Slot] = &[Rd, Rs1, Value(Form::Low)];
+
+/// `rd,rs1,N` with N from 0 to 63
+const SHIFT: &[Slot] = &[Rd, Rs1, Value(Form::Shift)];
+
+/// `rd,rs1,N` with N from 0 to 31
+const SHIFT_WORD: &[Slot] = &[Rd, Rs1, Value(Form::ShiftWord)];
+
+/// `rd,U` or `rd,%pcrel_hi(E)`
+const UPPER_PCREL: &[Slot] = &[Rd, Value(Form::UpperPcrel)];
+
+/// `rd,I(rs1)`
+const LOAD: &[Slot] = &[Rd, Memory(Form::Low)];
+
+/// `rs2,I(rs1)`
+const STORE: &[Slot] = &[Rs2, Memory(Form::LowStore)];
+
+/// `rs1,rs2,NAME`
+const BRANCH: &[Slot] = &[Rs1, Rs2, Value(Form::Branch)];
+
+/// The instructions, and what is short for some. RISC-V unprivileged manual, "RV32/64G Instruction
+/// Set Listings"
+static MNEMONICS: [(&[u8], Mnemonic); 72] = [
+    (b"ret", Mnemonic(Op::Jalr, &[], RETURN)),
+    (b"fence", Mnemonic(Op::Fence, &[], FENCE)),
+    (b"call", Mnemonic(Op::Auipc, &[Value(Form::Call)], CALL)),
+    (b"la", Mnemonic(Op::Auipc, &[Rd, Value(Form::Address)], LA)),
+    (b"nop", Mnemonic(Op::Addi, &[], FREE)),
+    (b"ecall", Mnemonic(Op::Ecall, &[], FREE)),
+    (b"ebreak", Mnemonic(Op::Ebreak, &[], FREE)),
+    (b"mv", Mnemonic(Op::Addi, &[Rd, Rs1], FREE)),
+    (b"li", Mnemonic(Op::Addi, &[Rd, Value(Form::Small)], FREE)),
+    (b"j", Mnemonic(Op::Jal, &[Value(Form::Jump)], FREE)),
+    (b"jal", Mnemonic(Op::Jal, &[Rd, Value(Form::Jump)], FREE)),
+    (b"lui", Mnemonic(Op::Lui, &[Rd, Value(Form::Upper)], FREE)),
+    (b"auipc", Mnemonic(Op::Auipc, UPPER_PCREL, FREE)),
+    (b"beq", Mnemonic(Op::Beq, BRANCH, FREE)),
+    (b"bne", Mnemonic(Op::Bne, BRANCH, FREE)),
+    (b"blt", Mnemonic(Op::Blt, BRANCH, FREE)),
+    (b"bge", Mnemonic(Op::Bge, BRANCH, FREE)),
+    (b"bltu", Mnemonic(Op::Bltu, BRANCH, FREE)),
+    (b"bgeu", Mnemonic(Op::Bgeu, BRANCH, FREE)),
+    (b"jalr", Mnemonic(Op::Jalr, LOAD, FREE)),
+    (b"lb", Mnemonic(Op::Lb, LOAD, FREE)),
+    (b"lh", Mnemonic(Op::Lh, LOAD, FREE)),
+    (b"lw", Mnemonic(Op::Lw, LOAD, FREE)),
+    (b"ld", Mnemonic(Op::Ld, LOAD, FREE)),
+    (b"lbu", Mnemonic(Op::Lbu, LOAD, FREE)),
+    (b"lhu", Mnemonic(Op::Lhu, LOAD, FREE)),
+    (b"lwu", Mnemonic(Op::Lwu, LOAD, FREE)),
+    (b"sb", Mnemonic(Op::Sb, STORE, FREE)),
+    (b"sh", Mnemonic(Op::Sh, STORE, FREE)),
+    (b"sw", Mnemonic(Op::Sw, STORE, FREE)),
+    (b"sd", Mnemonic(Op::Sd, STORE, FREE)),
+    (b"addi", Mnemonic(Op::Addi, IMMEDIATE, FREE)),
+    (b"slti", Mnemonic(Op::Slti, IMMEDIATE, FREE)),
+    (b"sltiu", Mnemonic(Op::Sltiu, IMMEDIATE, FREE)),
+    (b"xori", Mnemonic(Op::Xori, IMMEDIATE, FREE)),
+    (b"ori", Mnemonic(Op::Ori, IMMEDIATE, FREE)),
+    (b"andi", Mnemonic(Op::Andi, IMMEDIATE, FREE)),
+    (b"addiw", Mnemonic(Op::Addiw, IMMEDIATE, FREE)),
+    (b"slli", Mnemonic(Op::Slli, SHIFT, FREE)),
+    (b"srli", Mnemonic(Op::Srli, SHIFT, FREE)),
+    (b"srai", Mnemonic(Op::Srai, SHIFT, FREE)),
+    (b"slliw", Mnemonic(Op::Slliw, SHIFT_WORD, FREE)),
+    (b"srliw", Mnemonic(Op::Srliw, SHIFT_WORD, FREE)),
+    (b"sraiw", Mnemonic(Op::Sraiw, SHIFT_WORD, FREE)),
+    (b"add", Mnemonic(Op::Add, REGISTERS, FREE)),
+    (b"sub", Mnemonic(Op::Sub, REGISTERS, FREE)),
+    (b"sll", Mnemonic(Op::Sll, REGISTERS, FREE)),
+    (b"slt", Mnemonic(Op::Slt, REGISTERS, FREE)),
+    (b"sltu", Mnemonic(Op::Sltu, REGISTERS, FREE)),
+    (b"xor", Mnemonic(Op::Xor, REGISTERS, FREE)),
+    (b"srl", Mnemonic(Op::Srl, REGISTERS, FREE)),
+    (b"sra", Mnemonic(Op::Sra, REGISTERS, FREE)),
+    (b"or", Mnemonic(Op::Or, REGISTERS, FREE)),
+    (b"and", Mnemonic(Op::And, REGISTERS, FREE)),
+    (b"addw", Mnemonic(Op::Addw, REGISTERS, FREE)),
+    (b"subw", Mnemonic(Op::Subw, REGISTERS, FREE)),
+    (b"sllw", Mnemonic(Op::Sllw, REGISTERS, FREE)),
+    (b"srlw", Mnemonic(Op::Srlw, REGISTERS, FREE)),
+    (b"sraw", Mnemonic(Op::Sraw, REGISTERS, FREE)),
+    (b"mul", Mnemonic(Op::Mul, REGISTERS, FREE)),
+    (b"mulh", Mnemonic(Op::Mulh, REGISTERS, FREE)),
+    (b"mulhsu", Mnemonic(Op::Mulhsu, REGISTERS, FREE)),
+    (b"mulhu", Mnemonic(Op::Mulhu, REGISTERS, FREE)),
+    (b"div", Mnemonic(Op::Div, REGISTERS, FREE)),
+    (b"divu", Mnemonic(Op::Divu, REGISTERS, FREE)),
+    (b"rem", Mnemonic(Op::Rem, REGISTERS, FREE)),
+    (b"remu", Mnemonic(Op::Remu, REGISTERS, FREE)),
+    (b"mulw", Mnemonic(Op::Mulw, REGISTERS, FREE)),
+    (b"divw", Mnemonic(Op::Divw, REGISTERS, FREE)),
+    (b"divuw", Mnemonic(Op::Divuw, REGISTERS, FREE)),
+    (b"remw", Mnemonic(Op::Remw, REGISTERS, FREE)),
+    (b"remuw", Mnemonic(Op::Remuw, REGISTERS, FREE)),
+];
+
+/// The directive of that word.
+pub fn read_directive(text: &[u8]) -> Option<Directive>
+    ensures { result ≡ directive_of text.now }
+{
+    row_in(&DIRECTIVES, text)
+}
+
+/// What stands in the row with that word.
+pub fn row_in<T: Copy>(rows: &[(&[u8], T)], text: &[u8]) -> Option<T>
+    ensures { result ≡ row_of (map (λ row. (row.0.now, row.1)) rows.now) text.now }
+{
+    find_row(rows, text)
+}
+
+fn find_row<T: Copy>(rows: &[(&[u8], T)], text: &[u8]) -> Option<T>
+    ensures { result ≡ option_map (λ row. row.1) (find (λ row. bytes_eq text.now row.0.now) rows.now) }
+{
+    rows.iter().find(|row| text == row.0).map(|row| row.1)
+}
+
+/// The instruction of that word.
+pub fn read_mnemonic(text: &[u8]) -> Option<Mnemonic>
+    ensures { option_map said result ≡ mnemonic_of text.now }
+{
+    mnemonic_in(&MNEMONICS, text)
+}
+
+fn mnemonic_in(rows: &[(&[u8], Mnemonic)], text: &[u8]) -> Option<Mnemonic>
+    ensures { option_map said result ≡ row_of (map (λ row. (row.0.now, said row.1)) rows.now) text.now }
+{
+    find_row(rows, text)
 }

@@ -39,14 +39,12 @@ pub struct Field<'a> {
     pub fix: Option<Fix<'a>>,
 }
 
-/// Up to eight bytes, the lowest first, and the entries for them, in order, of which the second
-/// stands so far behind the first.
+/// Up to eight bytes, the lowest first, and the entries for them, in order.
 #[derive(Drop)]
 pub struct Piece<'a> {
     pub width: u8,
     pub value: u64,
     pub fix: Option<Fix<'a>>,
-    pub apart: u8,
     pub second: Option<Fix<'a>>,
 }
 
@@ -113,18 +111,18 @@ impl<'a> Draft<'a> {
     pub fn add(&mut self, piece: Piece<'a>) -> Result<(), AllocError>
         ensures { OnOk result (drafted self.new ≡ appended (drafted self.old) piece.entry) }
     {
-        self.mark(0, piece.fix)?;
-        self.mark(piece.apart, piece.second)?;
+        self.mark(piece.fix)?;
+        self.mark(piece.second)?;
         put_number(&mut self.bytes, piece.width, piece.value)
     }
 
-    /// Adds an entry so far behind the bytes.
-    fn mark(&mut self, apart: u8, fix: Option<Fix<'a>>) -> Result<(), AllocError>
-        ensures marks { OnOk result (self.new.marks.items ≡ self.old.marks.items ++ marks_at (length self.old.bytes.items) apart fix.entry) }
+    /// Adds an entry behind the bytes.
+    fn mark(&mut self, fix: Option<Fix<'a>>) -> Result<(), AllocError>
+        ensures marks { OnOk result (self.new.marks.items ≡ self.old.marks.items ++ marks_at (length self.old.bytes.items) fix.entry) }
         ensures bytes { self.new.bytes ≡ self.old.bytes }
     {
         if let Some(fix) = fix {
-            let at = self.bytes.len() + usize::from(apart);
+            let at = self.bytes.len();
             self.marks.push(Mark { at, fix })?;
         }
         Ok(())

@@ -1,7 +1,7 @@
 //! What is wanted of one operand.
 
 ghost use Rattle.std.specs.Prelude.{◌≡◌, ◌≤◌, ◌<◌, ◌≤ℤ◌, pos, negsuc, IfOk, if◌then◌else◌};
-ghost use Rattle.cell_asm.specs.Wanted.{register as register_of, name as name_of, within as within_of, is_bare as bare, fix as fix_of, moved as moved_of, entry as entry_of, fitting as fitting_of, kind_of as kind_with, plain as plain_of, field as field_of, value as value_of, memory as memory_of};
+ghost use Rattle.cell_asm.specs.Wanted.{register as register_of, name as name_of, within as within_of, is_bare as bare, fix as fix_of, entry as entry_of, fitting as fitting_of, kind_of as kind_with, plain as plain_of, field as field_of, value as value_of, memory as memory_of};
 
 use crate::kind::AsmKind;
 use crate::mnemonic::Form;
@@ -25,10 +25,7 @@ pub fn register(operand: &Operand<'_>) -> Result<u8, AsmKind>
 {
     match operand {
         Operand::Value(Immediate::Part(Modifier::Whole, Expression::Name(name))) => {
-            match names::register(name.bytes()) {
-                Some(register) => Ok(register),
-                None => Err(AsmKind::Word),
-            }
+            names::register(name.bytes()).ok_or(AsmKind::Word)
         }
         _ => Err(AsmKind::Operand),
     }
@@ -79,23 +76,16 @@ pub fn fix<'a>(kind: RelKind, name: &Text<'a>, addend: i64) -> Fix<'a>
     }
 }
 
-fn moved<'a>(kind: RelKind, name: &Text<'a>, by: i128) -> Result<Fix<'a>, AsmKind>
-    ensures { result ≡ moved_of kind name.now by (bare kind) }
-{
-    if is_bare(kind) {
-        return Err(AsmKind::Operand);
-    }
-    let addend = within(i128::from(i64::MIN), i128::from(i64::MAX), by)?;
-    Ok(fix(kind, name, addend as i64))
-}
-
 /// The entry of that kind, where there is one for the expression.
 pub fn entry<'a>(kind: Option<RelKind>, expression: &Expression<'a>) -> Result<Fix<'a>, AsmKind>
     ensures { result ≡ entry_of kind expression.now }
 {
     match (kind, expression) {
         (Some(kind), Expression::Name(name)) => Ok(fix(kind, name, 0)),
-        (Some(kind), Expression::Sum(name, by)) => moved(kind, name, *by),
+        (Some(kind), Expression::Sum(name, by)) if !is_bare(kind) => {
+            let addend = within(i128::from(i64::MIN), i128::from(i64::MAX), *by)?;
+            Ok(fix(kind, name, addend as i64))
+        }
         _ => Err(AsmKind::Operand),
     }
 }
