@@ -20,7 +20,7 @@ use Rattle.cell_asm.specs.Progress.{spot_at, Follows, reference_at, references_o
 use Rattle.cell_asm.specs.Numberings.{section_with, section_kept, Lists, mentioned, Mentions, entry_kept, part_entries}
 use Rattle.cell_asm.specs.Objects.{adds_part, parts_of, number_in, section_of, sections, symbols, symbol_keys, marks_in, label_named, part_number, target_key, entry_of, entries_of, entries_in, entries, object_of}
 use Rattle.cell_asm.specs.Places.{is_same_part, choices, is_at, is_in}
-use Rattle.cell_asm.specs.Types.{Part, Text, Rodata, Data, Bss, Laid, Target, TargetNamed as Named, TargetMade as Made, Label, About, Progress, Reference, Section, Symbol, Entry, Object, Mark, Symbols}
+use Rattle.cell_asm.specs.Types.{Part, Text, Rodata, Data, Bss, Laid, Target, TargetNamed as Named, TargetMade as Made, Label, Progress, Reference, Section, Symbol, Entry, Object, Mark, Symbols}
 use Rattle.cell_num.proofs.Elements.{map_same, flat_same}
 use Rattle.cell_asm.proofs.SymbolLemmas.{all_symbols}
 
@@ -171,7 +171,7 @@ module _ (kept : Progress) (lines : List Laid) (h : Follows kept lines) where
 
   lost_is : (l : Laid) (t : Target) → key_lost_by kept (target_key l t) ≡ is_lost lines t
   lost_is l Made = refl
-  lost_is l (Named name) = ap (λ (a : About). not (is_upper_spot kept a.spot)) (h.names name) ∙ ap not (upper_is (label_named lines name))
+  lost_is l (Named name) = ap (λ o. not (is_upper_spot kept o)) (h.spots name) ∙ ap not (upper_is (label_named lines name))
 
   -- the first line that refers to a label that is none
   pub first_is : option_map (λ r. r.line) (find (lost_by kept) kept.references.items) ≡ option_map (λ l. l.number) (find (has_lost lines) lines)

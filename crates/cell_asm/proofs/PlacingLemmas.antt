@@ -5,44 +5,20 @@ use Rattle.std.proofs.lemmas.List.Concat.{flat_map-append}
 use Rattle.std.proofs.lemmas.List.Elements.{filter_map-append, filter-append}
 use Rattle.std.proofs.lemmas.List.Folds.{list_any-append, find-append}
 use Rattle.std.proofs.lemmas.List.Sums.{sum_by-append, fold-append}
-use Rattle.std.proofs.lemmas.Slice.Eq.{bytes_eq-Decides}
 use Rattle.std.specs.List.{list_any, cons_option}
-use Rattle.std.specs.Option.{option_or, unwrap_or}
+use Rattle.std.specs.Option.{option_or}
 use Rattle.std.specs.Prelude.{Option, option_map, is_some, if◌then◌else◌, filter, flat_map, sum_by, fold, max}
 use Rattle.cell_num.specs.Lists.{equals, where_true, holds_name, last, or_else, numbered_from}
 use Rattle.cell_text.specs.Text.{lines_in, Behind}
 use Rattle.cell_asm.specs.Assembled.{add_line, with_line, placed_line, placed_texts, object_from, object_unless, has_lost, assembled, Assembles, placed_unless, placed_lines}
-use Rattle.cell_asm.specs.Progress.{about, with_spot, with_global, spot_here, declares, about_with, spot_at, spot_among, about_in, names_in, grown_in, grown_with, bytes_laid, references_of, is_upper_at, Goes as GoesBehind, Places, failure, size_chosen, offset_of, twice_of, fault_after, laid_after, Adds, Follows}
+use Rattle.cell_asm.specs.Progress.{spot_here, declares, spot_at, spot_among, names_in, grown_in, grown_with, bytes_laid, references_of, is_upper_at, Goes as GoesBehind, Places, failure, size_chosen, offset_of, twice_of, fault_after, laid_after, Adds, Follows}
 use Rattle.cell_asm.specs.Lines.{line_of}
 use Rattle.cell_asm.specs.Objects.{adds_part, adds_choice, parts_of, alignment_asked, first_alignment, alignment, bytes_at, contents, global_name, globals, object_of}
 use Rattle.cell_asm.specs.Places.{is_key, holds_key, makes_label, own_key, made_key, keys_of, label, labels_at, labels, fault_at, is_at, is_in, choice, choices, taken, size_in, size_at, made_in, is_twice, placed}
-use Rattle.cell_asm.specs.Types.{Part, Bss, Statement, StatementGlobal as Global, Laid, Label, AsmKindLabel, KeyNamed as Named, KeyMade as Made, Spot, About, Known, Line, Progress, AsmKind, Stop, StopFault as Fault, StopOutOfMemory as OutOfMemory, Object, AsmFail, AsmFailFault as Faulty, AsmFailOutOfMemory as NoMemory}
+use Rattle.cell_asm.specs.Types.{Part, Bss, Statement, StatementGlobal as Global, Laid, Label, AsmKindLabel, KeyNamed as Named, KeyMade as Made, Line, Progress, AsmKind, Stop, StopFault as Fault, StopOutOfMemory as OutOfMemory, Object, AsmFail, AsmFailFault as Faulty, AsmFailOutOfMemory as NoMemory}
 use Rattle.cell_num.proofs.Elements.{In, In-append}
 use Rattle.cell_asm.proofs.ListLemmas.{or_none, mapped_length}
 use Rattle.cell_asm.proofs.ObjectLemmas.{same_part}
-
--- ONE MORE NAME
-
-pub unwrapped : {X : Type 0} (b : Bool) (x d : X) (o : Option X) → unwrap_or (cond b (Some x) o) d ≡ (if b then x else unwrap_or o d)
-unwrapped true x d o = refl
-unwrapped false x d o = refl
-
--- a change at a name, as a change at each
-changed : (f : Bool → About → About) → ((a : About) → f false a ≡ a) → (old : List ℕ → About) (name q : List ℕ) (b : Bool) → equals name q ≡ b → (if b then f true (old name) else old q) ≡ f b (old q)
-changed f same old name q true e = ap (λ m. f true (old m)) ((bytes_eq-Decides name q).0 e)
-changed f same old name q false e = sym (same (old q))
-
-pub spot_added : (known : Known) (name q : List ℕ) (spot : Spot) (a : About) (o : Option Spot) → a ≡ about known name → o ≡ option_or a.spot (Some spot)
-    → (if equals name q then record { spot = o; global = a.global } else about known q) ≡ with_spot (where_true (equals name q) spot) (about known q)
-spot_added known name q spot a o is e =
-    ap (λ s. if equals name q then record { spot = s; global = a.global } else about known q) e
-    ∙ ap (λ b. if equals name q then with_spot (Some spot) b else about known q) is
-    ∙ changed (λ b. with_spot (where_true b spot)) (λ b. refl) (about known) name q (equals name q) refl
-
-pub global_added : (known : Known) (name q : List ℕ) (a : About) → a ≡ about known name
-    → (if equals name q then record { spot = a.spot; global = true } else about known q) ≡ with_global (equals name q) (about known q)
-global_added known name q a is =
-    ap (λ b. if equals name q then with_global true b else about known q) is ∙ changed with_global (λ b. refl) (about known) name q (equals name q) refl
 
 -- ONE MORE LINE
 
@@ -61,7 +37,7 @@ here_is None offset n (Some name) s q = refl
 here_is (Some part) offset n None s q = ap (option_map spot_at) (no_made part offset n (makes_label s) q)
 here_is (Some part) offset n (Some name) s q = first_or_none (equals name q) (label part offset (Named name)) _ (no_made part offset n (makes_label s) q)
 
-mapped_or : (o p : Option Label) → option_map spot_at (option_or o p) ≡ option_or (option_map spot_at o) (option_map spot_at p)
+mapped_or : (o p : Option Label) → option_map spot_at (option_or o p) ≡ or_else (option_map spot_at o) (option_map spot_at p)
 mapped_or None p = refl
 mapped_or (Some l) p = refl
 
@@ -71,13 +47,13 @@ flat_more f xs x = flat_map-append f xs (x ∷ []) ∙ ap (λ ys. flat_map f xs 
 pub labels_push : (lines : List Laid) (l : Laid) → labels (lines ++ l ∷ []) ≡ labels lines ++ labels_at l.part l.offset (keys_of l)
 labels_push lines l = flat_more (λ m. labels_at m.part m.offset (keys_of m)) lines l
 
-spot_more : (before : List Laid) (l : Laid) (q : List ℕ) → spot_among (labels (before ++ l ∷ [])) q ≡ option_or (spot_among (labels before) q) (spot_here l.part l.offset l.line.label q)
+spot_more : (before : List Laid) (l : Laid) (q : List ℕ) → spot_among (labels (before ++ l ∷ [])) q ≡ or_else (spot_among (labels before) q) (spot_here l.part l.offset l.line.label q)
 spot_more before l q =
     let new : List Label = labels_at l.part l.offset (keys_of l) in
     ap (λ ls. spot_among ls q) (labels_push before l)
     ∙ ap (option_map spot_at) (find-append (λ m. is_key m.key (Named q)) (labels before) new)
     ∙ mapped_or (find (λ m. is_key m.key (Named q)) (labels before)) (find (λ m. is_key m.key (Named q)) new)
-    ∙ ap (option_or (spot_among (labels before) q)) (here_is l.part l.offset l.made l.line.label l.line.statement q)
+    ∙ ap (or_else (spot_among (labels before) q)) (here_is l.part l.offset l.made l.line.label l.line.statement q)
 
 declared : (q : List ℕ) (s : Statement) → list_any (λ other. equals other q) (cons_option (global_name s) []) ≡ declares q s
 declared q (Global name) = or_none (equals name q)
@@ -88,25 +64,6 @@ global_more before l q =
     ap (λ names. holds_name names q) (filter_map-append (λ m. global_name m.line.statement) before (l ∷ []))
     ∙ list_any-append (λ other. equals other q) (globals before) (cons_option (global_name l.line.statement) [])
     ∙ ap (λ b. holds_name (globals before) q || b) (declared q l.line.statement)
-
-none_more : {X : Type 0} (o : Option X) → option_or o None ≡ o
-none_more None = refl
-none_more (Some x) = refl
-
-or_true : (b : Bool) → (b || true) ≡ true
-or_true true = refl
-or_true false = refl
-
-joined : (o p : Option Spot) (g b : Bool) → record { spot = option_or o p; global = g || b } ≡ with_global b (with_spot p (record { spot = o; global = g }))
-joined o None g true = rw (none_more o, or_true g) refl
-joined o None g false = rw (none_more o, or_none g) refl
-joined o (Some s) g true = rw (or_true g) refl
-joined o (Some s) g false = rw (or_none g) refl
-
-pub about_more : (before : List Laid) (l : Laid) (q : List ℕ) → about_in (before ++ l ∷ []) q ≡ about_with l q (about_in before q)
-about_more before l q =
-    let spot : Option Spot = spot_here l.part l.offset l.line.label q in
-    rw (spot_more before l q, global_more before l q) (joined (spot_among (labels before) q) spot (holds_name (globals before) q) (declares q l.line.statement))
 
 -- whether a label has the name
 found_is : (p : Label → Bool) (ls : List Label) → is_some (option_map spot_at (find p ls)) ≡ list_any p ls
@@ -131,7 +88,7 @@ offset_is p before h = ap (size_chosen p.bodies) h.chosen ∙ size_is p before (
 
 twice_is : (p : Progress) (before : List Laid) (name : Option (List ℕ)) → Follows p before → twice_of p name ≡ is_twice before name
 twice_is p before None h = refl
-twice_is p before (Some name) h = ap (λ a. is_some a.spot) (h.names name) ∙ taken_is (labels before) name
+twice_is p before (Some name) h = ap is_some (h.spots name) ∙ taken_is (labels before) name
 
 -- what is wrong with the next line
 pub fault_is : (p : Progress) (before : List Laid) (line : Line) → Follows p before → fault_after p line ≡ fault_at before line
@@ -227,7 +184,8 @@ follows_more p q before l h at a = record {
   parts = a.parts ∙ ap (λ ps. adds_choice ps l.line.statement) h.parts ∙ sym (parts_more before l);
   bodies = λ part. a.bodies part ∙ ap (λ (g : ℕ × ℕ × List ℕ). if is_in part l then grown_with part l g else g) (h.bodies part) ∙ sym (grown_more part before l (is_in part l) refl at);
   made = a.made ∙ ap (λ n. n + (if makes_label l.line.statement then 1 else 0)) h.made ∙ sym (made_more before l);
-  names = λ q. a.names q ∙ ap (about_with l q) (h.names q) ∙ sym (about_more before l q);
+  spots = λ q. a.spots q ∙ ap (λ o. or_else o (spot_here l.part l.offset l.line.label q)) (h.spots q) ∙ sym (spot_more before l q);
+  globals = λ q. a.globals q ∙ ap (λ b. b || declares q l.line.statement) (h.globals q) ∙ sym (global_more before l q);
   labels = a.labels ∙ ap (λ ls. ls ++ labels_at l.part l.offset (keys_of l)) h.labels ∙ sym (labels_push before l);
   mentions = a.mentions ∙ ap (λ ns. ns ++ names_in l.line) h.mentions ∙ sym (flat_more (λ m. names_in m.line) before l);
   uppers = λ q. a.uppers q ∙ ap (λ b. b || is_upper_at q l) (h.uppers q) ∙ sym (any_more (is_upper_at q) before l);

@@ -6,24 +6,29 @@ use Rattle.std.proofs.lemmas.Bool.Decides.{nat_tests}
 use Rattle.std.proofs.lemmas.List.{map-append}
 use Rattle.std.proofs.lemmas.List.Elements.{filter-append}
 use Rattle.std.proofs.lemmas.List.Folds.{list_any-append}
-use Rattle.std.specs.BTreeMap.{get, get_by}
-use Rattle.std.specs.Cmp.Lexicographic.{slice_cmp}
+use Rattle.std.specs.BTreeMap.{get}
 use Rattle.std.specs.List.{list_any}
 use Rattle.std.specs.Option.{option_map_or}
 use Rattle.std.specs.Ordering.{nat_cmp, is_eq}
 use Rattle.std.specs.Prelude.{Option, option_map, if◌then◌else◌, filter, fold}
 use Rattle.cell_num.specs.Lists.{equals, or_else, where_true, holds_name}
-use Rattle.cell_asm.specs.Progress.{about, spot_at, Follows}
+use Rattle.cell_asm.specs.Progress.{known, spot_at, Follows}
 use Rattle.cell_asm.specs.Numberings.{is_global_in, locals_in, Locals, number_of, has_key, keys_with, mentioned, home_in, symbol_in, other_in, local_in, Lists, Mentions}
 use Rattle.cell_asm.specs.Objects.{is_global, globals, local_labels, adds_name, other_names, mentions, home_at, label_named, number_in, number_from, symbol, global_symbol, local_symbol, symbols, symbol_keys, key_name}
 use Rattle.cell_asm.specs.Places.{is_key, labels, holds_key}
-use Rattle.cell_asm.specs.Types.{Key, KeyNamed as Named, KeyMade as Made, Numbering, Symbol, Local, Inside, Laid, Label, Spot, About, Progress, Symbols, Bind, BindGlobal as Global, NoType, Home}
+use Rattle.cell_asm.specs.Types.{Key, KeyNamed as Named, KeyMade as Made, Numbering, Symbol, Local, Inside, Laid, Label, Spot, Progress, Symbols, Bind, BindGlobal as Global, NoType, Home}
 use Rattle.cell_num.proofs.Elements.{map_same, fold_same}
 use Rattle.cell_asm.proofs.ListLemmas.{number_more, numbered_if, not_false}
 
-or_none : {X : Type 0} (o : Option X) → or_else o None ≡ o
+pub or_none : {X : Type 0} (o : Option X) → or_else o None ≡ o
 or_none None = refl
 or_none (Some x) = refl
+
+-- whether there is a value, after one more
+pub some_more : {X : Type 0} (o : Option X) (b : Bool) (x : X) → is_some (or_else o (where_true b x)) ≡ (is_some o || b)
+some_more None true x = refl
+some_more None false x = refl
+some_more (Some y) b x = refl
 
 -- a value for a key that had none
 pub taken : {X : Type 0} (b : Bool) (v : X) (old : Option X) → (b ≡ true → old ≡ None) → cond b (Some v) old ≡ or_else old (where_true b v)
@@ -41,7 +46,7 @@ added_name old new name n names made (Made m) = ap (λ t. get nat_cmp t m) made 
 
 pub added_made : (old new : Numbering) (k : ℕ) (n : ℕ) → ((q : ℕ) → number_of new (Made q) ≡ or_else (number_of old (Made q)) (where_true (k == q) n)) → new.named ≡ old.named
     → (q : Key) → number_of new q ≡ or_else (number_of old q) (where_true (is_key (Made k) q) n)
-added_made old new k n made names (Named q) = ap (λ t. get_by (λ x. slice_cmp nat_cmp q x.now) t) names ∙ sym (or_none (number_of old (Named q)))
+added_made old new k n made names (Named q) = ap (λ t. known t q) names ∙ sym (or_none (number_of old (Named q)))
 added_made old new k n made names (Made m) = made m
 
 pub ruleset added = (added_name, added_made)
@@ -52,38 +57,38 @@ filter_same : {X : Type 0} (p q : X → Bool) (xs : List X) → ((x : X) → p x
 filter_same p q [] same = refl
 filter_same p q (x ∷ xs) same = ap (λ b. cond b (x ∷ filter p xs) (filter p xs)) (same x) ∙ ap (λ ys. cond (q x) (x ∷ ys) ys) (filter_same p q xs same)
 
-global_same : (kept : Progress) (lines : List Laid) (key : Key) → Follows kept lines → is_global_in kept.names key ≡ is_global (globals lines) key
-global_same kept lines (Named name) h = ap (λ a. a.global) (h.names name)
+global_same : (kept : Progress) (lines : List Laid) (key : Key) → Follows kept lines → is_global_in kept.globals key ≡ is_global (globals lines) key
+global_same kept lines (Named name) h = h.globals name
 global_same kept lines (Made n) h = refl
 
 locals_are : (kept : Progress) (lines : List Laid) → Follows kept lines → locals_in kept kept.labels.items ≡ local_labels lines
 locals_are kept lines h =
     ap (locals_in kept) h.labels
-    ∙ filter_same (λ l. not (is_global_in kept.names l.key)) (λ l. not (is_global (globals lines) l.key)) (labels lines) (λ l. ap not (global_same kept lines l.key h))
+    ∙ filter_same (λ l. not (is_global_in kept.globals l.key)) (λ l. not (is_global (globals lines) l.key)) (labels lines) (λ l. ap not (global_same kept lines l.key h))
 
 one_left : (before : List Label) (l : Label) (global : Bool) (e : Bool) → global ≡ e → before ++ cond (not global) (l ∷ []) [] ≡ (if e then before else before ++ l ∷ [])
 one_left before l global true e = ap (λ b. before ++ cond (not b) (l ∷ []) []) e ∙ append-nil before
 one_left before l global false e = ap (λ b. before ++ cond (not b) (l ∷ []) []) e
 
-locals_more : (kept : Progress) (before : List Label) (l : Label) (e : Bool) → is_global_in kept.names l.key ≡ e
+locals_more : (kept : Progress) (before : List Label) (l : Label) (e : Bool) → is_global_in kept.globals l.key ≡ e
     → locals_in kept (before ++ l ∷ []) ≡ (if e then locals_in kept before else locals_in kept before ++ l ∷ [])
 locals_more kept before l e global =
-    filter-append (λ m. not (is_global_in kept.names m.key)) before (l ∷ []) ∙ one_left (locals_in kept before) l (is_global_in kept.names l.key) e global
+    filter-append (λ m. not (is_global_in kept.globals m.key)) before (l ∷ []) ∙ one_left (locals_in kept before) l (is_global_in kept.globals l.key) e global
 
 not_true : (b : Bool) → not b ≡ true → b ≡ false
 not_true true e = cc
 not_true false e = refl
 
 -- a label that is GLOBAL
-pub local_same : (s : Symbols) (kept : Progress) (before : List Label) (l : Label) → not (is_global_in kept.names l.key) ≡ false → Locals s kept before → Locals s kept (before ++ l ∷ [])
+pub local_same : (s : Symbols) (kept : Progress) (before : List Label) (l : Label) → not (is_global_in kept.globals l.key) ≡ false → Locals s kept before → Locals s kept (before ++ l ∷ [])
 local_same s kept before l e h =
-    subst (λ ls. Lists s (map (λ m. m.key) ls) (map (local_in kept) ls)) (sym (locals_more kept before l true (not_false (is_global_in kept.names l.key) e))) h
+    subst (λ ls. Lists s (map (λ m. m.key) ls) (map (local_in kept) ls)) (sym (locals_more kept before l true (not_false (is_global_in kept.globals l.key) e))) h
 
 -- a LOCAL label
-pub local_added : (s : Symbols) (kept : Progress) (before : List Label) (l : Label) → not (is_global_in kept.names l.key) ≡ true
+pub local_added : (s : Symbols) (kept : Progress) (before : List Label) (l : Label) → not (is_global_in kept.globals l.key) ≡ true
     → Lists s (map (λ m. m.key) (locals_in kept before) ++ l.key ∷ []) (map (local_in kept) (locals_in kept before) ++ local_in kept l ∷ []) → Locals s kept (before ++ l ∷ [])
 local_added s kept before l e h =
-    subst (λ ls. Lists s (map (λ m. m.key) ls) (map (local_in kept) ls)) (sym (locals_more kept before l false (not_true (is_global_in kept.names l.key) e)))
+    subst (λ ls. Lists s (map (λ m. m.key) ls) (map (local_in kept) ls)) (sym (locals_more kept before l false (not_true (is_global_in kept.globals l.key) e)))
     (subst (λ ks. Lists s ks (map (local_in kept) (locals_in kept before ++ l ∷ []))) (sym (map-append (λ m. m.key) (locals_in kept before) (l ∷ [])))
     (subst (λ ss. Lists s (map (λ m. m.key) (locals_in kept before) ++ l.key ∷ []) ss) (sym (map-append (local_in kept) (locals_in kept before) (l ∷ []))) h))
 
@@ -139,7 +144,7 @@ module _ (kept : Progress) (lines : List Laid) (h : Follows kept lines) where
   symbol_is key bind (Some l) = ap (λ ps. symbol key bind (Inside (number_in ps l.part)) l.offset) h.parts
 
   other_is : (name : List ℕ) → other_in kept name ≡ global_symbol lines name
-  other_is name = ap (λ (a : About). symbol_in kept (Named name) Global a.spot) (h.names name) ∙ symbol_is (Named name) Global (label_named lines name)
+  other_is name = ap (symbol_in kept (Named name) Global) (h.spots name) ∙ symbol_is (Named name) Global (label_named lines name)
 
   symbols_are : map (local_in kept) (local_labels lines) ++ map (other_in kept) (other_names lines) ≡ symbols lines
   symbols_are =
@@ -190,8 +195,8 @@ lists_by old new keys list kept k bind spot name home value n h items named home
     ∙ ap (λ v. old.list.items ++ made (key_name k) bind (home_in kept.parts.items spot) v ∷ []) valued)
     number numbers
 
-known : (s : Symbols) (keys : List Key) (list : List Symbol) (q : Key) → Lists s keys list → has_key keys q ≡ is_some (number_of s.numbers q)
-known s keys list q h = sym (numbered_if 1 keys q) ∙ sym (ap is_some (h.numbers q))
+there : (s : Symbols) (keys : List Key) (list : List Symbol) (q : Key) → Lists s keys list → has_key keys q ≡ is_some (number_of s.numbers q)
+there s keys list q h = sym (numbered_if 1 keys q) ∙ sym (ap is_some (h.numbers q))
 
 push_map : {X Y : Type 0} (ys : List Y) (f : X → Y) (xs : List X) (x : X) → ys ++ map f (xs ++ x ∷ []) ≡ (ys ++ map f xs) ++ f x ∷ []
 push_map ys f xs x = ap (λ zs. ys ++ zs) (map-append f xs (x ∷ [])) ∙ sym (append_assoc ys (map f xs) (f x ∷ []))
@@ -199,18 +204,18 @@ push_map ys f xs x = ap (λ zs. ys ++ zs) (map-append f xs (x ∷ [])) ∙ sym (
 -- a name that is there already
 pub mention_known : (s : Symbols) (kept : Progress) (names : List (List ℕ)) (name : List ℕ) → is_some (number_of s.numbers (Named name)) ≡ true → Mentions s kept names → Mentions s kept (mentioned kept names name)
 mention_known s kept names name e h =
-    let there : has_key (keys_with kept names) (Named name) ≡ true = known s _ _ (Named name) h ∙ e in
-    subst (λ ns. Mentions s kept ns) (sym (ap (λ b. if b then names else names ++ name ∷ []) there)) h
+    let found : has_key (keys_with kept names) (Named name) ≡ true = there s _ _ (Named name) h ∙ e in
+    subst (λ ns. Mentions s kept ns) (sym (ap (λ b. if b then names else names ++ name ∷ []) found)) h
 
 -- a new name
-pub mention_new : (old new : Symbols) (kept : Progress) (names : List (List ℕ)) (name n : List ℕ) (spot : Option Spot) → is_some (number_of old.numbers (Named name)) ≡ false → n ≡ name → spot ≡ (about kept.names name).spot
+pub mention_new : (old new : Symbols) (kept : Progress) (names : List (List ℕ)) (name n : List ℕ) (spot : Option Spot) → is_some (number_of old.numbers (Named name)) ≡ false → n ≡ name → spot ≡ known kept.spots name
     → Mentions old kept names → Lists new (keys_with kept names ++ Named n ∷ []) ((map (local_in kept) (locals_in kept kept.labels.items) ++ map (other_in kept) names) ++ symbol_in kept (Named n) Global spot ∷ [])
     → Mentions new kept (mentioned kept names name)
 mention_new old new kept names name n spot e is at h more =
     let locals = locals_in kept kept.labels.items in
     let before = map (local_in kept) locals ++ map (other_in kept) names in
-    let there : has_key (keys_with kept names) (Named name) ≡ false = known old _ _ (Named name) h ∙ e in
-    subst (λ ns. Mentions new kept ns) (sym (ap (λ b. if b then names else names ++ name ∷ []) there))
+    let found : has_key (keys_with kept names) (Named name) ≡ false = there old _ _ (Named name) h ∙ e in
+    subst (λ ns. Mentions new kept ns) (sym (ap (λ b. if b then names else names ++ name ∷ []) found))
     (subst (λ ks. Lists new ks (map (local_in kept) locals ++ map (other_in kept) (names ++ name ∷ []))) (sym (push_map (map (λ l. l.key) locals) (λ m. Named m) names name))
     (subst (λ ss. Lists new (keys_with kept names ++ Named name ∷ []) ss) (sym (push_map (map (local_in kept) locals) (other_in kept) names name))
     (subst (λ o. Lists new (keys_with kept names ++ Named name ∷ []) (before ++ symbol_in kept (Named name) Global o ∷ [])) at

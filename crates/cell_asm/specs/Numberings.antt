@@ -2,16 +2,15 @@
 --     section_kept parts bodies part       a section
 --     Mentions symbols kept names          the symbols are those of the LOCAL labels, and then of these names
 --     part_entries kept symbols part       the entries of a section
-use Rattle.std.specs.Prelude.{◌≡◌, ℕ, Bool, List, [], ◌∷◌, ◌++◌, map, length, Option, Some, None, if◌then◌else◌, false, not, filter}
-use Rattle.std.specs.BTreeMap.{get, get_by}
-use Rattle.std.specs.Cmp.Lexicographic.{slice_cmp}
+use Rattle.std.specs.Prelude.{◌≡◌, ℕ, Bool, List, [], ◌∷◌, ◌++◌, map, length, Option, Some, None, is_some, if◌then◌else◌, false, not, filter}
+use Rattle.std.specs.BTreeMap.{get}
 use Rattle.std.specs.List.{list_any}
 use Rattle.std.specs.Option.{option_map_or, unwrap_or}
 use Rattle.std.specs.Ordering.{nat_cmp}
 use Rattle.cell_asm.specs.Types.{Section, Symbol, Bind, Local, BindGlobal as Global, Home, Undef, Inside, Entry, Part, Bodies, Reference, Key, KeyNamed as Named, KeyMade as Made, Label, Numbering, Spot, Known, Progress, Symbols}
 use Rattle.cell_asm.specs.Places.{is_key, is_at}
 use Rattle.cell_asm.specs.Objects.{number_in, number_from, part_name, may_write, is_text, fill_of, symbol}
-use Rattle.cell_asm.specs.Progress.{about, spot_at, body_of, grown}
+use Rattle.cell_asm.specs.Progress.{known, spot_at, body_of, grown}
 
 -- SECTIONS
 
@@ -36,7 +35,7 @@ section_kept parts bodies part = section_with parts part (grown (body_of bodies 
 
 -- the number that is kept for the key
 abbrev pub number_of : Numbering → Key → Option ℕ
-number_of numbers (Named q) = get_by (λ k. slice_cmp nat_cmp q k.now) numbers.named
+number_of numbers (Named q) = known numbers.named q
 number_of numbers (Made m) = get nat_cmp numbers.made m
 
 abbrev pub number_kept : Symbols → Key → ℕ
@@ -64,15 +63,15 @@ abbrev pub local_in : Progress → Label → Symbol
 local_in kept l = symbol_in kept l.key Local (Some (spot_at l))
 
 abbrev pub other_in : Progress → List ℕ → Symbol
-other_in kept name = symbol_in kept (Named name) Global (about kept.names name).spot
+other_in kept name = symbol_in kept (Named name) Global (known kept.spots name)
 
-abbrev pub is_global_in : Known → Key → Bool
-is_global_in known (Named name) = (about known name).global
-is_global_in known (Made n) = false
+abbrev pub is_global_in : Known (Unit {0}) → Key → Bool
+is_global_in globals (Named name) = is_some (known globals name)
+is_global_in globals (Made n) = false
 
 -- the labels that no directive makes GLOBAL
 abbrev pub locals_in : Progress → List Label → List Label
-locals_in kept labels = filter (λ l. not (is_global_in kept.names l.key)) labels
+locals_in kept labels = filter (λ l. not (is_global_in kept.globals l.key)) labels
 
 -- the symbols are those of the LOCAL labels among these
 abbrev pub Locals : Symbols → Progress → List Label → Type 0

@@ -1,36 +1,23 @@
 -- What is kept while lines are put in their places.
---     about known q              what the name is, as it is kept
+--     known names q              what is kept for the name
 --     Follows progress lines     what is kept is what the lines so far come to
-use Rattle.std.specs.Prelude.{◌≡◌, ℕ, ◌+◌, ◌<◌, ◌≤◌, ◌^◌, max, ◌==◌, Bool, false, true, not, ◌&&◌, ◌||◌, List, ◌++◌, ◌∷◌, [], map, All, Option, Some, None, option_map, is_some, find, flat_map, if◌then◌else◌, Result, Ok, Err}
+use Rattle.std.specs.Prelude.{◌≡◌, ℕ, ◌+◌, ◌<◌, ◌≤◌, ◌^◌, max, ◌==◌, Bool, false, not, ◌&&◌, ◌||◌, List, ◌++◌, ◌∷◌, [], map, All, Option, Some, None, option_map, is_some, find, flat_map, if◌then◌else◌, Result, Ok, Err}
 use Rattle.std.specs.BTreeMap.{get_by}
 use Rattle.std.specs.BTreeSet.{contains}
 use Rattle.std.specs.Cmp.Lexicographic.{slice_cmp}
 use Rattle.std.specs.List.{list_any}
-use Rattle.std.specs.Option.{unwrap_or, option_or}
 use Rattle.std.specs.Ordering.{nat_cmp}
 use Rattle.cell_num.specs.Kinds.{is_pcrel_lo12}
 use Rattle.cell_num.specs.Lists.{equals, where_true, holds_name, last, or_else}
-use Rattle.cell_asm.specs.Types.{Part, Text, Rodata, Data, Bss, Statement, StatementGlobal as Global, Line, Laid, Label, Key, KeyNamed as Named, KeyMade as Made, Mark, Spot, About, Known, Body, Bodies, Reference, AsmKind, Progress, AsmFail, AsmFailFault as Fault, AsmFailOutOfMemory as OutOfMemory, Stop, StopFault as Stopped, StopOutOfMemory as NoMemory}
+use Rattle.cell_asm.specs.Types.{Part, Text, Rodata, Data, Bss, Statement, StatementGlobal as Global, Line, Laid, Label, Key, KeyNamed as Named, KeyMade as Made, Mark, Spot, Known, Body, Bodies, Reference, AsmKind, Progress, AsmFail, AsmFailFault as Fault, AsmFailOutOfMemory as OutOfMemory, Stop, StopFault as Stopped, StopOutOfMemory as NoMemory}
 use Rattle.cell_asm.specs.Places.{is_key, keys_of, labels_at, labels, choices, choice, size_in, made_in, is_in, taken, makes_label, fault_by, is_same_part}
 use Rattle.cell_asm.specs.Objects.{adds_choice, parts_of, alignment_asked, alignment, bytes_at, contents, globals, marks_in, target_key, label_names, statement_names, mentions}
 use Rattle.cell_asm.specs.Assembled.{has_upper}
 
 -- NAMES
 
-abbrev pub unknown : About
-unknown = record { spot = None; global = false }
-
-abbrev pub about : Known → List ℕ → About
-about known q = unwrap_or (get_by (λ k. slice_cmp nat_cmp q k.now) known.names) unknown
-
--- with a label there, where there was none before
-abbrev pub with_spot : Option Spot → About → About
-with_spot None a = a
-with_spot (Some spot) a = record { spot = option_or a.spot (Some spot); global = a.global }
-
-abbrev pub with_global : Bool → About → About
-with_global false a = a
-with_global true a = record { spot = a.spot; global = true }
+abbrev pub known : {V : Type 0} → Known V → List ℕ → Option V
+known names q = get_by (λ k. slice_cmp nat_cmp q k.now) names.names
 
 -- where the label of a line is, if it is that name
 abbrev pub spot_here : Option Part → ℕ → Option (List ℕ) → List ℕ → Option Spot
@@ -43,20 +30,12 @@ abbrev pub declares : List ℕ → Statement → Bool
 declares q (Global name) = equals name q
 declares q _ = false
 
--- what a name is behind one more line
-abbrev pub about_with : Laid → List ℕ → About → About
-about_with l q a = with_global (declares q l.line.statement) (with_spot (spot_here l.part l.offset l.line.label q) a)
-
 abbrev pub spot_at : Label → Spot
 spot_at l = record { part = l.part; offset = l.offset }
 
 -- the first label of a name
 abbrev pub spot_among : List Label → List ℕ → Option Spot
 spot_among labels q = option_map spot_at (find (λ l. is_key l.key (Named q)) labels)
-
--- what the lines make of a name
-abbrev pub about_in : List Laid → List ℕ → About
-about_in lines q = record { spot = spot_among (labels lines) q; global = holds_name (globals lines) q }
 
 abbrev pub names_in : Line → List (List ℕ)
 names_in line = label_names line.label ++ statement_names line.statement
@@ -113,7 +92,8 @@ pub record Adds (old new : Progress) (l : Laid) : Type 0 where
   pub parts : new.parts.items ≡ adds_choice old.parts.items l.line.statement
   pub bodies : (part : Part) → grown (body_of new.bodies part) ≡ (if is_in part l then grown_with part l (grown (body_of old.bodies part)) else grown (body_of old.bodies part))
   pub made : new.made ≡ old.made + (if makes_label l.line.statement then 1 else 0)
-  pub names : (q : List ℕ) → about new.names q ≡ about_with l q (about old.names q)
+  pub spots : (q : List ℕ) → known new.spots q ≡ or_else (known old.spots q) (spot_here l.part l.offset l.line.label q)
+  pub globals : (q : List ℕ) → is_some (known new.globals q) ≡ (is_some (known old.globals q) || declares q l.line.statement)
   pub labels : new.labels.items ≡ old.labels.items ++ labels_at l.part l.offset (keys_of l)
   pub mentions : new.mentions.items ≡ old.mentions.items ++ names_in l.line
   pub uppers : (q : ℕ) → contains nat_cmp new.uppers q ≡ (contains nat_cmp old.uppers q || is_upper_at q l)
@@ -124,7 +104,8 @@ pub record Follows (progress : Progress) (lines : List Laid) : Type 0 where
   pub parts : progress.parts.items ≡ parts_of lines
   pub bodies : (part : Part) → grown (body_of progress.bodies part) ≡ grown_in part lines
   pub made : progress.made ≡ made_in lines
-  pub names : (q : List ℕ) → about progress.names q ≡ about_in lines q
+  pub spots : (q : List ℕ) → known progress.spots q ≡ spot_among (labels lines) q
+  pub globals : (q : List ℕ) → is_some (known progress.globals q) ≡ holds_name (globals lines) q
   pub labels : progress.labels.items ≡ labels lines
   pub mentions : progress.mentions.items ≡ mentions lines
   pub uppers : (q : ℕ) → contains nat_cmp progress.uppers q ≡ list_any (is_upper_at q) lines
@@ -140,7 +121,7 @@ offset_of progress = size_chosen progress.bodies progress.chosen
 
 abbrev pub twice_of : Progress → Option (List ℕ) → Bool
 twice_of progress None = false
-twice_of progress (Some name) = is_some (about progress.names name).spot
+twice_of progress (Some name) = is_some (known progress.spots name)
 
 -- what is wrong with a line, by what is kept
 abbrev pub fault_after : Progress → Line → Option AsmKind
@@ -176,7 +157,7 @@ is_upper_spot kept (Some s) = is_same_part Text s.part && contains nat_cmp kept.
 
 abbrev pub key_lost_by : Progress → Key → Bool
 key_lost_by kept (Made n) = false
-key_lost_by kept (Named name) = not (is_upper_spot kept (about kept.names name).spot)
+key_lost_by kept (Named name) = not (is_upper_spot kept (known kept.spots name))
 
 abbrev pub lost_by : Progress → Reference → Bool
 lost_by kept r = is_pcrel_lo12 r.kind && key_lost_by kept r.key

@@ -10,9 +10,8 @@ pub use Rattle.cell_asm.specs.declared.kind.AsmFail.{AsmFail}
 pub use Rattle.cell_asm.specs.declared.kind.AsmFail.TheVariants.{Fault as AsmFailFault, OutOfMemory as AsmFailOutOfMemory}
 pub use Rattle.cell_asm.specs.declared.kind.AsmKind.{AsmKind}
 pub use Rattle.cell_asm.specs.declared.kind.AsmKind.TheVariants.{Word as AsmKindWord, Label as AsmKindLabel, Section as AsmKindSection, Twice, Long, Operand as AsmKindOperand, Range}
-pub use Rattle.cell_asm.specs.declared.known.About.{About}
 pub use Rattle.cell_asm.specs.declared.known.Known.{Known}
-pub use Rattle.cell_asm.specs.declared.known.Spot.{Spot}
+pub use Rattle.cell_asm.specs.declared.statement.Spot.{Spot}
 pub use Rattle.cell_asm.specs.declared.statement.Key.{Key}
 pub use Rattle.cell_asm.specs.declared.statement.Key.TheVariants.{Named as KeyNamed, Made as KeyMade}
 pub use Rattle.cell_asm.specs.declared.statement.Label.{Label}

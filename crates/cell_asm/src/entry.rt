@@ -5,11 +5,10 @@ ghost use Rattle.cell_asm.specs.Places.{is_at as stands_at};
 ghost use Rattle.cell_asm.specs.Progress.{is_upper_spot, key_lost_by, lost_by};
 ghost use Rattle.cell_asm.specs.Numberings.{entry_kept, part_entries};
 
-use crate::known::Spot;
 use crate::place::Progress;
 use crate::reference::Reference;
 use crate::section::{is_at, part_number};
-use crate::statement::{Key, Part};
+use crate::statement::{Key, Part, Spot};
 use crate::symbol::Symbols;
 use cell_num::{Listed, is_pcrel_lo12};
 use cell_object::Entry;
@@ -38,7 +37,7 @@ fn is_lost_key<'a>(kept: &Progress<'a>, key: &Key<'a>) -> bool
     ensures { result ≡ key_lost_by kept.now key.now }
 {
     match key {
-        Key::Named(name) => !is_upper(kept, kept.names.about(name.bytes()).spot),
+        Key::Named(name) => !is_upper(kept, kept.spots.get(name.bytes())),
         Key::Made(_) => false,
     }
 }

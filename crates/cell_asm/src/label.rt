@@ -1,12 +1,14 @@
 //! The labels of a line, and the names that it mentions.
 
-ghost use Rattle.std.specs.Prelude.{◌≡◌, ◌++◌, flat_map, OnOk};
+ghost use Rattle.std.specs.Prelude.{◌≡◌, ◌++◌, ◌||◌, ℕ, List, is_some, flat_map, OnOk};
+ghost use Rattle.cell_num.specs.Lists.{or_else};
 ghost use Rattle.std.specs.List.{list_any};
 ghost use Rattle.cell_asm.specs.Objects.{target_names};
 ghost use Rattle.cell_asm.specs.Places.{is_made, makes_label as label_made, keys_of, labels_at};
-ghost use Rattle.cell_asm.specs.Progress.{names_in};
+ghost use Rattle.cell_asm.specs.Progress.{names_in, known, spot_here, declares};
 
-use crate::statement::{Key, Label, Laid, Line, Mark, Statement, Target};
+use crate::known::Known;
+use crate::statement::{Key, Label, Laid, Line, Mark, Spot, Statement, Target};
 use crate::text::Text;
 use std::alloc::AllocError;
 
@@ -43,6 +45,35 @@ pub fn put_labels<'a>(labels: &mut Vec<Label<'a>>, laid: &Laid<'a>) -> Result<()
     if makes_label(&laid.line.statement) {
         let key = Key::Made(laid.made);
         labels.push(Label { key, part, offset })?;
+    }
+    Ok(())
+}
+
+/// Keeps where the label of the line is.
+#[tactic(auto, using(crate::proofs::SymbolLemmas::or_none))]
+pub fn put_spot<'a>(spots: &mut Known<'a, Spot>, laid: &Laid<'a>) -> Result<(), AllocError>
+    ensures { OnOk result ((q : List ℕ) → known spots.new q ≡ or_else (known spots.old q) (spot_here laid.now.part laid.now.offset laid.now.line.label q)) }
+{
+    let Some(part) = laid.part else {
+        return Ok(());
+    };
+    if let Some(name) = &laid.line.label {
+        let offset = laid.offset;
+        spots.add(name.bytes(), Spot { part, offset })?;
+    }
+    Ok(())
+}
+
+/// Keeps the name that the statement makes GLOBAL.
+#[tactic(auto, using(crate::proofs::SymbolLemmas::some_more))]
+pub fn put_global<'a>(
+    globals: &mut Known<'a, ()>,
+    statement: &Statement<'a>,
+) -> Result<(), AllocError>
+    ensures { OnOk result ((q : List ℕ) → is_some (known globals.new q) ≡ (is_some (known globals.old q) || declares q statement.now)) }
+{
+    if let Statement::Global(name) = statement {
+        globals.add(name.bytes(), ())?;
     }
     Ok(())
 }

@@ -8,10 +8,10 @@ ghost use Rattle.cell_asm.specs.declared.statement.Laid.{Laid as LaidValue};
 
 use crate::kind::{AsmKind, Stop};
 use crate::known::Known;
-use crate::label::{makes_label, put_labels, put_mentions};
+use crate::label::{makes_label, put_global, put_labels, put_mentions, put_spot};
 use crate::reference::{Reference, put_references, put_upper};
 use crate::section::{Bodies, add_choice, end};
-use crate::statement::{Content, Label, Laid, Line, Part, Statement};
+use crate::statement::{Content, Label, Laid, Line, Part, Spot, Statement};
 use crate::text::Text;
 use std::alloc::{AllocError, Global};
 use std::collections::BTreeSet;
@@ -31,7 +31,10 @@ pub struct Progress<'a> {
     pub bodies: Bodies,
     /// How many labels were made.
     pub made: u32,
-    pub names: Known<'a>,
+    /// Where the label of each name is.
+    pub spots: Known<'a, Spot>,
+    /// The names that directives make GLOBAL.
+    pub globals: Known<'a, ()>,
     /// All labels, in order of definition.
     pub labels: Vec<Label<'a>>,
     /// The names that the lines mention, in order.
@@ -51,7 +54,8 @@ impl<'a> Progress<'a> {
             parts: Vec::new(alloc),
             bodies: Bodies::new(alloc),
             made: 0,
-            names: Known::new(alloc),
+            spots: Known::new(alloc),
+            globals: Known::new(alloc),
             labels: Vec::new(alloc),
             mentions: Vec::new(alloc),
             uppers: BTreeSet::new(alloc),
@@ -119,7 +123,7 @@ impl<'a> Progress<'a> {
         ensures { result ≡ twice_of self.now label.now }
     {
         match label {
-            Some(name) => self.names.about(name.bytes()).spot.is_some(),
+            Some(name) => self.spots.get(name.bytes()).is_some(),
             None => false,
         }
     }
@@ -135,7 +139,8 @@ impl<'a> Progress<'a> {
         if makes_label(&laid.line.statement) {
             self.made += 1;
         }
-        self.names.add(laid)?;
+        put_spot(&mut self.spots, laid)?;
+        put_global(&mut self.globals, &laid.line.statement)?;
         put_labels(&mut self.labels, laid)?;
         put_mentions(&mut self.mentions, &laid.line)?;
         put_upper(&mut self.uppers, laid)?;

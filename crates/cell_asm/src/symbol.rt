@@ -2,7 +2,7 @@
 
 ghost use Rattle.std.specs.Prelude.{◌≡◌, ◌==◌, ℕ, List, None, OnOk, ◌≤◌, ◌+◌, [], ◌∷◌, ◌++◌, fold, length, not, IfOk};
 ghost use Rattle.std.specs.Option.{option_map_or};
-ghost use Rattle.cell_num.specs.Lists.{equals, or_else, where_true};
+ghost use Rattle.cell_num.specs.Lists.{or_else, where_true};
 ghost use Rattle.cell_asm.specs.Places.{is_key};
 ghost use Rattle.cell_asm.specs.Numberings.{number_of, number_kept, Lists, Locals, mentioned, Mentions, home_in, symbol_in, is_global_in};
 ghost use Rattle.cell_asm.specs.Objects.{key_name as name_of};
@@ -11,10 +11,10 @@ ghost use Rattle.cell_asm.specs.declared.statement.Key.TheVariants as keys;
 ghost use Rattle.cell_asm.specs.declared.statement.Label.{Label as LabelValue};
 ghost use Rattle.cell_object.specs.declared.object.Symbol.{Symbol as SymbolValue};
 
-use crate::known::{Known, Spot};
+use crate::known::Known;
 use crate::place::Progress;
 use crate::section::part_number;
-use crate::statement::{Key, Label};
+use crate::statement::{Key, Label, Spot};
 use crate::text::Text;
 use cell_num::{Bytes, Listed};
 use cell_object::{Bind, Home, Sort, Symbol};
@@ -25,48 +25,38 @@ use std::collections::BTreeMap;
 /// The numbers of symbols, by their names and by the numbers of made labels.
 #[derive(Drop)]
 pub struct Numbering<'a> {
-    pub named: BTreeMap<&'a [u8], u32>,
+    pub named: Known<'a, u32>,
     pub made: BTreeMap<u32, u32>,
 }
 
 impl<'a> Numbering<'a> {
-    pub fn new(alloc: Global) -> Numbering<'a>
+    fn new(alloc: Global) -> Numbering<'a>
         ensures { (q : KeyValue) → number_of result q ≡ None }
     {
         Numbering {
-            named: BTreeMap::new(alloc),
+            named: Known::new(alloc),
             made: BTreeMap::new(alloc),
         }
     }
 
-    pub fn get(&self, key: &Key<'a>) -> Option<u32>
+    fn get(&self, key: &Key<'a>) -> Option<u32>
         ensures { result ≡ number_of self.now key.now }
     {
         match key {
-            Key::Named(name) => self.named.get(&name.bytes()).copied(),
+            Key::Named(name) => self.named.get(name.bytes()),
             Key::Made(made) => self.made.get(made).copied(),
         }
     }
 
     /// Gives a key its number, where it has none.
     #[tactic(auto, using(crate::proofs::SymbolLemmas::added))]
-    pub fn add(&mut self, key: &Key<'a>, number: u32) -> Result<(), AllocError>
+    fn add(&mut self, key: &Key<'a>, number: u32) -> Result<(), AllocError>
         ensures { OnOk result ((q : KeyValue) → number_of self.new q ≡ or_else (number_of self.old q) (where_true (is_key key.now q) number)) }
     {
         match key {
-            Key::Named(name) => self.add_name(name.bytes(), number),
+            Key::Named(name) => self.named.add(name.bytes(), number),
             Key::Made(made) => self.add_made(*made, number),
         }
-    }
-
-    fn add_name(&mut self, name: &'a [u8], number: u32) -> Result<(), AllocError>
-        ensures names { OnOk result ((q : List ℕ) → number_of self.new (keys.Named q) ≡ or_else (number_of self.old (keys.Named q)) (where_true (equals name.now q) number)) }
-        ensures made { self.new.made ≡ self.old.made }
-    {
-        if self.named.get(&name).is_none() {
-            self.named.insert(name, number)?;
-        }
-        Ok(())
     }
 
     fn add_made(&mut self, made: u32, number: u32) -> Result<(), AllocError>
@@ -100,11 +90,11 @@ pub fn make_symbols<'a>(alloc: Global, kept: &Progress<'a>) -> Result<Symbols<'a
 }
 
 /// Whether no directive makes the label GLOBAL.
-fn is_local<'a>(known: &Known<'a>, key: &Key<'a>) -> bool
-    ensures { result ≡ not (is_global_in known.now key.now) }
+fn is_local<'a>(globals: &Known<'a, ()>, key: &Key<'a>) -> bool
+    ensures { result ≡ not (is_global_in globals.now key.now) }
 {
     match key {
-        Key::Named(name) => !known.about(name.bytes()).global,
+        Key::Named(name) => globals.get(name.bytes()).is_none(),
         Key::Made(_) => true,
     }
 }
@@ -201,7 +191,7 @@ impl<'a> Symbols<'a> {
         requires { length kept.now.parts.items ≤ 4 }
         ensures { OnOk result ((before : List LabelValue) → Locals self.old kept.now before → Locals self.new kept.now (before ++ label.now ∷ [])) }
     {
-        if is_local(&kept.names, &label.key) {
+        if is_local(&kept.globals, &label.key) {
             let spot = Spot {
                 part: label.part,
                 offset: label.offset,
@@ -229,7 +219,7 @@ impl<'a> Symbols<'a> {
     {
         let key = Key::Named(name.again());
         if self.numbers.get(&key).is_none() {
-            let spot = kept.names.about(name.bytes()).spot;
+            let spot = kept.spots.get(name.bytes());
             self.add(kept, &key, Bind::Global, spot)?;
         }
         Ok(())
