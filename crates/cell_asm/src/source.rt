@@ -5,7 +5,6 @@ ghost use Rattle.cell_object.specs.Writable.{IsWritable};
 ghost use Rattle.cell_asm.specs.Assembled.{placed_line, placed_texts, has_lost, object_unless, assembled, Assembles};
 ghost use Rattle.cell_asm.specs.Lines.{line_of};
 ghost use Rattle.cell_asm.specs.Progress.{Goes, Places, failure, Follows};
-ghost use Rattle.cell_asm.specs.Objects.{object_of};
 ghost use Rattle.cell_asm.specs.declared.statement.Laid.{Laid as LaidValue};
 
 use crate::entry::{entries, first_lost};
@@ -74,7 +73,6 @@ fn place_line<'a>(
 }
 
 /// The object of the lines, unless one refers to a label that is none.
-#[tactic(auto, using(crate::proofs::PlacingLemmas::answers))]
 fn object(alloc: Global, progress: &Progress<'_>) -> Result<Object, AsmFail>
     requires { length progress.now.parts.items ≤ 4 }
     ensures { (lines : List LaidValue) → Follows progress.now lines → Assembles result (object_unless lines (find (has_lost lines) lines)) }
@@ -85,15 +83,6 @@ fn object(alloc: Global, progress: &Progress<'_>) -> Result<Object, AsmFail>
             kind: AsmKind::Label,
         });
     }
-    let object = whole_object(alloc, progress)?;
-    Ok(object)
-}
-
-/// The object of lines that refer to labels alone.
-fn whole_object(alloc: Global, progress: &Progress<'_>) -> Result<Object, AllocError>
-    requires { length progress.now.parts.items ≤ 4 }
-    ensures { (lines : List LaidValue) → Follows progress.now lines → IfOk result (λ object. object ≡ object_of lines) }
-{
     let sections = sections(alloc, &progress.parts, &progress.bodies)?;
     let symbols = make_symbols(alloc, progress)?;
     let entries = entries(alloc, progress, &symbols)?;
