@@ -17,7 +17,7 @@ use Rattle.cell_num.specs.Bits.{bytes_of}
 use Rattle.cell_num.specs.Kinds.{is_pcrel_lo12}
 use Rattle.cell_asm.specs.Assembled.{is_upper_label, is_lost, is_lost_mark, has_lost}
 use Rattle.cell_asm.specs.Progress.{spot_at, Follows, reference_at, references_of, is_upper_spot, key_lost_by, lost_by}
-use Rattle.cell_asm.specs.Numberings.{section_with, section_kept, Lists, mentioned, Mentions, entry_kept, part_entries}
+use Rattle.cell_asm.specs.Numberings.{section_kept, Lists, mentioned, Mentions, entry_kept, part_entries}
 use Rattle.cell_asm.specs.Objects.{adds_part, parts_of, number_in, section_of, sections, symbols, symbol_keys, marks_in, label_named, part_number, target_key, entry_of, entries_of, entries_in, entries, object_of}
 use Rattle.cell_asm.specs.Places.{is_same_part, choices, is_at, is_in}
 use Rattle.cell_asm.specs.Types.{Part, Text, Rodata, Data, Bss, Laid, Target, TargetNamed as Named, TargetMade as Made, Label, Progress, Reference, Section, Symbol, Entry, Object, Mark, Symbols}
@@ -108,9 +108,6 @@ find_same p q (x ∷ xs) same = ap (λ b. cond b (Some x) (find p xs)) (same x) 
 
 -- the line of the first reference that passes is the first line that has one
 module _ (p : Reference → Bool) where
-  passes : Laid → Mark → Bool
-  passes l m = p (reference_at l m)
-
   first_by : (b t : Bool) (l : Laid) (m : Mark) (r : Option Reference) (o : Option Laid) → option_map (λ x. x.line) r ≡ option_map (λ x. x.number) (cond t (Some l) o)
       → option_map (λ x. x.line) (cond b (Some (reference_at l m)) r) ≡ option_map (λ x. x.number) (cond (b || t) (Some l) o)
   first_by true t l m r o e = refl
@@ -130,9 +127,6 @@ module _ (p : Reference → Bool) where
 
 -- the references of a section are those of its lines
 module _ (part : Part) (e : Reference → Entry) where
-  here : Reference → Bool
-  here r = is_at part r.part
-
   kept_in : (l : Laid) (ms : List Mark) (b : Bool) → is_in part l ≡ b → map e (filter (λ r. is_at part r.part) (map (reference_at l) ms)) ≡ cond b (map (λ m. e (reference_at l m)) ms) []
   kept_in l [] true h = refl
   kept_in l [] false h = refl
@@ -185,7 +179,7 @@ module _ (kept : Progress) (lines : List Laid) (h : Follows kept lines) where
   sections_are : map (section_kept kept.parts.items kept.bodies) kept.parts.items ≡ sections lines
   sections_are =
       ap (λ ps. map (section_kept ps kept.bodies) ps) h.parts
-      ∙ map_same (section_kept (parts_of lines) kept.bodies) (section_of lines) (parts_of lines) (λ part k. ap (section_with (parts_of lines) part) (h.bodies part))
+      ∙ map_same (section_kept (parts_of lines) kept.bodies) (section_of lines) (parts_of lines) (λ part k. ap (λ (g : ℕ × ℕ × List ℕ). record (section_of lines part) { align = g.0; size = g.1; bytes = g.2 }) (h.bodies part))
 
   module _ (s : Symbols) (made : Lists s (symbol_keys lines) (symbols lines)) where
     entry_is : (part : Part) (l : Laid) (m : Mark) → entry_kept (part_number lines part) s (reference_at l m) ≡ entry_of lines part l m

@@ -6,12 +6,12 @@ use Rattle.std.proofs.lemmas.List.Elements.{filter_map-append, filter-append}
 use Rattle.std.proofs.lemmas.List.Folds.{list_any-append, find-append}
 use Rattle.std.proofs.lemmas.List.Sums.{sum_by-append, fold-append}
 use Rattle.std.specs.List.{list_any, cons_option}
-use Rattle.std.specs.Option.{option_or}
+use Rattle.std.specs.Option.{option_or, option_map_or}
 use Rattle.std.specs.Prelude.{Option, option_map, is_some, if◌then◌else◌, filter, flat_map, sum_by, fold, max}
 use Rattle.cell_num.specs.Lists.{equals, where_true, holds_name, last, or_else, numbered_from}
 use Rattle.cell_text.specs.Text.{lines_in, Behind}
 use Rattle.cell_asm.specs.Assembled.{add_line, with_line, placed_line, placed_texts, object_from, object_unless, has_lost, assembled, Assembles, placed_unless, placed_lines}
-use Rattle.cell_asm.specs.Progress.{spot_here, declares, spot_at, spot_among, names_in, grown_in, grown_with, bytes_laid, references_of, is_upper_at, Goes as GoesBehind, Places, failure, size_chosen, offset_of, twice_of, fault_after, laid_after, Adds, Follows}
+use Rattle.cell_asm.specs.Progress.{spot_here, declares, spot_at, spot_among, names_in, grown_in, grown_with, bytes_laid, references_of, is_upper_at, Goes as GoesBehind, Places, failure, body_of, offset_of, twice_of, fault_after, laid_after, Adds, Follows}
 use Rattle.cell_asm.specs.Lines.{line_of}
 use Rattle.cell_asm.specs.Objects.{adds_part, adds_choice, parts_of, alignment_asked, first_alignment, alignment, bytes_at, contents, global_name, globals, object_of}
 use Rattle.cell_asm.specs.Places.{is_key, holds_key, makes_label, own_key, made_key, keys_of, label, labels_at, labels, fault_at, is_at, is_in, choice, choices, taken, size_in, size_at, made_in, is_twice, placed}
@@ -79,12 +79,12 @@ taken_is ls q = found_is (λ l. is_key l.key (Named q)) ls
 
 -- One line more behind those that are in their places.
 
-size_is : (p : Progress) (before : List Laid) (part : Option Part) → Follows p before → size_chosen p.bodies part ≡ size_at part before
+size_is : (p : Progress) (before : List Laid) (part : Option Part) → Follows p before → option_map_or (λ chosen. (body_of p.bodies chosen).size) part 0 ≡ size_at part before
 size_is p before None h = refl
 size_is p before (Some part) h = ap (λ g. g.1) (h.bodies part)
 
 pub offset_is : (p : Progress) (before : List Laid) → Follows p before → offset_of p ≡ size_at (last (choices before)) before
-offset_is p before h = ap (size_chosen p.bodies) h.chosen ∙ size_is p before (last (choices before)) h
+offset_is p before h = ap (λ o. option_map_or (λ part. (body_of p.bodies part).size) o 0) h.chosen ∙ size_is p before (last (choices before)) h
 
 twice_is : (p : Progress) (before : List Laid) (name : Option (List ℕ)) → Follows p before → twice_of p name ≡ is_twice before name
 twice_is p before None h = refl
@@ -143,9 +143,6 @@ parts_more before l =
 
 -- the alignment, the size and the bytes of a section
 module _ (part : Part) (before : List Laid) (l : Laid) where
-  asked : Laid → ℕ
-  asked m = alignment_asked m.line.statement
-
   aligned : (b : Bool) → is_in part l ≡ b → alignment part (before ++ l ∷ []) ≡ (if b then max (alignment part before) (alignment_asked l.line.statement) else alignment part before)
   aligned true e =
       ap (λ ls. fold max (first_alignment part) (map (λ m. alignment_asked m.line.statement) ls)) (filter_more (is_in part) before l true e)
@@ -227,9 +224,6 @@ module _ (p q : Progress) (n : ℕ) (text : List ℕ) (texts : List (List ℕ)) 
   pub stopped : (stop : Stop) → ((before : List Laid) → Follows p before → GoesBehind q before (Err stop) (placed_line before n (line_of text))) → Places (Err (failure stop n)) all
   stopped (Fault kind) goes = sym h.comes ∙ stops h.lines n text texts kind (goes h.lines h.follows)
   stopped OutOfMemory goes = tt
-
-pub all_placed : (p : Progress) (n : ℕ) (all : Result (List Laid) (ℕ × AsmKind)) → IsPlaced p n [] all → Places (Ok p) all
-all_placed p n all h = (h.lines, sym h.comes, h.follows)
 
 -- the texts that are left
 pub dropped : (texts : List (Bor (List ℕ))) (i : ℕ) (d : Bor (List ℕ)) → i < length texts → map (λ text. text.now) (drop i texts) ≡ (get_or texts i d).now ∷ map (λ text. text.now) (drop (i + 1) texts)

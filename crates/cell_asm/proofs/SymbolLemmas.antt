@@ -1,10 +1,9 @@
 -- The symbols of an object, and their numbers.
 --     added            a map from keys, after one more key
 --     all_symbols      the symbols that are made are those of the lines
-use Rattle.std.proofs.Common.{◌≡◌, ℕ, ◌==◌, Bool, true, false, cond, List, Some, None, refl, ap, sym, ◌∙◌, arith, ◌||◌, not, [], ◌∷◌, ◌++◌, map, subst, append-nil, suc, ◌+◌, length, is_some, append_assoc}
+use Rattle.std.proofs.Common.{◌≡◌, ℕ, ◌==◌, Bool, true, false, cond, List, Some, None, refl, ap, sym, ◌∙◌, arith, ◌||◌, not, [], ◌∷◌, ◌++◌, map, subst, suc, ◌+◌, length, is_some, append_assoc}
 use Rattle.std.proofs.lemmas.Bool.Decides.{nat_tests}
 use Rattle.std.proofs.lemmas.List.{map-append}
-use Rattle.std.proofs.lemmas.List.Elements.{filter-append}
 use Rattle.std.proofs.lemmas.List.Folds.{list_any-append}
 use Rattle.std.specs.BTreeMap.{get}
 use Rattle.std.specs.List.{list_any}
@@ -13,12 +12,12 @@ use Rattle.std.specs.Ordering.{nat_cmp, is_eq}
 use Rattle.std.specs.Prelude.{Option, option_map, if◌then◌else◌, filter, fold}
 use Rattle.cell_num.specs.Lists.{equals, or_else, where_true, holds_name}
 use Rattle.cell_asm.specs.Progress.{known, spot_at, Follows}
-use Rattle.cell_asm.specs.Numberings.{is_global_in, locals_in, Locals, number_of, has_key, keys_with, mentioned, home_in, symbol_in, other_in, local_in, Lists, Mentions}
+use Rattle.cell_asm.specs.Numberings.{is_global_in, locals_in, number_of, has_key, keys_with, mentioned, home_in, symbol_in, other_in, local_in, Lists, Mentions}
 use Rattle.cell_asm.specs.Objects.{is_global, globals, local_labels, adds_name, other_names, mentions, home_at, label_named, number_in, number_from, symbol, global_symbol, local_symbol, symbols, symbol_keys, key_name}
 use Rattle.cell_asm.specs.Places.{is_key, labels, holds_key}
 use Rattle.cell_asm.specs.Types.{Key, KeyNamed as Named, KeyMade as Made, Numbering, Symbol, Local, Inside, Laid, Label, Spot, Progress, Symbols, Bind, BindGlobal as Global, NoType, Home}
 use Rattle.cell_num.proofs.Elements.{map_same, fold_same}
-use Rattle.cell_asm.proofs.ListLemmas.{number_more, numbered_if, not_false}
+use Rattle.cell_asm.proofs.ListLemmas.{number_more, numbered_if}
 
 pub or_none : {X : Type 0} (o : Option X) → or_else o None ≡ o
 or_none None = refl
@@ -66,40 +65,7 @@ locals_are kept lines h =
     ap (locals_in kept) h.labels
     ∙ filter_same (λ l. not (is_global_in kept.globals l.key)) (λ l. not (is_global (globals lines) l.key)) (labels lines) (λ l. ap not (global_same kept lines l.key h))
 
-one_left : (before : List Label) (l : Label) (global : Bool) (e : Bool) → global ≡ e → before ++ cond (not global) (l ∷ []) [] ≡ (if e then before else before ++ l ∷ [])
-one_left before l global true e = ap (λ b. before ++ cond (not b) (l ∷ []) []) e ∙ append-nil before
-one_left before l global false e = ap (λ b. before ++ cond (not b) (l ∷ []) []) e
-
-locals_more : (kept : Progress) (before : List Label) (l : Label) (e : Bool) → is_global_in kept.globals l.key ≡ e
-    → locals_in kept (before ++ l ∷ []) ≡ (if e then locals_in kept before else locals_in kept before ++ l ∷ [])
-locals_more kept before l e global =
-    filter-append (λ m. not (is_global_in kept.globals m.key)) before (l ∷ []) ∙ one_left (locals_in kept before) l (is_global_in kept.globals l.key) e global
-
-not_true : (b : Bool) → not b ≡ true → b ≡ false
-not_true true e = cc
-not_true false e = refl
-
--- a label that is GLOBAL
-pub local_same : (s : Symbols) (kept : Progress) (before : List Label) (l : Label) → not (is_global_in kept.globals l.key) ≡ false → Locals s kept before → Locals s kept (before ++ l ∷ [])
-local_same s kept before l e h =
-    subst (λ ls. Lists s (map (λ m. m.key) ls) (map (local_in kept) ls)) (sym (locals_more kept before l true (not_false (is_global_in kept.globals l.key) e))) h
-
--- a LOCAL label
-pub local_added : (s : Symbols) (kept : Progress) (before : List Label) (l : Label) → not (is_global_in kept.globals l.key) ≡ true
-    → Lists s (map (λ m. m.key) (locals_in kept before) ++ l.key ∷ []) (map (local_in kept) (locals_in kept before) ++ local_in kept l ∷ []) → Locals s kept (before ++ l ∷ [])
-local_added s kept before l e h =
-    subst (λ ls. Lists s (map (λ m. m.key) ls) (map (local_in kept) ls)) (sym (locals_more kept before l false (not_true (is_global_in kept.globals l.key) e)))
-    (subst (λ ks. Lists s ks (map (local_in kept) (locals_in kept before ++ l ∷ []))) (sym (map-append (λ m. m.key) (locals_in kept before) (l ∷ [])))
-    (subst (λ ss. Lists s (map (λ m. m.key) (locals_in kept before) ++ l.key ∷ []) ss) (sym (map-append (local_in kept) (locals_in kept before) (l ∷ []))) h))
-
 -- OTHER NAMES
-
--- none is mentioned yet
-pub none_yet : (s : Symbols) (kept : Progress) → Locals s kept kept.labels.items → Mentions s kept []
-none_yet s kept h =
-    let locals = locals_in kept kept.labels.items in
-    subst (λ ks. Lists s ks (map (local_in kept) locals ++ [])) (sym (append-nil (map (λ l. l.key) locals)))
-    (subst (λ ss. Lists s (map (λ l. l.key) locals) ss) (sym (append-nil (map (local_in kept) locals))) h)
 
 any_map : {X Y : Type 0} (p : Y → Bool) (f : X → Y) (xs : List X) → list_any p (map f xs) ≡ list_any (λ x. p (f x)) xs
 any_map p f [] = refl

@@ -10,16 +10,13 @@ use Rattle.std.specs.Ordering.{nat_cmp}
 use Rattle.cell_asm.specs.Types.{Section, Symbol, Bind, Local, BindGlobal as Global, Home, Undef, Inside, Entry, Part, Bodies, Reference, Key, KeyNamed as Named, KeyMade as Made, Label, Numbering, Spot, Known, Progress, Symbols}
 use Rattle.cell_asm.specs.Places.{is_key, is_at}
 use Rattle.cell_asm.specs.Objects.{number_in, number_from, section_of, symbol}
-use Rattle.cell_asm.specs.Progress.{known, spot_at, body_of, grown}
+use Rattle.cell_asm.specs.Progress.{known, spot_at, body_of}
 
 -- SECTIONS
 
--- with that alignment, size and bytes
-abbrev pub section_with : List Part → Part → ℕ × ℕ × List ℕ → Section
-section_with parts part g = record (section_of [] part) { number = number_in parts part; align = g.0; size = g.1; bytes = g.2 }
-
 abbrev pub section_kept : List Part → Bodies → Part → Section
-section_kept parts bodies part = section_with parts part (grown (body_of bodies part))
+section_kept parts bodies part =
+    let b = body_of bodies part in record (section_of [] part) { number = number_in parts part; align = b.align; size = b.size; bytes = b.bytes.items }
 
 -- NUMBERS OF KEYS
 

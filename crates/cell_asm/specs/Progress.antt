@@ -6,6 +6,7 @@ use Rattle.std.specs.BTreeMap.{get_by}
 use Rattle.std.specs.BTreeSet.{contains}
 use Rattle.std.specs.Cmp.Lexicographic.{slice_cmp}
 use Rattle.std.specs.List.{list_any}
+use Rattle.std.specs.Option.{option_map_or}
 use Rattle.std.specs.Ordering.{nat_cmp}
 use Rattle.cell_num.specs.Kinds.{is_pcrel_lo12}
 use Rattle.cell_num.specs.Lists.{equals, where_true, holds_name, last, or_else}
@@ -112,16 +113,11 @@ pub record Follows (progress : Progress) (lines : List Laid) : Type 0 where
   pub references : progress.references.items ≡ flat_map references_of lines
 
 -- how many bytes the section has that is chosen
-abbrev pub size_chosen : Bodies → Option Part → ℕ
-size_chosen bodies None = 0
-size_chosen bodies (Some part) = (body_of bodies part).size
-
 abbrev pub offset_of : Progress → ℕ
-offset_of progress = size_chosen progress.bodies progress.chosen
+offset_of progress = option_map_or (λ part. (body_of progress.bodies part).size) progress.chosen 0
 
 abbrev pub twice_of : Progress → Option (List ℕ) → Bool
-twice_of progress None = false
-twice_of progress (Some name) = is_some (known progress.spots name)
+twice_of progress label = option_map_or (λ name. is_some (known progress.spots name)) label false
 
 -- what is wrong with a line, by what is kept
 abbrev pub fault_after : Progress → Line → Option AsmKind

@@ -8,13 +8,12 @@ ghost use Rattle.cell_asm.specs.Numberings.{number_of, number_kept, Lists, Local
 ghost use Rattle.cell_asm.specs.Objects.{key_name as name_of};
 ghost use Rattle.cell_asm.specs.declared.statement.Key.{Key as KeyValue};
 ghost use Rattle.cell_asm.specs.declared.statement.Key.TheVariants as keys;
-ghost use Rattle.cell_asm.specs.declared.statement.Label.{Label as LabelValue};
 ghost use Rattle.cell_object.specs.declared.object.Symbol.{Symbol as SymbolValue};
 
 use crate::known::Known;
 use crate::place::Progress;
 use crate::section::part_number;
-use crate::statement::{Key, Label, Spot};
+use crate::statement::{Key, Spot};
 use crate::text::Text;
 use cell_num::{Bytes, Listed};
 use cell_object::{Bind, Home, Sort, Symbol};
@@ -182,21 +181,13 @@ impl<'a> Symbols<'a> {
         ensures { OnOk result (Mentions self.new kept.now []) }
     {
         for label in &kept.labels {
-            self.add_label(kept, label)?;
-        }
-        Ok(())
-    }
-
-    fn add_label(&mut self, kept: &Progress<'a>, label: &Label<'a>) -> Result<(), AllocError>
-        requires { length kept.now.parts.items ≤ 4 }
-        ensures { OnOk result ((before : List LabelValue) → Locals self.old kept.now before → Locals self.new kept.now (before ++ label.now ∷ [])) }
-    {
-        if is_local(&kept.globals, &label.key) {
-            let spot = Spot {
-                part: label.part,
-                offset: label.offset,
-            };
-            self.add(kept, &label.key, Bind::Local, Some(spot))?;
+            if is_local(&kept.globals, &label.key) {
+                let spot = Spot {
+                    part: label.part,
+                    offset: label.offset,
+                };
+                self.add(kept, &label.key, Bind::Local, Some(spot))?;
+            }
         }
         Ok(())
     }
