@@ -17,6 +17,7 @@ use Rattle.cell_asm.specs.Objects.{is_global, globals, local_labels, adds_name, 
 use Rattle.cell_asm.specs.Places.{is_key, labels, holds_key}
 use Rattle.cell_asm.specs.Types.{Key, KeyNamed as Named, KeyMade as Made, Numbering, Symbol, Local, Inside, Laid, Label, Spot, Progress, Symbols, Bind, BindGlobal as Global, NoType, Home}
 use Rattle.cell_num.proofs.Elements.{map_same, fold_same}
+use Rattle.cell_num.proofs.Sublists.{filter_same}
 use Rattle.cell_asm.proofs.ListLemmas.{number_more, numbered_if}
 
 pub or_none : {X : Type 0} (o : Option X) → or_else o None ≡ o
@@ -52,10 +53,6 @@ pub ruleset added = (added_name, added_made)
 
 -- LOCAL LABELS
 
-filter_same : {X : Type 0} (p q : X → Bool) (xs : List X) → ((x : X) → p x ≡ q x) → filter p xs ≡ filter q xs
-filter_same p q [] same = refl
-filter_same p q (x ∷ xs) same = ap (λ b. cond b (x ∷ filter p xs) (filter p xs)) (same x) ∙ ap (λ ys. cond (q x) (x ∷ ys) ys) (filter_same p q xs same)
-
 global_same : (kept : Progress) (lines : List Laid) (key : Key) → Follows kept lines → is_global_in kept.globals key ≡ is_global (globals lines) key
 global_same kept lines (Named name) h = h.globals name
 global_same kept lines (Made n) h = refl
@@ -63,7 +60,7 @@ global_same kept lines (Made n) h = refl
 locals_are : (kept : Progress) (lines : List Laid) → Follows kept lines → locals_in kept kept.labels.items ≡ local_labels lines
 locals_are kept lines h =
     ap (locals_in kept) h.labels
-    ∙ filter_same (λ l. not (is_global_in kept.globals l.key)) (λ l. not (is_global (globals lines) l.key)) (labels lines) (λ l. ap not (global_same kept lines l.key h))
+    ∙ filter_same (λ l. not (is_global_in kept.globals l.key)) (λ l. not (is_global (globals lines) l.key)) (labels lines) (λ l k. ap not (global_same kept lines l.key h))
 
 -- OTHER NAMES
 
@@ -130,21 +127,6 @@ length_push : {X : Type 0} (xs : List X) (x : X) → length (xs ++ x ∷ []) ≡
 length_push [] x = refl
 length_push (y ∷ ys) x = ap suc (length_push ys x)
 
--- one symbol more
-lists_more : (old new : Symbols) (keys : List Key) (list : List Symbol) (k : Key) (s : Symbol) (n : ℕ) → Lists old keys list
-    → new.list.items ≡ old.list.items ++ s ∷ [] → n ≡ length old.list.items + 1
-    → ((q : Key) → number_of new.numbers q ≡ or_else (number_of old.numbers q) (where_true (is_key k q) n))
-    → Lists new (keys ++ k ∷ []) (list ++ s ∷ [])
-lists_more old new keys list k s n h items number numbers = record {
-  list = items ∙ ap (λ ss. ss ++ s ∷ []) h.list;
-  count = length_push keys k ∙ ap suc h.count ∙ sym (length_push list s);
-  numbers = λ q.
-      numbers q
-      ∙ ap (λ o. or_else o (where_true (is_key k q) n)) (h.numbers q)
-      ∙ ap (λ m. or_else (number_from 1 keys q) (where_true (is_key k q) m)) (number ∙ ap (λ ss. length ss + 1) h.list ∙ ap (λ m. m + 1) (sym h.count))
-      ∙ sym (number_more 1 keys k q);
-}
-
 abbrev made : List ℕ → Bind → Home → ℕ → Symbol
 made name bind home value = record { name = name; bind = bind; sort = NoType; home = home; value = value; size = 0 }
 
@@ -153,13 +135,19 @@ pub lists_by : (old new : Symbols) (keys : List Key) (list : List Symbol) (kept 
     → new.list.items ≡ old.list.items ++ made name bind home value ∷ [] → name ≡ key_name k → home ≡ home_in kept.parts.items spot → value ≡ option_map_or (λ s. s.offset) spot 0
     → n ≡ length old.list.items + 1 → ((q : Key) → number_of new.numbers q ≡ or_else (number_of old.numbers q) (where_true (is_key k q) n))
     → Lists new (keys ++ k ∷ []) (list ++ symbol_in kept k bind spot ∷ [])
-lists_by old new keys list kept k bind spot name home value n h items named homed valued number numbers =
-    lists_more old new keys list k (symbol_in kept k bind spot) n h
-    (items
-    ∙ ap (λ m. old.list.items ++ made m bind home value ∷ []) named
-    ∙ ap (λ o. old.list.items ++ made (key_name k) bind o value ∷ []) homed
-    ∙ ap (λ v. old.list.items ++ made (key_name k) bind (home_in kept.parts.items spot) v ∷ []) valued)
-    number numbers
+lists_by old new keys list kept k bind spot name home value n h items named homed valued number numbers = record {
+  list = items
+      ∙ ap (λ m. old.list.items ++ made m bind home value ∷ []) named
+      ∙ ap (λ o. old.list.items ++ made (key_name k) bind o value ∷ []) homed
+      ∙ ap (λ v. old.list.items ++ made (key_name k) bind (home_in kept.parts.items spot) v ∷ []) valued
+      ∙ ap (λ ss. ss ++ symbol_in kept k bind spot ∷ []) h.list;
+  count = length_push keys k ∙ ap suc h.count ∙ sym (length_push list (symbol_in kept k bind spot));
+  numbers = λ q.
+      numbers q
+      ∙ ap (λ o. or_else o (where_true (is_key k q) n)) (h.numbers q)
+      ∙ ap (λ m. or_else (number_from 1 keys q) (where_true (is_key k q) m)) (number ∙ ap (λ ss. length ss + 1) h.list ∙ ap (λ m. m + 1) (sym h.count))
+      ∙ sym (number_more 1 keys k q);
+}
 
 there : (s : Symbols) (keys : List Key) (list : List Symbol) (q : Key) → Lists s keys list → has_key keys q ≡ is_some (number_of s.numbers q)
 there s keys list q h = sym (numbered_if 1 keys q) ∙ sym (ap is_some (h.numbers q))
