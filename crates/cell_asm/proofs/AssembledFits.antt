@@ -1,6 +1,6 @@
 -- The lines of a source that is assembled.
 --     read_lines source o      the object is that of its lines, of which none refers to a label that is none
-use Rattle.std.proofs.Common.{◌≡◌, ℕ, List, Result, Ok, Err, Some, None, refl, ◌≤◌, ◌<◌, ◌^◌, [], length, sym, subst, arith, ◌+◌, true, false}
+use Rattle.std.proofs.Common.{◌≡◌, ℕ, List, Result, Ok, Err, Some, None, refl, ◌≤◌, ◌<◌, ◌^◌, [], length, sym, subst, arith, ◌+◌, true, false, slice_index_or}
 use Rattle.std.proofs.lemmas.Bool.{and_parts}
 use Rattle.std.specs.Prelude.{Option, find, IfOk, All, is_none}
 use Rattle.std.specs.declared.result.Result.{}
@@ -12,12 +12,14 @@ use Rattle.cell_object.specs.Image.{image}
 use Rattle.cell_object.specs.Sound.{IsSoundObject}
 use Rattle.cell_object.specs.Writable.{IsWritable}
 use Rattle.cell_asm.specs.Assembled.{has_lost, object_unless, object_from, placed_lines, assembled, Assembles}
-use Rattle.cell_asm.specs.Numberings.{HasRoom}
+use Rattle.cell_asm.specs.Lines.{line_of}
+use Rattle.cell_asm.specs.Progress.{AreInside, HasRoom, fault_after, laid_after, offset_of, twice_of}
 use Rattle.cell_asm.specs.Objects.{object_of, marks_in}
 use Rattle.cell_asm.specs.Places.{taken, is_long, may_stand, lays_nothing}
-use Rattle.cell_asm.specs.Types.{Object, AsmKind, Laid, Fill, Prog, Note, Zero, Part, Bss, Line, AsmFail}
-use Rattle.cell_asm.proofs.EntriesFit.{not_past, IsStanding, all_stand}
-use Rattle.cell_asm.proofs.GoodBlocks.{IsGoodStatement, statement_marks, none_laid}
+use Rattle.cell_asm.specs.Types.{Object, AsmKind, Laid, Fill, Prog, Note, Zero, Part, Bss, Line, AsmFail, Progress}
+use Rattle.cell_asm.proofs.EntriesFit.{not_past, no_fault}
+use Rattle.cell_asm.proofs.GoodBlocks.{statement_marks, none_laid}
+use Rattle.cell_asm.proofs.ReadLines.{read_line}
 use Rattle.cell_num.proofs.Elements.{In-All}
 use Rattle.cell_asm.proofs.SectionsFit.{sections_fit}
 use Rattle.cell_asm.proofs.SizesFit.{few_symbols, headers_fit, locals_fit, texts_fit, names_fit, size_fits}
@@ -86,21 +88,31 @@ assembled_fits source o e h =
     subst IsWritable (sym r.made) (writable (object_of r.lines) (lines_ruled source r.lines r.read r.kept h))
 
 -- The offsets of the entries to come are numbers of 32 bits.
---     rooms source lines
+--     inside text line        a line that is read has entries for bytes of its statement
+--     placed_room p n line    so they have room where the line has no fault
+
+pub inside : (text : List ℕ) (line : Line) → line_of text ≡ Ok line → AreInside line.statement
+inside text line e = λ offset.
+    In-All (λ m. m.at ≤ taken line.statement offset) (marks_in line.statement)
+    (λ m k. omega (arith, ((statement_marks line.statement offset (read_line text line e).good).stand.0 m k).inside))
 
 not_long : (part : Part) (n : ℕ) → is_long (Some part) n ≡ false → n ≤ 16777216
 not_long Bss n e = not_past 16777216 n e
 not_long _ n e = let h : n ≤ 1048576 = not_past 1048576 n e in omega (arith, h)
 
-room_by : (part : Option Part) (offset : ℕ) (line : Line) → may_stand part line ≡ true → is_long part (offset + taken line.statement offset) ≡ false → IsGoodStatement line.statement
+small : (at taken offset : ℕ) → at ≤ taken → offset + taken ≤ 16777216 → offset + at < 2 ^ 32
+small at taken offset h k = omega (arith, h, k)
+
+room_by : (part : Option Part) (offset : ℕ) (line : Line) → may_stand part line ≡ true → is_long part (offset + taken line.statement offset) ≡ false → AreInside line.statement
     → All (λ m. offset + m.at < 2 ^ 32) (marks_in line.statement)
 room_by None offset line s l g = In-All (λ m. offset + m.at < 2 ^ 32) (marks_in line.statement) (λ m k. absurd (none_laid line.statement m (and_parts (is_none line.label) (lays_nothing line.statement) s).1 k))
 room_by (Some part) offset line s l g =
-    In-All (λ m. offset + m.at < 2 ^ 32) (marks_in line.statement)
-    (λ m k. (omega (arith, ((statement_marks line.statement offset g).stand.0 m k).inside, (not_long part (offset + taken line.statement offset) l))))
+    λ k d lt. small (slice_index_or (marks_in line.statement) k d).at (taken line.statement offset) offset (g offset k d lt) (not_long part (offset + taken line.statement offset) l)
 
-pub rooms : (source : List ℕ) (lines : List Laid) → placed_lines source ≡ Ok lines → All HasRoom lines
-rooms source lines e = In-All HasRoom lines (λ l k. let s : IsStanding l = all_stand source lines e l k in room_by l.part l.offset l.line s.stands s.room s.good)
+pub placed_room : (p : Progress) (n : ℕ) (line : Line) → fault_after p line ≡ None → AreInside line.statement → HasRoom (laid_after p n line)
+placed_room p n line e g =
+    let a = no_fault p.chosen (offset_of p) (twice_of p line.label) line e in
+    room_by p.chosen (offset_of p) line a.stands a.room g
 
 -- the object of a source can be written
 pub writable_all : (r : Result Object AsmFail) (source : List ℕ) → Assembles r (assembled source) → length source < 2 ^ 31 → IfOk r IsWritable

@@ -1,28 +1,28 @@
--- The sections of a source: each is chosen once, so there are at most four.
+-- The object of the lines, by what is kept of them.
 --     same_part, part_itself     the test of parts decides whether they are the same
 --     parts_distinct lines       no section stands twice among those that are chosen
 --     few lines parts            there are at most four
-use Rattle.std.proofs.Common.{◌≡◌, ◌≤◌, Bool, true, false, List, [], ◌∷◌, ◌++◌, length, refl, sym, subst, ap, ◌∙◌, true≢false, ℕ, zero, suc, ◌+◌, ◌-◌, ◌/◌, ◌%◌, ◌<◌, get_or, take, map, replicate, append-nil, append_assoc, add-one, arith, ◌||◌, ◌&&◌, ◌==◌, not, cond, find, drop, Some, None, drop_of_length-le, nat_cmp}
-use Rattle.std.proofs.lemmas.List.{take_more, map-append, drop_more}
+--     object_is                  what is made of what is kept is the object
+use Rattle.std.proofs.Common.{◌≡◌, ◌≤◌, Bool, true, false, List, [], ◌∷◌, ◌++◌, length, refl, sym, subst, ap, ◌∙◌, true≢false, ℕ, zero, suc, ◌+◌, ◌-◌, ◌/◌, ◌%◌, ◌<◌, map, replicate, append-nil, append_assoc, add-one, arith, ◌||◌, ◌&&◌, not, cond, find, Some, None, get_or, take}
+use Rattle.std.proofs.lemmas.List.{take_more, map-append}
 use Rattle.std.proofs.lemmas.List.Concat.{flat_map-append}
-use Rattle.std.proofs.lemmas.List.Elements.{filter_map-append}
-use Rattle.std.proofs.lemmas.List.Sums.{fold-append}
+use Rattle.std.proofs.lemmas.List.Elements.{filter-append}
 use Rattle.std.proofs.lemmas.Map.Keys.{IsDistinct-push}
 use Rattle.std.proofs.lemmas.Map.Made.{length-le_from_is_member}
-use Rattle.std.specs.BTreeSet.{BTreeSet, contains}
 use Rattle.std.specs.Cmp.{IsEquivalence}
 use Rattle.std.specs.List.{list_any, IsDistinct}
-use Rattle.std.specs.Option.{option_map_or}
+use Rattle.std.specs.Option.{option_map_or, unwrap_or}
 use Rattle.std.specs.Prelude.{fold, if◌then◌else◌, flat_map, Option, option_map, filter}
 use Rattle.cell_num.specs.Bits.{bytes_of}
 use Rattle.cell_num.specs.Kinds.{is_pcrel_lo12}
-use Rattle.cell_asm.specs.Assembled.{has_upper, is_upper_label, is_lost, is_lost_mark, has_lost}
-use Rattle.cell_asm.specs.Progress.{about, spot_at, about_in, is_upper_spot, target_lost_by, mark_lost_by, lost_by}
-use Rattle.cell_asm.specs.Numberings.{Numbered, mark_entry, line_entries, part_entries}
-use Rattle.cell_asm.specs.Objects.{adds_part, parts_of, adds_choice, marks_in, label_named, part_number, target_key, entry_of, entries_of, entries_in, entries}
-use Rattle.cell_asm.specs.Places.{is_same_part, choices, choice, is_in, labels, labels_at, keys_of}
-use Rattle.cell_asm.specs.Types.{Part, Text, Rodata, Data, Bss, Laid, Target, TargetNamed as Named, TargetMade as Made, Label, Known, Entry, Mark, Symbols}
+use Rattle.cell_asm.specs.Assembled.{is_upper_label, is_lost, is_lost_mark, has_lost}
+use Rattle.cell_asm.specs.Progress.{spot_at, Follows, reference_at, references_of, is_upper_spot, key_lost_by, lost_by}
+use Rattle.cell_asm.specs.Numberings.{section_kept, Lists, mentioned, Mentions, entry_kept, part_entries}
+use Rattle.cell_asm.specs.Objects.{adds_part, parts_of, number_in, section_of, sections, symbols, symbol_keys, marks_in, label_named, part_number, target_key, entry_of, entries_of, entries_in, entries, object_of}
+use Rattle.cell_asm.specs.Places.{is_same_part, choices, is_at, is_in}
+use Rattle.cell_asm.specs.Types.{Part, Text, Rodata, Data, Bss, Laid, Target, TargetNamed as Named, TargetMade as Made, Label, Progress, Reference, Section, Symbol, Entry, Object, Mark, Symbols}
 use Rattle.cell_num.proofs.Elements.{map_same, flat_same}
+use Rattle.cell_asm.proofs.SymbolLemmas.{all_symbols}
 
 pub same_part : (p q : Part) → is_same_part p q ≡ true → p ≡ q
 same_part Text Text e = refl
@@ -65,19 +65,7 @@ there _ = refl
 pub few : (lines : List Laid) (parts : List Part) → parts ≡ parts_of lines → length parts ≤ 4
 few lines parts e = subst (λ ps. length ps ≤ 4) (sym e) (length-le_from_is_member laws (parts_of lines) (Text ∷ Rodata ∷ Data ∷ Bss ∷ []) (parts_distinct lines) (λ q t. there q))
 
--- Lists that grow line by line.
-
--- one line more: the sections that are chosen
-pub parts_more : (lines : List Laid) (i : ℕ) (d : Laid) → i < length lines
-    → fold adds_part [] (choices (take (i + 1) lines)) ≡ adds_choice (fold adds_part [] (choices (take i lines))) (get_or lines i d).line.statement
-parts_more lines i d lt =
-    ap (λ ls. fold adds_part [] (choices ls)) (take_more lines i d lt)
-    ∙ ap (fold adds_part []) (filter_map-append (λ l. choice l.line.statement) (take i lines) (get_or lines i d ∷ []))
-    ∙ fold-append adds_part [] (choices (take i lines)) (choices (get_or lines i d ∷ []))
-
--- one element more
-pub mapped_more : {X A : Type 0} (f : X → A) (xs : List X) (i : ℕ) (d : X) → i < length xs → map f (take (i + 1) xs) ≡ map f (take i xs) ++ f (get_or xs i d) ∷ []
-mapped_more f xs i d lt = ap (map f) (take_more xs i d lt) ∙ map-append f (take i xs) (get_or xs i d ∷ [])
+-- BYTES
 
 by_suc : (bs : List ℕ) (k j n : ℕ) → k ≡ suc j → bs ++ bytes_of k n ≡ (bs ++ n % 256 ∷ []) ++ bytes_of j (n / 256)
 by_suc bs k j n e = ap (λ m. bs ++ bytes_of m n) e ∙ sym (append_assoc bs (n % 256 ∷ []) (bytes_of j (n / 256)))
@@ -107,18 +95,10 @@ nops_more bs i =
     ∙ ap (λ ys. bs ++ ys) (flat_map-append (λ word. bytes_of 4 word) (replicate i 0x13) (0x13 ∷ []))
     ∙ sym (append_assoc bs (flat_map (λ word. bytes_of 4 word) (replicate i 0x13)) (bytes_of 4 0x13))
 
--- The labels of the lines, and references to those at instructions with %pcrel_hi.
-
--- one line more
-pub labels_more : (lines : List Laid) (i : ℕ) (d : Laid) → i < length lines
-    → labels (take (i + 1) lines) ≡ labels (take i lines) ++ labels_at (get_or lines i d).part (get_or lines i d).offset (keys_of (get_or lines i d))
-labels_more lines i d lt =
-    ap labels (take_more lines i d lt)
-    ∙ flat_map-append (λ l. labels_at l.part l.offset (keys_of l)) (take i lines) (get_or lines i d ∷ [])
-    ∙ ap (λ ls. labels (take i lines) ++ ls) (append-nil (labels_at (get_or lines i d).part (get_or lines i d).offset (keys_of (get_or lines i d))))
+-- REFERENCES
 
 -- the same test of each element
-pub same_any : {X : Type 0} (f g : X → Bool) (xs : List X) → ((x : X) → f x ≡ g x) → list_any f xs ≡ list_any g xs
+same_any : {X : Type 0} (f g : X → Bool) (xs : List X) → ((x : X) → f x ≡ g x) → list_any f xs ≡ list_any g xs
 same_any f g [] same = refl
 same_any f g (x ∷ xs) same = ap (λ b. b || list_any f xs) (same x) ∙ ap (λ b. g x || b) (same_any f g xs same)
 
@@ -126,46 +106,102 @@ find_same : {X : Type 0} (p q : X → Bool) (xs : List X) → ((x : X) → p x �
 find_same p q [] same = refl
 find_same p q (x ∷ xs) same = ap (λ b. cond b (Some x) (find p xs)) (same x) ∙ ap (λ o. cond (q x) (Some x) o) (find_same p q xs same)
 
-module _ (names : Known) (offsets : BTreeSet ℕ) (lines : List Laid) (known : (q : List ℕ) → about names q ≡ about_in lines q)
-    (at : (n : ℕ) → contains nat_cmp offsets n ≡ list_any (λ l. is_in Text l && l.offset == n && has_upper l) lines) where
-  upper_is : (o : Option Label) → is_upper_spot offsets (option_map spot_at o) ≡ option_map_or (is_upper_label lines) o false
-  upper_is None = refl
-  upper_is (Some l) = ap (λ b. is_same_part Text l.part && b) (at l.offset)
+-- the line of the first reference that passes is the first line that has one
+module _ (p : Reference → Bool) where
+  first_by : (b t : Bool) (l : Laid) (m : Mark) (r : Option Reference) (o : Option Laid) → option_map (λ x. x.line) r ≡ option_map (λ x. x.number) (cond t (Some l) o)
+      → option_map (λ x. x.line) (cond b (Some (reference_at l m)) r) ≡ option_map (λ x. x.number) (cond (b || t) (Some l) o)
+  first_by true t l m r o e = refl
+  first_by false t l m r o e = e
 
-  target_is : (t : Target) → target_lost_by names offsets t ≡ is_lost lines t
-  target_is Made = refl
-  target_is (Named name) = ap (λ a. not (is_upper_spot offsets a.spot)) (known name) ∙ ap not (upper_is (label_named lines name))
+  first_in : (l : Laid) (ms : List Mark) (rest : List Reference) (o : Option Laid) → option_map (λ r. r.line) (find p rest) ≡ option_map (λ x. x.number) o
+      → option_map (λ r. r.line) (find p (map (reference_at l) ms ++ rest)) ≡ option_map (λ x. x.number) (cond (list_any (λ m. p (reference_at l m)) ms) (Some l) o)
+  first_in l [] rest o e = e
+  first_in l (m ∷ ms) rest o e =
+      first_by (p (reference_at l m)) (list_any (λ m. p (reference_at l m)) ms) l m (find p (map (reference_at l) ms ++ rest)) o (first_in l ms rest o e)
+
+  first_of : (lines : List Laid)
+      → option_map (λ r. r.line) (find p (flat_map references_of lines)) ≡ option_map (λ l. l.number) (find (λ l. list_any (λ m. p (reference_at l m)) (marks_in l.line.statement)) lines)
+  first_of [] = refl
+  first_of (l ∷ ls) =
+      first_in l (marks_in l.line.statement) (flat_map references_of ls) (find (λ l. list_any (λ m. p (reference_at l m)) (marks_in l.line.statement)) ls) (first_of ls)
+
+-- the references of a section are those of its lines
+module _ (part : Part) (e : Reference → Entry) where
+  kept_in : (l : Laid) (ms : List Mark) (b : Bool) → is_in part l ≡ b → map e (filter (λ r. is_at part r.part) (map (reference_at l) ms)) ≡ cond b (map (λ m. e (reference_at l m)) ms) []
+  kept_in l [] true h = refl
+  kept_in l [] false h = refl
+  kept_in l (m ∷ ms) true h =
+      ap (λ b. map e (cond b (reference_at l m ∷ filter (λ r. is_at part r.part) (map (reference_at l) ms)) (filter (λ r. is_at part r.part) (map (reference_at l) ms)))) h
+      ∙ ap (λ es. e (reference_at l m) ∷ es) (kept_in l ms true h)
+  kept_in l (m ∷ ms) false h =
+      ap (λ b. map e (cond b (reference_at l m ∷ filter (λ r. is_at part r.part) (map (reference_at l) ms)) (filter (λ r. is_at part r.part) (map (reference_at l) ms)))) h
+      ∙ kept_in l ms false h
+
+  joined : (b : Bool) (l : Laid) (ls : List Laid) → cond b (map (λ m. e (reference_at l m)) (marks_in l.line.statement)) [] ++ flat_map (λ x. map (λ m. e (reference_at x m)) (marks_in x.line.statement)) ls
+      ≡ flat_map (λ x. map (λ m. e (reference_at x m)) (marks_in x.line.statement)) (cond b (l ∷ ls) ls)
+  joined true l ls = refl
+  joined false l ls = refl
+
+  pub kept_of : (lines : List Laid) → map e (filter (λ r. is_at part r.part) (flat_map references_of lines))
+      ≡ flat_map (λ l. map (λ m. e (reference_at l m)) (marks_in l.line.statement)) (filter (is_in part) lines)
+  kept_of [] = refl
+  kept_of (l ∷ ls) =
+      ap (map e) (filter-append (λ r. is_at part r.part) (references_of l) (flat_map references_of ls))
+      ∙ map-append e (filter (λ r. is_at part r.part) (references_of l)) (filter (λ r. is_at part r.part) (flat_map references_of ls))
+      ∙ ap (λ es. es ++ map e (filter (λ r. is_at part r.part) (flat_map references_of ls))) (kept_in l (marks_in l.line.statement) (is_in part l) refl)
+      ∙ ap (λ es. cond (is_in part l) (map (λ m. e (reference_at l m)) (marks_in l.line.statement)) [] ++ es) (kept_of ls)
+      ∙ joined (is_in part l) l (filter (is_in part) ls)
+
+-- THE OBJECT, BY WHAT IS KEPT
+
+-- one section more
+pub section_more : (f : Part → Section) (parts : List Part) (i : ℕ) (d : Part) → i < length parts → map f (take (i + 1) parts) ≡ map f (take i parts) ++ f (get_or parts i d) ∷ []
+section_more f parts i d lt = ap (map f) (take_more parts i d lt) ∙ map-append f (take i parts) (get_or parts i d ∷ [])
+
+module _ (kept : Progress) (lines : List Laid) (h : Follows kept lines) where
+  upper_is : (o : Option Label) → is_upper_spot kept (option_map spot_at o) ≡ option_map_or (is_upper_label lines) o false
+  upper_is None = refl
+  upper_is (Some l) = ap (λ b. is_same_part Text l.part && b) (h.uppers l.offset)
+
+  lost_is : (l : Laid) (t : Target) → key_lost_by kept (target_key l t) ≡ is_lost lines t
+  lost_is l Made = refl
+  lost_is l (Named name) = ap (λ o. not (is_upper_spot kept o)) (h.spots name) ∙ ap not (upper_is (label_named lines name))
 
   -- the first line that refers to a label that is none
-  pub lost_is : find (lost_by names offsets) lines ≡ find (has_lost lines) lines
-  lost_is =
-      find_same (lost_by names offsets) (has_lost lines) lines
-      (λ l. same_any (mark_lost_by names offsets) (is_lost_mark lines) (marks_in l.line.statement) (λ m. ap (λ b. is_pcrel_lo12 m.fix.kind && b) (target_is m.fix.target)))
+  pub first_is : option_map (λ r. r.line) (find (lost_by kept) kept.references.items) ≡ option_map (λ l. l.number) (find (has_lost lines) lines)
+  first_is =
+      ap (λ rs. option_map (λ r. r.line) (find (lost_by kept) rs)) h.references
+      ∙ first_of (lost_by kept) lines
+      ∙ ap (option_map (λ l. l.number))
+      (find_same (λ l. list_any (λ m. lost_by kept (reference_at l m)) (marks_in l.line.statement)) (has_lost lines) lines
+      (λ l. same_any (λ m. lost_by kept (reference_at l m)) (is_lost_mark lines) (marks_in l.line.statement) (λ m. ap (λ b. is_pcrel_lo12 m.fix.kind && b) (lost_is l m.fix.target))))
 
--- the elements that are left, and whether one passes
-pub any_found : {X : Type 0} (p : X → Bool) (xs : List X) (i : ℕ) (d : X) → i < length xs → p (get_or xs i d) ≡ true → list_any p (drop i xs) ≡ true
-any_found p xs i d lt e = ap (list_any p) (drop_more xs i d lt) ∙ ap (λ b. b || list_any p (drop (i + 1) xs)) e
+  sections_are : map (section_kept kept.parts.items kept.bodies) kept.parts.items ≡ sections lines
+  sections_are =
+      ap (λ ps. map (section_kept ps kept.bodies) ps) h.parts
+      ∙ map_same (section_kept (parts_of lines) kept.bodies) (section_of lines) (parts_of lines) (λ part k. ap (λ (g : ℕ × ℕ × List ℕ). record (section_of lines part) { align = g.0; size = g.1; bytes = g.2 }) (h.bodies part))
 
-pub any_passed : {X : Type 0} (p : X → Bool) (xs : List X) (i : ℕ) (d : X) → i < length xs → p (get_or xs i d) ≡ false → list_any p (drop (i + 1) xs) ≡ list_any p (drop i xs)
-any_passed p xs i d lt e = sym (ap (list_any p) (drop_more xs i d lt) ∙ ap (λ b. b || list_any p (drop (i + 1) xs)) e)
+  module _ (s : Symbols) (made : Lists s (symbol_keys lines) (symbols lines)) where
+    entry_is : (part : Part) (l : Laid) (m : Mark) → entry_kept (part_number lines part) s (reference_at l m) ≡ entry_of lines part l m
+    entry_is part l m = ap (λ o. record (entry_of lines part l m) { symbol = unwrap_or o 0 }) (made.numbers (target_key l m.fix.target))
 
-pub any_end : {X : Type 0} (p : X → Bool) (xs : List X) (i : ℕ) → length xs ≤ i → list_any p (drop i xs) ≡ false
-any_end p xs i h = ap (list_any p) (drop_of_length-le xs h)
+    entries_are : flat_map (part_entries kept s) kept.parts.items ≡ entries lines
+    entries_are =
+        ap (flat_map (part_entries kept s)) h.parts
+        ∙ flat_same (part_entries kept s) (entries_in lines) (parts_of lines) (λ part k.
+        ap (λ ps. map (entry_kept (number_in ps part) s) (filter (λ r. is_at part r.part) kept.references.items)) h.parts
+        ∙ ap (λ rs. map (entry_kept (part_number lines part) s) (filter (λ r. is_at part r.part) rs)) h.references
+        ∙ kept_of part (entry_kept (part_number lines part) s) lines
+        ∙ flat_same (λ l. map (λ m. entry_kept (part_number lines part) s (reference_at l m)) (marks_in l.line.statement)) (entries_of lines part) (filter (is_in part) lines)
+        (λ l i. map_same (λ m. entry_kept (part_number lines part) s (reference_at l m)) (entry_of lines part l) (marks_in l.line.statement) (λ m j. entry_is part l m)))
 
-pub ruleset any_left = (any_found, any_passed, any_end)
+  abbrev object : List Section → List Symbol → List Entry → Object
+  object ss symbols es = record { sections = ss; symbols = symbols; entries = es }
 
--- The entries of lines.
-
-mark_is : (symbols : Symbols) (lines : List Laid) (part : Part) (l : Laid) (m : Mark) → Numbered symbols lines → mark_entry (part_number lines part) symbols l m ≡ entry_of lines part l m
-mark_is symbols lines part l m n =
-    let entry : ℕ → Entry = λ symbol. record { section = part_number lines part; offset = l.offset + m.at; kind = m.fix.kind; symbol = symbol; addend = m.fix.addend } in
-    ap entry (n (target_key l m.fix.target))
-
-part_is : (symbols : Symbols) (lines : List Laid) (part : Part) → Numbered symbols lines → part_entries (parts_of lines) symbols lines part ≡ entries_in lines part
-part_is symbols lines part n =
-    flat_same (line_entries (part_number lines part) symbols) (entries_of lines part) (filter (is_in part) lines)
-    (λ l i. map_same (mark_entry (part_number lines part) symbols l) (entry_of lines part l) (marks_in l.line.statement) (λ m k. mark_is symbols lines part l m n))
-
--- the entries of all sections are those of the definition
-pub entries_are : (symbols : Symbols) (lines : List Laid) → Numbered symbols lines → flat_map (part_entries (parts_of lines) symbols lines) (parts_of lines) ≡ entries lines
-entries_are symbols lines n = flat_same (part_entries (parts_of lines) symbols lines) (entries_in lines) (parts_of lines) (λ part k. part_is symbols lines part n)
+  pub object_is : (s : Symbols) (ss : List Section) (list : List Symbol) (es : List Entry) → Mentions s kept (fold (mentioned kept) [] kept.mentions.items)
+      → ss ≡ map (section_kept kept.parts.items kept.bodies) kept.parts.items → list ≡ s.list.items → es ≡ flat_map (part_entries kept s) kept.parts.items → object ss list es ≡ object_of lines
+  object_is s ss list es m sectioned listed entered =
+      let made = all_symbols kept lines h s m in
+      ap (λ x. object x list es) (sectioned ∙ sections_are)
+      ∙ ap (λ x. object (sections lines) x es) (listed ∙ made.list)
+      ∙ ap (object (sections lines) (symbols lines)) (entered ∙ entries_are s made)

@@ -1,49 +1,24 @@
 -- What is known of names, after one more name, and behind one more line.
 use Rattle.std.proofs.Common.{◌≡◌, ℕ, Bool, true, false, ◌||◌, List, [], ◌∷◌, ◌++◌, cond, find, map, Some, None, refl, sym, ap, ◌∙◌, append-nil, ◌+◌, add-zero, zero-add, suc, ◌<◌, length, drop, get_or, Bor, Result, Ok, Err, subst, add-one, ◌≤◌, ◌^◌, arith, append_assoc, ◌⊎◌, inl, inr}
-use Rattle.std.proofs.lemmas.List.{drop_more}
+use Rattle.std.proofs.lemmas.List.{drop_more, map-append}
 use Rattle.std.proofs.lemmas.List.Concat.{flat_map-append}
 use Rattle.std.proofs.lemmas.List.Elements.{filter_map-append, filter-append}
 use Rattle.std.proofs.lemmas.List.Folds.{list_any-append, find-append}
-use Rattle.std.proofs.lemmas.List.Sums.{sum_by-append}
-use Rattle.std.proofs.lemmas.Slice.Eq.{bytes_eq-Decides}
+use Rattle.std.proofs.lemmas.List.Sums.{sum_by-append, fold-append}
 use Rattle.std.specs.List.{list_any, cons_option}
-use Rattle.std.specs.Option.{option_or, unwrap_or}
-use Rattle.std.specs.Prelude.{Option, option_map, is_some, if◌then◌else◌, filter, sum_by, fold}
+use Rattle.std.specs.Option.{option_or, option_map_or}
+use Rattle.std.specs.Prelude.{Option, option_map, is_some, if◌then◌else◌, filter, flat_map, sum_by, fold, max}
 use Rattle.cell_num.specs.Lists.{equals, where_true, holds_name, last, or_else, numbered_from}
 use Rattle.cell_text.specs.Text.{lines_in, Behind}
 use Rattle.cell_asm.specs.Assembled.{add_line, with_line, placed_line, placed_texts, object_from, object_unless, has_lost, assembled, Assembles, placed_unless, placed_lines}
-use Rattle.cell_asm.specs.Progress.{about, with_spot, with_global, spot_here, declares, about_with, spot_at, spot_among, about_in, Places, failure, size_of, size_chosen, offset_of, twice_of, fault_after, laid_after, Adds, Follows}
+use Rattle.cell_asm.specs.Progress.{spot_here, declares, spot_at, spot_among, names_in, grown_in, grown_with, bytes_laid, references_of, is_upper_at, Goes as GoesBehind, Places, failure, body_of, offset_of, twice_of, fault_after, laid_after, Adds, Follows}
 use Rattle.cell_asm.specs.Lines.{line_of}
-use Rattle.cell_asm.specs.Objects.{global_name, globals, object_of}
-use Rattle.cell_asm.specs.Faults.{Gives}
+use Rattle.cell_asm.specs.Objects.{adds_part, adds_choice, parts_of, alignment_asked, first_alignment, alignment, bytes_at, contents, global_name, globals, object_of}
 use Rattle.cell_asm.specs.Places.{is_key, holds_key, makes_label, own_key, made_key, keys_of, label, labels_at, labels, fault_at, is_at, is_in, choice, choices, taken, size_in, size_at, made_in, is_twice, placed}
-use Rattle.cell_asm.specs.Types.{Part, Statement, StatementGlobal as Global, Laid, Label, AsmKindLabel, KeyNamed as Named, KeyMade as Made, Spot, About, Known, Line, Progress, AsmKind, Stop, StopFault as Fault, StopOutOfMemory as OutOfMemory, Object, AsmFail, AsmFailFault as Faulty, AsmFailOutOfMemory as NoMemory}
+use Rattle.cell_asm.specs.Types.{Part, Bss, Statement, StatementGlobal as Global, Laid, Label, AsmKindLabel, KeyNamed as Named, KeyMade as Made, Line, Progress, AsmKind, Stop, StopFault as Fault, StopOutOfMemory as OutOfMemory, Object, AsmFail, AsmFailFault as Faulty, AsmFailOutOfMemory as NoMemory}
 use Rattle.cell_num.proofs.Elements.{In, In-append}
 use Rattle.cell_asm.proofs.ListLemmas.{or_none, mapped_length}
 use Rattle.cell_asm.proofs.ObjectLemmas.{same_part}
-
--- ONE MORE NAME
-
-pub unwrapped : {X : Type 0} (b : Bool) (x d : X) (o : Option X) → unwrap_or (cond b (Some x) o) d ≡ (if b then x else unwrap_or o d)
-unwrapped true x d o = refl
-unwrapped false x d o = refl
-
--- a change at a name, as a change at each
-changed : (f : Bool → About → About) → ((a : About) → f false a ≡ a) → (old : List ℕ → About) (name q : List ℕ) (b : Bool) → equals name q ≡ b → (if b then f true (old name) else old q) ≡ f b (old q)
-changed f same old name q true e = ap (λ m. f true (old m)) ((bytes_eq-Decides name q).0 e)
-changed f same old name q false e = sym (same (old q))
-
-pub spot_added : (known : Known) (name q : List ℕ) (spot : Spot) (a : About) (o : Option Spot) → a ≡ about known name → o ≡ option_or a.spot (Some spot)
-    → (if equals name q then record { spot = o; global = a.global } else about known q) ≡ with_spot (where_true (equals name q) spot) (about known q)
-spot_added known name q spot a o is e =
-    ap (λ s. if equals name q then record { spot = s; global = a.global } else about known q) e
-    ∙ ap (λ b. if equals name q then with_spot (Some spot) b else about known q) is
-    ∙ changed (λ b. with_spot (where_true b spot)) (λ b. refl) (about known) name q (equals name q) refl
-
-pub global_added : (known : Known) (name q : List ℕ) (a : About) → a ≡ about known name
-    → (if equals name q then record { spot = a.spot; global = true } else about known q) ≡ with_global (equals name q) (about known q)
-global_added known name q a is =
-    ap (λ b. if equals name q then with_global true b else about known q) is ∙ changed with_global (λ b. refl) (about known) name q (equals name q) refl
 
 -- ONE MORE LINE
 
@@ -62,21 +37,23 @@ here_is None offset n (Some name) s q = refl
 here_is (Some part) offset n None s q = ap (option_map spot_at) (no_made part offset n (makes_label s) q)
 here_is (Some part) offset n (Some name) s q = first_or_none (equals name q) (label part offset (Named name)) _ (no_made part offset n (makes_label s) q)
 
-mapped_or : (o p : Option Label) → option_map spot_at (option_or o p) ≡ option_or (option_map spot_at o) (option_map spot_at p)
+mapped_or : (o p : Option Label) → option_map spot_at (option_or o p) ≡ or_else (option_map spot_at o) (option_map spot_at p)
 mapped_or None p = refl
 mapped_or (Some l) p = refl
 
-pub labels_push : (lines : List Laid) (l : Laid) → labels (lines ++ l ∷ []) ≡ labels lines ++ labels_at l.part l.offset (keys_of l)
-labels_push lines l =
-    flat_map-append (λ m. labels_at m.part m.offset (keys_of m)) lines (l ∷ []) ∙ ap (λ ls. labels lines ++ ls) (append-nil (labels_at l.part l.offset (keys_of l)))
+pub flat_more : {X Y : Type 0} (f : X → List Y) (xs : List X) (x : X) → flat_map f (xs ++ x ∷ []) ≡ flat_map f xs ++ f x
+flat_more f xs x = flat_map-append f xs (x ∷ []) ∙ ap (λ ys. flat_map f xs ++ ys) (append-nil (f x))
 
-spot_more : (before : List Laid) (l : Laid) (q : List ℕ) → spot_among (labels (before ++ l ∷ [])) q ≡ option_or (spot_among (labels before) q) (spot_here l.part l.offset l.line.label q)
+pub labels_push : (lines : List Laid) (l : Laid) → labels (lines ++ l ∷ []) ≡ labels lines ++ labels_at l.part l.offset (keys_of l)
+labels_push lines l = flat_more (λ m. labels_at m.part m.offset (keys_of m)) lines l
+
+spot_more : (before : List Laid) (l : Laid) (q : List ℕ) → spot_among (labels (before ++ l ∷ [])) q ≡ or_else (spot_among (labels before) q) (spot_here l.part l.offset l.line.label q)
 spot_more before l q =
     let new : List Label = labels_at l.part l.offset (keys_of l) in
     ap (λ ls. spot_among ls q) (labels_push before l)
     ∙ ap (option_map spot_at) (find-append (λ m. is_key m.key (Named q)) (labels before) new)
     ∙ mapped_or (find (λ m. is_key m.key (Named q)) (labels before)) (find (λ m. is_key m.key (Named q)) new)
-    ∙ ap (option_or (spot_among (labels before) q)) (here_is l.part l.offset l.made l.line.label l.line.statement q)
+    ∙ ap (or_else (spot_among (labels before) q)) (here_is l.part l.offset l.made l.line.label l.line.statement q)
 
 declared : (q : List ℕ) (s : Statement) → list_any (λ other. equals other q) (cons_option (global_name s) []) ≡ declares q s
 declared q (Global name) = or_none (equals name q)
@@ -87,25 +64,6 @@ global_more before l q =
     ap (λ names. holds_name names q) (filter_map-append (λ m. global_name m.line.statement) before (l ∷ []))
     ∙ list_any-append (λ other. equals other q) (globals before) (cons_option (global_name l.line.statement) [])
     ∙ ap (λ b. holds_name (globals before) q || b) (declared q l.line.statement)
-
-none_more : {X : Type 0} (o : Option X) → option_or o None ≡ o
-none_more None = refl
-none_more (Some x) = refl
-
-or_true : (b : Bool) → (b || true) ≡ true
-or_true true = refl
-or_true false = refl
-
-joined : (o p : Option Spot) (g b : Bool) → record { spot = option_or o p; global = g || b } ≡ with_global b (with_spot p (record { spot = o; global = g }))
-joined o None g true = rw (none_more o, or_true g) refl
-joined o None g false = rw (none_more o, or_none g) refl
-joined o (Some s) g true = rw (or_true g) refl
-joined o (Some s) g false = rw (or_none g) refl
-
-pub about_more : (before : List Laid) (l : Laid) (q : List ℕ) → about_in (before ++ l ∷ []) q ≡ about_with l q (about_in before q)
-about_more before l q =
-    let spot : Option Spot = spot_here l.part l.offset l.line.label q in
-    rw (spot_more before l q, global_more before l q) (joined (spot_among (labels before) q) spot (holds_name (globals before) q) (declares q l.line.statement))
 
 -- whether a label has the name
 found_is : (p : Label → Bool) (ls : List Label) → is_some (option_map spot_at (find p ls)) ≡ list_any p ls
@@ -121,16 +79,16 @@ taken_is ls q = found_is (λ l. is_key l.key (Named q)) ls
 
 -- One line more behind those that are in their places.
 
-size_is : (p : Progress) (before : List Laid) (part : Option Part) → Follows p before → size_chosen p.sizes part ≡ size_at part before
+size_is : (p : Progress) (before : List Laid) (part : Option Part) → Follows p before → option_map_or (λ chosen. (body_of p.bodies chosen).size) part 0 ≡ size_at part before
 size_is p before None h = refl
-size_is p before (Some part) h = h.sizes part
+size_is p before (Some part) h = ap (λ g. g.1) (h.bodies part)
 
 pub offset_is : (p : Progress) (before : List Laid) → Follows p before → offset_of p ≡ size_at (last (choices before)) before
-offset_is p before h = ap (size_chosen p.sizes) h.chosen ∙ size_is p before (last (choices before)) h
+offset_is p before h = ap (λ o. option_map_or (λ part. (body_of p.bodies part).size) o 0) h.chosen ∙ size_is p before (last (choices before)) h
 
 twice_is : (p : Progress) (before : List Laid) (name : Option (List ℕ)) → Follows p before → twice_of p name ≡ is_twice before name
 twice_is p before None h = refl
-twice_is p before (Some name) h = ap (λ a. is_some a.spot) (h.names name) ∙ taken_is (labels before) name
+twice_is p before (Some name) h = ap is_some (h.spots name) ∙ taken_is (labels before) name
 
 -- what is wrong with the next line
 pub fault_is : (p : Progress) (before : List Laid) (line : Line) → Follows p before → fault_after p line ≡ fault_at before line
@@ -171,17 +129,64 @@ stands_at : (part : Part) (before : List Laid) (o : Option Part) → is_at part 
 stands_at part before None e = absurd cc
 stands_at part before (Some other) e = ap (λ p. size_in p before) (sym (same_part part other e))
 
-size_joined : (part : Part) (before : List Laid) (l : Laid) (b : Bool) (was : ℕ) → is_in part l ≡ b → l.offset ≡ size_at l.part before → was ≡ size_in part before
-    → (if b then l.offset + taken l.line.statement l.offset else was) ≡ size_in part before + (if b then taken l.line.statement l.offset else 0)
-size_joined part before l true was e at w = ap (λ n. n + taken l.line.statement l.offset) (at ∙ stands_at part before l.part e)
-size_joined part before l false was e at w = w ∙ sym (add-zero (size_in part before))
+filter_more : {X : Type 0} (p : X → Bool) (xs : List X) (x : X) (b : Bool) → p x ≡ b → filter p (xs ++ x ∷ []) ≡ (if b then filter p xs ++ x ∷ [] else filter p xs)
+filter_more p xs x true e = filter-append p xs (x ∷ []) ∙ ap (λ b. filter p xs ++ cond b (x ∷ []) []) e
+filter_more p xs x false e = filter-append p xs (x ∷ []) ∙ ap (λ b. filter p xs ++ cond b (x ∷ []) []) e ∙ append-nil (filter p xs)
+
+any_more : {X : Type 0} (p : X → Bool) (xs : List X) (x : X) → list_any p (xs ++ x ∷ []) ≡ (list_any p xs || p x)
+any_more p xs x = list_any-append p xs (x ∷ []) ∙ ap (λ b. list_any p xs || b) (or_none (p x))
+
+parts_more : (before : List Laid) (l : Laid) → parts_of (before ++ l ∷ []) ≡ adds_choice (parts_of before) l.line.statement
+parts_more before l =
+    ap (fold adds_part []) (filter_map-append (λ m. choice m.line.statement) before (l ∷ []))
+    ∙ fold-append adds_part [] (choices before) (choices (l ∷ []))
+
+-- the alignment, the size and the bytes of a section
+module _ (part : Part) (before : List Laid) (l : Laid) where
+  aligned : (b : Bool) → is_in part l ≡ b → alignment part (before ++ l ∷ []) ≡ (if b then max (alignment part before) (alignment_asked l.line.statement) else alignment part before)
+  aligned true e =
+      ap (λ ls. fold max (first_alignment part) (map (λ m. alignment_asked m.line.statement) ls)) (filter_more (is_in part) before l true e)
+      ∙ ap (fold max (first_alignment part)) (map-append (λ m. alignment_asked m.line.statement) (filter (is_in part) before) (l ∷ []))
+      ∙ fold-append max (first_alignment part) (map (λ m. alignment_asked m.line.statement) (filter (is_in part) before)) (alignment_asked l.line.statement ∷ [])
+  aligned false e = ap (λ ls. fold max (first_alignment part) (map (λ m. alignment_asked m.line.statement) ls)) (filter_more (is_in part) before l false e)
+
+  sized : (b : Bool) → is_in part l ≡ b → l.offset ≡ size_at l.part before
+      → size_in part (before ++ l ∷ []) ≡ (if b then l.offset + taken l.line.statement l.offset else size_in part before)
+  sized true e at =
+      size_more part before l ∙ ap (λ b. size_in part before + (if b then taken l.line.statement l.offset else 0)) e
+      ∙ ap (λ n. n + taken l.line.statement l.offset) (sym (at ∙ stands_at part before l.part e))
+  sized false e at =
+      size_more part before l ∙ ap (λ b. size_in part before + (if b then taken l.line.statement l.offset else 0)) e ∙ add-zero (size_in part before)
+
+bytes_more : (part : Part) (before : List Laid) (l : Laid) (b : Bool) → is_in part l ≡ b
+    → contents part (before ++ l ∷ []) ≡ (if b then contents part before ++ bytes_laid part l.offset l.line.statement else contents part before)
+bytes_more Bss before l true e = refl
+bytes_more Bss before l false e = refl
+bytes_more part before l true e =
+    ap (flat_map (λ m. bytes_at part m.offset m.line.statement)) (filter_more (is_in part) before l true e)
+    ∙ flat_more (λ m. bytes_at part m.offset m.line.statement) (filter (is_in part) before) l
+bytes_more part before l false e = ap (flat_map (λ m. bytes_at part m.offset m.line.statement)) (filter_more (is_in part) before l false e)
+
+triple : (a b m n : ℕ) (xs ys : List ℕ) → a ≡ b → m ≡ n → xs ≡ ys → ◌≡◌ {A = ℕ × ℕ × List ℕ} (a, m, xs) (b, n, ys)
+triple a b m n xs ys e f g = cc
+
+grown_more : (part : Part) (before : List Laid) (l : Laid) (b : Bool) → is_in part l ≡ b → l.offset ≡ size_at l.part before
+    → grown_in part (before ++ l ∷ []) ≡ (if b then grown_with part l (grown_in part before) else grown_in part before)
+grown_more part before l true e at = triple _ _ _ _ _ _ (aligned part before l true e) (sized part before l true e at) (bytes_more part before l true e)
+grown_more part before l false e at = triple _ _ _ _ _ _ (aligned part before l false e) (sized part before l false e at) (bytes_more part before l false e)
 
 pub follows_more : (p q : Progress) (before : List Laid) (l : Laid) → Follows p before → l.offset ≡ size_at l.part before → Adds p q l → Follows q (before ++ l ∷ [])
 follows_more p q before l h at a = record {
   chosen = a.chosen ∙ ap (or_else (choice l.line.statement)) h.chosen ∙ sym (chosen_more before l);
-  sizes = λ part. a.sizes part ∙ size_joined part before l (is_in part l) (size_of p.sizes part) refl at (h.sizes part) ∙ sym (size_more part before l);
+  parts = a.parts ∙ ap (λ ps. adds_choice ps l.line.statement) h.parts ∙ sym (parts_more before l);
+  bodies = λ part. a.bodies part ∙ ap (λ (g : ℕ × ℕ × List ℕ). if is_in part l then grown_with part l g else g) (h.bodies part) ∙ sym (grown_more part before l (is_in part l) refl at);
   made = a.made ∙ ap (λ n. n + (if makes_label l.line.statement then 1 else 0)) h.made ∙ sym (made_more before l);
-  names = λ q. a.names q ∙ ap (about_with l q) (h.names q) ∙ sym (about_more before l q);
+  spots = λ q. a.spots q ∙ ap (λ o. or_else o (spot_here l.part l.offset l.line.label q)) (h.spots q) ∙ sym (spot_more before l q);
+  globals = λ q. a.globals q ∙ ap (λ b. b || declares q l.line.statement) (h.globals q) ∙ sym (global_more before l q);
+  labels = a.labels ∙ ap (λ ls. ls ++ labels_at l.part l.offset (keys_of l)) h.labels ∙ sym (labels_push before l);
+  mentions = a.mentions ∙ ap (λ ns. ns ++ names_in l.line) h.mentions ∙ sym (flat_more (λ m. names_in m.line) before l);
+  uppers = λ q. a.uppers q ∙ ap (λ b. b || is_upper_at q l) (h.uppers q) ∙ sym (any_more (is_upper_at q) before l);
+  references = a.references ∙ ap (λ rs. rs ++ references_of l) h.references ∙ sym (flat_more references_of before l);
 }
 
 -- The lines of a source, one after the other.
@@ -204,10 +209,21 @@ goes_on before n text texts l e =
 stops : (before : List Laid) (n : ℕ) (text : List ℕ) (texts : List (List ℕ)) (kind : AsmKind) → placed_line before n (line_of text) ≡ Err kind → placed_from (Ok before) n (text ∷ texts) ≡ Err (n, kind)
 stops before n text texts kind e = ap (λ r. placed_from (with_line before n r) (suc n) texts) e ∙ after_fault (n, kind) (suc n) texts
 
-pub stopped : (stop : Stop) (n : ℕ) (before : List Laid) (text : List ℕ) (texts : List (List ℕ)) (all : Result (List Laid) (ℕ × AsmKind)) → Gives {A = Laid} (Err stop) (placed_line before n (line_of text))
-    → placed_from (Ok before) n (text ∷ texts) ≡ all → Places (Err (failure stop n)) all
-stopped (Fault kind) n before text texts all g e = sym e ∙ stops before n text texts kind g
-stopped OutOfMemory n before text texts all g e = tt
+-- what is kept behind some lines, from which the texts that are left come to what all texts come to
+pub record IsPlaced (p : Progress) (n : ℕ) (left : List (List ℕ)) (all : Result (List Laid) (ℕ × AsmKind)) : Type 0 where
+  pub lines : List Laid
+  pub comes : placed_from (Ok lines) n left ≡ all
+  pub follows : Follows p lines
+
+module _ (p q : Progress) (n : ℕ) (text : List ℕ) (texts : List (List ℕ)) (all : Result (List Laid) (ℕ × AsmKind)) (h : IsPlaced p n (text ∷ texts) all) where
+  pub next_placed : (u : Unit {0}) → ((before : List Laid) → Follows p before → GoesBehind q before (Ok u) (placed_line before n (line_of text))) → IsPlaced q (n + 1) texts all
+  next_placed u goes =
+      let g : GoesBehind q h.lines (Ok u) (placed_line h.lines n (line_of text)) = goes h.lines h.follows in
+      record { lines = h.lines ++ g.0 ∷ []; comes = sym (goes_on h.lines n text texts g.0 g.1) ∙ h.comes; follows = g.2 }
+
+  pub stopped : (stop : Stop) → ((before : List Laid) → Follows p before → GoesBehind q before (Err stop) (placed_line before n (line_of text))) → Places (Err (failure stop n)) all
+  stopped (Fault kind) goes = sym h.comes ∙ stops h.lines n text texts kind (goes h.lines h.follows)
+  stopped OutOfMemory goes = tt
 
 -- the texts that are left
 pub dropped : (texts : List (Bor (List ℕ))) (i : ℕ) (d : Bor (List ℕ)) → i < length texts → map (λ text. text.now) (drop i texts) ≡ (get_or texts i d).now ∷ map (λ text. text.now) (drop (i + 1) texts)

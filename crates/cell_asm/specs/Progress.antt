@@ -1,33 +1,24 @@
--- What is known of names.
---     about known q         what the name is, as it is kept
---     about_in lines q      what the lines make of it
-use Rattle.std.specs.Prelude.{ℕ, Bool, true, false, List, Option, Some, None, option_map, find, ◌≡◌, ◌+◌, is_some, if◌then◌else◌, Result, Ok, Err, ◌&&◌, not}
-use Rattle.std.specs.Option.{unwrap_or, option_or}
-use Rattle.std.specs.Ordering.{nat_cmp}
-use Rattle.std.specs.Cmp.Lexicographic.{slice_cmp}
+-- What is kept while lines are put in their places.
+--     known names q              what is kept for the name
+--     Follows progress lines     what is kept is what the lines so far come to
+use Rattle.std.specs.Prelude.{◌≡◌, ℕ, ◌+◌, ◌<◌, ◌≤◌, ◌^◌, max, ◌==◌, Bool, false, not, ◌&&◌, ◌||◌, List, ◌++◌, ◌∷◌, [], map, All, Option, Some, None, option_map, is_some, find, flat_map, if◌then◌else◌, Result, Ok, Err}
 use Rattle.std.specs.BTreeMap.{get_by}
-use Rattle.cell_num.specs.Lists.{equals, where_true, holds_name, last, or_else}
-use Rattle.cell_asm.specs.Types.{Part, Statement, StatementGlobal as Global, Laid, Label, KeyNamed as Named, Spot, About, Known, AsmKind, Line, Text, Rodata, Data, Bss, Sizes, Progress, AsmFail, AsmFailFault as Fault, AsmFailOutOfMemory as OutOfMemory, Stop, StopFault as Stopped, StopOutOfMemory as NoMemory, Placed, Target, TargetNamed, TargetMade, Mark}
-use Rattle.cell_asm.specs.Places.{is_key, labels, choices, choice, size_in, made_in, is_in, taken, makes_label, fault_by, is_same_part}
-use Rattle.cell_asm.specs.Objects.{globals, marks_in}
-use Rattle.std.specs.BTreeSet.{BTreeSet, contains}
+use Rattle.std.specs.BTreeSet.{contains}
+use Rattle.std.specs.Cmp.Lexicographic.{slice_cmp}
 use Rattle.std.specs.List.{list_any}
+use Rattle.std.specs.Option.{option_map_or}
+use Rattle.std.specs.Ordering.{nat_cmp}
 use Rattle.cell_num.specs.Kinds.{is_pcrel_lo12}
+use Rattle.cell_num.specs.Lists.{equals, where_true, holds_name, last, or_else}
+use Rattle.cell_asm.specs.Types.{Part, Text, Rodata, Data, Bss, Statement, StatementGlobal as Global, Line, Laid, Label, Key, KeyNamed as Named, KeyMade as Made, Mark, Spot, Known, Body, Bodies, Reference, AsmKind, Progress, AsmFail, AsmFailFault as Fault, AsmFailOutOfMemory as OutOfMemory, Stop, StopFault as Stopped, StopOutOfMemory as NoMemory}
+use Rattle.cell_asm.specs.Places.{is_key, keys_of, labels_at, labels, choices, choice, size_in, made_in, is_in, taken, makes_label, fault_by, is_same_part}
+use Rattle.cell_asm.specs.Objects.{adds_choice, parts_of, alignment_asked, alignment, bytes_at, contents, globals, marks_in, target_key, label_names, statement_names, mentions}
+use Rattle.cell_asm.specs.Assembled.{has_upper}
 
-abbrev pub unknown : About
-unknown = record { spot = None; global = false }
+-- NAMES
 
-abbrev pub about : Known → List ℕ → About
-about known q = unwrap_or (get_by (λ k. slice_cmp nat_cmp q k.now) known.names) unknown
-
--- with a label there, where there was none before
-abbrev pub with_spot : Option Spot → About → About
-with_spot None a = a
-with_spot (Some spot) a = record { spot = option_or a.spot (Some spot); global = a.global }
-
-abbrev pub with_global : Bool → About → About
-with_global false a = a
-with_global true a = record { spot = a.spot; global = true }
+abbrev pub known : {V : Type 0} → Known V → List ℕ → Option V
+known names q = get_by (λ k. slice_cmp nat_cmp q k.now) names.names
 
 -- where the label of a line is, if it is that name
 abbrev pub spot_here : Option Part → ℕ → Option (List ℕ) → List ℕ → Option Spot
@@ -40,10 +31,6 @@ abbrev pub declares : List ℕ → Statement → Bool
 declares q (Global name) = equals name q
 declares q _ = false
 
--- what a name is behind one more line
-abbrev pub about_with : Laid → List ℕ → About → About
-about_with l q a = with_global (declares q l.line.statement) (with_spot (spot_here l.part l.offset l.line.label q) a)
-
 abbrev pub spot_at : Label → Spot
 spot_at l = record { part = l.part; offset = l.offset }
 
@@ -51,29 +38,86 @@ spot_at l = record { part = l.part; offset = l.offset }
 abbrev pub spot_among : List Label → List ℕ → Option Spot
 spot_among labels q = option_map spot_at (find (λ l. is_key l.key (Named q)) labels)
 
--- what the lines make of a name
-abbrev pub about_in : List Laid → List ℕ → About
-about_in lines q = record { spot = spot_among (labels lines) q; global = holds_name (globals lines) q }
+abbrev pub names_in : Line → List (List ℕ)
+names_in line = label_names line.label ++ statement_names line.statement
 
--- What is kept while lines are put in their places, as what the lines so far come to.
+-- SECTIONS
 
-abbrev pub size_of : Sizes → Part → ℕ
-size_of sizes Text = sizes.text
-size_of sizes Rodata = sizes.rodata
-size_of sizes Data = sizes.data
-size_of sizes Bss = sizes.bss
+abbrev pub body_of : Bodies → Part → Body
+body_of bodies Text = bodies.text
+body_of bodies Rodata = bodies.rodata
+body_of bodies Data = bodies.data
+body_of bodies Bss = bodies.bss
+
+-- alignment, size and bytes: those that are kept, those of the lines, and those behind one more line
+abbrev pub grown : Body → ℕ × ℕ × List ℕ
+grown b = (b.align, b.size, b.bytes.items)
+
+abbrev pub grown_in : Part → List Laid → ℕ × ℕ × List ℕ
+grown_in part lines = (alignment part lines, size_in part lines, contents part lines)
+
+abbrev pub bytes_laid : Part → ℕ → Statement → List ℕ
+bytes_laid Bss offset statement = []
+bytes_laid part offset statement = bytes_at part offset statement
+
+abbrev pub grown_with : Part → Laid → ℕ × ℕ × List ℕ → ℕ × ℕ × List ℕ
+grown_with part l g =
+    (max g.0 (alignment_asked l.line.statement), l.offset + taken l.line.statement l.offset, g.2 ++ bytes_laid part l.offset l.line.statement)
+
+-- REFERENCES
+
+-- each entry is for bytes of the statement
+abbrev pub AreInside : Statement → Type 0
+AreInside s = (offset : ℕ) → All (λ m. m.at ≤ taken s offset) (marks_in s)
+
+-- the offsets of the entries are numbers of 32 bits
+abbrev pub HasRoom : Laid → Type 0
+HasRoom l = All (λ m. l.offset + m.at < 2 ^ 32) (marks_in l.line.statement)
+
+abbrev pub reference_at : Laid → Mark → Reference
+reference_at l m =
+    record { line = l.number; part = l.part; offset = l.offset + m.at; kind = m.fix.kind; key = target_key l m.fix.target; addend = m.fix.addend }
+
+abbrev pub references_of : Laid → List Reference
+references_of l = map (reference_at l) (marks_in l.line.statement)
+
+-- an instruction with %pcrel_hi stands in .text at that offset
+abbrev pub is_upper_at : ℕ → Laid → Bool
+is_upper_at q l = is_in Text l && l.offset == q && has_upper l
+
+-- WHAT IS KEPT
+
+-- behind one more line
+pub record Adds (old new : Progress) (l : Laid) : Type 0 where
+  pub chosen : new.chosen ≡ or_else (choice l.line.statement) old.chosen
+  pub parts : new.parts.items ≡ adds_choice old.parts.items l.line.statement
+  pub bodies : (part : Part) → grown (body_of new.bodies part) ≡ (if is_in part l then grown_with part l (grown (body_of old.bodies part)) else grown (body_of old.bodies part))
+  pub made : new.made ≡ old.made + (if makes_label l.line.statement then 1 else 0)
+  pub spots : (q : List ℕ) → known new.spots q ≡ or_else (known old.spots q) (spot_here l.part l.offset l.line.label q)
+  pub globals : (q : List ℕ) → is_some (known new.globals q) ≡ (is_some (known old.globals q) || declares q l.line.statement)
+  pub labels : new.labels.items ≡ old.labels.items ++ labels_at l.part l.offset (keys_of l)
+  pub mentions : new.mentions.items ≡ old.mentions.items ++ names_in l.line
+  pub uppers : (q : ℕ) → contains nat_cmp new.uppers q ≡ (contains nat_cmp old.uppers q || is_upper_at q l)
+  pub references : new.references.items ≡ old.references.items ++ references_of l
+
+pub record Follows (progress : Progress) (lines : List Laid) : Type 0 where
+  pub chosen : progress.chosen ≡ last (choices lines)
+  pub parts : progress.parts.items ≡ parts_of lines
+  pub bodies : (part : Part) → grown (body_of progress.bodies part) ≡ grown_in part lines
+  pub made : progress.made ≡ made_in lines
+  pub spots : (q : List ℕ) → known progress.spots q ≡ spot_among (labels lines) q
+  pub globals : (q : List ℕ) → is_some (known progress.globals q) ≡ holds_name (globals lines) q
+  pub labels : progress.labels.items ≡ labels lines
+  pub mentions : progress.mentions.items ≡ mentions lines
+  pub uppers : (q : ℕ) → contains nat_cmp progress.uppers q ≡ list_any (is_upper_at q) lines
+  pub references : progress.references.items ≡ flat_map references_of lines
 
 -- how many bytes the section has that is chosen
-abbrev pub size_chosen : Sizes → Option Part → ℕ
-size_chosen sizes None = 0
-size_chosen sizes (Some part) = size_of sizes part
-
 abbrev pub offset_of : Progress → ℕ
-offset_of progress = size_chosen progress.sizes progress.chosen
+offset_of progress = option_map_or (λ part. (body_of progress.bodies part).size) progress.chosen 0
 
 abbrev pub twice_of : Progress → Option (List ℕ) → Bool
-twice_of progress None = false
-twice_of progress (Some name) = is_some (about progress.names name).spot
+twice_of progress label = option_map_or (λ name. is_some (known progress.spots name)) label false
 
 -- what is wrong with a line, by what is kept
 abbrev pub fault_after : Progress → Line → Option AsmKind
@@ -84,25 +128,15 @@ abbrev pub laid_after : Progress → ℕ → Line → Laid
 laid_after progress n line =
     record { number = n; part = progress.chosen; offset = offset_of progress; made = progress.made + 1; line = line }
 
--- what is kept behind one more line
-pub record Adds (old new : Progress) (l : Laid) : Type 0 where
-  pub chosen : new.chosen ≡ or_else (choice l.line.statement) old.chosen
-  pub sizes : (part : Part) → size_of new.sizes part ≡ (if is_in part l then l.offset + taken l.line.statement l.offset else size_of old.sizes part)
-  pub made : new.made ≡ old.made + (if makes_label l.line.statement then 1 else 0)
-  pub names : (q : List ℕ) → about new.names q ≡ about_with l q (about old.names q)
+-- the line goes behind those before it; or it has a fault; or memory was wanting
+abbrev pub Goes : Progress → List Laid → Result (Unit {0}) Stop → Result Laid AsmKind → Type 0
+Goes progress before (Ok u) said = (l : Laid) × (said ≡ Ok l) × Follows progress (before ++ l ∷ [])
+Goes progress before (Err (Stopped kind)) said = said ≡ Err kind
+Goes progress before (Err NoMemory) said = Unit {0}
 
--- what is kept is what the lines come to
-pub record Follows (progress : Progress) (lines : List Laid) : Type 0 where
-  pub chosen : progress.chosen ≡ last (choices lines)
-  pub sizes : (part : Part) → size_of progress.sizes part ≡ size_in part lines
-  pub made : progress.made ≡ made_in lines
-  pub names : (q : List ℕ) → about progress.names q ≡ about_in lines q
-
--- The lines in their places as a function returns them.
-
--- the lines, with what they come to; or the first line with a fault; or memory was wanting
-abbrev pub Places : Result Placed AsmFail → Result (List Laid) (ℕ × AsmKind) → Type 0
-Places (Ok p) said = (said ≡ Ok p.lines) × Follows p.progress p.lines
+-- what the lines come to; or the first line with a fault; or memory was wanting
+abbrev pub Places : Result Progress AsmFail → Result (List Laid) (ℕ × AsmKind) → Type 0
+Places (Ok progress) said = (lines : List Laid) × (said ≡ Ok lines) × Follows progress lines
 Places (Err (Fault line kind)) said = said ≡ Err (line, kind)
 Places (Err OutOfMemory) said = Unit {0}
 
@@ -111,20 +145,15 @@ abbrev pub failure : Stop → ℕ → AsmFail
 failure (Stopped kind) line = Fault line kind
 failure NoMemory line = OutOfMemory
 
--- References to labels at instructions with %pcrel_hi, by what is known of names and the offsets of these instructions.
+-- %pcrel_lo of a name that has no label at an instruction with %pcrel_hi, by what is kept
 
--- a label in `.text` at one of these offsets
-abbrev pub is_upper_spot : BTreeSet ℕ → Option Spot → Bool
-is_upper_spot offsets None = false
-is_upper_spot offsets (Some s) = is_same_part Text s.part && contains nat_cmp offsets s.offset
+abbrev pub is_upper_spot : Progress → Option Spot → Bool
+is_upper_spot kept None = false
+is_upper_spot kept (Some s) = is_same_part Text s.part && contains nat_cmp kept.uppers s.offset
 
--- %pcrel_lo of a name that has no such label
-abbrev pub target_lost_by : Known → BTreeSet ℕ → Target → Bool
-target_lost_by names offsets TargetMade = false
-target_lost_by names offsets (TargetNamed name) = not (is_upper_spot offsets (about names name).spot)
+abbrev pub key_lost_by : Progress → Key → Bool
+key_lost_by kept (Made n) = false
+key_lost_by kept (Named name) = not (is_upper_spot kept (known kept.spots name))
 
-abbrev pub mark_lost_by : Known → BTreeSet ℕ → Mark → Bool
-mark_lost_by names offsets m = is_pcrel_lo12 m.fix.kind && target_lost_by names offsets m.fix.target
-
-abbrev pub lost_by : Known → BTreeSet ℕ → Laid → Bool
-lost_by names offsets l = list_any (mark_lost_by names offsets) (marks_in l.line.statement)
+abbrev pub lost_by : Progress → Reference → Bool
+lost_by kept r = is_pcrel_lo12 r.kind && key_lost_by kept r.key

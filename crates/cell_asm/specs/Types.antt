@@ -10,9 +10,8 @@ pub use Rattle.cell_asm.specs.declared.kind.AsmFail.{AsmFail}
 pub use Rattle.cell_asm.specs.declared.kind.AsmFail.TheVariants.{Fault as AsmFailFault, OutOfMemory as AsmFailOutOfMemory}
 pub use Rattle.cell_asm.specs.declared.kind.AsmKind.{AsmKind}
 pub use Rattle.cell_asm.specs.declared.kind.AsmKind.TheVariants.{Word as AsmKindWord, Label as AsmKindLabel, Section as AsmKindSection, Twice, Long, Operand as AsmKindOperand, Range}
-pub use Rattle.cell_asm.specs.declared.place.About.{About}
-pub use Rattle.cell_asm.specs.declared.place.Known.{Known}
-pub use Rattle.cell_asm.specs.declared.place.Spot.{Spot}
+pub use Rattle.cell_asm.specs.declared.known.Known.{Known}
+pub use Rattle.cell_asm.specs.declared.statement.Spot.{Spot}
 pub use Rattle.cell_asm.specs.declared.statement.Key.{Key}
 pub use Rattle.cell_asm.specs.declared.statement.Key.TheVariants.{Named as KeyNamed, Made as KeyMade}
 pub use Rattle.cell_asm.specs.declared.statement.Label.{Label}
@@ -34,12 +33,13 @@ pub use Rattle.cell_asm.specs.declared.operand.Modifier.TheVariants.{Whole, Hi, 
 pub use Rattle.cell_asm.specs.declared.operand.Operand.{Operand}
 pub use Rattle.cell_asm.specs.declared.operand.Operand.TheVariants.{Value as OperandValue, Memory as OperandMemory}
 pub use Rattle.cell_asm.specs.declared.place.Progress.{Progress}
-pub use Rattle.cell_asm.specs.declared.place.Sizes.{Sizes}
+pub use Rattle.cell_asm.specs.declared.reference.Reference.{Reference}
+pub use Rattle.cell_asm.specs.declared.section.Bodies.{Bodies}
+pub use Rattle.cell_asm.specs.declared.section.Body.{Body}
 pub use Rattle.cell_asm.specs.declared.mnemonic.Form.{Form}
 pub use Rattle.cell_asm.specs.declared.mnemonic.Form.TheVariants.{Low, LowStore, Upper as FormUpper, UpperPcrel as FormUpperPcrel, Shift as FormShift, ShiftWord as FormShiftWord, Small, Branch as FormBranch, Jump as FormJump, Call as FormCall, Address}
 pub use Rattle.cell_asm.specs.declared.mnemonic.Slot.{Slot}
 pub use Rattle.cell_asm.specs.declared.mnemonic.Slot.TheVariants.{Rd, Rs1, Rs2, Value as SlotValue, Memory as SlotMemory}
-pub use Rattle.cell_asm.specs.declared.source.Placed.{Placed}
 pub use Rattle.cell_asm.specs.declared.statement.Content.{Content}
 pub use Rattle.cell_asm.specs.declared.statement.Content.TheVariants.{Code, Narrow, Wide}
 pub use Rattle.cell_asm.specs.declared.statement.Field.{Field}

@@ -1,113 +1,100 @@
 //! The relocation entries of an object.
 
-ghost use Rattle.std.specs.Prelude.{◌≡◌, ◌≤◌, ◌<◌, ◌+◌, ◌^◌, ◌++◌, true, filter, flat_map, map, length, All, IfOk, OnOk};
-ghost use Rattle.cell_asm.specs.Places.{is_in as stands_in};
-ghost use Rattle.cell_asm.specs.Objects.{parts_of, target_key as key_of, entries as entries_of};
-ghost use Rattle.cell_asm.specs.Numberings.{HasRoom, Numbered, mark_entry, line_entries, part_entries};
+ghost use Rattle.std.specs.Prelude.{◌≡◌, ◌≤◌, ◌++◌, filter, find, flat_map, map, option_map, length, IfOk, OnOk};
+ghost use Rattle.cell_asm.specs.Places.{is_at as stands_at};
+ghost use Rattle.cell_asm.specs.Progress.{is_upper_spot, key_lost_by, lost_by};
+ghost use Rattle.cell_asm.specs.Numberings.{entry_kept, part_entries};
 
-use crate::label::marks_in;
-use crate::section::{is_in, part_number};
-use crate::statement::{Key, Laid, Mark, Part, Target};
+use crate::place::Progress;
+use crate::reference::Reference;
+use crate::section::{is_at, part_number};
+use crate::statement::{Key, Part, Spot};
 use crate::symbol::Symbols;
-use cell_num::Listed;
+use cell_num::{Listed, is_pcrel_lo12};
 use cell_object::Entry;
 use std::alloc::{AllocError, Global};
+
+/// The number of the first line with `%pcrel_lo` of a name that is no label of an instruction with
+/// `%pcrel_hi`.
+pub fn first_lost<'a>(kept: &Progress<'a>) -> Option<u32>
+    ensures { result ≡ option_map (λ r. r.line) (find (lost_by kept.now) kept.now.references.items) }
+{
+    for reference in &kept.references {
+        if is_lost(kept, reference) {
+            return Some(reference.line);
+        }
+    }
+    None
+}
+
+fn is_lost<'a>(kept: &Progress<'a>, reference: &Reference<'a>) -> bool
+    ensures { result ≡ lost_by kept.now reference.now }
+{
+    is_pcrel_lo12(reference.kind) && is_lost_key(kept, &reference.key)
+}
+
+fn is_lost_key<'a>(kept: &Progress<'a>, key: &Key<'a>) -> bool
+    ensures { result ≡ key_lost_by kept.now key.now }
+{
+    match key {
+        Key::Named(name) => !is_upper(kept, kept.spots.get(name.bytes())),
+        Key::Made(_) => false,
+    }
+}
+
+/// Whether the label stands in `.text` at an instruction with `%pcrel_hi`.
+fn is_upper(kept: &Progress<'_>, spot: Option<Spot>) -> bool
+    ensures { result ≡ is_upper_spot kept.now spot }
+{
+    match spot {
+        Some(spot) => matches!(spot.part, Part::Text) && kept.uppers.contains(&spot.offset),
+        None => false,
+    }
+}
 
 /// The entries, by the number of their section and then in the order of the source.
 pub fn entries<'a>(
     alloc: Global,
-    lines: &[Laid<'a>],
+    kept: &Progress<'a>,
     symbols: &Symbols<'a>,
-    parts: &[Part],
 ) -> Result<Listed<Entry>, AllocError>
-    requires few { length parts.now ≤ 4 }
-    requires parts { parts.now ≡ parts_of lines.now }
-    requires room { All HasRoom lines.now }
-    requires numbers { Numbered symbols.now lines.now }
-    ensures { IfOk result (λ entries. entries ≡ entries_of lines.now) }
+    requires { length kept.now.parts.items ≤ 4 }
+    ensures { IfOk result (λ entries. entries ≡ flat_map (part_entries kept.now symbols.now) kept.now.parts.items) }
 {
     let mut entries = Vec::new(alloc);
-    put_entries(&mut entries, lines, symbols, parts)?;
+    for part in &kept.parts {
+        put_entries(&mut entries, kept, symbols, *part)?;
+    }
     Ok(Listed::from_vec(entries))
 }
 
-/// Appends the entries of all sections.
+/// Appends the entries of a section.
 fn put_entries<'a>(
     entries: &mut Vec<Entry>,
-    lines: &[Laid<'a>],
-    symbols: &Symbols<'a>,
-    parts: &[Part],
-) -> Result<(), AllocError>
-    requires few { length parts.now ≤ 4 }
-    requires room { All HasRoom lines.now }
-    ensures { OnOk result (entries.new.items ≡ entries.old.items ++ flat_map (part_entries parts.now symbols.now lines.now) parts.now) }
-{
-    for part in parts {
-        put_entries_in(entries, lines, symbols, *part, part_number(parts, *part))?;
-    }
-    Ok(())
-}
-
-/// Appends the entries of a section.
-fn put_entries_in<'a>(
-    entries: &mut Vec<Entry>,
-    lines: &[Laid<'a>],
+    kept: &Progress<'a>,
     symbols: &Symbols<'a>,
     part: Part,
-    section: u16,
 ) -> Result<(), AllocError>
-    requires room { All HasRoom lines.now }
-    ensures { OnOk result (entries.new.items ≡ entries.old.items ++ flat_map (line_entries section symbols.now) (filter (stands_in part) lines.now)) }
+    requires { length kept.now.parts.items ≤ 4 }
+    ensures { OnOk result (entries.new.items ≡ entries.old.items ++ part_entries kept.now symbols.now part) }
 {
-    for laid in lines {
-        if is_in(part, laid) {
-            put_marks(
-                entries,
-                laid,
-                symbols,
-                section,
-                marks_in(&laid.line.statement),
-            )?;
+    let section = part_number(&kept.parts, part);
+    for reference in &kept.references {
+        if is_at(part, reference.part) {
+            entries.push(entry(section, symbols, reference))?;
         }
     }
     Ok(())
 }
 
-/// Appends the entries of a line.
-fn put_marks<'a>(
-    entries: &mut Vec<Entry>,
-    laid: &Laid<'a>,
-    symbols: &Symbols<'a>,
-    section: u16,
-    marks: &[Mark<'a>],
-) -> Result<(), AllocError>
-    requires { All (λ m. laid.now.offset + m.at < 2 ^ 32) marks.now }
-    ensures { OnOk result (entries.new.items ≡ entries.old.items ++ map (mark_entry section symbols.now laid.now) marks.now) }
-{
-    for mark in marks {
-        entries.push(entry(laid, symbols, section, mark))?;
-    }
-    Ok(())
-}
-
-fn entry<'a>(laid: &Laid<'a>, symbols: &Symbols<'a>, section: u16, mark: &Mark<'a>) -> Entry
-    requires { laid.now.offset + mark.now.at < 2 ^ 32 }
-    ensures { result ≡ mark_entry section symbols.now laid.now mark.now }
+fn entry<'a>(section: u16, symbols: &Symbols<'a>, reference: &Reference<'a>) -> Entry
+    ensures { result ≡ entry_kept section symbols.now reference.now }
 {
     Entry {
         section,
-        offset: laid.offset + mark.at as u32,
-        kind: mark.fix.kind,
-        symbol: symbols.number(&target_key(laid, &mark.fix.target)),
-        addend: mark.fix.addend,
-    }
-}
-
-fn target_key<'a>(laid: &Laid<'a>, target: &Target<'a>) -> Key<'a>
-    ensures { result ≡ key_of laid.now target.now }
-{
-    match target {
-        Target::Named(name) => Key::Named(name.again()),
-        Target::Made => Key::Made(laid.made),
+        offset: reference.offset,
+        kind: reference.kind,
+        symbol: symbols.number(&reference.key),
+        addend: reference.addend,
     }
 }

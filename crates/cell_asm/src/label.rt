@@ -1,153 +1,105 @@
-//! The labels of a source.
+//! The labels of a line, and the names that it mentions.
 
-ghost use Rattle.std.specs.Prelude.{◌≡◌, ◌++◌, ◌==◌, ◌&&◌, ℕ, List, option_map, find, IfOk, OnOk};
+ghost use Rattle.std.specs.Prelude.{◌≡◌, ◌++◌, ◌||◌, ℕ, List, is_some, flat_map, OnOk};
+ghost use Rattle.cell_num.specs.Lists.{or_else};
 ghost use Rattle.std.specs.List.{list_any};
-ghost use Rattle.std.specs.Ordering.{nat_cmp};
-ghost use Rattle.std.specs.BTreeSet.{contains};
-ghost use Rattle.cell_asm.specs.Progress.{about, about_in, is_upper_spot, target_lost_by, mark_lost_by, lost_by};
-ghost use Rattle.cell_asm.specs.Places.{is_in, keys_of, labels_at, labels as labels_of};
-ghost use Rattle.cell_num.specs.Kinds.{is_pcrel_hi20 as pcrel_hi20};
-ghost use Rattle.cell_asm.specs.Objects.{marks_in as marks_of};
-ghost use Rattle.cell_asm.specs.Assembled.{has_upper as upper_in, has_lost as lost_in};
-ghost use Rattle.cell_asm.specs.declared.statement.Part.TheVariants as parts;
+ghost use Rattle.cell_asm.specs.Objects.{target_names};
+ghost use Rattle.cell_asm.specs.Places.{is_made, makes_label as label_made, keys_of, labels_at};
+ghost use Rattle.cell_asm.specs.Progress.{names_in, known, spot_here, declares};
 
-use crate::place::{Known, Spot, makes_label};
-use crate::statement::{Key, Label, Laid, Mark, Part, Statement, Target};
-use cell_num::{is_pcrel_hi20, is_pcrel_lo12};
-use std::alloc::{AllocError, Global};
-use std::collections::BTreeSet;
+use crate::known::Known;
+use crate::statement::{Key, Label, Laid, Line, Mark, Spot, Statement, Target};
+use crate::text::Text;
+use std::alloc::AllocError;
 
-/// All labels, in order of definition.
-pub fn labels<'a>(alloc: Global, lines: &[Laid<'a>]) -> Result<Vec<Label<'a>>, AllocError>
-    ensures { IfOk result (λ labels. labels.items ≡ labels_of lines.now) }
+/// Whether the statement makes a label.
+pub fn makes_label(statement: &Statement<'_>) -> bool
+    ensures { result ≡ label_made statement.now }
 {
-    let mut labels = Vec::new(alloc);
-    for laid in lines {
-        put_labels(&mut labels, laid)?;
+    match statement {
+        Statement::Bytes(_, block) => make_label(block.marks.as_slice()),
+        _ => false,
     }
-    Ok(labels)
+}
+
+fn make_label(marks: &[Mark<'_>]) -> bool
+    ensures { result ≡ list_any (λ m. is_made m.fix.target) marks.now }
+{
+    marks
+        .iter()
+        .any(|mark| matches!(mark.fix.target, Target::Made))
 }
 
 /// Appends the labels of a line: its own, and the one that it makes.
-fn put_labels<'a>(labels: &mut Vec<Label<'a>>, laid: &Laid<'a>) -> Result<(), AllocError>
+pub fn put_labels<'a>(labels: &mut Vec<Label<'a>>, laid: &Laid<'a>) -> Result<(), AllocError>
     ensures { OnOk result (labels.new.items ≡ labels.old.items ++ labels_at laid.now.part laid.now.offset (keys_of laid.now)) }
 {
     let Some(part) = laid.part else {
         return Ok(());
     };
+    let offset = laid.offset;
     if let Some(name) = &laid.line.label {
-        labels.push(Label {
-            key: Key::Named(name.again()),
-            part,
-            offset: laid.offset,
-        })?;
+        let key = Key::Named(name.again());
+        labels.push(Label { key, part, offset })?;
     }
     if makes_label(&laid.line.statement) {
-        labels.push(Label {
-            key: Key::Made(laid.made),
-            part,
-            offset: laid.offset,
-        })?;
+        let key = Key::Made(laid.made);
+        labels.push(Label { key, part, offset })?;
     }
     Ok(())
 }
 
-pub fn marks_in<'b, 'a>(statement: &'b Statement<'a>) -> &'b [Mark<'a>]
-    ensures { result.now ≡ marks_of statement.now }
+/// Keeps where the label of the line is.
+#[tactic(auto, using(crate::proofs::SymbolLemmas::or_none))]
+pub fn put_spot<'a>(spots: &mut Known<'a, Spot>, laid: &Laid<'a>) -> Result<(), AllocError>
+    ensures { OnOk result ((q : List ℕ) → known spots.new q ≡ or_else (known spots.old q) (spot_here laid.now.part laid.now.offset laid.now.line.label q)) }
 {
-    match statement {
-        Statement::Bytes(_, block) => block.marks.as_slice(),
-        _ => &[],
+    let Some(part) = laid.part else {
+        return Ok(());
+    };
+    if let Some(name) = &laid.line.label {
+        let offset = laid.offset;
+        spots.add(name.bytes(), Spot { part, offset })?;
     }
+    Ok(())
 }
 
-/// The number of the first line with `%pcrel_lo` of a name that is no label of an instruction with
-/// `%pcrel_hi`.
-pub fn first_lost<'a>(
-    alloc: Global,
-    lines: &[Laid<'a>],
-    names: &Known<'a>,
-) -> Result<Option<u32>, AllocError>
-    requires { (q : List ℕ) → about names.now q ≡ about_in lines.now q }
-    ensures { IfOk result (λ number. number ≡ option_map (λ l. l.number) (find (lost_in lines.now) lines.now)) }
+/// Keeps the name that the statement makes GLOBAL.
+#[tactic(auto, using(crate::proofs::SymbolLemmas::some_more))]
+pub fn put_global<'a>(
+    globals: &mut Known<'a, ()>,
+    statement: &Statement<'a>,
+) -> Result<(), AllocError>
+    ensures { OnOk result ((q : List ℕ) → is_some (known globals.new q) ≡ (is_some (known globals.old q) || declares q statement.now)) }
 {
-    let offsets = upper_offsets(alloc, lines)?;
-    Ok(first_with_lost(names, &offsets, lines))
-}
-
-/// The offsets in `.text` of instructions with `%pcrel_hi`.
-fn upper_offsets(alloc: Global, lines: &[Laid<'_>]) -> Result<BTreeSet<u32>, AllocError>
-    ensures { IfOk result (λ set. (q : ℕ) → contains nat_cmp set q ≡ list_any (λ l. is_in parts.Text l && l.offset == q && upper_in l) lines.now) }
-{
-    let mut offsets = BTreeSet::new(alloc);
-    for laid in lines {
-        if is_upper_in_text(laid) {
-            offsets.insert(laid.offset)?;
-        }
+    if let Statement::Global(name) = statement {
+        globals.add(name.bytes(), ())?;
     }
-    Ok(offsets)
+    Ok(())
 }
 
-fn is_upper_in_text(laid: &Laid<'_>) -> bool
-    ensures { result ≡ (is_in parts.Text laid.now && upper_in laid.now) }
+/// Appends the names that a line mentions, its label too.
+pub fn put_mentions<'a>(names: &mut Vec<Text<'a>>, line: &Line<'a>) -> Result<(), AllocError>
+    ensures { OnOk result (names.new.items ≡ names.old.items ++ names_in line.now) }
 {
-    matches!(laid.part, Some(Part::Text)) && has_upper(marks_in(&laid.line.statement))
-}
-
-fn has_upper(marks: &[Mark<'_>]) -> bool
-    ensures { result ≡ list_any (λ m. pcrel_hi20 m.fix.kind) marks.now }
-{
-    marks.iter().any(|mark| is_pcrel_hi20(mark.fix.kind))
-}
-
-fn first_with_lost<'a>(
-    names: &Known<'a>,
-    offsets: &BTreeSet<u32>,
-    lines: &[Laid<'a>],
-) -> Option<u32>
-    ensures { result ≡ option_map (λ l. l.number) (find (lost_by names.now offsets.now) lines.now) }
-{
-    for laid in lines {
-        if any_lost(names, offsets, marks_in(&laid.line.statement)) {
-            return Some(laid.number);
-        }
+    if let Some(name) = &line.label {
+        names.push(name.again())?;
     }
-    None
+    match &line.statement {
+        Statement::Global(name) => names.push(name.again())?,
+        Statement::Bytes(_, block) => put_targets(names, block.marks.as_slice())?,
+        _ => (),
+    }
+    Ok(())
 }
 
-#[tactic(auto, using(crate::proofs::ObjectLemmas::any_left))]
-fn any_lost<'a>(names: &Known<'a>, offsets: &BTreeSet<u32>, marks: &[Mark<'a>]) -> bool
-    ensures { result ≡ list_any (mark_lost_by names.now offsets.now) marks.now }
+fn put_targets<'a>(names: &mut Vec<Text<'a>>, marks: &[Mark<'a>]) -> Result<(), AllocError>
+    ensures { OnOk result (names.new.items ≡ names.old.items ++ flat_map (λ m. target_names m.fix.target) marks.now) }
 {
     for mark in marks {
-        if is_lost_mark(names, offsets, mark) {
-            return true;
+        if let Target::Named(name) = &mark.fix.target {
+            names.push(name.again())?;
         }
     }
-    false
-}
-
-fn is_lost_mark<'a>(names: &Known<'a>, offsets: &BTreeSet<u32>, mark: &Mark<'a>) -> bool
-    ensures { result ≡ mark_lost_by names.now offsets.now mark.now }
-{
-    is_pcrel_lo12(mark.fix.kind) && is_lost(names, offsets, &mark.fix.target)
-}
-
-fn is_lost<'a>(names: &Known<'a>, offsets: &BTreeSet<u32>, target: &Target<'a>) -> bool
-    ensures { result ≡ target_lost_by names.now offsets.now target.now }
-{
-    match target {
-        Target::Named(name) => !is_upper(offsets, names.about(name.bytes()).spot),
-        Target::Made => false,
-    }
-}
-
-/// Whether the label stands in `.text` at one of these offsets.
-fn is_upper(offsets: &BTreeSet<u32>, spot: Option<Spot>) -> bool
-    ensures { result ≡ is_upper_spot offsets.now spot }
-{
-    match spot {
-        Some(spot) => matches!(spot.part, Part::Text) && offsets.contains(&spot.offset),
-        None => false,
-    }
+    Ok(())
 }

@@ -1,14 +1,14 @@
-//! The sections of an object.
+//! The sections of an object, as they grow line by line.
 
-ghost use Rattle.std.specs.Prelude.{◌≡◌, ◌≤◌, ◌++◌, ℕ, List, map, replicate, length, filter, flat_map, position, ◌<◌, IfSome, IfOk, OnOk};
+ghost use Rattle.std.specs.Prelude.{◌≡◌, ◌≤◌, ◌++◌, ◌+◌, List, [], map, min, replicate, length, flat_map, position, ◌<◌, false, if◌then◌else◌, IfSome, IfOk, OnOk};
 ghost use Rattle.std.specs.List.{list_any};
 ghost use Rattle.cell_num.specs.Bits.{bytes_of};
-ghost use Rattle.cell_asm.specs.Places.{is_same_part as same, is_in as stands_in, size_in};
-ghost use Rattle.cell_asm.specs.Progress.{size_of};
-ghost use Rattle.cell_asm.specs.Objects.{adds_part, adds_choice, parts_of as parts_chosen, number_in, part_name as name_of, fill_of as fill_with, may_write as writes, alignment as alignment_of, alignment_asked as alignment_wanted, first_alignment as alignment_first, padding, bytes_at, contents as contents_of, section_of, sections as sections_of};
+ghost use Rattle.cell_asm.specs.Places.{is_same_part as same, is_at as stands_at, is_in, is_long, gap as gap_of, taken as taken_of};
+ghost use Rattle.cell_asm.specs.Progress.{body_of, grown, grown_in, grown_with, bytes_laid};
+ghost use Rattle.cell_asm.specs.Numberings.{section_kept};
+ghost use Rattle.cell_asm.specs.Objects.{adds_choice, number_in, part_name as name_of, fill_of as fill_with, may_write as writes, alignment_asked as alignment_wanted, padding};
 ghost use Rattle.cell_asm.specs.declared.statement.Part.{Part as PartValue};
 
-use crate::place::{Sizes, gap};
 use crate::statement::{Laid, Part, Statement, put_number};
 use cell_num::{Bytes, Listed};
 use cell_object::{Fill, Section};
@@ -17,19 +17,86 @@ use std::alloc::{AllocError, Global};
 /// addi zero,zero,0
 const NOP: u64 = 0x13;
 
-/// The sections that are chosen, each where it is chosen first.
-pub fn parts_of(alloc: Global, lines: &[Laid<'_>]) -> Result<Vec<Part>, AllocError>
-    ensures { IfOk result (λ parts. parts.items ≡ parts_chosen lines.now) }
-{
-    let mut parts = Vec::new(alloc);
-    for laid in lines {
-        add_choice(&mut parts, &laid.line.statement)?;
+/// A section so far.
+#[derive(Drop)]
+pub struct Body {
+    pub align: u16,
+    pub size: u32,
+    pub bytes: Vec<u8>,
+}
+
+impl Body {
+    fn new(alloc: Global, align: u16) -> Body
+        ensures { grown result ≡ (align, 0, []) }
+    {
+        Body {
+            align,
+            size: 0,
+            bytes: Vec::new(alloc),
+        }
     }
-    Ok(parts)
+
+    /// Goes on behind a line that stands in the section.
+    fn add(&mut self, part: Part, laid: &Laid<'_>) -> Result<(), AllocError>
+        requires { is_long (Some part) (laid.now.offset + taken_of laid.now.line.statement laid.now.offset) ≡ false }
+        ensures { OnOk result (grown self.new ≡ grown_with part laid.now (grown self.old)) }
+    {
+        let statement = &laid.line.statement;
+        self.align = self.align.max(alignment_asked(statement));
+        self.size = end(statement, laid.offset) as u32;
+        put_bytes(&mut self.bytes, part, laid.offset, statement)
+    }
+}
+
+/// The sections so far, those that aren't chosen too.
+#[derive(Drop)]
+pub struct Bodies {
+    pub text: Body,
+    pub rodata: Body,
+    pub data: Body,
+    pub bss: Body,
+}
+
+impl Bodies {
+    pub fn new(alloc: Global) -> Bodies
+        ensures { (part : PartValue) → grown (body_of result part) ≡ grown_in part [] }
+    {
+        Bodies {
+            text: Body::new(alloc, 4),
+            rodata: Body::new(alloc, 8),
+            data: Body::new(alloc, 8),
+            bss: Body::new(alloc, 8),
+        }
+    }
+
+    pub fn of(&self, part: Part) -> &Body
+        ensures { result.now ≡ body_of self.now part }
+    {
+        match part {
+            Part::Text => &self.text,
+            Part::Rodata => &self.rodata,
+            Part::Data => &self.data,
+            Part::Bss => &self.bss,
+        }
+    }
+
+    /// Goes on behind a line.
+    pub fn add(&mut self, laid: &Laid<'_>) -> Result<(), AllocError>
+        requires { is_long laid.now.part (laid.now.offset + taken_of laid.now.line.statement laid.now.offset) ≡ false }
+        ensures { OnOk result ((part : PartValue) → grown (body_of self.new part) ≡ (if is_in part laid.now then grown_with part laid.now (grown (body_of self.old part)) else grown (body_of self.old part))) }
+    {
+        match laid.part {
+            Some(Part::Text) => self.text.add(Part::Text, laid),
+            Some(Part::Rodata) => self.rodata.add(Part::Rodata, laid),
+            Some(Part::Data) => self.data.add(Part::Data, laid),
+            Some(Part::Bss) => self.bss.add(Part::Bss, laid),
+            None => Ok(()),
+        }
+    }
 }
 
 /// Adds the section that the statement chooses.
-fn add_choice(parts: &mut Vec<Part>, statement: &Statement<'_>) -> Result<(), AllocError>
+pub fn add_choice(parts: &mut Vec<Part>, statement: &Statement<'_>) -> Result<(), AllocError>
     ensures { OnOk result (parts.new.items ≡ adds_choice parts.old.items statement.now) }
 {
     if let Statement::Choose(part) = statement {
@@ -58,6 +125,16 @@ fn holds(parts: &[Part], part: Part) -> bool
     parts.iter().any(|other| is_same_part(part, *other))
 }
 
+/// Whether it is that section.
+pub fn is_at(part: Part, other: Option<Part>) -> bool
+    ensures { result ≡ stands_at part other }
+{
+    match other {
+        Some(other) => is_same_part(part, other),
+        None => false,
+    }
+}
+
 /// The number of a section, from 1.
 pub fn part_number(parts: &[Part], part: Part) -> u16
     requires { length parts.now ≤ 4 }
@@ -77,21 +154,18 @@ fn place_in(parts: &[Part], part: Part) -> Option<usize>
     parts.iter().position(|other| is_same_part(part, *other))
 }
 
-/// The sections of the lines, in the order of their numbers.
+/// The sections of the object, in the order of their numbers.
 pub fn sections(
     alloc: Global,
-    lines: &[Laid<'_>],
-    sizes: &Sizes,
     parts: &[Part],
+    bodies: &Bodies,
 ) -> Result<Listed<Section>, AllocError>
-    requires few { length parts.now ≤ 4 }
-    requires parts { parts.now ≡ parts_chosen lines.now }
-    requires sizes { (part : PartValue) → size_of sizes.now part ≡ size_in part lines.now }
-    ensures { IfOk result (λ sections. sections ≡ sections_of lines.now) }
+    requires { length parts.now ≤ 4 }
+    ensures { IfOk result (λ sections. sections ≡ map (section_kept parts.now bodies.now) parts.now) }
 {
     let mut sections = Vec::new(alloc);
     for part in parts {
-        let section = section(alloc, lines, sizes, parts, *part)?;
+        let section = section(alloc, parts, bodies, *part)?;
         sections.push(section)?;
     }
     Ok(Listed::from_vec(sections))
@@ -99,27 +173,25 @@ pub fn sections(
 
 fn section(
     alloc: Global,
-    lines: &[Laid<'_>],
-    sizes: &Sizes,
     parts: &[Part],
+    bodies: &Bodies,
     part: Part,
 ) -> Result<Section, AllocError>
-    requires few { length parts.now ≤ 4 }
-    requires parts { parts.now ≡ parts_chosen lines.now }
-    requires sizes { (part : PartValue) → size_of sizes.now part ≡ size_in part lines.now }
-    ensures { IfOk result (λ s. s ≡ section_of lines.now part) }
+    requires { length parts.now ≤ 4 }
+    ensures { IfOk result (λ s. s ≡ section_kept parts.now bodies.now part) }
 {
+    let body = bodies.of(part);
     let name = Vec::from_slice(alloc, part_name(part))?;
-    let bytes = contents(alloc, part, lines)?;
+    let bytes = Vec::from_slice(alloc, body.bytes.as_slice())?;
     Ok(Section {
         number: part_number(parts, part),
         name: Bytes::from_vec(name),
         write: may_write(part),
         exec: is_same_part(Part::Text, part),
         fill: fill_of(part),
-        align: alignment(part, lines),
-        size: sizes.of(part),
-        bytes,
+        align: body.align,
+        size: body.size,
+        bytes: Bytes::from_vec(bytes),
     })
 }
 
@@ -152,38 +224,6 @@ fn fill_of(part: Part) -> Fill
     }
 }
 
-/// Whether the line stands in that section.
-pub fn is_in(part: Part, laid: &Laid<'_>) -> bool
-    ensures { result ≡ stands_in part laid.now }
-{
-    match laid.part {
-        Some(other) => is_same_part(part, other),
-        None => false,
-    }
-}
-
-fn first_alignment(part: Part) -> u16
-    ensures { result ≡ alignment_first part }
-{
-    match part {
-        Part::Text => 4,
-        _ => 8,
-    }
-}
-
-/// The largest alignment that is asked for.
-fn alignment(part: Part, lines: &[Laid<'_>]) -> u16
-    ensures { result ≡ alignment_of part lines.now }
-{
-    let mut align = first_alignment(part);
-    for laid in lines {
-        if is_in(part, laid) {
-            align = align.max(alignment_asked(&laid.line.statement));
-        }
-    }
-    align
-}
-
 fn alignment_asked(statement: &Statement<'_>) -> u16
     ensures { result ≡ alignment_wanted statement.now }
 {
@@ -193,40 +233,51 @@ fn alignment_asked(statement: &Statement<'_>) -> u16
     }
 }
 
-fn contents(alloc: Global, part: Part, lines: &[Laid<'_>]) -> Result<Bytes, AllocError>
-    ensures { IfOk result (λ bytes. bytes ≡ contents_of part lines.now) }
+/// Where the bytes of the statement end, from that offset on; or as far as numbers go.
+pub fn end(statement: &Statement<'_>, offset: u32) -> u128
+    ensures { result ≡ min (offset + taken_of statement.now offset) u128.MAX }
 {
-    match part {
-        Part::Bss => Ok(Bytes::from_vec(Vec::new(alloc))),
-        _ => contents_in(alloc, part, lines),
+    u128::from(offset).saturating_add(taken(statement, offset))
+}
+
+/// How many bytes the statement takes at that offset.
+fn taken(statement: &Statement<'_>, offset: u32) -> u128
+    ensures { result ≡ taken_of statement.now offset }
+{
+    match statement {
+        Statement::Zeros(count) => *count,
+        Statement::Align(unit) => u128::from(gap(*unit, offset)),
+        Statement::Bytes(_, block) => block.bytes.as_slice().len() as u128,
+        _ => 0,
     }
 }
 
-fn contents_in(alloc: Global, part: Part, lines: &[Laid<'_>]) -> Result<Bytes, AllocError>
-    ensures { IfOk result (λ bytes. bytes ≡ flat_map (λ l. bytes_at part l.offset l.line.statement) (filter (stands_in part) lines.now)) }
+/// How many bytes lack to a multiple of that many.
+fn gap(unit: u16, offset: u32) -> u32
+    ensures value { result ≡ gap_of unit offset }
 {
-    let mut bytes = Vec::new(alloc);
-    for laid in lines {
-        if is_in(part, laid) {
-            put_statement(&mut bytes, part, laid.offset, &laid.line.statement)?;
-        }
+    let unit = u32::from(unit);
+    if unit == 0 || offset % unit == 0 {
+        0
+    } else {
+        unit - offset % unit
     }
-    Ok(Bytes::from_vec(bytes))
 }
 
-/// Appends the bytes of a statement at that offset.
-fn put_statement(
+/// Appends the bytes of a statement at that offset. `.bss` has a size and no bytes.
+fn put_bytes(
     bytes: &mut Vec<u8>,
     part: Part,
     offset: u32,
     statement: &Statement<'_>,
 ) -> Result<(), AllocError>
-    ensures { OnOk result (bytes.new.items ≡ bytes.old.items ++ bytes_at part offset statement.now) }
+    ensures { OnOk result (bytes.new.items ≡ bytes.old.items ++ bytes_laid part offset statement.now) }
 {
-    match statement {
-        Statement::Zeros(count) => put_zeros(bytes, *count),
-        Statement::Align(unit) => put_padding(bytes, part, gap(*unit, offset)),
-        Statement::Bytes(_, block) => bytes.extend_from_slice(block.bytes.as_slice()),
+    match (part, statement) {
+        (Part::Bss, _) => Ok(()),
+        (_, Statement::Zeros(count)) => put_zeros(bytes, *count),
+        (_, Statement::Align(unit)) => put_padding(bytes, part, gap(*unit, offset)),
+        (_, Statement::Bytes(_, block)) => bytes.extend_from_slice(block.bytes.as_slice()),
         _ => Ok(()),
     }
 }

@@ -176,3 +176,10 @@ pub struct Label<'a> {
     pub part: Part,
     pub offset: u32,
 }
+
+/// A section, and an offset there.
+#[derive(Clone, Copy, Debug, PartialEq, Eq)]
+pub struct Spot {
+    pub part: Part,
+    pub offset: u32,
+}

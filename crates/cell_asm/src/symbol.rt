@@ -1,21 +1,19 @@
 //! The symbols of an object.
 
-ghost use Rattle.std.specs.Prelude.{◌≡◌, ◌==◌, ℕ, List, None, OnOk, ◌≤◌, ◌+◌, [], ◌∷◌, ◌++◌, flat_map, fold, length, not, is_some, IfOk};
-ghost use Rattle.cell_num.specs.Lists.{equals, or_else, where_true};
-ghost use Rattle.cell_asm.specs.Places.{is_key, labels as labels_of};
-ghost use Rattle.cell_asm.specs.Numberings.{number_of, Lists, Mentions, mentioned, home_in, is_global_in, Locals, number_kept, Numbered};
+ghost use Rattle.std.specs.Prelude.{◌≡◌, ◌==◌, ℕ, List, None, OnOk, ◌≤◌, ◌+◌, [], ◌∷◌, ◌++◌, fold, length, not, IfOk};
+ghost use Rattle.std.specs.Option.{option_map_or};
+ghost use Rattle.cell_num.specs.Lists.{or_else, where_true};
+ghost use Rattle.cell_asm.specs.Places.{is_key};
+ghost use Rattle.cell_asm.specs.Numberings.{number_of, number_kept, Lists, Locals, mentioned, Mentions, home_in, symbol_in, is_global_in};
+ghost use Rattle.cell_asm.specs.Objects.{key_name as name_of};
 ghost use Rattle.cell_asm.specs.declared.statement.Key.{Key as KeyValue};
 ghost use Rattle.cell_asm.specs.declared.statement.Key.TheVariants as keys;
-ghost use Rattle.std.specs.Option.{option_map_or};
-ghost use Rattle.cell_asm.specs.Progress.{about, about_in};
-ghost use Rattle.cell_asm.specs.Objects.{key_name as name_of, target_names, statement_names, mentions as mentions_of, parts_of, symbol as symbol_of, symbols as symbols_of};
-ghost use Rattle.cell_object.specs.declared.object.Bind.TheVariants as binds;
-ghost use Rattle.cell_asm.specs.declared.statement.Label.{Label as LabelValue};
 ghost use Rattle.cell_object.specs.declared.object.Symbol.{Symbol as SymbolValue};
 
-use crate::place::{Known, Spot};
+use crate::known::Known;
+use crate::place::Progress;
 use crate::section::part_number;
-use crate::statement::{Key, Label, Laid, Mark, Part, Statement, Target};
+use crate::statement::{Key, Spot};
 use crate::text::Text;
 use cell_num::{Bytes, Listed};
 use cell_object::{Bind, Home, Sort, Symbol};
@@ -26,48 +24,38 @@ use std::collections::BTreeMap;
 /// The numbers of symbols, by their names and by the numbers of made labels.
 #[derive(Drop)]
 pub struct Numbering<'a> {
-    pub named: BTreeMap<&'a [u8], u32>,
+    pub named: Known<'a, u32>,
     pub made: BTreeMap<u32, u32>,
 }
 
 impl<'a> Numbering<'a> {
-    pub fn new(alloc: Global) -> Numbering<'a>
+    fn new(alloc: Global) -> Numbering<'a>
         ensures { (q : KeyValue) → number_of result q ≡ None }
     {
         Numbering {
-            named: BTreeMap::new(alloc),
+            named: Known::new(alloc),
             made: BTreeMap::new(alloc),
         }
     }
 
-    pub fn get(&self, key: &Key<'a>) -> Option<u32>
+    fn get(&self, key: &Key<'a>) -> Option<u32>
         ensures { result ≡ number_of self.now key.now }
     {
         match key {
-            Key::Named(name) => self.named.get(&name.bytes()).copied(),
+            Key::Named(name) => self.named.get(name.bytes()),
             Key::Made(made) => self.made.get(made).copied(),
         }
     }
 
     /// Gives a key its number, where it has none.
     #[tactic(auto, using(crate::proofs::SymbolLemmas::added))]
-    pub fn add(&mut self, key: &Key<'a>, number: u32) -> Result<(), AllocError>
+    fn add(&mut self, key: &Key<'a>, number: u32) -> Result<(), AllocError>
         ensures { OnOk result ((q : KeyValue) → number_of self.new q ≡ or_else (number_of self.old q) (where_true (is_key key.now q) number)) }
     {
         match key {
-            Key::Named(name) => self.add_name(name.bytes(), number),
+            Key::Named(name) => self.named.add(name.bytes(), number),
             Key::Made(made) => self.add_made(*made, number),
         }
-    }
-
-    fn add_name(&mut self, name: &'a [u8], number: u32) -> Result<(), AllocError>
-        ensures names { OnOk result ((q : List ℕ) → number_of self.new (keys.Named q) ≡ or_else (number_of self.old (keys.Named q)) (where_true (equals name.now q) number)) }
-        ensures made { self.new.made ≡ self.old.made }
-    {
-        if self.named.get(&name).is_none() {
-            self.named.insert(name, number)?;
-        }
-        Ok(())
     }
 
     fn add_made(&mut self, made: u32, number: u32) -> Result<(), AllocError>
@@ -84,75 +72,28 @@ impl<'a> Numbering<'a> {
 /// The symbols, and their numbers.
 #[derive(Drop)]
 pub struct Symbols<'a> {
+    pub alloc: Global,
     pub list: Vec<Symbol>,
     pub numbers: Numbering<'a>,
 }
 
 /// The symbols: the labels that no directive makes GLOBAL, then all other names.
-pub fn make_symbols<'a>(
-    alloc: Global,
-    lines: &[Laid<'a>],
-    labels: &[Label<'a>],
-    known: &Known<'a>,
-    parts: &[Part],
-) -> Result<Symbols<'a>, AllocError>
-    requires few { length parts.now ≤ 4 }
-    requires parts { parts.now ≡ parts_of lines.now }
-    requires labels { labels.now ≡ labels_of lines.now }
-    requires known { (q : List ℕ) → about known.now q ≡ about_in lines.now q }
-    ensures list { IfOk result (λ s. s.list.items ≡ symbols_of lines.now) }
-    ensures numbers { IfOk result (λ s. Numbered s lines.now) }
+pub fn make_symbols<'a>(alloc: Global, kept: &Progress<'a>) -> Result<Symbols<'a>, AllocError>
+    requires { length kept.now.parts.items ≤ 4 }
+    ensures { IfOk result (λ s. Mentions s kept.now (fold (mentioned kept.now) [] kept.now.mentions.items)) }
 {
     let mut symbols = Symbols::new(alloc);
-    symbols.add_locals(alloc, labels, known, parts)?;
-    let names = mentions(alloc, lines)?;
-    symbols.mention_names(alloc, names.as_slice(), known, parts)?;
+    symbols.add_labels(kept)?;
+    symbols.add_mentions(kept)?;
     Ok(symbols)
 }
 
-/// The names that the lines mention, in order.
-fn mentions<'a>(alloc: Global, lines: &[Laid<'a>]) -> Result<Listed<Text<'a>>, AllocError>
-    ensures { IfOk result (λ names. names ≡ mentions_of lines.now) }
-{
-    let mut names = Vec::new(alloc);
-    for laid in lines {
-        if let Some(name) = &laid.line.label {
-            names.push(name.again())?;
-        }
-        put_names(&mut names, &laid.line.statement)?;
-    }
-    Ok(Listed::from_vec(names))
-}
-
-/// Appends the names that a statement mentions.
-fn put_names<'a>(names: &mut Vec<Text<'a>>, statement: &Statement<'a>) -> Result<(), AllocError>
-    ensures { OnOk result (names.new.items ≡ names.old.items ++ statement_names statement.now) }
-{
-    match statement {
-        Statement::Global(name) => names.push(name.again())?,
-        Statement::Bytes(_, block) => put_targets(names, block.marks.as_slice())?,
-        _ => (),
-    }
-    Ok(())
-}
-
-fn put_targets<'a>(names: &mut Vec<Text<'a>>, marks: &[Mark<'a>]) -> Result<(), AllocError>
-    ensures { OnOk result (names.new.items ≡ names.old.items ++ flat_map (λ m. target_names m.fix.target) marks.now) }
-{
-    for mark in marks {
-        if let Target::Named(name) = &mark.fix.target {
-            names.push(name.again())?;
-        }
-    }
-    Ok(())
-}
-
 /// Whether no directive makes the label GLOBAL.
-fn is_local<'a>(known: &Known<'a>, key: &Key<'a>) -> bool
-    ensures { result ≡ not (is_global_in known.now key.now) }
+fn is_local<'a>(globals: &Known<'a, ()>, key: &Key<'a>) -> bool
+    ensures { result ≡ not (is_global_in globals.now key.now) }
 {
     match key {
-        Key::Named(name) => !known.about(name.bytes()).global,
+        Key::Named(name) => globals.get(name.bytes()).is_none(),
         Key::Made(_) => true,
     }
 }
@@ -177,6 +118,7 @@ impl<'a> Symbols<'a> {
         ensures { Lists result [] [] }
     {
         Symbols {
+            alloc,
             list: Vec::new(alloc),
             numbers: Numbering::new(alloc),
         }
@@ -207,125 +149,89 @@ impl<'a> Symbols<'a> {
         Ok(count as u32 + 1)
     }
 
-    /// Appends a symbol, and keeps its number.
+    /// Appends a symbol, and keeps its number. Without a spot it is undefined.
     fn add(
         &mut self,
-        alloc: Global,
+        kept: &Progress<'a>,
         key: &Key<'a>,
         bind: Bind,
-        home: Home,
-        value: u32,
+        spot: Option<Spot>,
     ) -> Result<(), AllocError>
-        ensures { OnOk result ((keys : List KeyValue) → (list : List SymbolValue) → Lists self.old keys list → Lists self.new (keys ++ key.now ∷ []) (list ++ symbol_of key.now bind home value ∷ [])) }
+        requires { length kept.now.parts.items ≤ 4 }
+        ensures { OnOk result ((keys : List KeyValue) → (list : List SymbolValue) → Lists self.old keys list → Lists self.new (keys ++ key.now ∷ []) (list ++ symbol_in kept.now key.now bind spot ∷ [])) }
     {
         let number = self.next_number()?;
-        let name = key_name(alloc, key)?;
+        let name = key_name(self.alloc, key)?;
         self.list.push(Symbol {
             name,
             bind,
             sort: Sort::NoType,
-            home,
-            value: u64::from(value),
+            home: home(kept, spot),
+            value: value(spot),
             size: 0,
         })?;
         self.numbers.add(key, number)?;
         Ok(())
     }
 
-    fn add_locals(
-        &mut self,
-        alloc: Global,
-        labels: &[Label<'a>],
-        known: &Known<'a>,
-        parts: &[Part],
-    ) -> Result<(), AllocError>
-        requires few { length parts.now ≤ 4 }
-        requires none { Locals self.old parts.now known.now [] }
-        ensures { OnOk result (Locals self.new parts.now known.now labels.now) }
+    /// Appends the symbols of the labels that no directive makes GLOBAL.
+    fn add_labels(&mut self, kept: &Progress<'a>) -> Result<(), AllocError>
+        requires few { length kept.now.parts.items ≤ 4 }
+        requires none { Lists self.old [] [] }
+        ensures { OnOk result (Mentions self.new kept.now []) }
     {
-        for label in labels {
-            self.add_local(alloc, label, known, parts)?;
-        }
-        Ok(())
-    }
-
-    /// Appends the symbol of a label, where no directive makes it GLOBAL.
-    fn add_local(
-        &mut self,
-        alloc: Global,
-        label: &Label<'a>,
-        known: &Known<'a>,
-        parts: &[Part],
-    ) -> Result<(), AllocError>
-        requires { length parts.now ≤ 4 }
-        ensures { OnOk result ((before : List LabelValue) → Locals self.old parts.now known.now before → Locals self.new parts.now known.now (before ++ label.now ∷ [])) }
-    {
-        if is_local(known, &label.key) {
-            let home = Home::Inside(part_number(parts, label.part));
-            self.add(alloc, &label.key, Bind::Local, home, label.offset)?;
-        }
-        Ok(())
-    }
-
-    /// The names that are mentioned and no LOCAL label.
-    fn mention_names(
-        &mut self,
-        alloc: Global,
-        names: &[Text<'a>],
-        known: &Known<'a>,
-        parts: &[Part],
-    ) -> Result<(), AllocError>
-        requires { length parts.now ≤ 4 }
-        ensures { OnOk result ((locals : List KeyValue) → (list : List SymbolValue) → Mentions self.old parts.now known.now locals list [] → Mentions self.new parts.now known.now locals list (fold (mentioned locals) [] names.now)) }
-    {
-        for name in names {
-            self.mention(alloc, name, known, parts)?;
-        }
-        Ok(())
-    }
-
-    /// Whether the name has no symbol yet.
-    fn is_new(&self, name: &Text<'a>) -> bool
-        ensures { result ≡ not (is_some (number_of self.now.numbers (keys.Named name.now))) }
-    {
-        !self.numbers.get(&Key::Named(name.again())).is_some()
-    }
-
-    /// Adds a name as GLOBAL where it has no symbol yet.
-    fn mention(
-        &mut self,
-        alloc: Global,
-        name: &Text<'a>,
-        known: &Known<'a>,
-        parts: &[Part],
-    ) -> Result<(), AllocError>
-        requires { length parts.now ≤ 4 }
-        ensures { OnOk result ((locals : List KeyValue) → (list : List SymbolValue) → (names : List (List ℕ)) → Mentions self.old parts.now known.now locals list names → Mentions self.new parts.now known.now locals list (mentioned locals names name.now)) }
-    {
-        if self.is_new(name) {
-            let spot = known.about(name.bytes()).spot;
-            self.add_other(alloc, &Key::Named(name.again()), spot, parts)?;
-        }
-        Ok(())
-    }
-
-    /// Appends the GLOBAL symbol of a name: that of its label, or an undefined one.
-    fn add_other(
-        &mut self,
-        alloc: Global,
-        key: &Key<'a>,
-        spot: Option<Spot>,
-        parts: &[Part],
-    ) -> Result<(), AllocError>
-        requires { length parts.now ≤ 4 }
-        ensures { OnOk result ((keys : List KeyValue) → (list : List SymbolValue) → Lists self.old keys list → Lists self.new (keys ++ key.now ∷ []) (list ++ symbol_of key.now binds.Global (home_in parts.now spot) (option_map_or (λ s. s.offset) spot 0) ∷ [])) }
-    {
-        match spot {
-            Some(spot) => {
-                let home = Home::Inside(part_number(parts, spot.part));
-                self.add(alloc, key, Bind::Global, home, spot.offset)
+        for label in &kept.labels {
+            if is_local(&kept.globals, &label.key) {
+                let spot = Spot {
+                    part: label.part,
+                    offset: label.offset,
+                };
+                self.add(kept, &label.key, Bind::Local, Some(spot))?;
             }
-            None => self.add(alloc, key, Bind::Global, Home::Undef, 0),
         }
+        Ok(())
+    }
+
+    /// Appends the names that are mentioned and have no symbol yet.
+    fn add_mentions(&mut self, kept: &Progress<'a>) -> Result<(), AllocError>
+        requires few { length kept.now.parts.items ≤ 4 }
+        requires none { Mentions self.old kept.now [] }
+        ensures { OnOk result (Mentions self.new kept.now (fold (mentioned kept.now) [] kept.now.mentions.items)) }
+    {
+        for name in &kept.mentions {
+            self.add_mention(kept, name)?;
+        }
+        Ok(())
+    }
+
+    fn add_mention(&mut self, kept: &Progress<'a>, name: &Text<'a>) -> Result<(), AllocError>
+        requires { length kept.now.parts.items ≤ 4 }
+        ensures { OnOk result ((names : List (List ℕ)) → Mentions self.old kept.now names → Mentions self.new kept.now (mentioned kept.now names name.now)) }
+    {
+        let key = Key::Named(name.again());
+        if self.numbers.get(&key).is_none() {
+            let spot = kept.spots.get(name.bytes());
+            self.add(kept, &key, Bind::Global, spot)?;
+        }
+        Ok(())
+    }
+}
+
+fn home(kept: &Progress<'_>, spot: Option<Spot>) -> Home
+    requires { length kept.now.parts.items ≤ 4 }
+    ensures { result ≡ home_in kept.now.parts.items spot }
+{
+    match spot {
+        Some(spot) => Home::Inside(part_number(&kept.parts, spot.part)),
+        None => Home::Undef,
+    }
+}
+
+fn value(spot: Option<Spot>) -> u64
+    ensures { result ≡ option_map_or (λ s. s.offset) spot 0 }
+{
+    match spot {
+        Some(spot) => u64::from(spot.offset),
+        None => 0,
     }
 }

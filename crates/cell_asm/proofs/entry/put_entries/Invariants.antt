@@ -1,8 +1,9 @@
-use Rattle.std.proofs.Common.{◌≡◌, ◌++◌, take}
-use Rattle.std.specs.Prelude.{flat_map}
-use Rattle.cell_asm.specs.Numberings.{part_entries}
+use Rattle.std.proofs.Common.{◌≡◌, ◌++◌, map, take, filter}
+use Rattle.cell_asm.specs.Places.{is_at}
+use Rattle.cell_asm.specs.Numberings.{entry_kept}
 use Rattle.cell_asm.proofs.entry.put_entries.Given as goal
 
--- the entries of the sections so far
-abbrev pub invariant-loop-part : goal.invariant-loop-part
-invariant-loop-part l = l.entries.items ≡ l.initial.entries.items ++ flat_map (part_entries l.parts l.symbols l.lines) (take l.part-index l.parts)
+-- the entries so far
+abbrev pub invariant-loop-reference : goal.invariant-loop-reference
+invariant-loop-reference l =
+    l.entries.items ≡ l.initial.entries.items ++ map (entry_kept l.section l.symbols) (filter (λ r. is_at l.part r.part) (take l.reference-index l.kept.references.items))

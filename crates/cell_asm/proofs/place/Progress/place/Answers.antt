@@ -1,8 +1,15 @@
 use Rattle.std.proofs.Common.{◌≡◌, Ok, None, refl, sym, ap, subst, ◌∙◌, rules}
 use Rattle.cell_asm.specs.Places.{size_at}
+use Rattle.cell_asm.specs.Progress.{HasRoom}
 use Rattle.cell_asm.specs.Assembled.{placed_unless}
+use Rattle.cell_asm.proofs.AssembledFits.{placed_room}
 use Rattle.cell_asm.proofs.PlacingLemmas.{fault_is, laid_is, follows_more}
 use Rattle.cell_asm.proofs.place.Progress.place.Goals as goal
+
+pub add-requires-clause-room : goal.add-requires-clause-room
+add-requires-clause-room c =
+    let none : c.fault_at.result ≡ None = search rules in
+    subst HasRoom (sym c.laid-laid.ensures) (placed_room c.args.self.now c.args.number c.args.line (sym c.fault_at.ensures ∙ none) c.requires.inside)
 
 pub returns-in-Some-clause-line : goal.returns-in-Some-clause-line
 returns-in-Some-clause-line c = λ before follows.
@@ -11,11 +18,8 @@ returns-in-Some-clause-line c = λ before follows.
 pub returns-clause-line : goal.returns-clause-line
 returns-clause-line c = λ before follows.
     let none : c.fault_at.result ≡ None = search rules in
-    ap (placed_unless before c.args.number c.args.line) (sym (fault_is c.args.self.now before c.args.line follows) ∙ sym c.fault_at.ensures ∙ none)
-    ∙ ap Ok (sym (c.laid-laid.ensures ∙ laid_is c.args.self.now before c.args.number c.args.line follows))
-
-pub returns-clause-goes_on : goal.returns-clause-goes_on
-returns-clause-goes_on c = λ before follows.
-    follows_more c.args.self.now c.add.new.self before c.laid-laid.result follows
-    (subst (λ l. l.offset ≡ size_at l.part before) (sym (c.laid-laid.ensures ∙ laid_is c.args.self.now before c.args.number c.args.line follows)) refl)
-    c.in_ok-add.ensures.adds
+    let is = c.laid-laid.ensures ∙ laid_is c.args.self.now before c.args.number c.args.line follows in (
+      c.laid-laid.result,
+      ap (placed_unless before c.args.number c.args.line) (sym (fault_is c.args.self.now before c.args.line follows) ∙ sym c.fault_at.ensures ∙ none) ∙ ap Ok (sym is),
+      follows_more c.args.self.now c.add.new.self before c.laid-laid.result follows (subst (λ l. l.offset ≡ size_at l.part before) (sym is) refl) c.in_ok-add.ensures.adds,
+    )

@@ -1,7 +1,0 @@
-use Rattle.std.proofs.Common.{take}
-use Rattle.cell_asm.specs.Numberings.{Locals}
-use Rattle.cell_asm.proofs.symbol.Symbols.add_locals.Given as goal
-
--- the symbols of the labels so far
-abbrev pub invariant-loop-label : goal.invariant-loop-label
-invariant-loop-label l = Locals l.self l.parts l.known (take l.label-index l.labels)

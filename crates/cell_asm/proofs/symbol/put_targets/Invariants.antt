@@ -1,8 +1,0 @@
-use Rattle.std.proofs.Common.{◌≡◌, ◌++◌, take}
-use Rattle.std.specs.Prelude.{flat_map}
-use Rattle.cell_asm.specs.Objects.{target_names}
-use Rattle.cell_asm.proofs.symbol.put_targets.Given as goal
-
--- the names so far
-abbrev pub invariant-loop-mark : goal.invariant-loop-mark
-invariant-loop-mark l = l.names.items ≡ l.initial.names.items ++ flat_map (λ m. target_names m.fix.target) (take l.mark-index l.marks)
