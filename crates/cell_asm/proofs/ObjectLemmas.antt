@@ -67,18 +67,6 @@ few lines parts e = subst (λ ps. length ps ≤ 4) (sym e) (length-le_from_is_me
 
 -- BYTES
 
-by_suc : (bs : List ℕ) (k j n : ℕ) → k ≡ suc j → bs ++ bytes_of k n ≡ (bs ++ n % 256 ∷ []) ++ bytes_of j (n / 256)
-by_suc bs k j n e = ap (λ m. bs ++ bytes_of m n) e ∙ sym (append_assoc bs (n % 256 ∷ []) (bytes_of j (n / 256)))
-
--- one byte more of a number
-pub number_more : (bs : List ℕ) (width i n : ℕ) → i < width → bs ++ bytes_of (width - i) n ≡ (bs ++ n % 256 ∷ []) ++ bytes_of (width - (i + 1)) (n / 256)
-number_more bs width i n lt = by_suc bs (width - i) (width - (i + 1)) n (omega arith)
-
-pub number_end : (bs : List ℕ) (width i n : ℕ) → width ≤ i → bs ++ bytes_of (width - i) n ≡ bs
-number_end bs width i n h = let none : width - i ≡ 0 = omega arith in rw none (append-nil bs)
-
-pub ruleset numbers = (number_more, number_end)
-
 same_suc : {X : Type 0} (x : X) (i : ℕ) → replicate (suc i) x ≡ replicate i x ++ x ∷ []
 same_suc x zero = refl
 same_suc x (suc i) = ap (λ xs. x ∷ xs) (same_suc x i)

@@ -9,7 +9,8 @@ ghost use Rattle.cell_asm.specs.Numberings.{section_kept};
 ghost use Rattle.cell_asm.specs.Objects.{adds_choice, number_in, part_name as name_of, fill_of as fill_with, may_write as writes, alignment_asked as alignment_wanted, padding};
 ghost use Rattle.cell_asm.specs.declared.statement.Part.{Part as PartValue};
 
-use crate::statement::{Laid, Part, Statement, put_number};
+use crate::statement::{Laid, Part, Statement};
+use cell_image::put_number;
 use cell_num::{Bytes, Listed};
 use cell_object::{Fill, Section};
 use std::alloc::{AllocError, Global};
@@ -307,7 +308,7 @@ fn put_nops(bytes: &mut Vec<u8>, count: u32) -> Result<(), AllocError>
     ensures { OnOk result (bytes.new.items ≡ bytes.old.items ++ flat_map (λ word. bytes_of 4 word) (replicate count 0x13)) }
 {
     for _ in 0..count {
-        put_number(bytes, 4, NOP)?;
+        put_number(NOP, 4, bytes)?;
     }
     Ok(())
 }

@@ -1,10 +1,10 @@
 //! What a line says.
 
 ghost use Rattle.std.specs.Prelude.{◌≡◌, [], ◌++◌, length, OnOk};
-ghost use Rattle.cell_num.specs.Bits.{bytes_of};
 ghost use Rattle.cell_asm.specs.Blocks.{marks_at, appended, empty, drafted};
 
 use crate::text::Text;
+use cell_image::put_number;
 use cell_num::{Listed, RelKind};
 use std::alloc::{AllocError, Global};
 
@@ -113,7 +113,7 @@ impl<'a> Draft<'a> {
     {
         self.mark(piece.fix)?;
         self.mark(piece.second)?;
-        put_number(&mut self.bytes, piece.width, piece.value)
+        put_number(piece.value, piece.width, &mut self.bytes)
     }
 
     /// Adds an entry behind the bytes.
@@ -136,19 +136,6 @@ impl<'a> Draft<'a> {
             marks: Listed::from_vec(self.marks),
         }
     }
-}
-
-/// Appends so many bytes of a number, the lowest first.
-#[tactic(auto, using(crate::proofs::ObjectLemmas::numbers))]
-pub fn put_number(bytes: &mut Vec<u8>, width: u8, value: u64) -> Result<(), AllocError>
-    ensures { OnOk result (bytes.new.items ≡ bytes.old.items ++ bytes_of width value) }
-{
-    let mut rest = value;
-    for _ in 0..width {
-        bytes.push((rest % 256) as u8)?;
-        rest /= 256;
-    }
-    Ok(())
 }
 
 /// A line and where it stands: its number, the section chosen before it, how many bytes that section
