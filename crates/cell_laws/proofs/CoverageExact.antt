@@ -15,7 +15,7 @@ use Rattle.cell_world.specs.World.{Attached, Cell, Detached, Standing, World, is
 use Rattle.cell_lemmas.proofs.Attach.{Grows}
 use Rattle.cell_num.proofs.Elements.{all-In, filter_all, filter_none, some_has}
 use Rattle.cell_lemmas.proofs.Gathered.{Extends, Ranks}
-use Rattle.cell_lemmas.proofs.Known.{known_parts}
+use Rattle.cell_lemmas.proofs.Known.{known_parts, named}
 use Rattle.cell_lemmas.proofs.LoadCoherent.{fresh_is}
 use Rattle.cell_lemmas.proofs.Ready.{IsBase}
 use Rattle.cell_lemmas.proofs.Detached.{other_provider, without}
@@ -126,7 +126,7 @@ module _ (sources : List Source) (sound : AreSound sources) (v : World) (h : IsC
     found =
         provider_both (set_aside v wants) w grows c.ns there name c.standing
         ∙ ap₂ (λ (o n : Option Provider). or_else o n)
-        (other_provider v h (suc v.swaps) old (new_group v h) (wanted_attached v h sources wants all) c.ns there name c.standing (new_group v h c i))
+        (other_provider v (named v h) (suc v.swaps) old (new_group v h) (wanted_attached v h sources wants all) c.ns name c.standing (new_group v h c i))
         (ap (first_provider (chain v.namespaces c.ns) name) (sym new_are))
 
     pub lost_exactly : (is_none (provider_of w c name) ≡ true) ↔ IsLost v old (fresh_cells v.next_cell w) c name

@@ -24,7 +24,6 @@ use Rattle.cell_world.specs.Coherent.{AreSound, IsCoherent}
 use Rattle.cell_lemmas.specs.Grown.{HasAttached}
 use Rattle.cell_lemmas.proofs.Appended.{ok_same}
 use Rattle.cell_num.proofs.Elements.{In-All, All-In, In-left, In-map, In-filtered}
-use Rattle.cell_lemmas.proofs.Inside.{ready_linkable}
 use Rattle.cell_lemmas.proofs.LoadGrown.{load_attached}
 use Rattle.cell_lemmas.proofs.NamespaceAdded.{Added, ns_ok}
 use Rattle.cell_lemmas.proofs.NextCoherent.{dump_same, find_same, map_same}
@@ -39,7 +38,7 @@ use Rattle.cell_laws.specs.Commands.{HasItems, IsNoSwap}
 use Rattle.cell_laws.specs.KeepsTargets.{KeepsTargets}
 use Rattle.cell_laws.proofs.NextCoherent.{deps_same, users_same, outcome_coherent}
 use Rattle.cell_lemmas.proofs.Settled.{found_now, mapped_same}
-use Rattle.cell_lemmas.proofs.Steps.{attached_targets}
+use Rattle.cell_lemmas.proofs.FreshLinks.{grows}
 use Rattle.cell_lemmas.proofs.SwapReady.{one_number}
 
 module _ (w u : World) (h : IsCoherent w) (k : IsCoherent u) where
@@ -88,10 +87,9 @@ module _ (sources : List Source) (w : World) (h : IsCoherent w) (d : Done) (k : 
       let f = then_ok (refused_by (first_misfit p.0 (fresh_cells w.next_cell p.0))) _ d p.2 in
       let is = ap (λ (x : Done). x.world) (ok_same _ d f.2) in
       let a : HasAttached w p.0 (fresh_cells w.next_cell p.0) = load_attached sources w name stem a.0 b.0 sound h.ready a.1 b.1 p.0 p.1 in
-      let targets = attached_targets w p.0 (fresh_cells w.next_cell p.0) (ready_linkable w h.ready) a in
       kept_by w d.world h k (λ c i s. subst (λ (v : World). In c v.cells) is (subst (λ (cs : List Cell). In c cs) (sym a.cells) (In-left w.cells (fresh_cells w.next_cell p.0) c i)))
       (λ c i j x m. subst (λ (v : World). target_of v c x ≡ target_of w c x) is
-      (All-In (λ (y : Entry). target_of p.0 c y ≡ target_of w c y) c.object.entries (All-In (λ (c : Cell). All (λ (y : Entry). target_of p.0 c y ≡ target_of w c y) c.object.entries) w.cells targets c i) x m))
+      (same_target w p.0 (grows w p.0 (fresh_cells w.next_cell p.0) a) h.ready.cell_order h.ready.cells h.ready.objects h.ready.supplied c i x m))
 
   by_spawn : (name symbol : List ℕ) (arg : ℕ) → next_spawn w name symbol arg ≡ Ok d → KeepsTargets w d.world
   by_spawn name symbol arg e =

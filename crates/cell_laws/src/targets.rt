@@ -1,6 +1,6 @@
 //! Which targets change: what attaching, detaching and removing cells does to them, and what each command may.
 
-ghost use Rattle.std.specs.Prelude.{ℕ, ◌≡◌, ◌<◌, IsTrue, List, All, Ok, length, suc, false, Bool};
+ghost use Rattle.std.specs.Prelude.{ℕ, ◌≡◌, ◌<◌, IsTrue, List, Some, All, Ok, length, false, Bool};
 ghost use Rattle.cell_num.specs.Lists.{holds};
 ghost use Rattle.cell_object.specs.declared.object.Entry.{Entry};
 ghost use Rattle.cell_world.specs.Answer.{Done, numbers_of};
@@ -14,11 +14,12 @@ ghost use Rattle.cell_world.specs.SwapCommand.{Plan, Wanted, all_wanted, old_num
 ghost use Rattle.cell_world.specs.Target.{target_of};
 ghost use Rattle.cell_world.specs.UnloadCommand.{next_purge, next_unload, put_aside, detach};
 ghost use Rattle.cell_world.specs.World.{Cell, World, is_attached};
+ghost use Rattle.cell_world.specs.declared.state.Target.{Target};
 ghost use Rattle.cell_world.specs.declared.command.CellName.{CellName};
 ghost use Rattle.cell_world.specs.declared.command.Command.{Command};
 ghost use Rattle.cell_world.specs.declared.command.SwapItem.{SwapItem};
 ghost use Rattle.cell_lemmas.specs.Grown.{HasAttached};
-ghost use Rattle.cell_lemmas.specs.Linkable.{IsLinkable};
+ghost use Rattle.cell_lemmas.specs.Named.{IsNamed, IsNewGroup};
 ghost use Rattle.cell_lemmas.specs.Left.{LeavesTargets};
 ghost use Rattle.cell_lemmas.specs.Swapping.{HasSwapped};
 ghost use Rattle.cell_lemmas.specs.Targets.{FollowsTargets, loses, replaced_fields, without_in};
@@ -31,18 +32,19 @@ pub fn namespaces_only_add()
     ensures providers { (w : World) (name : List ℕ) (parent : List ℕ) (d : Done) → IsCoherent w → next_ns w name parent ≡ Ok d → All (λ c. (symbol : List ℕ) → provider_of d.world c symbol ≡ provider_of w c symbol) w.cells }
 {}
 
-/// Cells that are attached behind the others change no target that an entry has.
+/// Cells that are attached behind the others change no target that an entry has, in whatever machine.
 pub fn attaching_keeps_targets()
-    ensures { (v : World) (w : World) (new : List Cell) → IsLinkable v → HasAttached v w new →
-        All (λ c. All (λ e. target_of w c e ≡ target_of v c e) c.object.entries) v.cells }
+    ensures { (v : World) (w : World) (new : List Cell) → HasAttached v w new →
+        (c : Cell) (e : Entry) (t : Target) → target_of v c e ≡ Some t → target_of w c e ≡ Some t }
 {}
 
-/// Attached cells that are put aside as a new group keep their own targets, and all other entries lose exactly those that are in them.
+/// Attached cells that are put aside as a new group keep their own targets, and all other entries lose exactly those that are
+/// in them. The rule of names alone has to hold: a provider is told by the name then, and not by the order of cells.
 pub fn detaching_loses_targets()
-    ensures own { (w : World) (ns : List ℕ) → IsCoherent w → All (λ c. IsTrue (holds ns c.id.0) → IsTrue (is_attached c.standing)) w.cells →
-        All (λ c. IsTrue (holds ns c.id.0) → (e : Entry) → target_of (detach (suc w.swaps) ns w) (put_aside (suc w.swaps) ns c) e ≡ target_of w c e) w.cells }
-    ensures others { (w : World) (ns : List ℕ) → IsCoherent w → All (λ c. IsTrue (holds ns c.id.0) → IsTrue (is_attached c.standing)) w.cells →
-        All (λ c. holds ns c.id.0 ≡ false → (e : Entry) → target_of (detach (suc w.swaps) ns w) c e ≡ without_in ns (target_of w c e)) w.cells }
+    ensures own { (w : World) (k : ℕ) (ns : List ℕ) → IsNamed w → IsNewGroup k w → All (λ c. IsTrue (holds ns c.id.0) → IsTrue (is_attached c.standing)) w.cells →
+        All (λ c. IsTrue (holds ns c.id.0) → (e : Entry) → target_of (detach k ns w) (put_aside k ns c) e ≡ target_of w c e) w.cells }
+    ensures others { (w : World) (k : ℕ) (ns : List ℕ) → IsNamed w → IsNewGroup k w → All (λ c. IsTrue (holds ns c.id.0) → IsTrue (is_attached c.standing)) w.cells →
+        All (λ c. holds ns c.id.0 ≡ false → (e : Entry) → target_of (detach k ns w) c e ≡ without_in ns (target_of w c e)) w.cells }
 {}
 
 /// Removing cells changes no target of a cell that stays: neither `unload` and `purge`, nor the end of a swap, after its routines.

@@ -70,9 +70,9 @@ module _ (w w' : World) (g : Grows w w') where
   pub cell_grown : (n : ℕ) (c : Cell) → cell_of w n ≡ Some c → cell_of w' n ≡ Some c
   cell_grown n c e = subst (λ cs. find (λ c. c.id.0 == n) cs ≡ Some c) (sym g.cells) (find_more (λ c. c.id.0 == n) w.cells g.new c e)
 
-  attached_grown : (ns : ℕ) (there : nat_lt ns (length w.namespaces) ≡ true) (name : List ℕ) (p : Provider) → attached_provider w ns name ≡ Some p → attached_provider w' ns name ≡ Some p
-  attached_grown ns there name p e =
-      subst (λ sp. first_provider sp name (filter (λ c. is_attached c.standing) w'.cells) ≡ Some p) (sym (g.spaces ns there))
+  attached_grown : (ns : ℕ) (same : chain w'.namespaces ns ≡ chain w.namespaces ns) (name : List ℕ) (p : Provider) → attached_provider w ns name ≡ Some p → attached_provider w' ns name ≡ Some p
+  attached_grown ns same name p e =
+      subst (λ sp. first_provider sp name (filter (λ c. is_attached c.standing) w'.cells) ≡ Some p) (sym same)
       (subst (λ cs. first_provider (chain w.namespaces ns) name (filter (λ c. is_attached c.standing) cs) ≡ Some p) (sym g.cells)
       (subst (λ cs. first_provider (chain w.namespaces ns) name cs ≡ Some p) (sym (filter-append (λ c. is_attached c.standing) w.cells g.new))
       (first_provider_more (chain w.namespaces ns) name (filter (λ c. is_attached c.standing) w.cells) _ p e)))
@@ -82,30 +82,36 @@ module _ (w w' : World) (g : Grows w w') where
       subst (λ cs. filter (λ c. is_of_group k c.standing) cs ≡ filter (λ c. is_of_group k c.standing) w.cells) (sym g.cells)
       (filter-append (λ c. is_of_group k c.standing) w.cells g.new ∙ append_none _ _ (no_group k g.new g.attached))
 
-  pub provider_grown : (s : Standing) (ns : ℕ) (there : nat_lt ns (length w.namespaces) ≡ true) (name : List ℕ) (p : Provider) → provider_for w s ns name ≡ Some p → provider_for w' s ns name ≡ Some p
-  provider_grown Attached ns there name p e = attached_grown ns there name p e
-  provider_grown (Detached k) ns there name p e =
+  provider_more : (s : Standing) (ns : ℕ) (same : chain w'.namespaces ns ≡ chain w.namespaces ns) (name : List ℕ) (p : Provider) → provider_for w s ns name ≡ Some p → provider_for w' s ns name ≡ Some p
+  provider_more Attached ns same name p e = attached_grown ns same name p e
+  provider_more (Detached k) ns same name p e =
       subst (λ cs. or_else (first_provider (chain w'.namespaces ns) name cs) (attached_provider w' ns name) ≡ Some p) (sym (same_group k))
-      (subst (λ sp. or_else (first_provider sp name (filter (λ c. is_of_group k c.standing) w.cells)) (attached_provider w' ns name) ≡ Some p) (sym (g.spaces ns there))
-      (or_else_more (first_provider (chain w.namespaces ns) name (filter (λ c. is_of_group k c.standing) w.cells)) _ _ p (attached_grown ns there name p) e))
+      (subst (λ sp. or_else (first_provider sp name (filter (λ c. is_of_group k c.standing) w.cells)) (attached_provider w' ns name) ≡ Some p) (sym same)
+      (or_else_more (first_provider (chain w.namespaces ns) name (filter (λ c. is_of_group k c.standing) w.cells)) _ _ p (attached_grown ns same name p) e))
 
   pub provided_grown : (p : Provider) (t : Target) → provided_target w p ≡ Some t → provided_target w' p ≡ Some t
   provided_grown p t e = and_then_more _ _ (cell_of w p.cell) (cell_of w' p.cell) t (cell_grown p.cell) (λ c h. h) e
 
-  symbol_grown : (c : Cell) (there : nat_lt c.ns (length w.namespaces) ≡ true) (s : Symbol) (home : Home) (t : Target) → symbol_target w c s home ≡ Some t → symbol_target w' c s home ≡ Some t
-  symbol_grown c there s Undef t e = go (is_global s.bind) e
+  symbol_grown : (c : Cell) (same : chain w'.namespaces c.ns ≡ chain w.namespaces c.ns) (s : Symbol) (home : Home) (t : Target) → symbol_target w c s home ≡ Some t → symbol_target w' c s home ≡ Some t
+  symbol_grown c same s Undef t e = go (is_global s.bind) e
     where
       go : (b : Bool) → cond b (option_and_then (provided_target w) (provider_of w c s.name)) None ≡ Some t → cond b (option_and_then (provided_target w') (provider_of w' c s.name)) None ≡ Some t
-      go true k = and_then_more (provided_target w) (provided_target w') (provider_of w c s.name) (provider_of w' c s.name) t (provider_grown c.standing c.ns there s.name) (λ p. provided_grown p t) k
+      go true k = and_then_more (provided_target w) (provided_target w') (provider_of w c s.name) (provider_of w' c s.name) t (provider_more c.standing c.ns same s.name) (λ p. provided_grown p t) k
       go false k = cc
-  symbol_grown c there s Abs t e = e
-  symbol_grown c there s (Inside n) t e = e
-  symbol_grown c there s Elsewhere t e = e
+  symbol_grown c same s Abs t e = e
+  symbol_grown c same s (Inside n) t e = e
+  symbol_grown c same s Elsewhere t e = e
 
-  numbered_grown : (c : Cell) (there : nat_lt c.ns (length w.namespaces) ≡ true) (n : ℕ) (t : Target) → numbered_target w c n ≡ Some t → numbered_target w' c n ≡ Some t
-  numbered_grown c there zero t e = e
-  numbered_grown c there (suc n) t e = and_then_more (λ s. symbol_target w c s s.home) (λ s. symbol_target w' c s s.home) (slice_get c.object.symbols n) (slice_get c.object.symbols n) t (λ s h. h) (λ s. symbol_grown c there s s.home t) e
+  numbered_grown : (c : Cell) (same : chain w'.namespaces c.ns ≡ chain w.namespaces c.ns) (n : ℕ) (t : Target) → numbered_target w c n ≡ Some t → numbered_target w' c n ≡ Some t
+  numbered_grown c same zero t e = e
+  numbered_grown c same (suc n) t e = and_then_more (λ s. symbol_target w c s s.home) (λ s. symbol_target w' c s s.home) (slice_get c.object.symbols n) (slice_get c.object.symbols n) t (λ s h. h) (λ s. symbol_grown c same s s.home t) e
 
-  -- an entry that has a target keeps it
+  -- an entry that has a target keeps it, where its cell's chain is the one that it was
+  pub target_more : (c : Cell) (same : chain w'.namespaces c.ns ≡ chain w.namespaces c.ns) (e : Entry) (t : Target) → target_of w c e ≡ Some t → target_of w' c e ≡ Some t
+  target_more c same e t h = and_then_more (λ n. numbered_target w c n.symbol) (λ n. numbered_target w' c n.symbol) (naming_entry c.object e) (naming_entry c.object e) t (λ n k. k) (λ n. numbered_grown c same n.symbol t) h
+
+  pub provider_grown : (s : Standing) (ns : ℕ) (there : nat_lt ns (length w.namespaces) ≡ true) (name : List ℕ) (p : Provider) → provider_for w s ns name ≡ Some p → provider_for w' s ns name ≡ Some p
+  provider_grown s ns there = provider_more s ns (g.spaces ns there)
+
   pub target_grown : (c : Cell) (there : nat_lt c.ns (length w.namespaces) ≡ true) (e : Entry) (t : Target) → target_of w c e ≡ Some t → target_of w' c e ≡ Some t
-  target_grown c there e t h = and_then_more (λ n. numbered_target w c n.symbol) (λ n. numbered_target w' c n.symbol) (naming_entry c.object e) (naming_entry c.object e) t (λ n k. k) (λ n. numbered_grown c there n.symbol t) h
+  target_grown c there = target_more c (g.spaces c.ns there)

@@ -1,26 +1,24 @@
 -- Once some attached cells are put aside and others may have come, a cell without a link into one of these lacks nothing. So
 -- the cells with such a link are enough to look at.
-use Rattle.std.proofs.Common.{◌≡◌, refl, sym, ◌∙◌, ap, subst, ℕ, suc, ◌⊎◌, inl, inr, Bool, true, false, cond, not, List, [], ◌∷◌, map, length, Option, Some, None, true≢false}
-use Rattle.std.specs.Prelude.{filter, filter_map, is_some, is_none, nat_lt, option_and_then}
+use Rattle.std.proofs.Common.{◌≡◌, refl, ◌∙◌, ap, subst, ℕ, suc, inl, inr, Bool, true, false, cond, List, [], ◌∷◌, map, length, Option, Some, None}
+use Rattle.std.specs.Prelude.{filter, filter_map, is_some, is_none, nat_lt}
 use Rattle.std.specs.List.{list_any}
 use Rattle.cell_num.specs.Lists.{first, holds, numbered, or_else, In}
-use Rattle.cell_num.specs.declared.ids.SecKey.{SecKey}
 use Rattle.cell_object.specs.declared.object.Entry.{Entry}
 use Rattle.cell_world.specs.declared.state.LinkRow.{LinkRow}
-use Rattle.cell_world.specs.declared.state.Target.{Target}
 use Rattle.cell_world.specs.World.{World, Cell, is_attached, key_of}
 use Rattle.cell_world.specs.Names.{Provider, needs_of, provider_of}
-use Rattle.cell_world.specs.Target.{provided_target, target_of}
+use Rattle.cell_world.specs.Target.{target_of}
 use Rattle.cell_world.specs.Relink.{link_of, link_to}
 use Rattle.cell_world.specs.Gather.{Need, first_lack, lacks_of}
 use Rattle.cell_world.specs.Coherent.{IsCoherent, is_known_cell, is_supplied}
 use Rattle.cell_num.proofs.Elements.{all-In, none-In, some_has, filter_none}
 use Rattle.cell_lemmas.proofs.Attach.{Grows, provider_grown}
-use Rattle.cell_lemmas.proofs.Known.{known_parts}
+use Rattle.cell_lemmas.proofs.Known.{known_parts, named}
 use Rattle.cell_lemmas.proofs.NeedsLeft.{Names, need_named, target_is}
 use Rattle.cell_lemmas.proofs.Lookups.{filter_map-In, has_place}
 use Rattle.cell_lemmas.proofs.TargetsLeft.{IsFree, provider_free}
-use Rattle.cell_lemmas.proofs.Detached.{put, put_same, put_out, without, other_provider}
+use Rattle.cell_lemmas.proofs.Detached.{without, other_provider}
 use Rattle.cell_lemmas.proofs.SetAside.{aside}
 use Rattle.cell_lemmas.proofs.SwapReady.{new_group}
 
@@ -54,7 +52,7 @@ module _ (v : World) (h : IsCoherent v) (old : List ℕ)
     still : (name : List ℕ) (j : In name (needs_of c.object)) → provider_of base c name ≡ Some (had name j).0
     still name j =
         let q = had name j in
-        other_provider v h (suc v.swaps) old (new_group v h) set_attached c.ns there name c.standing (new_group v h c i)
+        other_provider v (named v h) (suc v.swaps) old (new_group v h) set_attached c.ns name c.standing (new_group v h c i)
         ∙ (ap (without old) q.1 ∙ ap (λ b. cond b None (Some q.0)) (provider_apart name j q.0 q.1))
 
     pub lacks_nothing : (w : World) → Grows base w → (name : List ℕ) → In name (needs_of c.object) → is_none (provider_of w c name) ≡ false

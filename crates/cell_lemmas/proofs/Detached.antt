@@ -1,7 +1,7 @@
 -- Attached cells that are put aside as a new group name what they named; others lose what they named in them, and no more.
-use Rattle.std.proofs.Common.{◌≡◌, refl, sym, ◌∙◌, ap, subst, ℕ, zero, suc, inl, inr, Bool, true, false, cond, List, [], ◌∷◌, map, length, true≢false, Option, Some, None}
-use Rattle.std.specs.Prelude.{filter, filter_map, find, option_map, option_and_then, slice_get, nat_lt, ◌==◌}
-use Rattle.std.proofs.lemmas.Bool.{eqb-true, eq-eqb, ltb-true, and_parts}
+use Rattle.std.proofs.Common.{◌≡◌, refl, sym, ◌∙◌, ap, subst, ℕ, zero, suc, inl, inr, Bool, true, false, cond, List, [], ◌∷◌, map, true≢false, Option, Some, None}
+use Rattle.std.specs.Prelude.{filter, filter_map, find, option_map, option_and_then, slice_get, ◌==◌}
+use Rattle.std.proofs.lemmas.Bool.{eqb-true, eq-eqb}
 use Rattle.cell_num.specs.Lists.{holds, or_else, In}
 use Rattle.cell_object.specs.declared.object.Symbol.{Symbol}
 use Rattle.cell_object.specs.declared.object.Entry.{Entry}
@@ -13,10 +13,8 @@ use Rattle.cell_world.specs.World.{World, Cell, Standing, Attached, Detached, is
 use Rattle.cell_world.specs.Names.{Provider, chain, symbol_named, first_provider, attached_provider, provider_for, provider_of}
 use Rattle.cell_world.specs.Target.{own_target, provided_target, symbol_target, numbered_target, naming_entry, target_of}
 use Rattle.cell_world.specs.UnloadCommand.{put_aside, detach}
-use Rattle.cell_world.specs.Coherent.{IsCoherent, is_known_cell}
-use Rattle.cell_num.proofs.Elements.{all-In, In-map, map-In, filter-In, In-filtered, filter-Passes, first-In, first_has}
-use Rattle.cell_lemmas.proofs.Known.{known_parts}
-use Rattle.cell_lemmas.proofs.Chains.{Lower, lower_parents}
+use Rattle.cell_lemmas.specs.Named.{IsNamed}
+use Rattle.cell_num.proofs.Elements.{In-map, map-In, filter-In, In-filtered, filter-Passes, first-In, first_has}
 use Rattle.cell_lemmas.proofs.Targets.{provides}
 use Rattle.cell_lemmas.proofs.Present.{In-filter_map}
 use Rattle.cell_lemmas.proofs.Lookups.{filter_map-In}
@@ -76,14 +74,11 @@ module _ (k : ℕ) (ns : List ℕ) where
   pub put_in : (c : Cell) → holds ns c.id.0 ≡ true → put c ≡ record c { standing = Detached k }
   put_in c e = ap (λ b. cond b (record c { standing = Detached k }) c) e
 
-module _ (w : World) (h : IsCoherent w) (k : ℕ) (ns : List ℕ)
+module _ (w : World) (h : IsNamed w) (k : ℕ) (ns : List ℕ)
     (new_group : (c : Cell) → In c w.cells → is_of_group k c.standing ≡ false)
     (all_attached : (c : Cell) → In c w.cells → holds ns c.id.0 ≡ true → is_attached c.standing ≡ true) where
   abbrev aside : World
   aside = detach k ns w
-
-  lower : Lower w.namespaces
-  lower = lower_parents w.namespaces (and_parts _ _ h.ready.spaces).1
 
   -- a cell that is put aside, or isn't attached any more
   put_group : (c : Cell) → In c w.cells → is_of_group k (put k ns c).standing ≡ true → holds ns c.id.0 ≡ true
@@ -100,15 +95,15 @@ module _ (w : World) (h : IsCoherent w) (k : ℕ) (ns : List ℕ)
       go true q = absurd (true≢false (sym e ∙ ap (λ (x : Cell). is_attached x.standing) (put_in k ns c q)))
       go false q = (refl, sym (ap (λ (x : Cell). is_attached x.standing) (put_out k ns c q)) ∙ e)
 
-  module _ (m : ℕ) (there : nat_lt m (length w.namespaces) ≡ true) (name : List ℕ) where
+  module _ (m : ℕ) (name : List ℕ) where
     abbrev spaces : List ℕ
     spaces = chain w.namespaces m
 
     abbrev Fits : Cell → Type 0
-    Fits c = Candidate w h.ready.names lower m (ltb-true m (length w.namespaces) there) name c
+    Fits c = Candidate w h.names m name c
 
     one : (c d : Cell) → Fits c → Fits d → c ≡ d
-    one = one_candidate w h.ready.names lower m (ltb-true m (length w.namespaces) there) name
+    one = one_candidate w h.names m name
 
     -- a cell of w that gives a provider of the machine with cells put aside
     record Gives (test : Standing → Bool) (p : Provider) : Type 0 where
@@ -318,14 +313,11 @@ module _ (w : World) (h : IsCoherent w) (k : ℕ) (ns : List ℕ)
   attached_is (Detached l) e = absurd (true≢false (sym e))
 
   module _ (c : Cell) (i : In c w.cells) where
-    range : nat_lt c.ns (length w.namespaces) ≡ true
-    range = (known_parts w c (all-In (is_known_cell w) w.cells h.ready.cells c i)).ns
-
     -- the set's own needs
     pub own_needs : holds ns c.id.0 ≡ true → (name : List ℕ) → provider_of aside (put k ns c) name ≡ provider_of w c name
     own_needs in_set name =
         ap (λ (x : Cell). provider_of aside x name) (put_in k ns c in_set)
-        ∙ (own_provider c.ns range name ∙ ap (λ (x : Standing). provider_for w x c.ns name) (sym (attached_is c.standing (all_attached c i in_set))))
+        ∙ (own_provider c.ns name ∙ ap (λ (x : Standing). provider_for w x c.ns name) (sym (attached_is c.standing (all_attached c i in_set))))
 
     -- the set's own entries
     module _ (in_set : holds ns c.id.0 ≡ true) where
@@ -337,7 +329,7 @@ module _ (w : World) (h : IsCoherent w) (k : ℕ) (ns : List ℕ)
       own_symbol s (Inside n) = refl
       own_symbol s Elsewhere = refl
       own_symbol s Undef = ap (λ (o : Option Target). cond (is_global s.bind) o None)
-          (ap (option_and_then (provided_target aside)) (own_provider c.ns range s.name ∙ ap (λ (x : Standing). provider_for w x c.ns s.name) (sym (attached_is c.standing (all_attached c i in_set))))
+          (ap (option_and_then (provided_target aside)) (own_provider c.ns s.name ∙ ap (λ (x : Standing). provider_for w x c.ns s.name) (sym (attached_is c.standing (all_attached c i in_set))))
           ∙ go (provider_of w c s.name))
         where
           go : (o : Option Provider) → option_and_then (provided_target aside) o ≡ option_and_then (provided_target w) o
@@ -382,7 +374,7 @@ module _ (w : World) (h : IsCoherent w) (k : ℕ) (ns : List ℕ)
       lost_symbol s Undef = go (is_global s.bind)
         where
           go : (b : Bool) → cond b (option_and_then (provided_target aside) (provider_of aside c s.name)) None ≡ without_in ns (cond b (option_and_then (provided_target w) (provider_of w c s.name)) None)
-          go true = ap (option_and_then (provided_target aside)) (other_provider c.ns range s.name c.standing (new_group c i)) ∙ lost_provided s.name (provider_of w c s.name) refl
+          go true = ap (option_and_then (provided_target aside)) (other_provider c.ns s.name c.standing (new_group c i)) ∙ lost_provided s.name (provider_of w c s.name) refl
           go false = refl
 
       lost_numbered : (n : ℕ) → numbered_target aside c n ≡ without_in ns (numbered_target w c n)

@@ -1,17 +1,13 @@
 -- What is known of each cell of a coherent world, part by part.
-use Rattle.std.proofs.Common.{◌≡◌, Bool, true, ◌&&◌, length}
-use Rattle.std.specs.Prelude.{All, nat_lt, ◌==◌}
-use Rattle.std.specs.List.{list_any, list_all}
+use Rattle.std.proofs.Common.{◌≡◌, true, ◌&&◌, length}
+use Rattle.std.specs.Prelude.{All, nat_lt}
 use Rattle.std.proofs.lemmas.Bool.{and_parts, and_from}
 use Rattle.cell_object.specs.Sound.{IsSoundObject}
 use Rattle.cell_world.specs.World.{World, Cell}
-use Rattle.cell_world.specs.Names.{definitions_of}
-use Rattle.cell_world.specs.Coherent.{IsLoadable, is_known_cell, is_sound_standing}
+use Rattle.cell_world.specs.Coherent.{IsCoherent, IsLoadable, is_known_cell, is_sound_standing}
+use Rattle.cell_lemmas.specs.Named.{IsNamed, has_own_aliases}
 use Rattle.cell_num.specs.Lists.{In}
-use Rattle.cell_num.proofs.Elements.{All-In}
-
-abbrev pub has_own_aliases : Cell → Bool
-has_own_aliases c = list_all (λ a. list_any (λ d. d.symbol == a.symbol) (definitions_of c.object)) c.aliases
+use Rattle.cell_num.proofs.Elements.{All-In, all-In, In-all}
 
 pub record KnownParts (w : World) (c : Cell) : Type 0 where
   pub number : nat_lt c.id.0 w.next_cell ≡ true
@@ -31,3 +27,11 @@ known_from w c k = and_from _ (has_own_aliases c) (and_from _ (is_sound_standing
 
 pub object_sound : (w : World) → All (λ c. IsLoadable c.object) w.cells → (c : Cell) → In c w.cells → IsSoundObject c.object
 object_sound w objects c k = (All-In (λ (c : Cell). IsLoadable c.object) w.cells objects c k).sound
+
+-- a coherent machine keeps the rule of names
+pub named : (w : World) → IsCoherent w → IsNamed w
+named w h = record {
+  cell_order = h.ready.cell_order;
+  names = h.ready.names;
+  aliases = In-all has_own_aliases w.cells (λ c i. (known_parts w c (all-In (is_known_cell w) w.cells h.ready.cells c i)).aliases);
+}

@@ -22,7 +22,7 @@ use Rattle.cell_world.specs.Changed.{now_in}
 use Rattle.cell_world.specs.Coherent.{IsReady, IsCoherent, is_supplied}
 use Rattle.cell_lemmas.specs.Grown.{links_from, IsRegrown}
 use Rattle.cell_num.proofs.Elements.{Has, all-In, In-numbered, get-In}
-use Rattle.cell_lemmas.proofs.Known.{object_sound}
+use Rattle.cell_lemmas.proofs.Known.{named, object_sound}
 use Rattle.cell_lemmas.proofs.Targets.{In-find, provides, target_has}
 use Rattle.cell_lemmas.proofs.FreshLinks.{link_with}
 use Rattle.cell_lemmas.proofs.Inside.{ready_linkable}
@@ -61,7 +61,7 @@ module _ (w : World) (h : IsCoherent w) (c : Cell) where
     where
       by : (o : Option Provider) → provider_of w c s.name ≡ o → Has (option_and_then (provided_target w) o) → is_section (option_and_then (provided_target w) o) ≡ true
       by None e x = let n : None ≡ Some x.0 = x.1 in cc
-      by (Some p) e x = ap is_section (provided w h p (provides w c.standing c.ns s.name p e)).3
+      by (Some p) e x = ap is_section (provided w (named w h) p (provides w c.standing c.ns s.name p e)).3
 
       go : (b : Bool) → Has (cond b (option_and_then (provided_target w) (provider_of w c s.name)) None) → is_section (cond b (option_and_then (provided_target w) (provider_of w c s.name)) None) ≡ true
       go true x = by (provider_of w c s.name) refl x

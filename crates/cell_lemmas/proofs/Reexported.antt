@@ -11,9 +11,9 @@ use Rattle.cell_world.specs.Names.{chain, rivals, clash_name, has_name, names_of
 use Rattle.cell_world.specs.Reexport.{with_alias}
 use Rattle.cell_world.specs.Coherent.{IsLoadable, all_names, may_both_stand, has_each_name_once, is_known_cell, is_sound_standing}
 use Rattle.cell_num.proofs.Elements.{all-In, In-all, All-In, In-All, In-none, none-In, unfound-In, filter-In, In-append, In-map, found-In, pairs-map, pairs_same, pairs_push, all_push}
-use Rattle.cell_lemmas.proofs.Known.{KnownParts, has_own_aliases, known_parts, known_from}
+use Rattle.cell_lemmas.proofs.Known.{KnownParts, known_parts, known_from}
+use Rattle.cell_lemmas.specs.Named.{has_own_aliases}
 use Rattle.cell_lemmas.proofs.Appended.{unmapped}
-use Rattle.cell_lemmas.proofs.Chains.{Lower}
 use Rattle.cell_lemmas.proofs.Gathered.{Ranks}
 use Rattle.cell_lemmas.proofs.Present.{some_same}
 use Rattle.cell_lemmas.proofs.Targets.{In-find}
@@ -64,7 +64,7 @@ module _ (number : ℕ) (a : Alias) where
   names_more : (c : Cell) → all_names (record c { aliases = c.aliases ++ a ∷ [] }) ≡ all_names c ++ a.name ∷ []
   names_more c = ap (map (λ (x : Alias). x.name)) (sym (append_assoc (definitions_of c.object) c.aliases (a ∷ []))) ∙ map-append (λ (x : Alias). x.name) (names_of c) (a ∷ [])
 
-  module _ (u : World) (r : Ranks u) (lower : Lower u.namespaces) (c : Cell) (at : cell_of u number ≡ Some c) (attached : is_attached c.standing ≡ true) (free : clash_name u c.ns a.name ≡ None)
+  module _ (u : World) (r : Ranks u) (c : Cell) (at : cell_of u number ≡ Some c) (attached : is_attached c.standing ≡ true) (free : clash_name u c.ns a.name ≡ None)
       (own : list_any (λ d. d.symbol == a.symbol) (definitions_of c.object) ≡ true) where
     abbrev after : World
     after = record u { cells = map renamed u.cells }
@@ -83,7 +83,7 @@ module _ (number : ℕ) (a : Alias) where
 
     on_own_path : are_on_one_path u.namespaces c.ns c.ns ≡ true
     on_own_path =
-        let k = in_own_chain u.namespaces lower c.ns (ltb-true c.ns (length u.namespaces) (known_parts u c (all-In (is_known_cell u) u.cells r.known c present)).ns) in
+        let k = in_own_chain u.namespaces c.ns (ltb-true c.ns (length u.namespaces) (known_parts u c (all-In (is_known_cell u) u.cells r.known c present)).ns) in
         ap (λ b. b || holds (chain u.namespaces c.ns) c.ns) k
 
     is_c : (x : Cell) → In x u.cells → (x.id.0 == number) ≡ true → x ≡ c

@@ -20,7 +20,6 @@ use Rattle.cell_lemmas.proofs.Known.{known_parts}
 use Rattle.cell_lemmas.proofs.Outcomes.{bind_ok, found_ok}
 use Rattle.cell_lemmas.proofs.Appended.{Appended, append_ok, ok_same}
 use Rattle.cell_lemmas.proofs.Brought.{brought}
-use Rattle.cell_lemmas.proofs.Chains.{Lower, lower_parents}
 use Rattle.cell_lemmas.proofs.Gathered.{Ranks, Extends, extends_none, good_append}
 use Rattle.cell_lemmas.proofs.Present.{and_then_ok}
 use Rattle.cell_num.proofs.Sublists.{In-fixed}
@@ -49,7 +48,7 @@ heir_own c name s h =
     any-In (λ (d : Alias). d.symbol == s) (definitions_of c.object) a.0 (In-filtered (λ (a : Alias). equals (base_name a.name) (base_name name)) (definitions_of c.object) a.0 a.1) (eq-eqb a.0.symbol s a.2)
 
 -- v is what cells come to, and at least so many numbers are given
-module _ (v : World) (lower : Lower v.namespaces) (known : list_all (is_known_cell v) v.cells ≡ true) (floor : ℕ) where
+module _ (v : World) (known : list_all (is_known_cell v) v.cells ≡ true) (floor : ℕ) where
   abbrev pub Going : World → Type 0
   Going u = (Ranks u × Extends v u) × (floor ≤ u.next_cell)
 
@@ -98,7 +97,7 @@ module _ (v : World) (lower : Lower v.namespaces) (known : list_all (is_known_ce
       with_symbol symbol c =
           let p = heir_parts u c.0 old.name symbol c.2 in (
             (
-              renamed_ranks number (record { name = old.name; symbol = symbol }) u g.0.0 (subst (λ (z : World). Lower z.namespaces) g.0.1.is lower) c.0 c.1 (new_attached u g.0.1 number c.0 h c.1) p.0 (heir_own c.0 old.name symbol p.1),
+              renamed_ranks number (record { name = old.name; symbol = symbol }) u g.0.0 c.0 c.1 (new_attached u g.0.1 number c.0 h c.1) p.0 (heir_own c.0 old.name symbol p.1),
               renamed_extends u number (record { name = old.name; symbol = symbol }) h g.0.1,
             ),
             g.1,
@@ -178,11 +177,8 @@ module _ (sources : List Source) (sound : AreSound sources) (w : World) (h : IsC
   abbrev pub base_world : World
   base_world = aside w h ns
 
-  pub lower_spaces : Lower w.namespaces
-  lower_spaces = lower_parents w.namespaces (and_parts _ _ h.ready.spaces).1
-
   abbrev On : ℕ → World → Type 0
-  On floor u = Going base_world lower_spaces (aside_base w h ns).known floor u
+  On floor u = Going base_world (aside_base w h ns).known floor u
 
   range : (want : Wanted) → In want wants → is_some (slice_get w.namespaces want.old.ns) ≡ true
   range want i = below_there w.namespaces want.old.ns (ltb-true want.old.ns (length w.namespaces) (known_parts w want.old (all-In (is_known_cell w) w.cells h.ready.cells want.old (all want i).present)).ns)
@@ -208,5 +204,5 @@ module _ (sources : List Source) (sound : AreSound sources) (w : World) (h : IsC
   swap_gathered reexport g e =
       let a = bind_ok (each append_wanted base_world wants) _ g e in
       let r : On (w.next_cell + length wants) a.0 = appended_all wants (λ want i. i) base_world a.0 a.1 ((aside_ranks w h ns, extends_none base_world), omega arith) in
-      brought_going base_world lower_spaces (aside_base w h ns).known (w.next_cell + length wants) sources sound (renamed_all w.next_cell wants reexport a.0) g a.2
-      (renamed_going base_world lower_spaces (aside_base w h ns).known (w.next_cell + length wants) w.next_cell (omega arith) wants reexport a.0 r)
+      brought_going base_world (aside_base w h ns).known (w.next_cell + length wants) sources sound (renamed_all w.next_cell wants reexport a.0) g a.2
+      (renamed_going base_world (aside_base w h ns).known (w.next_cell + length wants) w.next_cell (omega arith) wants reexport a.0 r)

@@ -18,7 +18,7 @@ use Rattle.cell_world.specs.SwapCommand.{Wanted, old_numbers, is_bystander}
 use Rattle.cell_world.specs.Coherent.{AreSound, IsReady, IsCoherent, is_known_cell, is_sound_standing, is_supplied, is_fitting}
 use Rattle.cell_lemmas.specs.Linkable.{IsLinkable}
 use Rattle.cell_num.proofs.Elements.{all-In, In-all, In-All, In-left, In-map, map-In, filter-In, none-In, unfound-In, map_same, some_has, none_is, or_else_parts}
-use Rattle.cell_lemmas.proofs.Known.{known_parts}
+use Rattle.cell_lemmas.proofs.Known.{known_parts, named}
 use Rattle.cell_lemmas.proofs.Appended.{unmapped}
 use Rattle.cell_lemmas.proofs.Attach.{Grows, provider_grown}
 use Rattle.cell_lemmas.proofs.Supplied.{none_lacking}
@@ -149,7 +149,7 @@ module _ (sources : List Source) (sound : AreSound sources) (v : World) (h : IsC
       one name j =
           let had = some_has (provider_of v c name) (all-In (λ n. is_some (provider_of v c n)) (needs_of c.object) (all-In (is_supplied v) v.cells h.ready.supplied c i) name j) in
           ap is_some (provider_grown base w grows (moved c).standing (moved c).ns there name had.0
-          (own_needs v h (suc v.swaps) ns (new_group v h) set_attached c i e name ∙ had.1))
+          (own_needs v (named v h) (suc v.swaps) ns (new_group v h) set_attached c i e name ∙ had.1))
 
   -- and a bystander has what it needs
   bystander_supplied : (c : Cell) → In c v.cells → holds ns c.id.0 ≡ false → is_supplied w (moved c) ≡ true

@@ -22,7 +22,7 @@ use Rattle.cell_world.specs.SwapCommand.{Wanted, old_numbers}
 use Rattle.cell_world.specs.Coherent.{AreSound, IsCoherent, is_known_cell, is_supplied}
 use Rattle.cell_lemmas.specs.Linkable.{IsLinkable}
 use Rattle.cell_num.proofs.Elements.{Has, all-In, In-append, In-map, found-In, In-filtered, filter-Passes, first-In, flat_same}
-use Rattle.cell_lemmas.proofs.Known.{known_parts, object_sound}
+use Rattle.cell_lemmas.proofs.Known.{known_parts, named, object_sound}
 use Rattle.cell_lemmas.proofs.Attach.{target_grown}
 use Rattle.cell_lemmas.proofs.Targets.{target_has}
 use Rattle.cell_lemmas.proofs.Present.{In-filter_map}
@@ -209,11 +209,11 @@ module _ (sources : List Source) (sound : AreSound sources) (v : World) (h : IsC
 
         go : (a : Bool) → holds old c.id.0 ≡ a → (b : Bool) → is_target_in old (target_of v c e) ≡ b → differs v w c e ≡ loses v w old c e
         go true q b t =
-            let x = goes_on (own_same v h k old (new_group v h) (set_attached sources sound v h items reexport w p) c i q e ∙ had.1) in
+            let x = goes_on (own_same v (named v h) k old (new_group v h) (set_attached sources sound v h items reexport w p) c i q e ∙ had.1) in
             unchanged x ∙ sym (ap (λ (o : Option Target). is_target_in old o && not (is_target_in old (target_of w (now_in w c) e))) had.1
             ∙ (ap (λ (o : Option Target). is_target_in old (Some had.0) && not (is_target_in old o)) x ∙ self_and (is_target_in old (Some had.0))))
         go false q false t =
-            let x = goes_on (others_lose v h k old (new_group v h) (set_attached sources sound v h items reexport w p) c i q e ∙ (ap (λ b. cond b None (target_of v c e)) t ∙ had.1)) in
+            let x = goes_on (others_lose v (named v h) k old (new_group v h) (set_attached sources sound v h items reexport w p) c i q e ∙ (ap (λ b. cond b None (target_of v c e)) t ∙ had.1)) in
             unchanged x ∙ sym (lost_none t)
         go false q true t =
             other (now_has q) t (out q)

@@ -19,6 +19,7 @@ use Rattle.cell_world.specs.World.{World, Cell, Alias, Standing, Attached, Detac
 use Rattle.cell_world.specs.Names.{Provider, chain, first_provider, attached_provider, provider_for, provider_of, symbol_named, names_of, definitions_of, is_definition, needs_of, is_used}
 use Rattle.cell_world.specs.Target.{own_target, provided_target, symbol_target, numbered_target, naming_entry, target_of}
 use Rattle.cell_world.specs.Coherent.{is_known_cell}
+use Rattle.cell_lemmas.specs.Named.{has_own_aliases}
 use Rattle.cell_lemmas.proofs.Known.{known_parts}
 use Rattle.cell_num.proofs.Elements.{Has, all-In, found-In, filter-In, In-map, map-In, numbered-In, In-numbered, any-In, any-Has, some_has, In-append, In-filtered, filter-Passes}
 
@@ -108,14 +109,11 @@ definition_defines object a h =
     let n : a.symbol ≡ suc q.0 = ap (λ (b : Alias). b.symbol) m.2 ∙ (q.2 ∙ omega arith) in
     subst (Defines object) (sym n) (m.0.1, q.1, d.1)
 
-module _ (w : World) (c : Cell) (known : is_known_cell w c ≡ true) where
-  alias_ok : list_all (λ (a : Alias). list_any (λ (d : Alias). d.symbol == a.symbol) (definitions_of c.object)) c.aliases ≡ true
-  alias_ok = (known_parts w c known).aliases
-
+module _ (c : Cell) (aliases : has_own_aliases c ≡ true) where
   name_defines : (a : Alias) → In a (definitions_of c.object) ⊎ In a c.aliases → Defines c.object a.symbol
   name_defines a (inl k) = definition_defines c.object a k
   name_defines a (inr k) =
-      let d = any-Has (λ (d : Alias). d.symbol == a.symbol) (definitions_of c.object) (all-In (λ (a : Alias). list_any (λ (d : Alias). d.symbol == a.symbol) (definitions_of c.object)) c.aliases alias_ok a k) in
+      let d = any-Has (λ (d : Alias). d.symbol == a.symbol) (definitions_of c.object) (all-In (λ (a : Alias). list_any (λ (d : Alias). d.symbol == a.symbol) (definitions_of c.object)) c.aliases aliases a k) in
       subst (Defines c.object) (eqb-true d.0.symbol a.symbol d.2) (definition_defines c.object d.0 d.1)
 
   pub named_defines : (name : List ℕ) (n : ℕ) → symbol_named c name ≡ Some n → Defines c.object n
@@ -127,11 +125,11 @@ module _ (w : World) (c : Cell) (known : is_known_cell w c ≡ true) where
           let s : a.symbol ≡ n = cc in
           subst (Defines c.object) s (name_defines a (In-append (definitions_of c.object) c.aliases a (found-In (λ (a : Alias). equals a.name name) (names_of c) a e).0))
 
-  own_has : (s : Symbol) (home : Home) → is_defined home ≡ true → Has (own_target c.placed s home)
-  own_has s Undef h = absurd (true≢false (sym h))
-  own_has s Abs h = (Number s.value, refl)
-  own_has s (Inside n) h = (_, refl)
-  own_has s Elsewhere h = absurd (true≢false (sym h))
+own_has : (c : Cell) (s : Symbol) (home : Home) → is_defined home ≡ true → Has (own_target c.placed s home)
+own_has c s Undef h = absurd (true≢false (sym h))
+own_has c s Abs h = (Number s.value, refl)
+own_has c s (Inside n) h = (_, refl)
+own_has c s Elsewhere h = absurd (true≢false (sym h))
 
 -- each cell of the list is the first of its number
 pub In-find : (xs : List Cell) → each_pair (λ a b. nat_lt a.id.0 b.id.0) xs ≡ true → (c : Cell) → In c xs → find (λ x. x.id.0 == c.id.0) xs ≡ Some c
@@ -148,9 +146,9 @@ chained f o x e h = (h.0, ap (option_and_then f) e ∙ h.1)
 module _ (w : World) (order : each_pair (λ a b. nat_lt a.id.0 b.id.0) w.cells ≡ true) (known : list_all (is_known_cell w) w.cells ≡ true) where
   pub provided_has : (p : Provider) → Provides w p → Has (provided_target w p)
   provided_has p r =
-      let d = named_defines w r.0 (all-In (is_known_cell w) w.cells known r.0 r.1) r.3 p.symbol r.4 in
+      let d = named_defines r.0 (known_parts w r.0 (all-In (is_known_cell w) w.cells known r.0 r.1)).aliases r.3 p.symbol r.4 in
       chained _ (cell_of w p.cell) r.0 (subst (λ (n : ℕ). find (λ x. x.id.0 == n) w.cells ≡ Some r.0) (sym r.2) (In-find w.cells order r.0 r.1))
-      (chained _ (symbol_at r.0.object p.symbol) d.0 d.1 (own_has w r.0 (all-In (is_known_cell w) w.cells known r.0 r.1) d.0 d.0.home d.2))
+      (chained _ (symbol_at r.0.object p.symbol) d.0 d.1 (own_has r.0 d.0 d.0.home d.2))
 
   module _ (c : Cell) (object : IsSoundObject c.object) (supplied : list_all (λ name. is_some (provider_of w c name)) (needs_of c.object) ≡ true) where
     symbol_has : (e : Entry) → In e c.object.entries → (n : ℕ) → e.symbol ≡ suc n → (s : Symbol) → slice_get c.object.symbols n ≡ Some s → (home : Home) → s.home ≡ home → is_nameable s home ≡ true → Has (symbol_target w c s home)

@@ -17,7 +17,9 @@ use Rattle.cell_world.specs.Names.{Provider, provider_of, provider_for, attached
 use Rattle.cell_world.specs.Target.{target_of, numbered_target, symbol_target, provided_target, own_target, naming_entry, start_of}
 use Rattle.cell_world.specs.Relink.{links_of, link_of, link_to}
 use Rattle.cell_world.specs.UnloadCommand.{without_cells}
-use Rattle.cell_world.specs.Coherent.{IsCoherent, is_known_cell}
+use Rattle.cell_world.specs.Coherent.{IsCoherent}
+use Rattle.cell_lemmas.specs.Named.{IsNamed, has_own_aliases}
+use Rattle.cell_lemmas.proofs.Known.{named}
 use Rattle.cell_num.proofs.Elements.{all-In, flat_map-In}
 use Rattle.cell_lemmas.proofs.Targets.{In-find, Provides, provides, named_defines}
 use Rattle.cell_lemmas.proofs.Fixed.{links_fixed}
@@ -35,15 +37,15 @@ IsFree numbers o = (key : SecKey) (offset addr : ℕ) → o ≡ Some (Section ke
 abbrev pub IsInProvider : World → Provider → Type 0
 IsInProvider w p = (key : SecKey) × (offset : ℕ) × (addr : ℕ) × (provided_target w p ≡ Some (Section key offset addr)) × (key.cell.0 ≡ p.cell)
 
-module _ (w : World) (h : IsCoherent w) where
+module _ (w : World) (k : IsNamed w) where
   pub provided : (p : Provider) → Provides w p → IsInProvider w p
   provided p r = go d.0.home refl d.2
     where
       d : (s : Symbol) × (symbol_at r.0.object p.symbol ≡ Some s) × (is_defined s.home ≡ true)
-      d = named_defines w r.0 (all-In (is_known_cell w) w.cells h.ready.cells r.0 r.1) r.3 p.symbol r.4
+      d = named_defines r.0 (all-In has_own_aliases w.cells k.aliases r.0 r.1) r.3 p.symbol r.4
 
       there : cell_of w p.cell ≡ Some r.0
-      there = subst (λ (n : ℕ). find (λ x. x.id.0 == n) w.cells ≡ Some r.0) (sym r.2) (In-find w.cells h.ready.cell_order r.0 r.1)
+      there = subst (λ (n : ℕ). find (λ x. x.id.0 == n) w.cells ≡ Some r.0) (sym r.2) (In-find w.cells k.cell_order r.0 r.1)
 
       go : (home : Home) → d.0.home ≡ home → is_defined home ≡ true → IsInProvider w p
       go (Inside n) e t = (
@@ -58,6 +60,7 @@ module _ (w : World) (h : IsCoherent w) where
       go Abs e t = absurd (true≢false (sym t))
       go Elsewhere e t = absurd (true≢false (sym t))
 
+module _ (w : World) (h : IsCoherent w) where
   module _ (numbers : List ℕ) where
     abbrev stay : Cell → Bool
     stay c = not (holds numbers c.id.0)
@@ -105,7 +108,7 @@ module _ (w : World) (h : IsCoherent w) where
     -- a provider of a target that stays stays
     pub provider_free : (c : Cell) (name : List ℕ) → IsFree numbers (option_and_then (provided_target w) (provider_of w c name)) → (p : Provider) → provider_of w c name ≡ Some p → holds numbers p.cell ≡ false
     provider_free c name f p e =
-        let r : IsInProvider w p = provided p (provides w c.standing c.ns name p e) in
+        let r : IsInProvider w p = provided w (named w h) p (provides w c.standing c.ns name p e) in
         subst (λ n. holds numbers n ≡ false) r.4 (f r.0 r.1 r.2 (ap (option_and_then (provided_target w)) e ∙ r.3))
 
     provided_same : (c : Cell) (name : List ℕ) → IsFree numbers (option_and_then (provided_target w) (provider_of w c name)) → option_and_then (provided_target left) (provider_of left c name) ≡ option_and_then (provided_target w) (provider_of w c name)

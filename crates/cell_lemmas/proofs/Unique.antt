@@ -1,5 +1,5 @@
 -- By the rule of names one attached cell of a chain has a name, so who provides it doesn't depend on the order of cells.
-use Rattle.std.proofs.Common.{◌≡◌, refl, sym, ◌∙◌, ap, ℕ, ◌<◌, ◌⊎◌, inl, inr, Bool, true, false, not, ◌&&◌, ◌||◌, List, [], ◌∷◌, length, true≢false, Option, Some, None}
+use Rattle.std.proofs.Common.{◌≡◌, refl, sym, ◌∙◌, ap, ℕ, ◌⊎◌, inl, inr, Bool, true, false, not, ◌&&◌, ◌||◌, List, [], ◌∷◌, true≢false, Option, Some, None}
 use Rattle.std.specs.Prelude.{filter_map, find, option_map}
 use Rattle.std.specs.List.{list_any, cons_option}
 use Rattle.std.proofs.lemmas.Slice.Eq.{bytes_eq-Decides}
@@ -8,7 +8,6 @@ use Rattle.cell_world.specs.World.{World, Cell, Alias, is_attached}
 use Rattle.cell_world.specs.Names.{Provider, chain, names_of, symbol_named, are_on_one_path}
 use Rattle.cell_world.specs.Coherent.{all_names, may_both_stand}
 use Rattle.cell_num.proofs.Elements.{any-In, map-In, found-In, pairs-In}
-use Rattle.cell_lemmas.proofs.Chains.{Lower}
 use Rattle.cell_lemmas.proofs.Paths.{on_one_path}
 
 -- what the cell is as a provider of the name
@@ -60,7 +59,7 @@ not_both_stand true false p e l h i j k m = true≢false (sym j)
 not_both_stand true true false e l h i j k m = true≢false (sym k)
 not_both_stand true true true e false h i j k m = true≢false (sym m)
 
-module _ (w : World) (names : each_pair (may_both_stand w) w.cells ≡ true) (lower : Lower w.namespaces) (ns : ℕ) (there : ns < length w.namespaces) where
+module _ (w : World) (names : each_pair (may_both_stand w) w.cells ≡ true) (ns : ℕ) where
   -- the cell may provide the name in the namespace
   pub record Candidate (name : List ℕ) (c : Cell) : Type 0 where
     pub present : In c w.cells
@@ -74,7 +73,7 @@ module _ (w : World) (names : each_pair (may_both_stand w) w.cells ≡ true) (lo
     where
       clash : (a b : Cell) → Candidate name a → Candidate name b → may_both_stand w a b ≡ true → ⊥
       clash a b p q h = not_both_stand (is_attached a.standing) (is_attached b.standing) (are_on_one_path w.namespaces a.ns b.ns) (equals a.stem b.stem) (list_any (holds_name (all_names b)) (all_names a))
-          h p.attached q.attached (on_one_path w.namespaces lower ns there a.ns b.ns p.in_chain q.in_chain) (shared_name a b name p.symbol q.symbol p.has q.has)
+          h p.attached q.attached (on_one_path w.namespaces ns a.ns b.ns p.in_chain q.in_chain) (shared_name a b name p.symbol q.symbol p.has q.has)
 
       go : (c ≡ d) ⊎ ((may_both_stand w c d ≡ true) ⊎ (may_both_stand w d c ≡ true)) → c ≡ d
       go (inl e) = e

@@ -6,7 +6,7 @@
 --     with_changes v w new r     the region with the fields that change and those of the new cells written
 --     with_fields w new r        the region with the fields of the new cells written
 --     links_from w new           one link for each entry of the new cells whose target is a section
-use Rattle.std.specs.Prelude.{ℕ, ◌≡◌, ◌⊎◌, IsTrue, List, [], ◌∷◌, ◌++◌, Some, All, filter_map, flat_map, fold, map}
+use Rattle.std.specs.Prelude.{ℕ, ◌≡◌, ◌⊎◌, IsTrue, List, ◌++◌, Some, All, filter_map, flat_map, fold, map}
 use Rattle.std.specs.List.{list_all}
 use Rattle.cell_num.specs.Lists.{In, numbered}
 use Rattle.cell_world.specs.declared.state.LinkRow.{LinkRow}

@@ -1,6 +1,7 @@
 pub mod Clear
 pub mod Present
 pub mod Linkable
+pub mod Named
 pub mod Grown
 pub mod Loading
 pub mod Loads

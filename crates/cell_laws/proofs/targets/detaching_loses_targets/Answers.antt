@@ -2,7 +2,7 @@ use Rattle.cell_lemmas.proofs.Steps.{detached_own, detached_others}
 use Rattle.cell_laws.proofs.targets.detaching_loses_targets.Goals as goal
 
 pub returns-clause-own : goal.returns-clause-own
-returns-clause-own c w ns h a = detached_own w h ns a
+returns-clause-own c w k ns named new attached = detached_own w k ns named new attached
 
 pub returns-clause-others : goal.returns-clause-others
-returns-clause-others c w ns h a = detached_others w h ns a
+returns-clause-others c w k ns named new attached = detached_others w k ns named new attached
