@@ -1,16 +1,17 @@
 #!/usr/bin/env python3
 """Compares what `cells` links with what GNU ld links, outside the gate.
 
-The sources of bench/gnu are compiled by gcc and assembled by GNU as; `cells` loads the objects and
+The sources of bench/gnu are compiled by gcc or clang and assembled by GNU as; `cells` loads the objects and
 says where each section is; ld links the same objects at those places; then the bytes of each loaded
 section have to be equal, but for sections of zeros that have none in the file.
 
-    gnu.py compare [PROGRAM]    both code models, -O0 and -O2
+    gnu.py compare [PROGRAM]    both compilers, both code models, -O0 and -O2
     gnu.py store [PROGRAM]      writes the stored run of crates/cells, with the bytes that ld has
 
 PROGRAM is a built `cells`, crates/cells/out/cells unless it is said. It needs Debian's packages
-gcc-riscv64-unknown-elf and binutils-riscv64-unknown-elf.
+gcc-riscv64-unknown-elf, binutils-riscv64-unknown-elf and clang.
 """
+import itertools
 import os
 import re
 import shutil
@@ -27,16 +28,20 @@ SOURCES = os.path.join(HERE, "gnu")
 STORED = os.path.join(TOP, "crates", "cells")
 TOOL = "riscv64-unknown-elf-"
 TARGET = ["-march=rv64im", "-mabi=lp64", "-mno-relax"]
-C_FLAGS = ["-ffreestanding", "-fno-common", "-fno-pic", "-fno-section-anchors", "-fno-stack-protector"]
+C_FLAGS = TARGET + ["-ffreestanding", "-fno-common", "-fno-pic", "-fno-stack-protector"]
+COMPILERS = {
+    "gcc": [TOOL + "gcc", "-fno-section-anchors"] + C_FLAGS,
+    "clang": ["clang", "--target=riscv64-unknown-elf"] + C_FLAGS,
+}
 STEMS = ["queue", "shop", "kinds"]
 NOBITS = 8
 RELA, ENTRY = 4, 24
 
 
-def compile_c(stem, model, level, file):
-    """An object of gcc."""
+def compile_c(compiler, stem, model, level, file):
+    """An object of a compiler."""
     source = os.path.join(SOURCES, stem + ".c")
-    subprocess.run([TOOL + "gcc"] + TARGET + C_FLAGS + ["-mcmodel=" + model, level, "-c", source, "-o", file], check=True)
+    subprocess.run(COMPILERS[compiler] + ["-mcmodel=" + model, level, "-c", source, "-o", file], check=True)
 
 
 def assemble(stem, file):
@@ -128,10 +133,10 @@ def with_dumps(program, folder, lines):
     return lines, "\n".join(expected) + "\n"
 
 
-def build(folder, stem, model, level):
+def build(folder, stem, compiler, model, level):
     file = os.path.join(folder, "k#%s.o" % stem)
     if os.path.exists(os.path.join(SOURCES, stem + ".c")):
-        compile_c(stem, model, level, file)
+        compile_c(compiler, stem, model, level, file)
     else:
         assemble(stem, file)
 
@@ -139,16 +144,15 @@ def build(folder, stem, model, level):
 def compare(program):
     """Prints a line for each way of making the objects. It fails where a transcript differs."""
     failed = False
-    for model in ("medany", "medlow"):
-        for level in ("-O0", "-O2"):
-            with tempfile.TemporaryDirectory() as folder:
-                for stem in STEMS:
-                    build(folder, stem, model, level)
-                lines, expected = with_dumps(program, folder, ["load k kinds"])
-                count = sum(line.startswith("dump") for line in lines)
-                equal = transcript(program, folder, lines) == expected and count > 0
-                failed |= not equal
-                print(model, level, count, "sections", "equal" if equal else "DIFFERENT")
+    for compiler, model, level in itertools.product(COMPILERS, ("medany", "medlow"), ("-O0", "-O2")):
+        with tempfile.TemporaryDirectory() as folder:
+            for stem in STEMS:
+                build(folder, stem, compiler, model, level)
+            lines, expected = with_dumps(program, folder, ["load k kinds"])
+            count = sum(line.startswith("dump") for line in lines)
+            equal = transcript(program, folder, lines) == expected and count > 0
+            failed |= not equal
+            print(compiler, model, level, count, "sections", "equal" if equal else "DIFFERENT")
     return failed
 
 
@@ -171,9 +175,9 @@ def store(program):
         data = os.path.join(STORED, "data", "d")
         for stem in ("a", "b"):
             shutil.copy(os.path.join(data, "k#%s.o" % stem), folder)
-        build(folder, "queue", "medany", "-O2")
-        build(folder, "shop", "medlow", "-O0")
-        build(folder, "kinds", None, None)
+        build(folder, "queue", "gcc", "medany", "-O2")
+        build(folder, "shop", "gcc", "medlow", "-O0")
+        build(folder, "kinds", None, None, None)
         lines, expected = with_dumps(program, folder, ["load k a", "load k b", "dump 2 1", "load k kinds"])
         for stem in STEMS:
             shutil.copy(os.path.join(folder, "k#%s.o" % stem), data)

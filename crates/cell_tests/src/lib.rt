@@ -40,8 +40,6 @@ mod sources;
 #[cfg(test)]
 mod spaces;
 #[cfg(test)]
-mod swap_crowd;
-#[cfg(test)]
 mod swap_keeping;
 #[cfg(test)]
 mod swap_names;
@@ -53,6 +51,8 @@ mod swap_transfer;
 mod swaps;
 #[cfg(test)]
 mod tasks;
+#[cfg(test)]
+mod too_many_cells;
 #[cfg(test)]
 mod torn;
 #[cfg(test)]

@@ -1,4 +1,4 @@
-//! A swap with more cells than there may be.
+//! More cells than there may be, by a swap and by loads.
 
 use crate::repeated::outcome;
 use cell_run::Status;
@@ -27,9 +27,30 @@ fn crowd(alloc: Global) -> Result<String, AllocError> {
     Ok(script)
 }
 
+/// Loads of 512 crates into each of two namespaces, and of one more.
+fn siblings(alloc: Global) -> Result<String, AllocError> {
+    let mut script = String::from_str(alloc, "ns a under k\nns b under k\n")?;
+    for number in 1..513 {
+        script.push_str(format!(in alloc; "load a c{number}\nload b c{number}\n")?.as_str())?;
+    }
+    script.push_str("load b c513\n")?;
+    Ok(script)
+}
+
+#[test]
+fn by_loads(rt: HostRuntime) -> Result<(), Fail> {
+    let alloc = rt.alloc();
+    let (status, sink) = outcome(alloc, 513, "", siblings(alloc)?, 60000)?;
+    let text = std::str::from_utf8(sink.written()).ok().ok_or("UTF-8")?;
+    let end = "\n1026 ok load #1024 patched 0\n1027 E4 too-many cells 1024\n";
+    assert!(rt; text.ends_with(end), "{text}");
+    assert_eq!(rt; status, Status::SomeRefused);
+    Ok(())
+}
+
 /// Old and new cells are counted together.
 #[test]
-fn too_many_cells(rt: HostRuntime) -> Result<(), Fail> {
+fn by_a_swap(rt: HostRuntime) -> Result<(), Fail> {
     let alloc = rt.alloc();
     let (status, sink) = outcome(alloc, 513, "", crowd(alloc)?, 30000)?;
     let text = std::str::from_utf8(sink.written()).ok().ok_or("UTF-8")?;
