@@ -1,14 +1,9 @@
 -- Entries that are passed over, counted from the end of the file on.
-use Rattle.std.proofs.Common.{◌≡◌, ℕ, zero, suc, ◌+◌, ◌-◌, ◌*◌, ◌<◌, ◌≤◌, ◌⊎◌, inl, inr, true, List, [], ◌++◌, length, get_or, refl, sym, ap, ◌∙◌, subst, arith, get_or-set_other, get_or-set_same}
-use Rattle.std.specs.List.{flat_map}
+use Rattle.std.proofs.Common.{◌≡◌, ℕ, zero, suc, ◌+◌, ◌*◌, ◌<◌, ◌≤◌, ◌⊎◌, inl, inr, true, List, length, get_or, sym, arith, get_or-set_other, get_or-set_same}
 use Rattle.std.proofs.Math.ListN.{set}
-use Rattle.std.proofs.lemmas.List.{append-nil}
 use Rattle.cell_num.specs.Kinds.{is_passed_over}
-use Rattle.cell_object.specs.Bytes.{between}
-use Rattle.cell_object.specs.declared.headers.SectionHeader.{SectionHeader}
-use Rattle.cell_object.specs.Relocations.{rela_row_at, rela_row, entry_place, entry_of, entries_below, entry_rules, pair_rules}
+use Rattle.cell_object.specs.Relocations.{rela_row_at}
 use Rattle.cell_file.specs.Cover.{IsSkip}
-use Rattle.cell_object.proofs.Between.{flat_map-between-more}
 
 -- one entry more, before those that are passed over
 pub skip_more : (file : List ℕ) (at next c d : ℕ) → next ≡ at + 24 → is_passed_over (rela_row_at at file).r_type ≡ true → IsSkip file next c → d ≤ c + 1 → IsSkip file at d

@@ -1,24 +1,32 @@
 -- The last zero byte of a string table, and the strings before it.
-use Rattle.std.proofs.Common.{◌≡◌, ℕ, zero, suc, ◌+◌, ◌-◌, ◌<◌, ◌≤◌, min, Bool, true, false, not, cond, List, [], ◌∷◌, ◌++◌, length, take, drop, refl, sym, ap, ◌∙◌, subst, arith, take_all, take-take, get_or, drop-drop, length-take-le, length-drop, Some, None, Option}
-use Rattle.std.specs.Prelude.{nat_lt, ◌==◌, slice_range, is_some, unwrap_or, if◌then◌else◌}
+use Rattle.std.proofs.Common.{◌≡◌, ◌≢◌, All, ℕ, zero, suc, ◌+◌, ◌-◌, ◌<◌, ◌≤◌, min, Bool, true, false, not, cond, List, [], ◌∷◌, ◌++◌, length, take, drop, refl, sym, ap, ◌∙◌, subst, arith, take_all, take-take, get_or, drop-drop, length-take-le, length-drop, Some, None, Option}
+use Rattle.std.specs.Prelude.{nat_lt, slice_range, is_some, unwrap_or}
 use Rattle.std.specs.List.{before_first, position, position_or_len}
 use Rattle.std.specs.Option.{option_map}
 use Rattle.std.proofs.lemmas.Bool.Decides.{nat_tests}
-use Rattle.std.proofs.lemmas.List.{drop-take, take_more, take_rest}
+use Rattle.std.proofs.lemmas.List.{drop-take, take_rest}
+use Rattle.std.proofs.lemmas.List.Elements.{All-head, All-tail, All-from_get_or}
 use Rattle.cell_object.specs.Bytes.{is_zero, string_at}
 use Rattle.cell_file.specs.Ends.{last_end}
 
-pub last_end-push : (xs : List ℕ) (x : ℕ) → last_end (xs ++ x ∷ []) ≡ (if x == 0 then length xs + 1 else last_end xs)
-last_end-push [] x = refl
-last_end-push (y ∷ ys) x = grind (arith, nat_tests, last_end-push ys x)
+abbrev pub IsNotZero : ℕ → Type 0
+IsNotZero b = b ≢ 0
 
--- one byte more
-pub last_end_more : (xs : List ℕ) (e n : ℕ) → e ≡ n + 1 → n < length xs → last_end (take e xs) ≡ (if get_or xs n 0 == 0 then n + 1 else last_end (take n xs))
-last_end_more xs e n is h =
-    let len : length (take n xs) ≡ n = length-take-le n xs (omega arith) in
-    rw (is, take_more xs n 0 h, last_end-push (take n xs) (get_or xs n 0), len) refl
+-- no zero byte
+pub last_end_none : (xs : List ℕ) → All IsNotZero xs → last_end xs ≡ 0
+last_end_none [] none = refl
+last_end_none (x ∷ xs) none =
+    let head = All-head IsNotZero x xs none in
+    let rest = last_end_none xs (All-tail IsNotZero x xs none) in
+    grind (arith, nat_tests, head, rest)
 
-pub ruleset ends = (take_all)
+-- the last zero byte at a place
+pub last_end_at : (xs : List ℕ) (i : ℕ) → i < length xs → get_or xs i 0 ≡ 0 → ((k : ℕ) → i + 1 ≤ k → k < length xs → get_or xs k 0 ≢ 0) → last_end xs ≡ i + 1
+last_end_at [] i h here after = absurd (omega (arith, h))
+last_end_at (x ∷ xs) zero h here after =
+    grind (arith, nat_tests, here, last_end_none xs (All-from_get_or IsNotZero xs 0 (λ k in_xs. after (suc k) (omega arith) (omega arith))))
+last_end_at (x ∷ xs) (suc i) h here after =
+    grind (arith, nat_tests, last_end_at xs i (omega arith) here (λ k l m. after (suc k) (omega arith) (omega arith)))
 
 ends_at : (at : ℕ) (xs : List ℕ) → nat_lt (position_or_len is_zero (drop at xs)) (length (drop at xs)) ≡ nat_lt at (last_end xs)
 ends_at zero [] = refl

@@ -56,18 +56,6 @@ fn clash(field: &Field, start: u64, mark: &Mark) -> bool
     shared && !stack
 }
 
-/// Adds empty marks up to a number of them.
-fn grow(marks: &mut Vec<Mark>, len: usize) -> Result<(), ReadFail>
-    ensures memory { Passes result (Ok tt) }
-    ensures room { OnOk result (len ≤ length marks.new.items) }
-    ensures same { (q : ℕ) → get_or marks.new.items q no_mark ≡ get_or marks.old.items q no_mark }
-{
-    for _ in marks.len()..len {
-        marks.push(NO_MARK)?;
-    }
-    Ok(())
-}
-
 impl Fields {
     ghost use Rattle.cell_file.specs.Fields.{field_at, high_at, mark_at};
 
@@ -89,7 +77,9 @@ impl Fields {
         ensures none { OnOk result ((q : ℕ) → field_at self.new q ≡ None) }
         ensures low { OnOk result ((q : ℕ) → high_at self.new q ≡ false) }
     {
-        grow(&mut self.marks, len)?;
+        if self.marks.len() < len {
+            self.marks.resize(len, NO_MARK)?;
+        }
         self.table = u32::from(number) + 1;
         Ok(())
     }

@@ -1,6 +1,6 @@
 //! Entries that are passed over.
 
-ghost use Rattle.std.specs.Prelude.{◌≡◌, ℕ, ◌+◌, ◌<◌, ◌≤◌, length, replicate, get_or, IfOk, Ok};
+ghost use Rattle.std.specs.Prelude.{◌≡◌, ℕ, ◌+◌, ◌<◌, ◌≤◌, length, get_or, IfOk, Ok};
 ghost use Rattle.cell_num.specs.Kinds.{is_passed_over as passed_over};
 ghost use Rattle.cell_file.specs.Cover.{IsSkip};
 ghost use Rattle.cell_file.specs.Outcome.{Passes};
@@ -8,7 +8,7 @@ ghost use Rattle.cell_file.specs.Outcome.{Passes};
 use crate::ReadFail;
 use crate::file::rela_row_at;
 use cell_object::elf::ROW_LEN;
-use std::alloc::{AllocError, Global};
+use std::alloc::Global;
 use std::ops::Range;
 
 const NONE: u32 = 0;
@@ -30,16 +30,6 @@ pub struct Skips<'a> {
     from: usize,
     counts: Vec<u32>,
     ghost are: { (q : ℕ) → IsSkip bytes.now (from + q) (get_or counts.items q 0) },
-}
-
-fn zeros(alloc: Global, len: usize) -> Result<Vec<u32>, AllocError>
-    ensures { IfOk result (λ zeros. zeros.items ≡ replicate len 0) }
-{
-    let mut zeros = Vec::new(alloc);
-    for _ in 0..len {
-        zeros.push(0)?;
-    }
-    Ok(zeros)
 }
 
 /// What is counted from a place on, or 0 past the end.
@@ -86,7 +76,7 @@ impl<'a> Skips<'a> {
         ensures bytes { IfOk result (λ skips. skips.bytes.now ≡ bytes.now) }
     {
         let from = part.start;
-        let mut counts = zeros(alloc, part.end - from)?;
+        let mut counts = vec![in alloc; 0; part.end - from]?;
         count(bytes, from, &mut counts);
         Ok(Skips {
             bytes,

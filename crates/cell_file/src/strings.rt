@@ -17,15 +17,13 @@ fn first_zero(bytes: &[u8]) -> Option<usize>
 }
 
 /// One more than the place of the last zero byte, or 0 where there is none.
-#[tactic(auto, using(crate::proofs::Ends::ends))]
 fn last_end(table: &[u8]) -> usize
     ensures { result ≡ end_of table.now }
 {
-    let mut end = table.len();
-    while end > 0 && table[end - 1] != 0 {
-        end -= 1;
+    match table.iter().rposition(|b| *b == 0) {
+        Some(at) => at + 1,
+        None => 0,
     }
-    end
 }
 
 /// A string table of a file. Where a string can begin at the latest is known.

@@ -40,7 +40,7 @@ fn add_unless_next<'a>(cell: CellId, kept: &'a [CellId], into: &mut Vec<CellId>)
     match kept {
         [next, rest @ ..] if next.0 == cell.0 => rest,
         _ => {
-            let _ = into.push(cell);
+            into.push_reserved(cell);
             kept
         }
     }
@@ -98,9 +98,8 @@ impl Survey {
         ensures { (aside : List IdOfCell) → IsSurvey machine.now aside self.now → result ≡ first_held (holding_in machine.now aside) (map (λ c. c.0) cells.now) }
     {
         for cell in cells {
-            match self.refusal(machine, *cell) {
-                Some(refusal) => return Some(refusal),
-                None => {}
+            if let Some(refusal) = self.refusal(machine, *cell) {
+                return Some(refusal);
             }
         }
         None

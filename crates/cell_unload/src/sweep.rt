@@ -35,9 +35,8 @@ pub fn sweep(alloc: Global, machine: &mut Machine, aside: &[CellId]) -> Result<V
     let kept = Vec::with_capacity(alloc, machine.cells.len())?;
     let mut removed = Vec::with_capacity(alloc, machine.cells.len())?;
     let survey = Survey::read(machine, outlook, kept);
-    match survey.first_held(machine, aside) {
-        Some(refusal) => return Err(Fail::Refused(refusal)),
-        None => {}
+    if let Some(refusal) = survey.first_held(machine, aside) {
+        return Err(Fail::Refused(refusal));
     }
     remove_unkept(machine, &survey, &mut removed);
     Ok(removed)

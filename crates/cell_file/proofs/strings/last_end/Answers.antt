@@ -1,17 +1,11 @@
-use Rattle.std.proofs.Common.{arith, ◌-◌}
-use Rattle.std.proofs.lemmas.Bool.Decides.{nat_tests}
-use Rattle.cell_file.proofs.Ends.{last_end_more}
+use Rattle.std.proofs.Common.{sym, rules}
+use Rattle.cell_file.proofs.Ends.{last_end_at, last_end_none}
 use Rattle.cell_file.proofs.strings.last_end.Goals as goal
 
-pub loop-end-preserved : goal.loop-end-preserved
-loop-end-preserved c =
-    let more = last_end_more c.args.table.now c.loop-end.end (c.loop-end.end - 1) (omega arith) (omega (arith, c.loop-end.invariant.within)) in
-    record {
-      within = omega (arith, c.loop-end.invariant.within);
-      same = grind (arith, nat_tests, more, c.loop-end.invariant.same);
-    }
+pub returns-in-Some : goal.returns-in-Some
+returns-in-Some c =
+    let table = c.args.table.now in
+    sym (last_end_at table c.in-Some.at (search rules) (search rules) (search rules))
 
-pub returns-else-table-end-ne0 : goal.returns-else-table-end-ne0
-returns-else-table-end-ne0 c =
-    let more = last_end_more c.args.table.now c.loop-end.end (c.loop-end.end - 1) (omega arith) (omega (arith, c.loop-end.invariant.within)) in
-    grind (arith, nat_tests, more, c.loop-end.invariant.same)
+pub returns-in-None : goal.returns-in-None
+returns-in-None c = sym (last_end_none c.args.table.now (search rules))

@@ -27,4 +27,4 @@ remove_unkept-requires-clause-survey c = record { aside = c.args.aside.now; is =
 pub returns : goal.returns
 returns c =
     let removes = c.remove_unkept.ensures c.args.aside.now (c.read-survey.ensures c.args.aside.now (c.in_ok-outlook.ensures {u = tt})) in
-    record { free = sym (c.in-None.ensures c.args.aside.now (c.read-survey.ensures c.args.aside.now (c.in_ok-outlook.ensures {u = tt}))); are = removes.0; left = removes.1 }
+    record { free = sym (c.in_default.ensures c.args.aside.now (c.read-survey.ensures c.args.aside.now (c.in_ok-outlook.ensures {u = tt}))); are = removes.0; left = removes.1 }

@@ -10,7 +10,7 @@ returns-in-Some c aside survey =
 pub loop-cell-preserved : goal.loop-cell-preserved
 loop-cell-preserved c aside survey =
     held_later (holding_in c.args.machine.now aside) c.args.cells.now c.loop-cell.cell-index (record { 0 = 0 }) c.loop-cell-test.true
-    (c.in-None.ensures aside survey) (c.loop-cell.invariant aside survey)
+    (c.in_default.ensures aside survey) (c.loop-cell.invariant aside survey)
 
 pub returns : goal.returns
 returns c aside survey = ended (holding_in c.args.machine.now aside) c.args.cells.now c.loop-cell.cell-index c.loop-cell-test.false (c.loop-cell.invariant aside survey)
