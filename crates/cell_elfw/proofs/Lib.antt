@@ -3,3 +3,4 @@ pub mod Growth
 pub mod Stages
 pub mod Grouped
 pub mod Whole
+pub mod Unpadded

@@ -1,6 +1,6 @@
 //! The file as far as it is written.
 
-ghost use Rattle.std.specs.Prelude.{◌≡◌, ◌+◌, ◌++◌, [], ◌∷◌, length, map, codes, IfOk, OnOk};
+ghost use Rattle.std.specs.Prelude.{◌≡◌, ◌+◌, ◌++◌, [], ◌∷◌, length, map, replicate, codes, IfOk, OnOk};
 ghost use Rattle.cell_object.specs.Strings.{string, string_table, place_in};
 ghost use Rattle.cell_object.specs.ImageParts.{padded, content as content_of, own_names, names_before_tables, parts_before_tables, table_name, relocated, entries_for};
 ghost use Rattle.cell_object.specs.Rows.{section_row_bytes, entry_bytes};
@@ -11,7 +11,7 @@ ghost use Rattle.std.specs.List.{flat_map};
 use crate::headers::{Place, content, put_rela_row, put_section_row};
 use crate::parts::put_part;
 use crate::strings::put_string;
-use crate::tables::table_bytes;
+use crate::tables::put_table;
 use cell_object::{Entry, Object, Section};
 use std::alloc::{AllocError, Global};
 
@@ -36,6 +36,15 @@ pub struct TableNames {
     pub shstrtab: u64,
 }
 
+/// The room for the ELF header, in a file with room for so many bytes.
+fn empty_file(alloc: Global, room: usize) -> Result<Vec<u8>, AllocError>
+    ensures { IfOk result (λ file. file.items ≡ replicate 64 0) }
+{
+    let mut file = Vec::with_capacity(alloc, room)?;
+    file.extend_from_slice(&HEADER)?;
+    Ok(file)
+}
+
 impl Draft {
     fn add_section(&mut self, section: &Section) -> Result<(), AllocError>
         ensures file { OnOk result (self.new.file.items ≡ self.old.file.items ++ padded (content_of section.now)) }
@@ -48,14 +57,18 @@ impl Draft {
         put_section_row(name, offset, section, &mut self.own_rows)
     }
 
-    /// The object's sections, their names and their headers.
+    /// The object's sections, their names and their headers, in a file with room for so many bytes.
     #[tactic(auto, using(crate::proofs::Stages::sections_none))]
-    pub fn of_sections(alloc: Global, sections: &[Section]) -> Result<Draft, AllocError>
+    pub fn of_sections(
+        alloc: Global,
+        room: usize,
+        sections: &[Section],
+    ) -> Result<Draft, AllocError>
         ensures sections { IfOk result (λ draft. HoldsSections draft.file.items draft.names.items draft.own_rows.items sections.now) }
         ensures tables { IfOk result (λ draft. draft.table_rows.items ≡ []) }
     {
         let mut draft = Draft {
-            file: Vec::from_slice(alloc, &HEADER)?,
+            file: empty_file(alloc, room)?,
             names: Vec::from_slice(alloc, b"\0")?,
             own_rows: Vec::new(alloc),
             table_rows: Vec::new(alloc),
@@ -91,13 +104,12 @@ impl Draft {
         ensures rows { OnOk result (self.new.table_rows.items ≡ self.old.table_rows.items ++ section_row_bytes (rela_row_of symtab (place_in (length self.old.names.items) (codes ".rela" ++ section.now.name)) (length self.old.file.items) (length (flat_map entry_bytes entries.now)) number)) }
         ensures own { OnOk result (self.new.own_rows.items ≡ self.old.own_rows.items) }
     {
-        let table = table_bytes(*self.file.allocator(), entries)?;
         let name = self.put_table_name(section.name.as_slice())?;
-        let offset = put_part(&table, &mut self.file)?;
+        let extent = put_table(entries, &mut self.file)?;
         let place = Place {
             name,
-            offset,
-            size: table.len() as u64,
+            offset: extent.offset,
+            size: extent.size,
         };
         put_rela_row(symtab, &place, number, &mut self.table_rows)
     }

@@ -6,6 +6,7 @@ mod fail;
 mod headers;
 mod number;
 mod parts;
+mod room;
 mod rows;
 mod strings;
 mod symbols;

@@ -1,6 +1,6 @@
 //! The symbol table and the names of the symbols.
 
-ghost use Rattle.std.specs.Prelude.{◌≡◌, ◌++◌, ◌≤◌, length, IfOk, OnOk};
+ghost use Rattle.std.specs.Prelude.{◌≡◌, ◌++◌, ◌≤◌, length, replicate, IfOk, OnOk};
 ghost use Rattle.std.specs.List.{filter};
 ghost use Rattle.cell_object.specs.Parts.{is_local as is_local_bind};
 ghost use Rattle.cell_object.specs.Strings.{string, place_in};
@@ -14,6 +14,16 @@ use std::alloc::{AllocError, Global};
 
 /// The bytes of symbol 0.
 const SYMBOL_0: [u8; 24] = [0; 24];
+
+/// Symbol 0, in a table with room for so many symbols behind it.
+fn first_row(alloc: Global, count: usize) -> Result<Vec<u8>, AllocError>
+    ensures { IfOk result (λ rows. rows.items ≡ replicate 24 0) }
+{
+    let room = count.saturating_add(1).saturating_mul(SYMBOL_0.len());
+    let mut rows = Vec::with_capacity(alloc, room)?;
+    rows.extend_from_slice(&SYMBOL_0)?;
+    Ok(rows)
+}
 
 /// The bytes of the symbol table and of its string table.
 #[derive(Drop)]
@@ -36,7 +46,7 @@ impl SymbolTables {
         ensures { IfOk result (λ tables. HoldsSymbols tables.symbols.items tables.strings.items symtab symbols.now) }
     {
         let mut tables = SymbolTables {
-            symbols: Vec::from_slice(alloc, &SYMBOL_0)?,
+            symbols: first_row(alloc, symbols.len())?,
             strings: Vec::from_slice(alloc, b"\0")?,
         };
         for symbol in symbols {

@@ -1,8 +1,9 @@
 //! The entries of each section.
 
-ghost use Rattle.std.specs.Prelude.{◌≡◌, [], length, IfOk, OnOk};
+ghost use Rattle.std.specs.Prelude.{◌≡◌, [], ◌++◌, length, IfOk, OnOk};
 ghost use Rattle.std.specs.List.{flat_map};
 ghost use Rattle.cell_elfw.specs.Drafts.{AreTables, IsEntryPut};
+ghost use Rattle.cell_object.specs.ImageParts.{padded};
 ghost use Rattle.cell_object.specs.Rows.{entry_bytes};
 
 use crate::rows::put_entry;
@@ -50,13 +51,33 @@ fn add(entry: &Entry, tables: &mut [Vec<Entry>]) -> Result<(), AllocError>
     Ok(())
 }
 
-/// The bytes of a table of entries.
-pub fn table_bytes(alloc: Global, entries: &[Entry]) -> Result<Vec<u8>, AllocError>
-    ensures { IfOk result (λ bytes. bytes.items ≡ flat_map entry_bytes entries.now) }
+/// Where a table begins, and how many bytes it has.
+#[derive(Clone, Copy)]
+pub struct Extent {
+    pub offset: u64,
+    pub size: u64,
+}
+
+/// Appends a table of entries, whose rows need no zero bytes behind them.
+pub fn put_table(entries: &[Entry], file: &mut Vec<u8>) -> Result<Extent, AllocError>
+    ensures offset { IfOk result (λ extent. extent.offset ≡ length file.old.items) }
+    ensures size { IfOk result (λ extent. extent.size ≡ length (flat_map entry_bytes entries.now)) }
+    ensures file { OnOk result (file.new.items ≡ file.old.items ++ padded (flat_map entry_bytes entries.now)) }
 {
-    let mut bytes = Vec::new(alloc);
+    let offset = file.len();
+    put_entries(entries, file)?;
+    Ok(Extent {
+        offset: offset as u64,
+        size: (file.len() - offset) as u64,
+    })
+}
+
+#[tactic(auto, using(crate::proofs::Numbers::entry_put))]
+fn put_entries(entries: &[Entry], into: &mut Vec<u8>) -> Result<(), AllocError>
+    ensures { OnOk result (into.new.items ≡ into.old.items ++ flat_map entry_bytes entries.now) }
+{
     for entry in entries {
-        put_entry(entry, &mut bytes)?;
+        put_entry(entry, into)?;
     }
-    Ok(bytes)
+    Ok(())
 }

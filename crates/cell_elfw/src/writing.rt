@@ -10,6 +10,7 @@ use crate::WriteFail;
 use crate::draft::{Draft, TableNames};
 use crate::headers::{Place, put_null_row, put_strings_row, put_symtab_row};
 use crate::parts::put_part;
+use crate::room::room;
 use crate::rows::{Directory, put_header};
 use crate::strings::put_string;
 use crate::symbols::SymbolTables;
@@ -51,7 +52,7 @@ fn image(alloc: Global, object: &Object) -> Result<Vec<u8>, AllocError>
     let symtab = sections.len() as u64 + 1;
     let symbols = SymbolTables::of(alloc, symtab, object.symbols.as_slice())?;
     let tables = by_section(alloc, sections.len(), object.entries.as_slice())?;
-    let mut draft = Draft::of_sections(alloc, sections)?;
+    let mut draft = Draft::of_sections(alloc, room(object, &symbols), sections)?;
     let names = TableNames::put(&mut draft.names)?;
     let symtab_offset = put_part(&symbols.symbols, &mut draft.file)?;
     draft.add_tables(object, &tables)?;

@@ -6,7 +6,7 @@ use Rattle.cell_elfw.proofs.Stages.{symbols_none_at, symbol_more}
 use Rattle.cell_elfw.proofs.symbols.SymbolTables.of.Goals as goal
 
 pub loop-symbol-init : goal.loop-symbol-init
-loop-symbol-init c = symbols_none_at c.in_ok-from_slice.field-0.items c.in_ok-from_slice-2.field-0.items c.args.symtab c.in_ok-from_slice.ensures.items c.in_ok-from_slice-2.ensures.items
+loop-symbol-init c = symbols_none_at c.in_ok-first_row.field-0.items c.in_ok-from_slice.field-0.items c.args.symtab c.in_ok-first_row.ensures c.in_ok-from_slice.ensures.items
 
 pub loop-symbol-preserved : goal.loop-symbol-preserved
 loop-symbol-preserved c =
