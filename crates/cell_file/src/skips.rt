@@ -21,19 +21,19 @@ pub fn is_passed_over(kind: u32) -> bool
     kind == NONE || kind == RELAX
 }
 
-/// How many entries are passed over from each place of a part of a file on, one behind the other:
-/// tables that share their bytes pass over them once.
+/// How many entries are passed over from each place of a part of a file on, one behind the other, as
+/// far as a byte can count them: tables that share their bytes go over them 255 at a time.
 #[derive(Drop)]
 pub struct Skips<'a> {
     pub bytes: &'a [u8],
     /// Where the part begins.
     from: usize,
-    counts: Vec<u32>,
+    counts: Vec<u8>,
     ghost are: { (q : ℕ) → IsSkip bytes.now (from + q) (get_or counts.items q 0) },
 }
 
 /// What is counted from a place on, or 0 past the end.
-fn count_of(counts: &[u32], place: usize) -> u32
+fn count_of(counts: &[u8], place: usize) -> u8
     ensures { result ≡ get_or counts.now place 0 }
 {
     match counts.get(place) {
@@ -43,7 +43,7 @@ fn count_of(counts: &[u32], place: usize) -> u32
 }
 
 /// Counts from a place of the part on, after the places behind it.
-fn count_at(bytes: &[u8], from: usize, counts: &mut [u32], at: usize)
+fn count_at(bytes: &[u8], from: usize, counts: &mut [u8], at: usize)
     requires there { at < length counts.old }
     requires row { from + at + 24 ≤ length bytes.now }
     requires behind { (q : ℕ) → IsSkip bytes.now (from + q) (get_or counts.old q 0) }
@@ -55,7 +55,7 @@ fn count_at(bytes: &[u8], from: usize, counts: &mut [u32], at: usize)
 }
 
 /// Counts from each place of the part on, from the last one back.
-fn count(bytes: &[u8], from: usize, counts: &mut [u32])
+fn count(bytes: &[u8], from: usize, counts: &mut [u8])
     requires inside { from + length counts.old ≤ length bytes.now }
     requires none { (q : ℕ) → IsSkip bytes.now (from + q) (get_or counts.old q 0) }
     ensures { (q : ℕ) → IsSkip bytes.now (from + q) (get_or counts.new q 0) }
@@ -85,12 +85,13 @@ impl<'a> Skips<'a> {
         })
     }
 
-    /// How many entries from a place on are passed over, one behind the other; none outside the part.
+    /// So many entries from a place on are passed over, one behind the other, or more; none is told
+    /// outside the part.
     pub fn at(&self, place: u64) -> u32
         ensures { IsSkip self.now.bytes.now place result }
     {
         match place.checked_sub(self.from as u64) {
-            Some(at) => count_of(&self.counts, at as usize),
+            Some(at) => u32::from(count_of(&self.counts, at as usize)),
             None => 0,
         }
     }

@@ -8,6 +8,6 @@ returns-in-Some c =
     let at = c.in-Some.at in
     let inside = c.in-Some.ensures {u = tt} in
     let there : skips.from + at ≡ c.args.place = omega (arith, inside.0, inside.1) in
-    let count : c.count_of.result ≡ get_or skips.counts.items at 0 = c.count_of.ensures ∙ ap (λ (xs : List ℕ). get_or xs at 0) c.deref.ensures.value in
-    subst (λ (p : ℕ). IsSkip skips.bytes.now p c.count_of.result) there
+    let count : c.from.result ≡ get_or skips.counts.items at 0 = c.from.ensures ∙ (c.count_of.ensures ∙ ap (λ (xs : List ℕ). get_or xs at 0) c.deref.ensures.value) in
+    subst (λ (p : ℕ). IsSkip skips.bytes.now p c.from.result) there
     (subst (λ (n : ℕ). IsSkip skips.bytes.now (skips.from + at) n) (sym count) (skips.are at))
