@@ -1,4 +1,4 @@
-//! More cells than there may be, by a swap and by loads.
+//! More cells than there may be, by a load and by a swap.
 
 use crate::repeated::outcome;
 use cell_run::Status;
@@ -27,22 +27,23 @@ fn crowd(alloc: Global) -> Result<String, AllocError> {
     Ok(script)
 }
 
-/// Loads of 512 crates into each of two namespaces, and of one more.
-fn siblings(alloc: Global) -> Result<String, AllocError> {
-    let mut script = String::from_str(alloc, "ns a under k\nns b under k\n")?;
-    for number in 1..513 {
-        script.push_str(format!(in alloc; "load a c{number}\nload b c{number}\n")?.as_str())?;
+/// Loads of 1024 crates, and of the first of them again.
+fn loads(alloc: Global) -> Result<String, AllocError> {
+    let mut script = String::new(alloc);
+    for number in 1..1025 {
+        script.push_str(format!(in alloc; "load k c{number}\n")?.as_str())?;
     }
-    script.push_str("load b c513\n")?;
+    script.push_str("load k c1\n")?;
     Ok(script)
 }
 
+/// The limit is asked before the stem.
 #[test]
-fn by_loads(rt: HostRuntime) -> Result<(), Fail> {
+fn by_a_load(rt: HostRuntime) -> Result<(), Fail> {
     let alloc = rt.alloc();
-    let (status, sink) = outcome(alloc, 513, "", siblings(alloc)?, 60000)?;
+    let (status, sink) = outcome(alloc, 1024, "", loads(alloc)?, 40000)?;
     let text = std::str::from_utf8(sink.written()).ok().ok_or("UTF-8")?;
-    let end = "\n1026 ok load #1024 patched 0\n1027 E4 too-many cells 1024\n";
+    let end = "\n1024 ok load #1024 patched 0\n1025 E4 too-many cells 1024\n";
     assert!(rt; text.ends_with(end), "{text}");
     assert_eq!(rt; status, Status::SomeRefused);
     Ok(())
