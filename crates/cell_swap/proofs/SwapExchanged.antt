@@ -1,6 +1,7 @@
 -- The exchange by its plan, and by the last steps.
 use Rattle.std.proofs.Common.{◌≡◌, sym, ◌∙◌, ap, subst, arith, ℕ, ◌+◌, ◌*◌, ◌<◌, ◌^◌, List, length}
-use Rattle.std.specs.Prelude.{All, Err, IsTrue, Ok, map, nat_lt}
+use Rattle.std.specs.Prelude.{All, Err, IsErrAnd, IsTrue, MatchResult, Ok, Result, map, nat_lt}
+use Rattle.std.proofs.lemmas.Result.{err_from_is_err_and}
 use Rattle.cell_world.specs.declared.fail.Fail.{Fail}
 use Rattle.cell_world.specs.declared.fail.Fail.TheVariants.{Refused, OutOfMemory}
 use Rattle.cell_world.specs.declared.file.File.{File}
@@ -141,3 +142,9 @@ module _ (files : List File) (asked : Asked) (m : Machine) (o : Options) (roots 
 
       pub was_refused : (refusal : Refusal) (l : Machine) → Finishes can_finish o.strict (Err refusal) l → Exchanges files asked m h.begun o (Err (Refused refusal)) l
       was_refused refusal l s = (by_plan ∙ ap (λ (x : Outcome World). x >>= (λ second. let y : Outcome (SwapPlan × World) = Ok (plan_is.plan, second) in y)) s.0, then_same m k l ready.same s.1)
+
+      pub was_finished : (said : Result Reply Refusal) (result : Result Reply Fail) (l : Machine) → MatchResult said (λ reply. result ≡ Ok reply) (λ refusal. IsErrAnd result (λ fail. fail ≡ Refused refusal)) → Finishes can_finish o.strict said l → Exchanges files asked m h.begun o result l
+      was_finished (Ok reply) result l same s = rw same (was_exchanged reply l s)
+      was_finished (Err refusal) result l same s =
+          let p = err_from_is_err_and result same in
+          rw (p.1, p.2) (was_refused refusal l s)

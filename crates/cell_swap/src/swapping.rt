@@ -252,10 +252,9 @@ fn exchange(
     )?;
     let ready = Ready::of(alloc, machine, plan, &asked.replaced, options)?;
     machine.memory.begin_undo(alloc, ready.writes)?;
-    match ready.finish(machine, options.strict, &asked.replaced) {
-        Ok(reply) => Ok(reply),
-        Err(refusal) => Err(Fail::Refused(refusal)),
-    }
+    ready
+        .finish(machine, options.strict, &asked.replaced)
+        .map_err(Fail::Refused)
 }
 
 /// Puts new cells in the place of attached ones, which keep all that tasks and data still need of

@@ -8,7 +8,7 @@ use Rattle.cell_swap.specs.Before.{begun_in}
 use Rattle.cell_swap.specs.Swapped.{IsReadyFor}
 use Rattle.cell_swap.specs.Transferring.{AreOld}
 use Rattle.cell_swap.proofs.AddressesSaid.{old_cells}
-use Rattle.cell_swap.proofs.SwapExchanged.{apart, begins_low, bound, can_finish, names_fit, staged_low, staged_rise, unplanned, was_exchanged, was_refused}
+use Rattle.cell_swap.proofs.SwapExchanged.{apart, begins_low, bound, can_finish, names_fit, staged_low, staged_rise, unplanned, was_finished}
 use Rattle.cell_swap.proofs.swapping.exchange.Goals as goal
 
 pub plan_swap-requires : goal.plan_swap-requires
@@ -47,19 +47,13 @@ finish-requires c =
     let ready = subst (λ (old : List CellId). IsReadyFor c.args.machine.now old c.args.options.now c.in_ok-plan.plan c.of.new.machine c.in_ok-ready.ready) (c.deref.ensures.value ∙ sym c.deref-2.ensures.value) (c.in_ok-ready.ensures {u = tt}).ready in
     can_finish c.args.depot.now c.args.asked.now c.args.machine.now c.args.options.now c.args.roots.items c.requires c.in_ok-plan.plan (c.in_ok-plan.ensures c.requires.begun) c.of.new.machine c.deref-2.result.now c.deref-2.ensures.value c.in_ok-ready.ready ready (record c.of.new.machine { memory = c.begin_undo.new.self }) begun
 
-pub returns-in-Ok : goal.returns-in-Ok
-returns-in-Ok c h =
+pub returns : goal.returns
+returns c h =
     let begun : (record c.of.new.machine { memory = c.begin_undo.new.self }) ≡ begun_in c.of.new.machine c.in_ok-ready.ready.writes =
     ap (λ (s : MemoryState). let x : Machine = record c.of.new.machine { memory = s } in x) (c.in_ok-begin_undo.ensures {u = tt}).ok in
     let ready = subst (λ (old : List CellId). IsReadyFor c.args.machine.now old c.args.options.now c.in_ok-plan.plan c.of.new.machine c.in_ok-ready.ready) (c.deref.ensures.value ∙ sym c.deref-2.ensures.value) (c.in_ok-ready.ensures {u = tt}).ready in
-    was_exchanged c.args.depot.now c.args.asked.now c.args.machine.now c.args.options.now c.args.roots.items h c.in_ok-plan.plan (c.in_ok-plan.ensures h.begun) c.of.new.machine c.deref-2.result.now c.deref-2.ensures.value c.in_ok-ready.ready ready (record c.of.new.machine { memory = c.begin_undo.new.self }) begun c.in-Ok.reply c.finish.new.machine (c.in-Ok.ensures {u = tt} (can_finish c.args.depot.now c.args.asked.now c.args.machine.now c.args.options.now c.args.roots.items h c.in_ok-plan.plan (c.in_ok-plan.ensures h.begun) c.of.new.machine c.deref-2.result.now c.deref-2.ensures.value c.in_ok-ready.ready ready (record c.of.new.machine { memory = c.begin_undo.new.self }) begun))
-
-pub returns-in-Err : goal.returns-in-Err
-returns-in-Err c h =
-    let begun : (record c.of.new.machine { memory = c.begin_undo.new.self }) ≡ begun_in c.of.new.machine c.in_ok-ready.ready.writes =
-    ap (λ (s : MemoryState). let x : Machine = record c.of.new.machine { memory = s } in x) (c.in_ok-begin_undo.ensures {u = tt}).ok in
-    let ready = subst (λ (old : List CellId). IsReadyFor c.args.machine.now old c.args.options.now c.in_ok-plan.plan c.of.new.machine c.in_ok-ready.ready) (c.deref.ensures.value ∙ sym c.deref-2.ensures.value) (c.in_ok-ready.ensures {u = tt}).ready in
-    was_refused c.args.depot.now c.args.asked.now c.args.machine.now c.args.options.now c.args.roots.items h c.in_ok-plan.plan (c.in_ok-plan.ensures h.begun) c.of.new.machine c.deref-2.result.now c.deref-2.ensures.value c.in_ok-ready.ready ready (record c.of.new.machine { memory = c.begin_undo.new.self }) begun c.in-Err.refusal c.finish.new.machine (c.in-Err.ensures {u = tt} (can_finish c.args.depot.now c.args.asked.now c.args.machine.now c.args.options.now c.args.roots.items h c.in_ok-plan.plan (c.in_ok-plan.ensures h.begun) c.of.new.machine c.deref-2.result.now c.deref-2.ensures.value c.in_ok-ready.ready ready (record c.of.new.machine { memory = c.begin_undo.new.self }) begun))
+    was_finished c.args.depot.now c.args.asked.now c.args.machine.now c.args.options.now c.args.roots.items h c.in_ok-plan.plan (c.in_ok-plan.ensures h.begun) c.of.new.machine c.deref-2.result.now c.deref-2.ensures.value c.in_ok-ready.ready ready (record c.of.new.machine { memory = c.begin_undo.new.self }) begun c.finish.result c.map_err.result c.finish.new.machine c.map_err.ensures.cases
+    (c.finish.ensures (can_finish c.args.depot.now c.args.asked.now c.args.machine.now c.args.options.now c.args.roots.items h c.in_ok-plan.plan (c.in_ok-plan.ensures h.begun) c.of.new.machine c.deref-2.result.now c.deref-2.ensures.value c.in_ok-ready.ready ready (record c.of.new.machine { memory = c.begin_undo.new.self }) begun))
 
 pub returns-in_err-begin_undo : goal.returns-in_err-begin_undo
 returns-in_err-begin_undo c h =
