@@ -59,7 +59,8 @@ pub fn places_of(
     requires { (c : NewCell) → In c (present.now ++ fresh.now) → IsTrue (each_pair (λ a b. nat_lt a.section b.section) c.places) }
     ensures { IfOk result (λ places. places ≡ flat_map (λ c. placed_in (attached c)) (present.now ++ fresh.now)) }
 {
-    let mut sections = Vec::new(alloc);
+    // Most cells have one section or two.
+    let mut sections = Vec::with_capacity(alloc, present.len())?;
     add_cells(present, &mut sections)?;
     add_cells(fresh, &mut sections)?;
     Places::of(alloc, sections)

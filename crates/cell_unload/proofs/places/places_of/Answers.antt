@@ -19,6 +19,6 @@ returns c =
     let found : c.add_cells-2.new.into.items ≡ flat_map (λ c. placed_in (attached c)) (c.args.present.now ++ c.args.fresh.now) =
     c.in_ok-add_cells-2.ensures
     ∙ (ap (λ (ps : List Placed). ps ++ flat_map (λ (c : NewCell). placed_in (attached c)) c.args.fresh.now)
-    (c.in_ok-add_cells.ensures ∙ ap (λ (ps : List Placed). ps ++ flat_map (λ (c : NewCell). placed_in (attached c)) c.args.present.now) c.new-sections.ensures.items)
+    (c.in_ok-add_cells.ensures ∙ ap (λ (ps : List Placed). ps ++ flat_map (λ (c : NewCell). placed_in (attached c)) c.args.present.now) (c.in_ok-sections.ensures {u = tt}).items)
     ∙ sym (flat_map-append (λ (c : NewCell). placed_in (attached c)) c.args.present.now c.args.fresh.now)) in
     subst (λ (ps : List Placed). IfOk c.of.result (λ places. places ≡ ps)) found c.of.ensures
