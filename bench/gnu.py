@@ -6,11 +6,17 @@ says where each section is; ld links the same objects at those places; then the 
 section have to be equal, but for sections of zeros that have none in the file.
 
     gnu.py compare [PROGRAM]    both compilers, both code models, -O0 and -O2
-    gnu.py store [PROGRAM]      writes the stored run of crates/cells, with the bytes that ld has
+    gnu.py store [PROGRAM]      writes the stored run of crates/cells, and says where each line of it comes from
+
+The stored run begins with the script of examples/plugins, and the first lines that it has to print are the transcript that is
+kept there. This is the program's own, and so are the answers to the loads and the map behind it; nothing else says what they
+have to be. The bytes of the sections then come from ld, what the tasks put out from qemu, as tasks.py says, and one refusal
+at the end from here.
 
 PROGRAM is a built `cells`, crates/cells/out/cells unless it is said. It needs Debian's packages
-gcc-riscv64-unknown-elf, binutils-riscv64-unknown-elf and clang.
+gcc-riscv64-unknown-elf, binutils-riscv64-unknown-elf and clang, and `store` needs qemu-user.
 """
+import glob
 import itertools
 import os
 import re
@@ -26,6 +32,7 @@ HERE = os.path.dirname(os.path.abspath(__file__))
 TOP = os.path.dirname(HERE)
 SOURCES = os.path.join(HERE, "gnu")
 STORED = os.path.join(TOP, "crates", "cells")
+EXAMPLE = os.path.join(TOP, "examples", "plugins")
 TOOL = "riscv64-unknown-elf-"
 TARGET = ["-march=rv64im", "-mabi=lp64", "-mno-relax"]
 C_FLAGS = TARGET + ["-ffreestanding", "-fno-common", "-fno-pic", "-fno-stack-protector"]
@@ -65,17 +72,19 @@ def sections(path):
     return {i: (name(r[0]), r[1], r[2], r[4], r[5]) for i, r in enumerate(rows)}
 
 
-def transcript(program, folder, lines):
+def transcript(program, folder, lines, status=0):
     with open(os.path.join(folder, "script"), "w") as file:
         file.write("\n".join(lines) + "\n")
-    done = subprocess.run([program, folder, "script"], stdout=subprocess.PIPE, check=True)
+    done = subprocess.run([program, folder, "script"], stdout=subprocess.PIPE)
+    if done.returncode != status:
+        sys.exit(f"gnu.py: {program} ended with status {done.returncode}, and not {status}, and printed\n{done.stdout.decode()}")
     return done.stdout.decode()
 
 
 def places(text):
-    """What `map` shows: cell, file, section, start, for each section that isn't empty."""
+    """What the last `map` shows: cell, file, section, start, for each section that isn't empty."""
     rows = []
-    for line in text.split("\n"):
+    for line in text.rpartition(" ok map\n")[2].split("\n"):
         cell = re.fullmatch(r"  #(\d+) \S+ attached (\S+)", line)
         if cell:
             number, file = int(cell[1]), cell[2]
@@ -119,10 +128,10 @@ def dumped(number, cell, section, start, data):
     return ["%d ok dump #%d.%d" % (number, cell, section)] + list(dump_lines(start, data))
 
 
-def with_dumps(program, folder, lines):
+def with_dumps(program, folder, lines, status=0):
     """The script that also maps and dumps, and the transcript that ld's bytes ask for."""
     lines = lines + ["map"]
-    begun = transcript(program, folder, lines)
+    begun = transcript(program, folder, lines, status)
     rows = places(begun)
     found = link(folder, rows)
     expected = begun.splitlines()
@@ -156,36 +165,74 @@ def compare(program):
     return failed
 
 
-def with_tasks(program, folder, data, lines):
+def with_tasks(program, folder, lines, task):
     """What the stored run goes on with: tasks that do every instruction, and what qemu makes of it."""
     name = "k#%s.o" % tasks.STEM
-    tasks.write_object(os.path.join(data, name))
-    shutil.copy(os.path.join(data, name), folder)
+    tasks.write_object(os.path.join(folder, name))
     load = "load k " + tasks.STEM
-    (cell, _, _, start), = [row for row in places(transcript(program, folder, lines + [load, "map"])) if row[1] == name]
+    begun = transcript(program, folder, lines + [load, "map"], 1)
+    (cell, _, _, start), = [row for row in places(begun) if row[1] == name]
     # each entry of its table has a field of its own
-    fields = sum(size // ENTRY for _, kind, _, _, size in sections(os.path.join(data, name)).values() if kind == RELA)
-    script, text = tasks.stored(start, 1, len(lines) + 2)
+    fields = sum(size // ENTRY for _, kind, _, _, size in sections(os.path.join(folder, name)).values() if kind == RELA)
+    script, text = tasks.stored(start, task, len(lines) + 2)
     return [load] + script, ["%d ok load #%d patched %d" % (len(lines) + 1, cell, fields)] + text
 
 
+def read_lines(path):
+    with open(path) as file:
+        return file.read().splitlines()
+
+
+def with_refusal(lines):
+    """The last command of the stored run: it is refused, so that the program ends with status 1."""
+    return ["load k none"], ["%d E5 no-object none" % (len(lines) + 1)]
+
+
+def next_numbers(text):
+    """The numbers of the next cell and the next task behind that transcript. None is used again."""
+    return [1 + max(int(number) for number in re.findall(form, text)) for form in (r"#(\d+)", r"\bt(\d+)")]
+
+
 def store(program):
-    """Writes the objects, the script and the wanted transcript of the stored run of crates/cells."""
+    """Writes the objects, the script, the wanted transcript and the status of the stored run of crates/cells."""
+    data = os.path.join(STORED, "data", "d")
+    lines, wanted = (read_lines(os.path.join(EXAMPLE, name)) for name in ("script", "transcript"))
+    cell, task = next_numbers("\n".join(wanted))
     with tempfile.TemporaryDirectory() as folder:
-        data = os.path.join(STORED, "data", "d")
-        for stem in ("a", "b"):
-            shutil.copy(os.path.join(data, "k#%s.o" % stem), folder)
+        for path in glob.glob(os.path.join(EXAMPLE, "*.o")) + [os.path.join(data, "k#%s.o" % stem) for stem in ("a", "b")]:
+            shutil.copy(path, folder)
         build(folder, "queue", "gcc", "medany", "-O2")
         build(folder, "shop", "gcc", "medlow", "-O0")
         build(folder, "kinds", None, None, None)
-        lines, expected = with_dumps(program, folder, ["load k a", "load k b", "dump 2 1", "load k kinds"])
-        for stem in STEMS:
-            shutil.copy(os.path.join(folder, "k#%s.o" % stem), data)
-        more, text = with_tasks(program, folder, data, lines)
-    with open(os.path.join(data, "s"), "w") as file:
-        file.write("\n".join(lines + more) + "\n")
-    with open(os.path.join(STORED, "stdout"), "w") as file:
-        file.write(expected + "\n".join(text) + "\n")
+        loads = ["load k a", "load k b", "dump %d 1" % (cell + 1), "load k kinds"]
+        script, linked = with_dumps(program, folder, lines + loads, 1)
+        linked = linked.splitlines()
+        if linked[: len(wanted)] != wanted:
+            sys.exit("gnu.py: the program doesn't print examples/plugins/transcript; `make check` there shows the difference")
+        more, put_out = with_tasks(program, folder, script, task)
+        last, refusal = with_refusal(script + more)
+        for path in glob.glob(os.path.join(data, "*.o")):
+            os.remove(path)
+        for path in glob.glob(os.path.join(folder, "*.o")):
+            shutil.copy(path, data)
+    write_lines(os.path.join(data, "s"), script + more + last)
+    write_lines(os.path.join(STORED, "stdout"), linked + put_out + refusal)
+    with open(os.path.join(STORED, "status"), "w") as file:
+        file.write("1")
+    say_origins(len(wanted), len(script) - len(lines + loads) - 1, len(linked), len(put_out))
+
+
+def say_origins(own, dumps, linked, put_out):
+    """Which lines of the transcript come from where."""
+    print("lines 1 to %d: examples/plugins/transcript, the program's own" % own)
+    print("lines %d to %d: the bytes of %d dumps from ld, all else the program's own" % (own + 1, linked, dumps))
+    print("lines %d to %d: the places the program's own, all else from tasks.py and qemu" % (linked + 1, linked + put_out))
+    print("line %d: from gnu.py" % (linked + put_out + 1))
+
+
+def write_lines(path, lines):
+    with open(path, "w") as file:
+        file.write("\n".join(lines) + "\n")
 
 
 def main():
