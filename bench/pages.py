@@ -14,6 +14,7 @@ works on a copy of examples/ of its own, so that nothing which it makes there is
     <!-- new: FOLDER/NAME -->       makes that file of the block, for the runs behind it
     <!-- more: FOLDER/NAME -->      puts the block behind what the file holds
     <!-- object: FOLDER/NAME -->    makes that object file of the block, a source for `cellas`
+    <!-- copy: FROM to TO -->       copies a file, for the runs behind it; no block belongs to it
 
 Options stand behind the words, each after a semicolon, as <!-- run: examples/swap script; answers 2 to 4; status 0 -->:
 
@@ -42,8 +43,9 @@ TOP = os.path.dirname(os.path.dirname(os.path.abspath(__file__)))
 PAGES = ["*.md", "docs/*.md", "examples/*/*.md"]
 COMPARED = ("run", "file")
 MADE = ("new", "more", "object")
-MARK = re.compile(r"<!-- (%s): (.*?)( -->)?" % "|".join(COMPARED + MADE))
-LIKE_A_MARK = re.compile(r"<!-- *(%s)\b" % "|".join(COMPARED + MADE))
+KINDS = "|".join(COMPARED + MADE + ("copy",))
+MARK = re.compile(r"<!-- (%s): (.*?)( -->)?" % KINDS)
+LIKE_A_MARK = re.compile(r"<!-- *(%s)\b" % KINDS)
 OPTION = re.compile(r"(answers|lines) (\d+)(?: to (\d+))?|(status) (\d+)|(without) (\S+)")
 ANSWER = re.compile(rb"(\d+) (ok|E\d+)( |$)")
 
@@ -53,7 +55,7 @@ class Wrong(Exception):
 
 
 def blocks(text):
-    """The fenced blocks of a page, and the comments that hold one: of each the line, its mark or none, and its bytes."""
+    """The fenced blocks of a page, the comments that hold one, and those that need none: line, mark or none, and bytes."""
     lines, at, mark = text.split(b"\n"), 0, None
     while at < len(lines):
         line, number = lines[at].decode(errors="replace").strip(), at + 1
@@ -70,7 +72,9 @@ def blocks(text):
             raise Wrong(f"line {number}: the block of the mark above has to come first")
         elif LIKE_A_MARK.match(line) and not (found and found[3]):
             raise Wrong(f"line {number}: no mark is spelled so")
-        if line:
+        if found and found[1] == "copy":
+            yield number, found, b""
+        elif line:
             mark = found if found and not hides else None
         at += 1
     if mark:
@@ -135,6 +139,10 @@ class Page:
         with open(os.path.join(TOP, name), "rb") as file:
             return b"".join(file.read().splitlines(keepends=True)[first - 1 : last])
 
+    def copy(self, words):
+        before, _, after = words.partition(" to ")
+        shutil.copy(self.path(before), self.path(after))
+
     def make(self, kind, name, block):
         if kind == "object":
             with open(self.path("source.s"), "wb") as file:
@@ -153,6 +161,8 @@ class Page:
             return self.transcript(words, told)
         if mark[1] == "file":
             return self.lines(words, told)
+        if mark[1] == "copy":
+            return self.copy(words)
         return self.make(mark[1], words, block)
 
     def check(self, text):

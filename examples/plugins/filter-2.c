@@ -1,9 +1,9 @@
-/* The number times itself. */
+/* Ten times the number. */
 #include "crates.h"
 
 unsigned long filter_of(unsigned long number)
 {
     counter_add(number);
     yield();
-    return number * number;
+    return 10 * number;
 }
