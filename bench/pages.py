@@ -145,6 +145,8 @@ class Page:
 
     def make(self, kind, name, block):
         if kind == "object":
+            if not os.access(self.cellas, os.X_OK):
+                raise Wrong(f"there is no assembler {self.cellas}; ./build builds it, or --cellas names one")
             with open(self.path("source.s"), "wb") as file:
                 file.write(block)
             done = self.run(self.cellas, [self.folder, "source.s"])
