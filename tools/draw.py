@@ -170,7 +170,7 @@ def replaced(cells, swaps):
         for number in swaps.get(old.swap, ()):
             new = cells.get(number)
             if new and (new.namespace, new.stem) == (old.namespace, old.stem):
-                yield (f'c{old.number}:head -> c{number}:head [style=dotted, color="#777777", fontcolor="#777777", '
+                yield (f'c{old.number} -> c{number} [style=dotted, color="#777777", fontcolor="#777777", '
                        f'constraint=false, label="swap {old.swap}"]')
 
 
@@ -232,8 +232,10 @@ def main():
         try:
             with open(words.transcript or 0, encoding="utf-8") as file:
                 made = list(drawings(read(file.read())))
-        except (OSError, UnicodeDecodeError) as error:
-            raise Wrong(f"it can't be read: {getattr(error, 'strerror', None) or error}") from None
+        except OSError as error:
+            raise Wrong(f"it can't be read: {error.strerror}") from None
+        except UnicodeDecodeError:
+            raise Wrong("it is no transcript: it isn't text") from None
         if not made:
             raise Wrong("it has no answer to a `map`: put the command `map` in the script")
         for line, text in made:
