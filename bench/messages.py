@@ -231,6 +231,7 @@ def objects():
     compiled("plain gcc", code, "")
     compiled("plain clang", code, "", CLANG)
     compiled("lp64d", code, PROFILE.replace("rv64im ", "rv64imafd ").replace("lp64 ", "lp64d "))
+    compiled("lp64f", code, PROFILE.replace("rv64im ", "rv64imf ").replace("lp64 ", "lp64f "))
     compiled("compressed", code, PROFILE.replace("rv64im ", "rv64imac "))
     compiled("compressed clang", code, PROFILE.replace("rv64im ", "rv64imac "), CLANG)
     compiled("rv32", code, PROFILE.replace("rv64im ", "rv32im ").replace("lp64 ", "ilp32 "))
@@ -253,6 +254,7 @@ def objects():
     compiled("weak", "long go(long) N(p::go); __attribute__((weak)) long go(long x) { return x; }")
     compiled("weak need", "long f(long) N(q::f); __attribute__((weak)) long f(long); long go(long) N(p::go); long go(long x) { return f ? f(x) : 0; }")
     compiled("constructor", "__attribute__((constructor)) static void start(void) { __asm__ volatile(\"\"); }")
+    compiled("destructor", "__attribute__((destructor)) static void stop(void) { __asm__ volatile(\"\"); }")
     cpp = "extern \"C\" long go(long) __asm__(\"\\\"p::go\\\"\");\n"
     load("C++: inline function", cxx(cpp + "inline __attribute__((noinline)) long twice(long x) { __asm__ volatile(\"\"); return 2 * x; } long go(long x) { return twice(x); }"))
     load("C++: template", cxx(cpp + "template <class T> __attribute__((noinline)) T twice(T x) { __asm__ volatile(\"\"); return 2 * x; } long go(long x) { return twice(x); }"))
