@@ -220,8 +220,7 @@ def broken(rule):
     return 1, "1 E7 object k#a.o rule %d at " % rule
 
 
-# Each kind, and what a run over it has to come to: its status, and how its text begins. Of NONE entries in a row every
-# 256th counts against the file's room for entries, so shared tables of them pass it as those of others do.
+# Each kind, and what a run over it has to come to: its status, and how its text begins.
 KINDS = {
     "sections of the same bytes": (same_bytes, NO_PAGES),
     "sections of zeros": (zero_sections, NO_PAGES),
@@ -232,10 +231,10 @@ KINDS = {
     "names of GLOBALs": (global_names, LOADED),
     "a shared table of ADD8": (shared_table(lambda n: [entry(0, ADD8)] * n, 1), NO_MEMORY),
     "a shared table of ADD64": (shared_table(lambda n: [entry(0, ADD64)] * n, 8), NO_MEMORY),
-    "a shared table of NONE": (shared_table(lambda n: [entry(0, NONE)] * n, 8), NO_MEMORY),
-    "tables of NONE that overlap": (shared_table(lambda n: [entry(0, NONE)] * n, 8, step=24), NO_MEMORY),
-    "tables at any byte": (shared_table(lambda n: [bytes(24)] * n, 8, step=1), NO_MEMORY),
-    "NONE and one ADD8": (shared_table(lambda n: [entry(0, NONE)] * (n - 1) + [entry(0, ADD8)], 8), NO_MEMORY),
+    "a shared table of NONE": (shared_table(lambda n: [entry(0, NONE)] * n, 8), LOADED),
+    "tables of NONE that overlap": (shared_table(lambda n: [entry(0, NONE)] * n, 8, step=24), LOADED),
+    "tables at any byte": (shared_table(lambda n: [bytes(24)] * n, 8, step=1), LOADED),
+    "NONE and one ADD8": (shared_table(lambda n: [entry(0, NONE)] * (n - 1) + [entry(0, ADD8)], 8), LOADED),
     "NONE and an unknown kind": (shared_table(lambda n: [entry(0, NONE)] * (n - 1) + [entry(0, 200)], 8), broken(20)),
     "one table of ADD8 on one byte": (one_table(lambda number: entry(0, ADD8), 1), LOADED),
     "one table of 64": (one_table(lambda number: entry(8 * number, R_64), 8), LOADED),

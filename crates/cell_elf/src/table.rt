@@ -143,7 +143,8 @@ impl<'a> Table<'a> {
         rela_row_at(self.file.bytes, self.place(number) as usize)
     }
 
-    /// The first entry from a number on that isn't passed over, or how many there are.
+    /// The first entry from a number on that isn't passed over, or how many there are; of a long row of
+    /// those that are passed over it may be one, since `Skips` counts such a row in strides.
     #[tactic(auto, using(crate::proofs::Skipping::rows))]
     pub fn kept_from(&self, number: u64) -> u64
         requires { number ≤ entry_count self.now.header }
@@ -275,6 +276,7 @@ impl<'a> Table<'a> {
         &self,
         entries: &mut K,
         fields: &mut Fields,
+        room: &mut u64,
         number: u64,
     ) -> Result<(), ReadFail>
         requires there { number < entry_count self.now.header }
@@ -293,6 +295,7 @@ impl<'a> Table<'a> {
         if is_passed_over(row.r_type) {
             return Ok(());
         }
+        take_room(room)?;
         let Some(kind) = kind_of(row.r_type) else {
             return Err(ReadFail::BadObject {
                 rule: 20,
@@ -324,8 +327,7 @@ impl<'a> Table<'a> {
         let count = self.count();
         let mut number = self.kept_from(0);
         while number < count {
-            take_room(room)?;
-            self.pass_entry(entries, fields, number)?;
+            self.pass_entry(entries, fields, room, number)?;
             number = self.kept_from(number + 1);
         }
         Ok(())

@@ -1,5 +1,5 @@
 -- Which fields of a table begin where.
-use Rattle.std.specs.Prelude.{◌≡◌, ℕ, ◌+◌, ◌*◌, ◌<◌, ◌&&◌, not, Bool, true, false, ◌==◌, nat_lt, Option, Some, None, List}
+use Rattle.std.specs.Prelude.{◌≡◌, ℕ, ◌+◌, ◌-◌, ◌*◌, ◌<◌, ◌&&◌, not, Bool, true, false, cond, ◌==◌, nat_lt, Option, Some, None, List}
 use Rattle.std.specs.List.{list_any}
 use Rattle.cell_num.specs.Kinds.{is_passed_over}
 use Rattle.cell_object.specs.Relocations.{rela_row_at}
@@ -47,3 +47,7 @@ hits e (Some m) = clash e m
 -- so many entries, one behind the other from a place of the file on, are passed over
 abbrev pub IsSkip : List ℕ → ℕ → ℕ → Type 0
 IsSkip file at count = (i : ℕ) → i < count → is_passed_over (rela_row_at (at + 24 * i) file).r_type ≡ true
+
+-- how many entries a count stands for: one each up to 128, and 128 more for each step above it
+abbrev pub reach : ℕ → ℕ
+reach count = cond (nat_lt 128 count) (128 * (count - 127)) count
