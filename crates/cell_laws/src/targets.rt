@@ -39,7 +39,8 @@ pub fn attaching_keeps_targets()
 {}
 
 /// Attached cells that are put aside as a new group keep their own targets, and all other entries lose exactly those that are
-/// in them. The rule of names alone has to hold: a provider is told by the name then, and not by the order of cells.
+/// in them. The rule of names has to hold, with numbers of cells that ascend and aliases of definitions of their own: a
+/// provider is told by the name then, and not by the order of cells.
 pub fn detaching_loses_targets()
     ensures own { (w : World) (k : ℕ) (ns : List ℕ) → IsNamed w → IsNewGroup k w → All (λ c. IsTrue (holds ns c.id.0) → IsTrue (is_attached c.standing)) w.cells →
         All (λ c. IsTrue (holds ns c.id.0) → (e : Entry) → target_of (detach k ns w) (put_aside k ns c) e ≡ target_of w c e) w.cells }

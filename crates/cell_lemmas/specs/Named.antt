@@ -1,6 +1,6 @@
--- What the rule of names asks of a machine, and nothing else.
---     IsNamed w           on one path a stem and a name belong to one attached cell; a cell has a number of its own, and
---                         its aliases name definitions of its own
+-- What the laws on steps of a swap ask of a machine, coherent or not.
+--     IsNamed w           on one path a stem and a name belong to one attached cell; the numbers of cells ascend, and a
+--                         cell's aliases name definitions of its own
 --     IsNewGroup k w      no cell is of that group
 use Rattle.std.specs.Prelude.{ℕ, ◌≡◌, ◌==◌, nat_lt, Bool, false, IsTrue, All}
 use Rattle.std.specs.List.{list_any, list_all}
