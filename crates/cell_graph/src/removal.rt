@@ -15,5 +15,5 @@ pub struct StillUsed {
 pub fn is_listed(cells: &[CellId], sec: SecKey) -> bool
     ensures { result ≡ is_listed cells.now sec }
 {
-    cells.contains(&sec.cell)
+    cells.iter().any(|cell| cell.0 == sec.cell.0)
 }

@@ -23,7 +23,7 @@ use cell_world::NewCell;
 fn is_listed(cells: &[CellId], cell: CellId) -> bool
     ensures { result ≡ list_any (λ c. c.0 == cell.0) cells.now }
 {
-    cells.contains(&cell)
+    cells.iter().any(|other| other.0 == cell.0)
 }
 
 /// Unmaps the regions of those of the cells that are listed.
