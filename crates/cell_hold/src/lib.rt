@@ -1,7 +1,6 @@
 //! The cells that must stay, and who holds them.
 #![tactic(auto)]
 
-mod boxed;
 mod bytes;
 mod direct;
 mod found;
@@ -15,7 +14,6 @@ mod spots;
 mod words;
 mod worklist;
 
-pub use boxed::Boxed;
 pub use holder::holder_of;
 pub use places::Places;
 pub use roots::{Root, TaskView};

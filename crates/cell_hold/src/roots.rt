@@ -1,6 +1,5 @@
 //! Where holding begins.
 
-use crate::boxed::Boxed;
 use cell_num::CellId;
 
 /// What of a live task may hold cells: its number, the cell that it began in, its pc and registers,
@@ -14,11 +13,10 @@ pub struct TaskView {
     pub stack: u64,
 }
 
-/// An attached cell, a task with its words, or one further word of a task. Most are cells, so a task
-/// stands apart.
-#[derive(Debug, Drop)]
+/// An attached cell, a task with its words, or one further word of a task.
+#[derive(Clone, Copy, Debug, PartialEq, Eq)]
 pub enum Root {
     Attached(CellId),
-    Task(Boxed<TaskView>),
+    Task(TaskView),
     Word(u32, u64),
 }
