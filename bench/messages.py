@@ -488,7 +488,7 @@ def lines():
         shell="bash -c '{program} {words} | head -n 1 >/dev/null; exit ${{PIPESTATUS[0]}}'")
     case(
         "status 5: memory", {"k#a.o": LEAF}, "load k a\n", ["DIR", "script", "--pages", "4096"],
-        shell="ulimit -v 20000; {program} {words}")
+        shell="ulimit -v 16000; {program} {words}")
     case("status 5: tables that share bytes", {"k#a.o": shared_tables}, "load k a\n")
 
 
