@@ -126,16 +126,17 @@ fn memory(alloc: Global) -> Result<Memory, Fail>
 }
 
 /// A task that began in a cell, with a pc and x2.
-fn task(task: u32, root: u32, pc: u64, top: u64) -> TaskView {
+fn task(alloc: Global, task: u32, root: u32, pc: u64, top: u64) -> Result<Root, Fail> {
     let mut x = [0u64; 32];
     x[2] = top;
-    TaskView {
+    let view = TaskView {
         task,
         root: CellId(root),
         pc,
         x,
         stack: STACK,
-    }
+    };
+    Ok(Root::Task(Boxed::new(alloc, view)?))
 }
 
 /// Whether the cell is one of the nine.
@@ -151,7 +152,7 @@ fn is_known(root: &Root) -> bool
 {
     match root {
         Root::Attached(cell) => is_cell(*cell),
-        Root::Task(task) => is_cell(task.root),
+        Root::Task(task) => is_cell(task.get().root),
         Root::Word(_, _) => true,
     }
 }
@@ -207,6 +208,7 @@ fn holder(
 }
 
 /// Two roots, and the cells that they keep, as bits.
+#[derive(Drop)]
 struct Kept([Root; 2], u32);
 
 const KEPT: [Kept; 7] = [
@@ -229,7 +231,7 @@ fn words_and_roots(rt: HostRuntime) -> Result<(), Fail> {
             "case {number}"
         );
     }
-    let of_pc = [Root::Task(task(1, 2, BASE + 0x10, STACK))];
+    let of_pc = [task(rt.alloc(), 1, 2, BASE + 0x10, STACK)?];
     assert_eq!(rt; cells_kept(&rt, &memory, &of_pc)?, 0b110);
     Ok(())
 }
@@ -253,7 +255,7 @@ fn stacks(rt: HostRuntime) -> Result<(), Fail> {
     let mut memory = memory(rt.alloc())?;
     assert_eq!(rt; memory.store(STACK + 0x100, 8, BASE + 0x44), Ok(()));
     for case in &TOPS {
-        let roots = [Root::Task(task(1, 1, 0, case.0))];
+        let roots = [task(rt.alloc(), 1, 1, 0, case.0)?];
         assert!(rt;
             cells_kept(&rt, &memory, &roots)? == case.1,
             "x2 {}",
@@ -321,7 +323,7 @@ fn holders(rt: HostRuntime) -> Result<(), Fail> {
     assert_eq!(rt; memory.store(DATA + 0x10, 8, BASE + 0x4), Ok(()));
     let roots = [
         Root::Attached(CellId(1)),
-        Root::Task(task(3, 2, BASE + 0x28, STACK + 0x4000)),
+        task(rt.alloc(), 3, 2, BASE + 0x28, STACK + 0x4000)?,
         Root::Word(4, BASE + 0x80),
         Root::Word(5, BASE + 0x28),
     ];

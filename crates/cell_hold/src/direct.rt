@@ -33,7 +33,7 @@ fn add_root(memory: &Memory, places: &Sections, root: &Root, into: &mut Found)
 {
     match root {
         Root::Attached(cell) => into.add(*cell),
-        Root::Task(task) => add_task(memory, places, task, into),
+        Root::Task(task) => add_task(memory, places, task.get(), into),
         Root::Word(_, word) => add_word(places, *word, into),
     }
 }

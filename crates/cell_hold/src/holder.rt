@@ -35,7 +35,7 @@ fn held_by(memory: &Memory, places: &Sections, root: &Root, cell: CellId) -> Opt
     ensures { result ≡ claimant memory.now places.now root.now cell.0 }
 {
     match root {
-        Root::Task(task) if task_holds(memory, places, task, cell) => Some(task.task),
+        Root::Task(task) if task_holds(memory, places, task.get(), cell) => Some(task.get().task),
         Root::Word(task, word) if word_leads(places, *word, cell) => Some(*task),
         _ => None,
     }

@@ -1,6 +1,7 @@
 //! The cells that must stay, and who holds them.
 #![tactic(auto)]
 
+mod boxed;
 mod bytes;
 mod direct;
 mod found;
@@ -14,6 +15,7 @@ mod spots;
 mod words;
 mod worklist;
 
+pub use boxed::Boxed;
 pub use holder::holder_of;
 pub use places::Places;
 pub use roots::{Root, TaskView};

@@ -1,5 +1,6 @@
 //! Where holding begins.
 
+use crate::boxed::Boxed;
 use cell_num::CellId;
 
 /// What of a live task may hold cells: its number, the cell that it began in, its pc and registers,
@@ -13,10 +14,11 @@ pub struct TaskView {
     pub stack: u64,
 }
 
-/// An attached cell, a task with its words, or one further word of a task.
-#[derive(Clone, Copy, Debug, PartialEq, Eq)]
+/// An attached cell, a task with its words, or one further word of a task. Most are cells, so a task
+/// stands apart.
+#[derive(Debug, Drop)]
 pub enum Root {
     Attached(CellId),
-    Task(TaskView),
+    Task(Boxed<TaskView>),
     Word(u32, u64),
 }

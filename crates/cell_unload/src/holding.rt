@@ -7,7 +7,7 @@ ghost use Rattle.cell_unload.specs.Begun.{is_aside, root_of, root_of_task};
 ghost use Rattle.cell_task.specs.State.{seen_as};
 ghost use Rattle.cell_world.specs.World.{Cell};
 
-use cell_hold::{Root, TaskView};
+use cell_hold::{Boxed, Root, TaskView};
 use cell_machine::Machine;
 use cell_num::CellId;
 use cell_task::{Task, Tasks};
@@ -50,26 +50,27 @@ fn add_cells(machine: &Machine, aside: &[CellId], into: &mut Vec<Root>) -> Resul
     Ok(())
 }
 
-fn root_of_task(number: u32, task: &Task) -> Root
-    ensures { result ≡ root_of_task (seen_as number task.now) }
+fn root_of_task(alloc: Global, number: u32, task: &Task) -> Result<Root, AllocError>
+    ensures { IfOk result (λ root. root ≡ root_of_task (seen_as number task.now)) }
 {
-    Root::Task(TaskView {
+    let view = TaskView {
         task: number,
         root: task.root,
         pc: task.hart.pc,
         x: task.hart.x,
         stack: task.stack,
-    })
+    };
+    Ok(Root::Task(Boxed::new(alloc, view)?))
 }
 
 /// Adds the live tasks, by their numbers.
-fn add_tasks(tasks: &Tasks, into: &mut Vec<Root>) -> Result<(), AllocError>
+fn add_tasks(alloc: Global, tasks: &Tasks, into: &mut Vec<Root>) -> Result<(), AllocError>
     requires { IsTrue (each_pair (λ a b. nat_lt a.number b.number) tasks.now.tasks) }
     ensures { OnOk result (into.new.items ≡ into.old.items ++ map root_of_task tasks.now.tasks) }
 {
     for number in tasks.live() {
         match tasks.get(number) {
-            Some(task) => into.push(root_of_task(number, task))?,
+            Some(task) => into.push(root_of_task(alloc, number, task)?)?,
             None => unreachable!(),
         }
     }
@@ -84,6 +85,6 @@ pub fn roots(alloc: Global, machine: &Machine, aside: &[CellId]) -> Result<Vec<R
     // Those of new cells are added behind.
     let mut roots = Vec::with_capacity(alloc, machine.cells.len() + 1)?;
     add_cells(machine, aside, &mut roots)?;
-    add_tasks(&machine.tasks, &mut roots)?;
+    add_tasks(alloc, &machine.tasks, &mut roots)?;
     Ok(roots)
 }

@@ -15,7 +15,7 @@ loop-number-preserved c =
     record {
       so_far =
           roots_more ts c.requires n c.in-Some.number c.next.new.self e (seen_as c.in-Some.number c.in-Some-get.task.now) (c.in-Some-get.ensures {u = tt})
-          c.args.into.now.items c.loop-number.into.items c.push.new.self.items c.root_of_task.result c.loop-number.invariant.so_far c.root_of_task.ensures (c.in_ok-push-in-Some-get.ensures {u = tt}).items
+          c.args.into.now.items c.loop-number.into.items c.push.new.self.items c.in_ok-root_of_task-in-Some-get.field-0 c.loop-number.invariant.so_far (c.in_ok-root_of_task-in-Some-get.ensures {u = tt}) (c.in_ok-push-in-Some-get.ensures {u = tt}).items
           ∙ ap (λ (k : ℕ). c.args.into.now.items ++ map root_of_task (take k ts)) (sym k);
       left = left_more ts c.requires n c.in-Some.number c.next.new.self e ∙ ap (λ (k : ℕ). drop k (map (λ (t : Task). t.number) ts)) (sym k);
     }
