@@ -16,3 +16,4 @@ pub mod Outside
 pub mod Dropping
 pub mod Calling
 pub mod Nearby
+pub mod Marking

@@ -11,5 +11,6 @@ pub mod Order
 pub mod Places
 pub mod Removal
 pub mod Skips
+pub mod Users
 pub mod Walks
 pub mod Weaks

@@ -1,6 +1,6 @@
 //! The graph.
 
-ghost use Rattle.std.specs.Prelude.{◌≡◌, ◌↔◌, ◌*◌, ◌<◌, ◌≤◌, ◌+◌, ◌++◌, ◌∷◌, [], ◌==◌, ◌≢◌, false, true, filter, not, slice_index_or, All, Contains, IfErr, IfNone, IfSome, IsOk, IsSome, IsTrue, OnErr, OnOk, length, map};
+ghost use Rattle.std.specs.Prelude.{◌≡◌, ◌↔◌, ◌*◌, ◌<◌, ◌≤◌, ◌+◌, ◌++◌, ◌∷◌, [], ◌==◌, ◌≢◌, ◌||◌, ℕ, false, true, filter, not, slice_index_or, All, Contains, IfErr, IfNone, IfSome, IsOk, IsSome, IsTrue, OnErr, OnOk, length, map};
 ghost use Rattle.std.specs.List.{remove};
 ghost use Rattle.std.specs.List.Sorted.{IsPermutation, IsStrictlyIncreasing};
 ghost use Rattle.cell_world.specs.World.{key_of};
@@ -9,12 +9,14 @@ ghost use Rattle.cell_graph.specs.Moves.{AreApart, moved};
 ghost use Rattle.cell_world.specs.declared.state.LinkRow.{LinkRow as Row};
 ghost use Rattle.cell_graph.specs.Removal.{is_listed, is_used_outside, links_without, sections_without, uses_from_outside, IsCellUsedBy, IsUsedBy};
 ghost use Rattle.cell_graph.specs.Order.{below_link, below_section, with_link, without_link, Rises};
+ghost use Rattle.cell_graph.specs.Users.{is_marked, is_user_of, leads_to};
 ghost use Rattle.cell_graph.specs.Weaks.{made_for};
 
 use crate::links::{
     add_section, bind_row, cell_rows, cell_sections, has_section, link_named, move_row,
     remove_rows, remove_sections, row_index, section_place, unbind_at,
 };
+use crate::marks::mark;
 use crate::near::{Near, cell_rows_near, row_index_near};
 use crate::order::{RowPlace, SectionPlace};
 use crate::removal::{StillUsed, is_listed};
@@ -197,6 +199,29 @@ impl Graph {
             Some(section) => Users::of(&self.rows, section.first, section.users),
             None => unreachable!(),
         }
+    }
+
+    /// Marks the cells of the links into a section that is there.
+    fn mark_users_of_section(&self, sec: SecKey, marks: &mut Vec<bool>) -> Result<(), AllocError>
+        requires { Contains self.now.sections sec }
+        ensures { OnOk result ((n : ℕ) → is_marked marks.new.items n ≡ (is_marked marks.old.items n || leads_to sec self.now.rows n)) }
+    {
+        for row in self.users_of(sec) {
+            mark(marks, row.user.cell)?;
+        }
+        Ok(())
+    }
+
+    /// Marks the cells that have a link into this one, by their numbers, in a list that grows as far as
+    /// it must. It goes over these links alone.
+    pub fn mark_users_of(&self, cell: CellId, marks: &mut Vec<bool>) -> Result<(), AllocError>
+        ensures { OnOk result ((n : ℕ) → is_marked marks.new.items n ≡ (is_marked marks.old.items n || is_user_of cell.0 self.now.rows n)) }
+    {
+        let sections = cell_sections(&self.section_list, cell);
+        for index in 0..sections.len() {
+            self.mark_users_of_section(sections[index].key, marks)?;
+        }
+        Ok(())
     }
 
     /// A reference to a section that is there, which doesn't keep it there.

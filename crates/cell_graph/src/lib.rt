@@ -5,6 +5,7 @@
 mod chains;
 mod graph;
 mod links;
+mod marks;
 mod near;
 mod order;
 mod removal;

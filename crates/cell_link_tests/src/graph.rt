@@ -118,6 +118,20 @@ fn links_into_a_section(rt: HostRuntime) -> Result<(), Fail> {
     Ok(())
 }
 
+/// Cell 1 has links into cell 2 and itself, cell 2 into cell 1, and nobody into cell 3.
+#[test]
+fn cells_with_links_into_others(rt: HostRuntime) -> Result<(), Fail> {
+    let graph = both_ways(rt.alloc())?;
+    let mut marks = Vec::new(rt.alloc());
+    graph.mark_users_of(CellId(3), &mut marks)?;
+    assert!(rt; marks.is_empty());
+    graph.mark_users_of(CellId(2), &mut marks)?;
+    assert!(rt; marks.as_slice() == [false, true].as_slice());
+    graph.mark_users_of(CellId(1), &mut marks)?;
+    assert!(rt; marks.as_slice() == [false, true, true].as_slice());
+    Ok(())
+}
+
 /// A link goes again.
 #[test]
 fn a_link_goes(rt: HostRuntime) -> Result<(), Fail> {

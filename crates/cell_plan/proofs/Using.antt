@@ -1,10 +1,14 @@
--- The links of one cell among all, and whether one of them leads into an old cell.
-use Rattle.std.proofs.Common.{◌≡◌, ℕ, suc, ◌&&◌, Bool, true, false, Option, Some, None, List, [], ◌∷◌, ◌++◌, refl, sym, ap, ◌∙◌, arith, inl, inr}
+-- The links of one cell among all, and the cells with a link into an old one.
+use Rattle.std.proofs.Common.{◌≡◌, ℕ, suc, ◌&&◌, Bool, true, false, Option, Some, None, List, [], ◌∷◌, ◌++◌, map, refl, sym, ap, subst, ◌∙◌, arith, inl, inr}
 use Rattle.std.specs.Prelude.{◌==◌, nat_lt, IsTrue, filter, filter_map, flat_map}
 use Rattle.std.specs.List.{list_any, list_all, cons_option}
 use Rattle.std.proofs.lemmas.Bool.Decides.{nat_tests}
 use Rattle.std.proofs.lemmas.List.Elements.{filter-append}
+use Rattle.cell_graph.specs.Users.{is_user_of}
+use Rattle.cell_graph.proofs.Marking.{alike, any_filter, any_found, any_of, and_yes, both}
+use Rattle.cell_graph.proofs.Rising.{in_map, of_map}
 use Rattle.cell_num.specs.Lists.{holds, each_pair, numbered_from, In}
+use Rattle.cell_num.specs.declared.ids.CellId.{CellId}
 use Rattle.cell_object.specs.declared.object.Entry.{Entry}
 use Rattle.cell_world.specs.declared.state.LinkRow.{LinkRow}
 use Rattle.cell_world.specs.declared.state.Target.{Target}
@@ -13,18 +17,7 @@ use Rattle.cell_world.specs.World.{World, Cell}
 use Rattle.cell_world.specs.Relink.{link_of, link_to, links_of}
 use Rattle.cell_world.specs.Target.{target_of}
 use Rattle.cell_plan.specs.Staying.{links_in}
-
-abbrev pub some_into : List ℕ → List LinkRow → Bool
-some_into old links = list_any (λ l. holds old l.target.cell.0) links
-
-pub into_here : (old : List ℕ) (links rest : List LinkRow) (l : LinkRow) (all : Bool) → links ≡ l ∷ rest → holds old l.target.cell.0 ≡ true → some_into old links ≡ all → true ≡ all
-into_here old links rest l all is here so = sym (ap (some_into old) is ∙ rw here refl) ∙ so
-
-pub into_passed : (old : List ℕ) (links rest : List LinkRow) (l : LinkRow) (all : Bool) → links ≡ l ∷ rest → holds old l.target.cell.0 ≡ false → some_into old links ≡ all → some_into old rest ≡ all
-into_passed old links rest l all is not_here so = sym (ap (some_into old) is ∙ rw not_here refl) ∙ so
-
-pub into_none : (old : List ℕ) (links : List LinkRow) (all : Bool) → links ≡ [] → some_into old links ≡ all → false ≡ all
-into_none old links all is so = sym (ap (some_into old) is) ∙ so
+use Rattle.cell_plan.specs.Users.{leads_among}
 
 abbrev is_of : ℕ → LinkRow → Bool
 is_of n l = l.user.cell.0 == n
@@ -53,10 +46,6 @@ other_rows : (n : ℕ) (v : World) (c : Cell) (k : ℕ) (es : List Entry) → (c
 other_rows n v c k [] other = refl
 other_rows n v c k (e ∷ es) other =
     other_row n c k e (target_of v c e) (filter_map (link_of v c) (numbered_from (suc k) es)) other ∙ other_rows n v c (suc k) es other
-
-both : (a b : Bool) → (a && b) ≡ true → (a ≡ true) × (b ≡ true)
-both true b h = (refl, h)
-both false b h = absurd cc
 
 later_none : (n : ℕ) (v : World) (cells : List Cell) → list_all (λ d. nat_lt n d.id.0) cells ≡ true → filter (is_of n) (flat_map (links_in v) cells) ≡ []
 later_none n v [] later = refl
@@ -99,3 +88,36 @@ found_among v (d ∷ cells) c rise (inr there) =
 -- where the links are those that linking gives, those of a cell are its own
 pub links_found : (v : World) (c : Cell) → IsTrue (each_pair (λ a b. nat_lt a.id.0 b.id.0) v.cells) → v.links ≡ links_of v → In c v.cells → filter (λ l. l.user.cell.0 == c.id.0) v.links ≡ links_in v c
 links_found v c rise linked there = ap (filter (is_of c.id.0)) linked ∙ found_among v v.cells c rise there
+
+-- a cell uses some cells where it uses one of them
+pub uses_any : (cells : List CellId) (rows : List LinkRow) (n : ℕ) → list_any (λ (c : CellId). is_user_of c.0 rows n) cells ≡ leads_among (map (λ c. c.0) cells) rows n
+uses_any cells rows n =
+    alike (list_any (λ (c : CellId). is_user_of c.0 rows n) cells) (list_any leads rows)
+    (λ h.
+    let c = any_found (λ (c : CellId). is_user_of c.0 rows n) cells h in
+    let r = any_found (λ (r : LinkRow). r.target.cell.0 == c.0.0 && r.user.cell.0 == n) rows c.2 in
+    let tests = both (r.0.target.cell.0 == c.0.0) (r.0.user.cell.0 == n) r.2 in
+    any_of leads rows r.0 r.1
+    (and_yes (r.0.user.cell.0 == n) (holds numbers r.0.target.cell.0) tests.1 (any_of (λ y. y == r.0.target.cell.0) numbers c.0.0 (in_map (λ (c : CellId). c.0) cells c.0 c.1) (turned r.0.target.cell.0 c.0.0 tests.0))))
+    (λ h.
+    let r = any_found leads rows h in
+    let tests = both (r.0.user.cell.0 == n) (holds numbers r.0.target.cell.0) r.2 in
+    let y = any_found (λ y. y == r.0.target.cell.0) numbers tests.1 in
+    let c = of_map (λ (c : CellId). c.0) cells y.0 y.1 in
+    any_of (λ (c : CellId). is_user_of c.0 rows n) cells c.0 c.1
+    (any_of (λ (r : LinkRow). r.target.cell.0 == c.0.0 && r.user.cell.0 == n) rows r.0 r.1
+    (and_yes (r.0.target.cell.0 == c.0.0) (r.0.user.cell.0 == n) (turned c.0.0 r.0.target.cell.0 (subst (λ x. (x == r.0.target.cell.0) ≡ true) (sym c.2) y.2)) tests.0)))
+    ∙ sym (any_filter (λ (l : LinkRow). l.user.cell.0 == n) (λ l. holds numbers l.target.cell.0) rows)
+  where
+    numbers : List ℕ
+    numbers = map (λ c. c.0) cells
+
+    leads : LinkRow → Bool
+    leads r = r.user.cell.0 == n && holds numbers r.target.cell.0
+
+    turned : (a b : ℕ) → (a == b) ≡ true → (b == a) ≡ true
+    turned a b h = grind (arith, nat_tests)
+
+pub filter_alike : {X : Type 0} (p q : X → Bool) → ((x : X) → p x ≡ q x) → (xs : List X) → filter p xs ≡ filter q xs
+filter_alike p q same [] = refl
+filter_alike p q same (x ∷ xs) = rw (same x, filter_alike p q same xs) refl

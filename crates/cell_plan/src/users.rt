@@ -1,6 +1,7 @@
 //! The cells that use those that a swap puts aside.
 
-ghost use Rattle.std.specs.Prelude.{◌≡◌, ◌++◌, ◌∷◌, [], IfOk, OnOk, filter, map};
+ghost use Rattle.std.specs.Prelude.{◌≡◌, ◌++◌, ◌∷◌, [], ℕ, IfOk, OnOk, filter, map};
+ghost use Rattle.cell_graph.specs.Users.{is_marked};
 ghost use Rattle.cell_plan.specs.Users.{leads_among, uses};
 
 use crate::old::Old;
@@ -9,38 +10,55 @@ use cell_num::CellId;
 use cell_world::NewCell;
 use std::alloc::{AllocError, Global};
 
-/// Whether a link of the cell leads into an old one, and the index behind its links. They are looked for
-/// at an index first.
-fn leads_into(graph: &Graph, old: &Old, cell: CellId, near: usize) -> (bool, usize)
-    ensures { result.0 ≡ leads_among (map (λ c. c.0) old.now.cells.now) graph.now.rows cell.0 }
+/// Marks the cells with a link into an old one, by their numbers.
+fn mark_users(alloc: Global, graph: &Graph, old: &Old) -> Result<Vec<bool>, AllocError>
+    ensures { IfOk result (λ marks. (n : ℕ) → is_marked marks.items n ≡ leads_among (map (λ c. c.0) old.now.cells.now) graph.now.rows n) }
 {
-    let (links, next) = graph.deps_of_cell_near(cell, near);
-    for link in links {
-        if old.has(link.target.cell) {
-            return (true, next);
-        }
+    let mut marks = Vec::new(alloc);
+    for index in 0..old.cells.len() {
+        graph.mark_users_of(old.cells[index], &mut marks)?;
     }
-    (false, next)
+    Ok(marks)
 }
 
-/// Adds the cell, where a link of it leads into an old one. The answer is the index behind its links.
-fn add_user<'a>(
-    users: &mut Vec<&'a NewCell>,
-    graph: &Graph,
-    old: &Old,
-    cell: &'a NewCell,
-    near: usize,
-) -> Result<usize, AllocError>
-    ensures { OnOk result (map (λ c. c.now) users.new.items ≡ map (λ c. c.now) users.old.items ++ filter (uses (map (λ c. c.0) old.now.cells.now) graph.now.rows) (cell.now ∷ [])) }
+fn is_marked(marks: &[bool], cell: CellId) -> bool
+    ensures { result ≡ is_marked marks.now cell.0 }
 {
-    let (is_user, next) = leads_into(graph, old, cell.id, near);
-    if is_user {
+    let place = cell.0 as usize;
+    place < marks.len() && marks[place]
+}
+
+/// Adds the cell, where it is marked.
+fn add_marked<'a>(
+    users: &mut Vec<&'a NewCell>,
+    marks: &[bool],
+    cell: &'a NewCell,
+) -> Result<(), AllocError>
+    ensures { OnOk result (map (λ c. c.now) users.new.items ≡ map (λ c. c.now) users.old.items ++ filter (λ c. is_marked marks.now c.id.0) (cell.now ∷ [])) }
+{
+    if is_marked(marks, cell.id) {
         users.push(cell)?;
     }
-    Ok(next)
+    Ok(())
 }
 
-/// The present cells with a link into an old one, in their order. It goes over each link once.
+/// Those of the cells that are marked.
+fn marked<'a>(
+    alloc: Global,
+    cells: &'a [NewCell],
+    marks: &[bool],
+) -> Result<Vec<&'a NewCell>, AllocError>
+    ensures { IfOk result (λ users. map (λ c. c.now) users.items ≡ filter (λ c. is_marked marks.now c.id.0) cells.now) }
+{
+    let mut users = Vec::new(alloc);
+    for index in 0..cells.len() {
+        add_marked(&mut users, marks, &cells[index])?;
+    }
+    Ok(users)
+}
+
+/// The present cells with a link into an old one, in their order. It goes over these links alone, and
+/// once over the cells.
 pub fn users_of<'a>(
     alloc: Global,
     present: &'a [NewCell],
@@ -49,10 +67,7 @@ pub fn users_of<'a>(
 ) -> Result<Vec<&'a NewCell>, AllocError>
     ensures { IfOk result (λ users. map (λ c. c.now) users.items ≡ filter (uses (map (λ c. c.0) old.now.cells.now) graph.now.rows) present.now) }
 {
-    let mut users = Vec::new(alloc);
-    let mut near = 0;
-    for index in 0..present.len() {
-        near = add_user(&mut users, graph, old, &present[index], near)?;
-    }
+    let marks = mark_users(alloc, graph, old)?;
+    let users = marked(alloc, present, &marks)?;
     Ok(users)
 }

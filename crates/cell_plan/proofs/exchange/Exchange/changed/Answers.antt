@@ -14,7 +14,7 @@ add-requires-clause-there c =
 
 pub returns-in_err-add : goal.returns-in_err-add
 returns-in_err-add c =
-    let p = err_from_is_err_and c.from_residual.result c.from_residual.ensures.1 in
+    let p = err_from_is_err_and c.from_residual-in_err-add.result c.from_residual-in_err-add.ensures.1 in
     let at = referred c.args.users.now c.loop-place.place c.index-users-place.result c.loop-place-test.true c.index-users-place.is in
     rw (p.1, p.2)
     (one_refused (view_of c.args.self.now) (map (λ r. r.now) c.args.users.now) c.loop-place.place c.loop-place.changed c.loop-place.invariant.to at.0 c.index-users-place.result.now at.1 c.add.new.changed c.in_err-add.field-0.0
