@@ -48,17 +48,17 @@ impl FieldRoom {
 }
 
 impl Changed {
-    /// Nothing changes.
-    pub fn none(alloc: Global) -> Changed
-        ensures patches { result.patches.items ≡ [] }
-        ensures moves { result.moves.items ≡ [] }
-        ensures spans { result.spans.items ≡ [] }
+    /// Nothing changes, with room for so many fields and links.
+    pub fn with_room(alloc: Global, room: usize) -> Result<Changed, AllocError>
+        ensures patches { IfOk result (λ changed. changed.patches.items ≡ []) }
+        ensures moves { IfOk result (λ changed. changed.moves.items ≡ []) }
+        ensures spans { IfOk result (λ changed. changed.spans.items ≡ []) }
     {
-        Changed {
-            patches: Vec::new(alloc),
-            moves: Vec::new(alloc),
-            spans: Vec::new(alloc),
-        }
+        Ok(Changed {
+            patches: Vec::with_capacity(alloc, room)?,
+            moves: Vec::with_capacity(alloc, room)?,
+            spans: Vec::with_capacity(alloc, room)?,
+        })
     }
 
     /// Adds what changes in one cell.

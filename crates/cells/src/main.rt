@@ -8,6 +8,7 @@ ghost use Rattle.cells.specs.Exit.{exit_of};
 
 use cell_io::{RealHost, StdSink};
 use cell_run::{Shelf, Status, cells};
+use std::alloc::Global;
 use std::process::ExitCode;
 use std::{env, io};
 
@@ -20,11 +21,22 @@ fn main(rt: HostRuntime) -> ExitCode {
         // Words that are no text have no reading, as none have none.
         Err(_) => Vec::new(rt.alloc()),
     };
+    keep_heap(rt.alloc());
     let mut out = StdSink::new(io::writer(&rt));
     let mut host = RealHost::new(rt);
     let mut shelf = Shelf::new();
     let status = cells(rt.alloc(), &words, &mut host, &mut out, &mut shelf);
     ExitCode::from(exit_status(status))
+}
+
+/// Bytes of heap that stay the program's between one command and the next.
+const KEPT_HEAP: usize = 1 << 20;
+
+/// glibc gives the end of its heap back to the system as soon as more is free there than twice the
+/// largest block that was given back so far, and each command would take it anew. Without this room
+/// the program does the same, but slower.
+fn keep_heap(alloc: Global) {
+    let _ = Vec::<u8>::with_capacity(alloc, KEPT_HEAP);
 }
 
 /// The words after the program's name.
