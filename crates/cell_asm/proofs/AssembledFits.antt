@@ -14,8 +14,8 @@ use Rattle.cell_object.specs.Writable.{IsWritable}
 use Rattle.cell_asm.specs.Assembled.{has_lost, object_unless, object_from, placed_lines, assembled, Assembles}
 use Rattle.cell_asm.specs.Lines.{line_of}
 use Rattle.cell_asm.specs.Progress.{AreInside, HasRoom, fault_after, laid_after, offset_of, twice_of}
-use Rattle.cell_asm.specs.Objects.{object_of, marks_in}
-use Rattle.cell_asm.specs.Places.{taken, is_long, may_stand, lays_nothing}
+use Rattle.cell_asm.specs.Objects.{object_of}
+use Rattle.cell_asm.specs.Places.{marks_in, taken, is_long, may_stand, lays_nothing}
 use Rattle.cell_asm.specs.Types.{Object, AsmKind, Laid, Fill, Prog, Note, Zero, Part, Bss, Line, AsmFail, Progress}
 use Rattle.cell_asm.proofs.EntriesFit.{not_past, no_fault}
 use Rattle.cell_asm.proofs.GoodBlocks.{statement_marks, none_laid}

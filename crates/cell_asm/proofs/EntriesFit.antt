@@ -1,8 +1,10 @@
 -- What holds of each line in its place.
 --     all_stand source lines        each line of a source has a good statement, which may stand there and has room
-use Rattle.std.proofs.Common.{◌≡◌, ℕ, ◌+◌, Bool, true, false, not, List, Ok, None, refl, zero, suc, ◌-◌, ◌*◌, ◌/◌, ◌%◌, ◌^◌, ◌≤◌, ◌==◌, cond, [], ◌∷◌, ◌++◌, Some, sym, ap, ◌∙◌, div-add-mod', pow-suc, arith, subst, add_assoc, append-nil, ◌||◌, ◌⊎◌, inl, inr, take, slice_get, true≢false, length, length-append, mul-suc}
+use Rattle.std.proofs.Common.{◌≡◌, ℕ, ◌+◌, Bool, true, false, not, List, Ok, None, refl, zero, suc, ◌-◌, ◌*◌, ◌/◌, ◌%◌, ◌^◌, ◌≤◌, ◌==◌, cond, [], ◌∷◌, ◌++◌, Some, sym, ap, ◌∙◌, div-add-mod', pow-suc, arith, subst, add_assoc, append-nil, ◌⊎◌, inl, inr, take, slice_get, length, length-append}
 use Rattle.std.proofs.Math.Nat.{mul_left_comm}
+use Rattle.std.proofs.lemmas.Bool.{or_from}
 use Rattle.std.proofs.lemmas.Bool.Decides.{nat_tests}
+use Rattle.std.proofs.lemmas.List.{length-map}
 use Rattle.std.proofs.lemmas.List.Elements.{filter-append}
 use Rattle.std.proofs.lemmas.List.Sums.{sum_by-cons}
 use Rattle.std.specs.List.{list_any}
@@ -13,14 +15,14 @@ use Rattle.cell_object.specs.Relocations.{is_clash}
 use Rattle.cell_text.specs.Text.{lines_in}
 use Rattle.cell_asm.specs.Assembled.{placed_lines}
 use Rattle.cell_asm.specs.Lines.{line_of}
-use Rattle.cell_asm.specs.Objects.{entries_of, entries_in, parts_of, entry_of, entries, marks_in}
-use Rattle.cell_asm.specs.Places.{choices, size_at, taken, is_long, is_twice, may_stand, placed, fault_at, fault_by, is_at, is_in, gap, takes, size_in, largest}
+use Rattle.cell_asm.specs.Objects.{entries_of, entries_in, parts_of, entry_of, entries}
+use Rattle.cell_asm.specs.Places.{marks_in, choices, size_at, taken, is_long, is_twice, may_stand, placed, fault_at, fault_by, is_at, is_in, gap, takes, size_in, largest}
 use Rattle.cell_asm.specs.Types.{AsmKindSection as Section, Twice, Long, Part, Line, Laid, Text, Code, Narrow, Wide, Statement, StatementZeros as Zeros, StatementAlign as Align, Bytes, Entry, Bss}
 use Rattle.cell_asm.proofs.GoodBlocks.{IsGoodStatement, IsFrom, line_origin, Apart, behind, line_apart, statement_marks}
-use Rattle.cell_num.proofs.Elements.{In, In-append, In-flat_map, In-filtered, filter-Passes, get-In}
-use Rattle.cell_asm.proofs.ListLemmas.{mapped_length, le_of, le_trans, least}
+use Rattle.cell_num.proofs.Elements.{In, In-append, In-flat_map, In-filtered, filter-In, filter-Passes, get-In}
+use Rattle.cell_asm.proofs.ListLemmas.{pairwise_join, flat_most, le_of, le_trans, least}
 use Rattle.cell_asm.proofs.ObjectLemmas.{same_part, few}
-use Rattle.cell_asm.proofs.PlacingLemmas.{each_line, Goes, grows, pushed, size_more}
+use Rattle.cell_asm.proofs.PlacingLemmas.{each_line, Goes, grows}
 use Rattle.cell_asm.proofs.ReadLines.{read_line}
 
 -- a line that has no fault
@@ -57,82 +59,6 @@ one_stands before n text line e f =
 
 pub all_stand : (source : List ℕ) (lines : List Laid) → placed_lines source ≡ Ok lines → (l : Laid) → In l lines → IsStanding l
 all_stand = each_line IsStanding one_stands
-
--- In .text each line stands at a multiple of four.
---     in_fours source lines         so does each line of a source
-
--- WHAT A STATEMENT TAKES
-
-quarter : (j : ℕ) → 2 ^ suc (suc j) ≡ 4 * 2 ^ j
-quarter j =
-    let a : 2 ^ suc (suc j) ≡ 2 ^ suc j * 2 = pow-suc 2 (suc j) in
-    let b : 2 ^ suc j ≡ 2 ^ j * 2 = pow-suc 2 j in
-    omega arith
-
-four_of : (unit k : ℕ) → 4 ≤ unit → unit ≡ 2 ^ k → (m : ℕ) × (unit ≡ 4 * m)
-four_of unit zero h e = absurd (omega arith)
-four_of unit (suc zero) h e = absurd (omega arith)
-four_of unit (suc (suc j)) h e = (2 ^ j, e ∙ quarter j)
-
--- what is left over is a multiple of four, where the offset and the unit are
-left_over : (offset unit m r q : ℕ) → offset % 4 ≡ 0 → offset ≡ 4 * q + r → r % 4 ≡ 0
-left_over offset unit m r q h e = omega arith
-
-remainder_fours : (offset unit m : ℕ) → offset % 4 ≡ 0 → unit ≡ 4 * m → (offset % unit) % 4 ≡ 0
-remainder_fours offset unit m h e =
-    left_over offset unit m (offset % unit) ((offset / unit) * m) h
-    (sym (div-add-mod' offset unit) ∙ ap (λ n. n + offset % unit) (ap (λ u. (offset / unit) * u) e ∙ mul_left_comm (offset / unit) 4 m))
-
-gap_by : (b : Bool) (unit r m : ℕ) → unit ≡ 4 * m → r % 4 ≡ 0 → (if b then 0 else unit - r) % 4 ≡ 0
-gap_by true unit r m e h = refl
-gap_by false unit r m e h = omega arith
-
-gap_fours : (unit offset m : ℕ) → offset % 4 ≡ 0 → unit ≡ 4 * m → gap unit offset % 4 ≡ 0
-gap_fours unit offset m h e = gap_by (offset % unit == 0) unit (offset % unit) m e (remainder_fours offset unit m h e)
-
-four_zeros : (n : ℕ) → (n % 4 == 0) ≡ true → n % 4 ≡ 0
-four_zeros n e = grind (arith, nat_tests)
-
-pub taken_fours : (s : Statement) (offset : ℕ) → takes Text s ≡ true → IsGoodStatement s → offset % 4 ≡ 0 → taken s offset % 4 ≡ 0
-taken_fours (Zeros n) offset t g h = four_zeros n t
-taken_fours (Align unit) offset t g h =
-    let r : (m : ℕ) × (unit ≡ 4 * m) = four_of unit g.0 (le_of 4 unit t) g.2 in
-    gap_fours unit offset r.0 h r.1
-taken_fours (Bytes Code b) offset t g h = g.sound.whole (λ e. absurd cc)
-taken_fours (Bytes Narrow b) offset t g h = absurd cc
-taken_fours (Bytes Wide b) offset t g h = g.sound.whole (λ e. absurd cc)
-taken_fours _ offset t g h = refl
-
--- LINE BY LINE
-
-record AreFours (lines : List Laid) : Type 0 where
-  size : size_in Text lines % 4 ≡ 0
-  offsets : (l : Laid) → In l lines → is_in Text l ≡ true → l.offset % 4 ≡ 0
-
-no_more : (n : ℕ) → n % 4 ≡ 0 → (n + 0) % 4 ≡ 0
-no_more n h = omega arith
-
-size_by : (o : Option Part) (before : List Laid) (line : Line) → may_stand o line ≡ true → IsGoodStatement line.statement → size_in Text before % 4 ≡ 0
-    → (size_in Text before + cond (is_at Text o) (taken line.statement (size_at o before)) 0) % 4 ≡ 0
-size_by None before line m g h = no_more (size_in Text before) h
-size_by (Some Text) before line m g h = omega (arith, h, (taken_fours line.statement (size_in Text before) m g h))
-size_by (Some part) before line m g h = no_more (size_in Text before) h
-
-offset_by : (o : Option Part) (before : List Laid) → size_in Text before % 4 ≡ 0 → is_at Text o ≡ true → size_at o before % 4 ≡ 0
-offset_by (Some Text) before h e = h
-offset_by _ before h e = absurd cc
-
-goes : Goes AreFours
-goes before n text line h e f = record {
-  size = ap (λ k. k % 4) (size_more Text before (placed before n line)) ∙ size_by (last (choices before)) before line (allowed before line f).stands (read_line text line e).good h.size;
-  offsets = pushed (λ l. is_in Text l ≡ true → l.offset % 4 ≡ 0) before (placed before n line) h.offsets (offset_by (last (choices before)) before h.size);
-}
-
-fours : (source : List ℕ) (lines : List Laid) → placed_lines source ≡ Ok lines → AreFours lines
-fours source lines e = grows AreFours goes (lines_in source) lines (record { size = refl; offsets = λ l k. absurd k }) e
-
-pub in_fours : (source : List ℕ) (lines : List Laid) → placed_lines source ≡ Ok lines → (l : Laid) → In l lines → is_in Text l ≡ true → l.offset % 4 ≡ 0
-in_fours source lines e = (fours source lines e).offsets
 
 -- The lines of a section stand one behind the other.
 --     stacked source lines part
@@ -181,20 +107,90 @@ taken_goes part before n text line h e f =
 pub stacked : (source : List ℕ) (lines : List Laid) (part : Part) → placed_lines source ≡ Ok lines → Stacked 0 (filter (is_in part) lines)
 stacked source lines part e = grows (StacksIn part) (taken_goes part) (lines_in source) lines tt e
 
+-- each is within what they all take
+pub stack_inside : (o : ℕ) (ls : List Laid) → Stacked o ls → (l : Laid) → In l ls → l.offset + taken l.line.statement l.offset ≤ o + all_taken ls
+stack_inside o [] h l k = absurd k
+stack_inside o (m ∷ ls) h l (inl e) =
+    subst (λ x. x.offset + taken x.line.statement x.offset ≤ o + all_taken (m ∷ ls)) (sym e)
+    (subst (λ n. m.offset + taken m.line.statement m.offset ≤ n) (sym (taken_cons o m ls)) (omega (arith, h.0)))
+stack_inside o (m ∷ ls) h l (inr k) =
+    subst (λ n. l.offset + taken l.line.statement l.offset ≤ n) (sym (taken_cons o m ls)) (stack_inside (o + taken m.line.statement m.offset) ls h.1 l k)
+
+-- they all take no more than each has room for
+stack_room : (o n : ℕ) (ls : List Laid) → Stacked o ls → o ≤ n → ((l : Laid) → In l ls → l.offset + taken l.line.statement l.offset ≤ n) → o + all_taken ls ≤ n
+stack_room o n [] h le room = omega (arith, le)
+stack_room o n (m ∷ ls) h le room =
+    subst (λ k. k ≤ n) (sym (taken_cons o m ls))
+    (stack_room (o + taken m.line.statement m.offset) n ls h.1 (subst (λ k. k + taken m.line.statement m.offset ≤ n) h.0 (room m (inl refl))) (λ l k. room l (inr k)))
+
+-- In .text each line stands at a multiple of four.
+--     in_fours source lines         so does each line of a source
+
+-- WHAT A STATEMENT TAKES
+
+quarter : (j : ℕ) → 2 ^ suc (suc j) ≡ 4 * 2 ^ j
+quarter j =
+    let a : 2 ^ suc (suc j) ≡ 2 ^ suc j * 2 = pow-suc 2 (suc j) in
+    let b : 2 ^ suc j ≡ 2 ^ j * 2 = pow-suc 2 j in
+    omega arith
+
+four_of : (unit k : ℕ) → 4 ≤ unit → unit ≡ 2 ^ k → (m : ℕ) × (unit ≡ 4 * m)
+four_of unit zero h e = absurd (omega arith)
+four_of unit (suc zero) h e = absurd (omega arith)
+four_of unit (suc (suc j)) h e = (2 ^ j, e ∙ quarter j)
+
+-- what is left over is a multiple of four, where the offset and the unit are
+left_over : (offset unit m r q : ℕ) → offset % 4 ≡ 0 → offset ≡ 4 * q + r → r % 4 ≡ 0
+left_over offset unit m r q h e = omega arith
+
+remainder_fours : (offset unit m : ℕ) → offset % 4 ≡ 0 → unit ≡ 4 * m → (offset % unit) % 4 ≡ 0
+remainder_fours offset unit m h e =
+    left_over offset unit m (offset % unit) ((offset / unit) * m) h
+    (sym (div-add-mod' offset unit) ∙ ap (λ n. n + offset % unit) (ap (λ u. (offset / unit) * u) e ∙ mul_left_comm (offset / unit) 4 m))
+
+gap_by : (b : Bool) (unit r m : ℕ) → unit ≡ 4 * m → r % 4 ≡ 0 → (if b then 0 else unit - r) % 4 ≡ 0
+gap_by true unit r m e h = refl
+gap_by false unit r m e h = omega arith
+
+gap_fours : (unit offset m : ℕ) → offset % 4 ≡ 0 → unit ≡ 4 * m → gap unit offset % 4 ≡ 0
+gap_fours unit offset m h e = gap_by (offset % unit == 0) unit (offset % unit) m e (remainder_fours offset unit m h e)
+
+four_zeros : (n : ℕ) → (n % 4 == 0) ≡ true → n % 4 ≡ 0
+four_zeros n e = grind (arith, nat_tests)
+
+sum_fours : (a b : ℕ) → a % 4 ≡ 0 → b % 4 ≡ 0 → (a + b) % 4 ≡ 0
+sum_fours a b h k = omega arith
+
+taken_fours : (s : Statement) (offset : ℕ) → takes Text s ≡ true → IsGoodStatement s → offset % 4 ≡ 0 → taken s offset % 4 ≡ 0
+taken_fours (Zeros n) offset t g h = four_zeros n t
+taken_fours (Align unit) offset t g h =
+    let r : (m : ℕ) × (unit ≡ 4 * m) = four_of unit g.0 (le_of 4 unit t) g.2 in
+    gap_fours unit offset r.0 h r.1
+taken_fours (Bytes Code b) offset t g h = g.sound.whole (λ e. absurd cc)
+taken_fours (Bytes Narrow b) offset t g h = absurd cc
+taken_fours (Bytes Wide b) offset t g h = g.sound.whole (λ e. absurd cc)
+taken_fours _ offset t g h = refl
+
+-- a line of .text at a multiple of four takes whole instructions
+pub text_fours : (l : Laid) → IsStanding l → is_in Text l ≡ true → l.offset % 4 ≡ 0 → taken l.line.statement l.offset % 4 ≡ 0
+text_fours l s t = taken_fours l.line.statement l.offset (subst (λ o. may_stand o l.line ≡ true) (at_part Text l.part t) s.stands) s.good
+
+-- so the next stands at one
+stack_fours : (o : ℕ) (ls : List Laid) → Stacked o ls → o % 4 ≡ 0 → ((l : Laid) → In l ls → l.offset % 4 ≡ 0 → taken l.line.statement l.offset % 4 ≡ 0) → (l : Laid) → In l ls → l.offset % 4 ≡ 0
+stack_fours o [] h z fours l k = absurd k
+stack_fours o (m ∷ ls) h z fours l (inl e) = ap (λ x. x.offset % 4) e ∙ ap (λ n. n % 4) h.0 ∙ z
+stack_fours o (m ∷ ls) h z fours l (inr k) =
+    stack_fours (o + taken m.line.statement m.offset) ls h.1 (sum_fours o (taken m.line.statement m.offset) z (fours m (inl refl) (ap (λ n. n % 4) h.0 ∙ z))) (λ x i. fours x (inr i)) l k
+
+pub in_fours : (source : List ℕ) (lines : List Laid) → placed_lines source ≡ Ok lines → (l : Laid) → In l lines → is_in Text l ≡ true → l.offset % 4 ≡ 0
+in_fours source lines e l k t =
+    stack_fours 0 (filter (is_in Text) lines) (stacked source lines Text e) refl
+    (λ x i. text_fours x (all_stand source lines e x (In-filtered (is_in Text) lines x i)) (filter-Passes (is_in Text) lines x i)) l (filter-In (is_in Text) lines l k t)
+
 -- The entries of a section: where they come from, that they stand apart, and that they are inside.
 --     entry_origin       each entry of a section is one of a piece of a line there
 --     entries_apart      no two of them share a byte, unless they add to one field
 --     entry_high         each is within the section
-
--- APART
-
-apart_join : (xs ys : List Entry) → Apart xs → Apart ys → ((e : Entry) → In e xs → (f : Entry) → In f ys → is_clash f e ≡ false) → Apart (xs ++ ys)
-apart_join [] ys h k c = k
-apart_join (e ∷ xs) ys h k c = (λ f i. go f (In-append xs ys f i), apart_join xs ys h.1 k (λ g j. c g (inr j)))
-  where
-    go : (f : Entry) → In f xs ⊎ In f ys → is_clash f e ≡ false
-    go f (inl i) = h.0 f i
-    go f (inr i) = c e (inl refl) f i
 
 -- THE ENTRIES OF A SECTION
 
@@ -231,7 +227,7 @@ within lines part o (l ∷ ls) h g e k =
 lines_apart : (lines : List Laid) (part : Part) (o : ℕ) (ls : List Laid) → Stacked o ls → AreGood ls → Apart (flat_map (entries_of lines part) ls)
 lines_apart lines part o [] h g = tt
 lines_apart lines part o (l ∷ ls) h g =
-    apart_join (entries_of lines part l) (flat_map (entries_of lines part) ls)
+    pairwise_join (λ e f. is_clash f e ≡ false) (entries_of lines part l) (flat_map (entries_of lines part) ls)
     (line_apart lines part l (g l (inl refl)))
     (lines_apart lines part (o + taken l.line.statement l.offset) ls h.1 (λ m i. g m (inr i)))
     (λ e i f j. behind e f (l.offset + taken l.line.statement l.offset) (line_within lines part l e (g l (inl refl)) i).to
@@ -263,11 +259,7 @@ module _ (source : List ℕ) (lines : List Laid) (read : placed_lines source ≡
 pub apart_take : (es : List Entry) (k : ℕ) (e : Entry) → Apart es → slice_get es k ≡ Some e → list_any (is_clash e) (take k es) ≡ false
 apart_take [] k e h g = absurd cc
 apart_take (x ∷ es) zero e h g = refl
-apart_take (x ∷ es) (suc k) e h g = both (is_clash e x) (list_any (is_clash e) (take k es)) (h.0 e (get-In es k e g)) (apart_take es k e h.1 g)
-  where
-    both : (a b : Bool) → a ≡ false → b ≡ false → (a || b) ≡ false
-    both true b p q = absurd (true≢false p)
-    both false b p q = q
+apart_take (x ∷ es) (suc k) e h g = or_from (is_clash e x) (list_any (is_clash e) (take k es)) (h.0 e (get-In es k e g)) (apart_take es k e h.1 g)
 
 -- How many entries there are.
 --     section_small       a section has at most 16777216 bytes
@@ -278,22 +270,18 @@ apart_take (x ∷ es) (suc k) e h g = both (is_clash e x) (list_any (is_clash e)
 pub not_past : (m n : ℕ) → nat_lt m n ≡ false → n ≤ m
 not_past m n e = grind (arith, nat_tests)
 
-abbrev Fits : Part → List Laid → Type 0
-Fits part lines = size_in part lines ≤ largest part
-
-fits_by : (part : Part) (o : Option Part) (before : List Laid) (n : ℕ) (b : Bool) → is_at part o ≡ b → size_in part before ≤ largest part → is_long o (size_at o before + n) ≡ false → size_in part before + cond b n 0 ≤ largest part
-fits_by part o before n true e h room = not_past (largest part) (size_in part before + n) (subst (λ p. is_long p (size_at p before + n) ≡ false) (at_part part o e) room)
-fits_by part o before n false e h room = omega (arith, h)
-
-fits_goes : (part : Part) → Goes (Fits part)
-fits_goes part before n text line h e f =
-    let o = last (choices before) in
-    let l = placed before n line in
-    subst (λ k. k ≤ largest part) (sym (size_more part before l))
-    (fits_by part o before (taken line.statement (size_at o before)) (is_in part l) refl h (allowed before line f).room)
+-- a line ends within the most that its section has
+pub line_room : (part : Part) (l : Laid) → IsStanding l → is_in part l ≡ true → l.offset + taken l.line.statement l.offset ≤ largest part
+line_room part l s t =
+    not_past (largest part) (l.offset + taken l.line.statement l.offset) (subst (λ o. is_long o (l.offset + taken l.line.statement l.offset) ≡ false) (at_part part l.part t) s.room)
 
 pub section_fits : (source : List ℕ) (lines : List Laid) (part : Part) → placed_lines source ≡ Ok lines → size_in part lines ≤ largest part
-section_fits source lines part e = grows (Fits part) (fits_goes part) (lines_in source) lines (least (largest part)) e
+section_fits source lines part e =
+    omega (
+      arith,
+      stack_room 0 (largest part) (filter (is_in part) lines) (stacked source lines part e) (least (largest part))
+          (λ l k. line_room part l (all_stand source lines e l (In-filtered (is_in part) lines l k)) (filter-Passes (is_in part) lines l k)),
+    )
 
 pub largest_most : (part : Part) → largest part ≤ 16777216
 largest_most Bss = omega arith
@@ -313,17 +301,12 @@ lines_count lines part (l ∷ ls) g =
     subst (λ n. length (flat_map (entries_of lines part) (l ∷ ls)) ≤ 2 * n) (sym (sum_by-cons (λ m. taken m.line.statement m.offset) l ls))
     (subst (λ n. n ≤ 2 * (taken l.line.statement l.offset + all_taken ls)) (sym (length-append (entries_of lines part l) (flat_map (entries_of lines part) ls)))
     (line_more (length (entries_of lines part l)) (length (marks_in l.line.statement)) (length (flat_map (entries_of lines part) ls)) (taken l.line.statement l.offset) (all_taken ls)
-    (mapped_length (entry_of lines part l) (marks_in l.line.statement)) (statement_marks l.line.statement l.offset (g l (inl refl))).few (lines_count lines part ls (λ m i. g m (inr i)))))
+    (length-map (marks_in l.line.statement) (entry_of lines part l)) (statement_marks l.line.statement l.offset (g l (inl refl))).few (lines_count lines part ls (λ m i. g m (inr i)))))
 
 pub part_count : (source : List ℕ) (lines : List Laid) (part : Part) → placed_lines source ≡ Ok lines → length (entries_in lines part) ≤ 2 * size_in part lines
 part_count source lines part e = lines_count lines part (filter (is_in part) lines) (λ l k. (all_stand source lines e l (In-filtered (is_in part) lines l k)).good)
 
 -- ALL ENTRIES
-
-each_count : {A : Type 0} (g : A → List Entry) (m : ℕ) (xs : List A) → ((x : A) → length (g x) ≤ m) → length (flat_map g xs) ≤ m * length xs
-each_count g m [] h = least (m * 0)
-each_count g m (x ∷ xs) h =
-    subst (λ n. n ≤ m * suc (length xs)) (sym (length-append (g x) (flat_map g xs))) (omega (arith, h x, each_count g m xs h, mul-suc m (length xs)))
 
 four_times : (n k : ℕ) → n ≤ 33554432 * k → k ≤ 4 → n ≤ 134217728
 four_times n k h l = omega arith
@@ -331,5 +314,5 @@ four_times n k h l = omega arith
 pub few_entries : (source : List ℕ) (lines : List Laid) → placed_lines source ≡ Ok lines → length (entries lines) ≤ 134217728
 few_entries source lines e =
     four_times (length (entries lines)) (length (parts_of lines))
-    (each_count (entries_in lines) 33554432 (parts_of lines) (λ part. (omega (arith, (part_count source lines part e), (section_small source lines part e)))))
+    (flat_most (entries_in lines) 33554432 (parts_of lines) (λ part k. (omega (arith, (part_count source lines part e), (section_small source lines part e)))))
     (few lines (parts_of lines) refl)

@@ -4,6 +4,8 @@
 --     IsGoodStatement s                a statement has such bytes
 --     piece_sound                      bytes stay sound with a good piece more
 use Rattle.std.proofs.Common.{◌≡◌, ◌≤◌, ◌+◌, ◌*◌, ◌^◌, ◌%◌, ◌/◌, ℕ, zero, suc, Bool, true, false, List, [], ◌∷◌, ◌++◌, length, ◌⊎◌, inl, inr, pos, Some, None, refl, sym, subst, ap, ◌∙◌, length-append, arith, ◌&&◌, ◌||◌, ◌==◌, not, map, true≢false}
+use Rattle.std.proofs.lemmas.Bool.{or_right}
+use Rattle.std.proofs.Math.Bool.{and-false}
 use Rattle.std.specs.Int.{w64}
 use Rattle.std.specs.List.{list_any}
 use Rattle.std.specs.Prelude.{Option, FitsSigned, nat_lt}
@@ -12,11 +14,12 @@ use Rattle.cell_num.specs.Kinds.{width_of, is_instruction, is_stacking, is_pcrel
 use Rattle.cell_object.specs.Relocations.{is_shared, is_stack, is_clash}
 use Rattle.cell_object.specs.Sound.{is_known_kind}
 use Rattle.cell_asm.specs.Blocks.{marks_at, marks_of, appended, empty}
-use Rattle.cell_asm.specs.Objects.{part_number, symbol_number, target_key, marks_in, entry_of, entries_of}
-use Rattle.cell_asm.specs.Places.{is_made, taken, takes, lays_nothing}
+use Rattle.cell_asm.specs.Objects.{part_number, symbol_number, target_key, entry_of, entries_of}
+use Rattle.cell_asm.specs.Places.{marks_in, is_made, taken, takes, lays_nothing}
 use Rattle.cell_asm.specs.Types.{RelKind, PcrelHi20, PcrelLo12I, PcrelLo12S, Mark, Block, Content, Code, Narrow, Wide, Fix, Piece, Statement, StatementZeros as Zeros, StatementAlign as Align, Bytes, Entry, Part, Text, Rodata, Data, Bss, Laid}
 use Rattle.cell_num.proofs.Elements.{In, In-append, In-map}
-use Rattle.cell_asm.proofs.ListLemmas.{or_second, itself, le_trans, least, not_less, same_test}
+use Rattle.cell_num.proofs.Ranges.{In-one}
+use Rattle.cell_asm.proofs.ListLemmas.{Pairwise, pairwise_one, pairwise_join, itself, le_trans, least, not_less, same_test}
 
 abbrev pub is_code : Content → Bool
 is_code Code = true
@@ -34,7 +37,7 @@ pub lo12_code : (kind : RelKind) → is_pcrel_lo12 kind ≡ true → is_instruct
 lo12_code kind e = label_code kind (ap (λ b. b || is_pcrel_hi20 kind) e)
 
 pub hi20_code : (kind : RelKind) → is_pcrel_hi20 kind ≡ true → is_instruction kind ≡ true
-hi20_code kind e = label_code kind (or_second (is_pcrel_lo12 kind) (is_pcrel_hi20 kind) e)
+hi20_code kind e = label_code kind (or_right (is_pcrel_lo12 kind) (is_pcrel_hi20 kind) e)
 
 pub record IsGoodFix (content : Content) (f : Fix) : Type 0 where
   pub known : is_known_kind f.kind ≡ true
@@ -55,8 +58,7 @@ abbrev pub AreApart : Mark → Mark → Type 0
 AreApart m n = (m.at + width_of m.fix.kind ≤ n.at) ⊎ ((n.at ≡ m.at) × AreStacking m.fix n.fix)
 
 abbrev pub AllApart : List Mark → Type 0
-AllApart [] = Unit {0}
-AllApart (m ∷ marks) = ((n : Mark) → In n marks → AreApart m n) × AllApart marks
+AllApart marks = Pairwise AreApart marks
 
 abbrev pub InFours : Content → ℕ → Type 0
 InFours content n = (content ≡ Narrow → ⊥) → n % 4 ≡ 0
@@ -108,44 +110,27 @@ bytes_count (suc k) n = ap suc (bytes_count k (n / 256))
 more : (n w : ℕ) → n ≤ n + w
 more n w = omega arith
 
-apart_join : (xs ys : List Mark) → AllApart xs → AllApart ys → ((m : Mark) → In m xs → (n : Mark) → In n ys → AreApart m n) → AllApart (xs ++ ys)
-apart_join [] ys h k c = k
-apart_join (m ∷ xs) ys h k c = (λ n i. go n (In-append xs ys n i), apart_join xs ys h.1 k (λ g j. c g (inr j)))
-  where
-    go : (n : Mark) → In n xs ⊎ In n ys → AreApart m n
-    go n (inl i) = h.0 n i
-    go n (inr i) = c m (inl refl) n i
-
 module _ (content : Content) where
   widen : (a b c d : ℕ) (m : Mark) → c ≤ a → b ≤ d → IsWithin content a b m → IsWithin content c d m
   widen a b c d m l h g = record { fix = g.fix; from = le_trans c a m.at l g.from; inside = le_trans (m.at + width_of m.fix.kind) b d g.inside h; fours = g.fours; head = g.head }
 
   pub join : (a b d : ℕ) (xs ys : List Mark) → a ≤ b → b ≤ d → AreWithin content a b xs → AreWithin content b d ys → AreWithin content a d (xs ++ ys)
   join a b d xs ys l h f g =
-      (λ m k. go m (In-append xs ys m k), apart_join xs ys f.1 g.1 (λ m i n j. inl (le_trans (m.at + width_of m.fix.kind) b n.at (f.0 m i).inside (g.0 n j).from)))
+      (λ m k. go m (In-append xs ys m k), pairwise_join AreApart xs ys f.1 g.1 (λ m i n j. inl (le_trans (m.at + width_of m.fix.kind) b n.at (f.0 m i).inside (g.0 n j).from)))
     where
       go : (m : Mark) → In m xs ⊎ In m ys → IsWithin content a d m
       go m (inl i) = widen a b a d m (itself a) h (f.0 m i)
       go m (inr j) = widen b d a d m l (itself d) (g.0 m j)
 
   pub one_there : (low high : ℕ) (m : Mark) → IsWithin content low high m → AreWithin content low high (m ∷ [])
-  one_there low high m g = (go, (λ n k. absurd k, tt))
-    where
-      go : (n : Mark) → In n (m ∷ []) → IsWithin content low high n
-      go n (inl e) = subst (IsWithin content low high) (sym e) g
-      go n (inr k) = absurd k
+  one_there low high m g = ((λ n k. subst (IsWithin content low high) (sym (In-one n m k)) g), pairwise_one AreApart m)
 
   pub both_there : (low high : ℕ) (m n : Mark) → IsWithin content low high m → IsWithin content low high n → AreApart m n → AreWithin content low high (m ∷ n ∷ [])
-  both_there low high m n f g a = (all, (second, (λ x k. absurd k, tt)))
+  both_there low high m n f g a = (all, ((λ x k. subst (AreApart m) (sym (In-one x n k)) a), pairwise_one AreApart n))
     where
       all : (x : Mark) → In x (m ∷ n ∷ []) → IsWithin content low high x
       all x (inl e) = subst (IsWithin content low high) (sym e) f
-      all x (inr (inl e)) = subst (IsWithin content low high) (sym e) g
-      all x (inr (inr k)) = absurd k
-
-      second : (x : Mark) → In x (n ∷ []) → AreApart m x
-      second x (inl e) = subst (AreApart m) (sym e) a
-      second x (inr k) = absurd k
+      all x (inr k) = subst (IsWithin content low high) (sym (In-one x n k)) g
 
 -- PIECES
 
@@ -259,12 +244,10 @@ line_origin lines part l e g k =
 -- APART
 
 abbrev pub Apart : List Entry → Type 0
-Apart [] = Unit {0}
-Apart (e ∷ es) = ((f : Entry) → In f es → is_clash f e ≡ false) × Apart es
+Apart es = Pairwise (λ e f. is_clash f e ≡ false) es
 
 no_clash : (a b c : Bool) → a ≡ false → (a && b && c) ≡ false
-no_clash true b c e = absurd (true≢false e)
-no_clash false b c e = refl
+no_clash a b c e = rw e refl
 
 -- an entry behind another
 pub behind : (e f : Entry) (mid : ℕ) → e.offset + width_of e.kind ≤ mid → mid ≤ f.offset → is_clash f e ≡ false
@@ -273,12 +256,7 @@ behind e f mid h k =
     (not_less f.offset (e.offset + width_of e.kind) (omega (arith, h, k)))
 
 stacked_free : (a b c d e : Bool) → b ≡ true → c ≡ true → d ≡ true → e ≡ true → (a && not (b && c && d && e)) ≡ false
-stacked_free true true true true true p q r s = refl
-stacked_free false b c d e p q r s = refl
-stacked_free true false c d e p q r s = absurd (true≢false (sym p))
-stacked_free true true false d e p q r s = absurd (true≢false (sym q))
-stacked_free true true true false e p q r s = absurd (true≢false (sym r))
-stacked_free true true true true false p q r s = absurd (true≢false (sym s))
+stacked_free a b c d e p q r s = rw (p, q, r, s) (and-false a)
 
 -- two entries that add to one field
 together : (e f : Entry) → f.offset ≡ e.offset → width_of f.kind ≡ width_of e.kind → is_stacking f.kind ≡ true → is_stacking e.kind ≡ true → is_clash f e ≡ false

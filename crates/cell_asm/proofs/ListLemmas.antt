@@ -1,17 +1,22 @@
 -- Orders and tests; and lists: what stands at a place, sums over the elements, and elements that a test tells apart.
 --     get_split, get_map      an element at a place
 --     total f xs              the sum of f over the elements
+--     Pairwise R xs           each element stands so to each behind it
 --     AreApart t xs           no element passes the test of one before it
 --     adds t xs x             the element behind the others, unless one of them passes its test
-use Rattle.std.proofs.Common.{◌≡◌, refl, sym, subst, ◌⊎◌, inl, inr, ℕ, zero, suc, Bool, true, false, ◌||◌, cond, List, [], ◌∷◌, ◌++◌, ap, ◌∙◌, map, true≢false, Some, None, slice_get, ◌+◌, ◌*◌, ◌≤◌, not, length, take, drop, length-append, zero-add, suc-add, arith, ◌<◌}
-use Rattle.std.proofs.lemmas.Bool.{or_parts, or_left, or_right}
+use Rattle.std.proofs.Common.{◌≡◌, refl, sym, subst, ◌⊎◌, inl, inr, ℕ, zero, suc, Bool, true, false, ◌||◌, cond, List, [], ◌∷◌, ◌++◌, ap, ◌∙◌, map, true≢false, Some, None, slice_get, ◌+◌, ◌*◌, ◌≤◌, not, length, take, drop, zero-add, arith, ◌<◌}
+use Rattle.std.proofs.lemmas.Bool.{or_left, or_right}
 use Rattle.std.proofs.lemmas.Bool.Decides.{nat_tests}
+use Rattle.std.proofs.lemmas.List.{length-take, length-drop}
+use Rattle.std.proofs.lemmas.List.Concat.{length-flat_map}
 use Rattle.std.proofs.lemmas.List.Folds.{list_any-append}
 use Rattle.std.proofs.lemmas.List.Sums.{sum_by-cons, prefix_len-drop_yes, prefix_len-drop_no, prefix_len-drop_all, suffix_len-take_yes, suffix_len-take_no, suffix_len-le-length, prefix_len-le-length}
 use Rattle.std.specs.List.{list_any, position_or_len}
-use Rattle.std.specs.Prelude.{filter, flat_map, if◌then◌else◌, fold, sum_by, IfSome, nat_lt, nat_le, ◌==◌, position, Option, is_some}
+use Rattle.std.proofs.lemmas.Option.{slice_get-map}
+use Rattle.std.specs.Prelude.{option_map, filter, flat_map, if◌then◌else◌, fold, sum_by, IfSome, nat_lt, nat_le, ◌==◌, position, Option, is_some}
 use Rattle.cell_num.specs.Lists.{or_else, where_true}
-use Rattle.cell_num.proofs.Elements.{In, In-append, get-In}
+use Rattle.cell_num.proofs.Elements.{In, In-append, get-In, none-In}
+use Rattle.cell_num.proofs.Ranges.{In-one}
 use Rattle.cell_asm.specs.Numberings.{has_key}
 use Rattle.cell_asm.specs.Objects.{number_from}
 use Rattle.cell_asm.specs.Places.{is_key}
@@ -44,14 +49,6 @@ pub not_false : (b : Bool) → not b ≡ false → b ≡ true
 not_false true e = refl
 not_false false e = absurd (true≢false e)
 
-pub or_none : (b : Bool) → (b || false) ≡ b
-or_none true = refl
-or_none false = refl
-
-pub or_second : (a b : Bool) → b ≡ true → (a || b) ≡ true
-or_second true b e = refl
-or_second false b e = e
-
 -- WHAT STANDS AT A PLACE
 
 next : (k n j : ℕ) → k ≡ n + j → suc k ≡ suc n + j
@@ -71,28 +68,11 @@ module _ {X : Type 0} where
   get_split (y ∷ xs) ys zero x e = inl e
   get_split (y ∷ xs) ys (suc k) x e = split_next y xs ys k x (get_split xs ys k x e)
 
-  -- the first elements, where a whole list stands before
-  pub take_behind : (xs ys : List X) (j : ℕ) → take (length xs + j) (xs ++ ys) ≡ xs ++ take j ys
-  take_behind [] ys j = ap (λ k. take k ys) (zero-add j)
-  take_behind (x ∷ xs) ys j = ap (λ k. take k (x ∷ (xs ++ ys))) (suc-add (length xs) j) ∙ ap (λ zs. x ∷ zs) (take_behind xs ys j)
-
   pub take_le : (n : ℕ) (xs : List X) → length (take n xs) ≤ length xs
-  take_le zero xs = omega arith
-  take_le (suc n) [] = omega arith
-  take_le (suc n) (x ∷ xs) = let h : length (take n xs) ≤ length xs = take_le n xs in omega (arith, h)
+  take_le n xs = omega (arith, length-take n xs)
 
   pub drop_le : (n : ℕ) (xs : List X) → length (drop n xs) ≤ length xs
-  drop_le zero xs = omega arith
-  drop_le (suc n) [] = omega arith
-  drop_le (suc n) (x ∷ xs) = let h : length (drop n xs) ≤ length xs = drop_le n xs in omega (arith, h)
-
-  filter_longer : (b : Bool) (n : ℕ) (x : X) (xs ys : List X) → length ys ≤ length xs → length (cond b (x ∷ ys) ys) ≤ suc (length xs)
-  filter_longer true n x xs ys h = omega (arith, h)
-  filter_longer false n x xs ys h = omega (arith, h)
-
-  pub filter_le : (p : X → Bool) (xs : List X) → length (filter p xs) ≤ length xs
-  filter_le p [] = omega arith
-  filter_le p (x ∷ xs) = filter_longer (p x) 0 x xs (filter p xs) (filter_le p xs)
+  drop_le n xs = omega (arith, length-drop n xs)
 
 module _ {X Y : Type 0} where
   pub get_map : (f : X → Y) (xs : List X) (k : ℕ) (y : Y) → slice_get (map f xs) k ≡ Some y → (x : X) × (slice_get xs k ≡ Some x) × (y ≡ f x)
@@ -101,9 +81,7 @@ module _ {X Y : Type 0} where
   get_map f (x ∷ xs) (suc k) y e = get_map f xs k y e
 
   pub get_mapped : (f : X → Y) (xs : List X) (k : ℕ) (x : X) → slice_get xs k ≡ Some x → slice_get (map f xs) k ≡ Some (f x)
-  get_mapped f [] k x e = absurd cc
-  get_mapped f (y ∷ ys) zero x e = let is : y ≡ x = cc in ap (λ z. Some (f z)) is
-  get_mapped f (y ∷ ys) (suc k) x e = get_mapped f ys k x e
+  get_mapped f xs k x e = slice_get-map f xs k ∙ ap (option_map f) e
 
 -- SUMS
 
@@ -154,41 +132,45 @@ module _ {X : Type 0} (f : X → ℕ) (p : X → Bool) where
 
 module _ {X Y : Type 0} where
   pub flat_length : (g : X → List Y) (xs : List X) → length (flat_map g xs) ≡ total (λ x. length (g x)) xs
-  flat_length g [] = refl
-  flat_length g (x ∷ xs) = length-append (g x) (flat_map g xs) ∙ ap (λ n. length (g x) + n) (flat_length g xs)
+  flat_length g xs = length-flat_map g xs ∙ sum_is_total (λ x. length (g x)) xs
+
+  pub flat_most : (g : X → List Y) (c : ℕ) (xs : List X) → ((x : X) → In x xs → length (g x) ≤ c) → length (flat_map g xs) ≤ c * length xs
+  flat_most g c xs h = subst (λ n. n ≤ c * length xs) (sym (flat_length g xs)) (total_times (λ x. length (g x)) c xs h)
 
   pub total-map : (f : Y → ℕ) (g : X → Y) (xs : List X) → total f (map g xs) ≡ total (λ x. f (g x)) xs
   total-map f g [] = refl
   total-map f g (x ∷ xs) = ap (λ n. f (g x) + n) (total-map f g xs)
 
-  pub mapped_length : (g : X → Y) (xs : List X) → length (map g xs) ≡ length xs
-  mapped_length g [] = refl
-  mapped_length g (x ∷ xs) = ap suc (mapped_length g xs)
+-- PAIRS OF ELEMENTS
+
+module _ {X : Type 0} (R : X → X → Type 0) where
+  -- each element stands so to each behind it
+  abbrev pub Pairwise : List X → Type 0
+  Pairwise [] = Unit {0}
+  Pairwise (x ∷ xs) = ((y : X) → In y xs → R x y) × Pairwise xs
+
+  pub pairwise_one : (x : X) → Pairwise (x ∷ [])
+  pairwise_one x = ((λ y k. absurd k), tt)
+
+  pub pairwise_join : (xs ys : List X) → Pairwise xs → Pairwise ys → ((x : X) → In x xs → (y : X) → In y ys → R x y) → Pairwise (xs ++ ys)
+  pairwise_join [] ys h k c = k
+  pairwise_join (x ∷ xs) ys h k c = ((λ y i. go y (In-append xs ys y i)), pairwise_join xs ys h.1 k (λ z j. c z (inr j)))
+    where
+      go : (y : X) → In y xs ⊎ In y ys → R x y
+      go y (inl i) = h.0 y i
+      go y (inr i) = c x (inl refl) y i
 
 -- ELEMENTS THAT A TEST TELLS APART
 
 module _ {X : Type 0} (t : X → X → Bool) where
   -- no element passes the test of one before it
   abbrev pub AreApart : List X → Type 0
-  AreApart [] = Unit {0}
-  AreApart (x ∷ xs) = ((y : X) → In y xs → t y x ≡ false) × AreApart xs
-
-  pushed : (ys : List X) (x y : X) → ((z : X) → In z ys → t z y ≡ false) → t x y ≡ false → (z : X) → In z (ys ++ x ∷ []) → t z y ≡ false
-  pushed ys x y h e z k = go (In-append ys (x ∷ []) z k)
-    where
-      go : In z ys ⊎ In z (x ∷ []) → t z y ≡ false
-      go (inl i) = h z i
-      go (inr (inl f)) = subst (λ v. t v y ≡ false) (sym f) e
-      go (inr (inr i)) = absurd i
-
-  apart_one : (x : X) → AreApart (x ∷ [])
-  apart_one x = ((λ y k. absurd k), tt)
+  AreApart xs = Pairwise (λ x y. t y x ≡ false) xs
 
   apart_push : (xs : List X) (x : X) → AreApart xs → list_any (t x) xs ≡ false → AreApart (xs ++ x ∷ [])
-  apart_push [] x h e = apart_one x
-  apart_push (y ∷ ys) x h e =
-      let p : (t x y ≡ false) × (list_any (t x) ys ≡ false) = or_parts (t x y) (list_any (t x) ys) e in
-      (pushed ys x y h.0 p.0, apart_push ys x h.1 p.1)
+  apart_push xs x h e =
+      pairwise_join (λ y z. t z y ≡ false) xs (x ∷ []) h (pairwise_one (λ y z. t z y ≡ false) x)
+      (λ y k z i. subst (λ v. t v y ≡ false) (sym (In-one z x i)) (none-In (t x) xs e y k))
 
   -- the element behind the others, unless one of them passes its test
   abbrev pub adds : List X → X → List X

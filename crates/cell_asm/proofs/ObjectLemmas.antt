@@ -1,9 +1,8 @@
 -- The object of the lines, by what is kept of them.
 --     same_part, part_itself     the test of parts decides whether they are the same
---     parts_distinct lines       no section stands twice among those that are chosen
 --     few lines parts            there are at most four
 --     object_is                  what is made of what is kept is the object
-use Rattle.std.proofs.Common.{◌≡◌, ◌≤◌, Bool, true, false, List, [], ◌∷◌, ◌++◌, length, refl, sym, subst, ap, ◌∙◌, true≢false, ℕ, zero, suc, ◌+◌, ◌-◌, ◌/◌, ◌%◌, ◌<◌, map, replicate, append-nil, append_assoc, add-one, arith, ◌||◌, ◌&&◌, not, cond, find, Some, None, get_or, take}
+use Rattle.std.proofs.Common.{◌≡◌, ◌≤◌, Bool, true, false, List, [], ◌∷◌, ◌++◌, length, refl, sym, subst, ap, ◌∙◌, true≢false, ℕ, zero, suc, ◌+◌, ◌<◌, map, replicate, append_assoc, add-one, ◌||◌, ◌&&◌, not, cond, find, Some, None, get_or, take}
 use Rattle.std.proofs.lemmas.List.{take_more, map-append}
 use Rattle.std.proofs.lemmas.List.Concat.{flat_map-append}
 use Rattle.std.proofs.lemmas.List.Elements.{filter-append}
@@ -18,8 +17,8 @@ use Rattle.cell_num.specs.Kinds.{is_pcrel_lo12}
 use Rattle.cell_asm.specs.Assembled.{is_upper_label, is_lost, is_lost_mark, has_lost}
 use Rattle.cell_asm.specs.Progress.{spot_at, Follows, reference_at, references_of, is_upper_spot, key_lost_by, lost_by}
 use Rattle.cell_asm.specs.Numberings.{section_kept, Lists, mentioned, Mentions, entry_kept, part_entries}
-use Rattle.cell_asm.specs.Objects.{adds_part, parts_of, number_in, section_of, sections, symbols, symbol_keys, marks_in, label_named, part_number, target_key, entry_of, entries_of, entries_in, entries, object_of}
-use Rattle.cell_asm.specs.Places.{is_same_part, choices, is_at, is_in}
+use Rattle.cell_asm.specs.Objects.{adds_part, parts_of, number_in, section_of, sections, symbols, symbol_keys, label_named, part_number, target_key, entry_of, entries_of, entries_in, entries, object_of}
+use Rattle.cell_asm.specs.Places.{marks_in, is_same_part, choices, is_at, is_in}
 use Rattle.cell_asm.specs.Types.{Part, Text, Rodata, Data, Bss, Laid, Target, TargetNamed as Named, TargetMade as Made, Label, Progress, Reference, Section, Symbol, Entry, Object, Mark, Symbols}
 use Rattle.cell_num.proofs.Elements.{map_same, flat_same}
 use Rattle.cell_asm.proofs.SymbolLemmas.{all_symbols}
@@ -54,7 +53,7 @@ distinct : (parts more : List Part) → IsDistinct is_same_part parts → IsDist
 distinct parts [] d = d
 distinct parts (p ∷ more) d = distinct (adds_part parts p) more (added parts p (list_any (is_same_part p) parts) refl d)
 
-pub parts_distinct : (lines : List Laid) → IsDistinct is_same_part (parts_of lines)
+parts_distinct : (lines : List Laid) → IsDistinct is_same_part (parts_of lines)
 unfolding IsDistinct
 parts_distinct lines = distinct [] (choices lines) tt
 

@@ -1,10 +1,11 @@
 -- What is known of names, after one more name, and behind one more line.
 use Rattle.std.proofs.Common.{◌≡◌, ℕ, Bool, true, false, ◌||◌, List, [], ◌∷◌, ◌++◌, cond, find, map, Some, None, refl, sym, ap, ◌∙◌, append-nil, ◌+◌, add-zero, zero-add, suc, ◌<◌, length, drop, get_or, Bor, Result, Ok, Err, subst, add-one, ◌≤◌, ◌^◌, arith, append_assoc, ◌⊎◌, inl, inr}
-use Rattle.std.proofs.lemmas.List.{drop_more, map-append}
+use Rattle.std.proofs.lemmas.List.{drop_more, length-map, map-append}
 use Rattle.std.proofs.lemmas.List.Concat.{flat_map-append}
 use Rattle.std.proofs.lemmas.List.Elements.{filter_map-append, filter-append}
 use Rattle.std.proofs.lemmas.List.Folds.{list_any-append, find-append}
 use Rattle.std.proofs.lemmas.List.Sums.{sum_by-append, fold-append}
+use Rattle.std.proofs.Math.Bool.{or-false}
 use Rattle.std.specs.List.{list_any, cons_option}
 use Rattle.std.specs.Option.{option_or, option_map_or}
 use Rattle.std.specs.Prelude.{Option, option_map, is_some, if◌then◌else◌, filter, flat_map, sum_by, fold, max}
@@ -17,7 +18,7 @@ use Rattle.cell_asm.specs.Objects.{adds_part, adds_choice, parts_of, alignment_a
 use Rattle.cell_asm.specs.Places.{is_key, holds_key, makes_label, own_key, made_key, keys_of, label, labels_at, labels, fault_at, is_at, is_in, choice, choices, taken, size_in, size_at, made_in, is_twice, placed}
 use Rattle.cell_asm.specs.Types.{Part, Bss, Statement, StatementGlobal as Global, Laid, Label, AsmKindLabel, KeyNamed as Named, KeyMade as Made, Line, Progress, AsmKind, Stop, StopFault as Fault, StopOutOfMemory as OutOfMemory, Object, AsmFail, AsmFailFault as Faulty, AsmFailOutOfMemory as NoMemory}
 use Rattle.cell_num.proofs.Elements.{In, In-append}
-use Rattle.cell_asm.proofs.ListLemmas.{or_none, mapped_length}
+use Rattle.cell_num.proofs.Ranges.{In-one}
 use Rattle.cell_asm.proofs.ObjectLemmas.{same_part}
 
 -- ONE MORE LINE
@@ -56,7 +57,7 @@ spot_more before l q =
     ∙ ap (or_else (spot_among (labels before) q)) (here_is l.part l.offset l.made l.line.label l.line.statement q)
 
 declared : (q : List ℕ) (s : Statement) → list_any (λ other. equals other q) (cons_option (global_name s) []) ≡ declares q s
-declared q (Global name) = or_none (equals name q)
+declared q (Global name) = or-false (equals name q)
 declared q _ = refl
 
 global_more : (before : List Laid) (l : Laid) (q : List ℕ) → holds_name (globals (before ++ l ∷ [])) q ≡ (holds_name (globals before) q || declares q l.line.statement)
@@ -134,7 +135,7 @@ filter_more p xs x true e = filter-append p xs (x ∷ []) ∙ ap (λ b. filter p
 filter_more p xs x false e = filter-append p xs (x ∷ []) ∙ ap (λ b. filter p xs ++ cond b (x ∷ []) []) e ∙ append-nil (filter p xs)
 
 any_more : {X : Type 0} (p : X → Bool) (xs : List X) (x : X) → list_any p (xs ++ x ∷ []) ≡ (list_any p xs || p x)
-any_more p xs x = list_any-append p xs (x ∷ []) ∙ ap (λ b. list_any p xs || b) (or_none (p x))
+any_more p xs x = list_any-append p xs (x ∷ []) ∙ ap (λ b. list_any p xs || b) (or-false (p x))
 
 parts_more : (before : List Laid) (l : Laid) → parts_of (before ++ l ∷ []) ≡ adds_choice (parts_of before) l.line.statement
 parts_more before l =
@@ -239,7 +240,7 @@ last_line size n rest h small = omega arith
 pub few_lines : (size : ℕ) (texts : List (Bor (List ℕ))) → Behind size (map (λ text. text.now) texts) → size < 2 ^ 31 → length texts < 2 ^ 32
 few_lines size [] h small = omega arith
 few_lines size (text ∷ texts) h small =
-    last_line size (length texts) _ (h (length texts) (behind_last (length texts) _ (mapped_length (λ t. t.now) texts))) small
+    last_line size (length texts) _ (h (length texts) (behind_last (length texts) _ (length-map texts (λ t. t.now)))) small
 
 -- the source has the fault at which its lines stop
 pub stops_all : (fail : AsmFail) (texts : List (List ℕ)) (source : List ℕ) → texts ≡ lines_in source → Places (Err fail) (placed_texts texts) → Assembles (Err fail) (assembled source)
@@ -314,8 +315,7 @@ pushed Q before new h s l k = go (In-append before (new ∷ []) l k)
   where
     go : In l before ⊎ In l (new ∷ []) → Q l
     go (inl i) = h l i
-    go (inr (inl e)) = subst Q (sym e) s
-    go (inr (inr i)) = absurd i
+    go (inr i) = subst Q (sym (In-one l new i)) s
 
 -- what holds of each line in its place
 pub each_line : (Q : Laid → Type 0) → ((before : List Laid) (n : ℕ) (text : List ℕ) (line : Line) → line_of text ≡ Ok line → fault_at before line ≡ None → Q (placed before n line))

@@ -105,9 +105,6 @@ labelled_by : (k n : ℕ) (b : Bool) (name text : List ℕ) → is_name name ≡
 labelled_by k n true name text h l t = line_made k n (Some name) text (one_named k name h (let some : 1 ≤ length name = (name_fits name h).some in omega (arith, l, some))) t
 labelled_by k n false name text h l t = tt
 
-taken_le : (n : ℕ) (text : List ℕ) → length (take n text) ≤ n
-taken_le n text = omega (arith, length-take n text)
-
 -- a word and what follows it are within the text
 words_le : (text : List ℕ) (n : ℕ) → length text ≤ n → length (first_word text) + suc (length (after_word text)) ≤ suc n
 words_le text n l =
@@ -118,7 +115,7 @@ line_if : (code : List ℕ) (n : ℕ) (b : Bool) → length code ≤ n
 line_if code n true l =
     let word : List ℕ = first_word code in
     let name : List ℕ = take (length word - 1) word in
-    labelled_by (length word) (suc n) (is_name name) name (after_word code) refl (taken_le (length word - 1) word) (words_le code n l)
+    labelled_by (length word) (suc n) (is_name name) name (after_word code) refl (omega (arith, length-take (length word - 1) word)) (words_le code n l)
 line_if code n false l = line_made 0 (suc n) None code (none_named 0) (omega (arith, l))
 
 code_le : (text : List ℕ) → length (code_of text) ≤ length text

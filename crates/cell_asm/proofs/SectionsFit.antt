@@ -1,21 +1,23 @@
 -- The sections of an assembled source can be written.
 --     sections_fit source lines    each section is as it must be
-use Rattle.std.proofs.Common.{◌≡◌, ℕ, zero, suc, ◌+◌, ◌*◌, ◌/◌, ◌%◌, ◌^◌, ◌<◌, ◌≤◌, max, true, false, ◌&&◌, List, [], ◌∷◌, map, length, replicate, slice_get, Some, None, Ok, refl, sym, ap, subst, ◌∙◌, ◌⊎◌, inl, inr, length-append, arith, lit≤}
-use Rattle.std.specs.Prelude.{Option, filter, flat_map, fold}
-use Rattle.std.proofs.lemmas.Bool.{cases_lt}
+use Rattle.std.proofs.Common.{◌≡◌, ℕ, zero, suc, ◌+◌, ◌*◌, ◌/◌, ◌%◌, ◌^◌, ◌<◌, ◌≤◌, max, true, false, ◌&&◌, List, [], ◌∷◌, map, length, replicate, slice_get, Some, Ok, refl, sym, ap, subst, ◌∙◌, ◌⊎◌, inl, inr, length-append, arith, lit≤}
+use Rattle.std.specs.Prelude.{Bool, filter, flat_map, fold, nat_le}
+use Rattle.std.specs.List.{range_with_len}
+use Rattle.std.proofs.lemmas.Bool.{and_parts, cases_lt}
 use Rattle.std.proofs.lemmas.List.{length-replicate}
 use Rattle.cell_num.specs.Bits.{bytes_of}
 use Rattle.cell_object.specs.Sections.{is_alignment}
-use Rattle.cell_asm.specs.Types.{Section, Part, Text, Bss, Statement, StatementZeros as Zeros, StatementAlign as Align, Line, Laid}
+use Rattle.cell_asm.specs.Types.{Section, Part, Text, Bss, Statement, StatementZeros as Zeros, StatementAlign as Align, Laid}
 use Rattle.cell_object.specs.Writable.{IsPlain}
 use Rattle.cell_image.proofs.Ruled.{IsWhole, IsWritableSection}
-use Rattle.cell_asm.specs.Places.{is_at, is_in, gap, taken, takes, may_stand, size_in}
+use Rattle.cell_asm.specs.Places.{is_in, gap, taken, size_in}
 use Rattle.cell_asm.specs.Objects.{parts_of, part_name, is_text, first_alignment, alignment_asked, alignment, padding, bytes_at, contents, fill_of, may_write, section_of, sections}
 use Rattle.cell_asm.specs.Assembled.{placed_lines}
-use Rattle.cell_num.proofs.Elements.{In, In-filtered, filter-Passes, In-map}
-use Rattle.cell_asm.proofs.ListLemmas.{get_map, flat_length, total_same, sum_is_total}
+use Rattle.cell_num.proofs.Ranges.{In-numbers}
+use Rattle.cell_num.proofs.Elements.{In, all-In, In-filtered, filter-Passes, In-map}
+use Rattle.cell_asm.proofs.ListLemmas.{le_of, get_map, flat_length, total_same, sum_is_total}
 use Rattle.cell_asm.proofs.GoodBlocks.{IsUnit, IsGoodStatement}
-use Rattle.cell_asm.proofs.EntriesFit.{IsStanding, all_stand, taken_fours, in_fours, section_small}
+use Rattle.cell_asm.proofs.EntriesFit.{IsStanding, all_stand, text_fours, in_fours, section_small}
 use Rattle.cell_asm.proofs.WritableEntries.{part_numbered}
 
 -- THE BYTES OF A STATEMENT
@@ -38,19 +40,12 @@ at_length part offset _ h = refl
 
 -- THE BYTES OF A SECTION
 
-takes_text : (o : Option Part) (line : Line) → may_stand o line ≡ true → is_at Text o ≡ true → takes Text line.statement ≡ true
-takes_text None line h e = absurd cc
-takes_text (Some Text) line h e = h
-takes_text (Some _) line h e = absurd cc
-
 -- what a line of the section takes, in whole instructions where it is .text
 abbrev InWords : Part → List Laid → Type 0
 InWords part lines = (l : Laid) → In l lines → is_in part l ≡ true → is_text part ≡ true → taken l.line.statement l.offset % 4 ≡ 0
 
 text_words : (source : List ℕ) (lines : List Laid) → placed_lines source ≡ Ok lines → InWords Text lines
-text_words source lines e l k t same =
-    let s : IsStanding l = all_stand source lines e l k in
-    taken_fours l.line.statement l.offset (takes_text l.part l.line s.stands t) s.good (in_fours source lines e l k t)
+text_words source lines e l k t same = text_fours l (all_stand source lines e l k) t (in_fours source lines e l k t)
 
 in_words : (source : List ℕ) (lines : List Laid) (part : Part) → placed_lines source ≡ Ok lines → InWords part lines
 in_words source lines Text e = text_words source lines e
@@ -111,21 +106,15 @@ record IsAligned (n : ℕ) : Type 0 where
   some : 1 ≤ n
   most : n ≤ 4096
 
+abbrev is_aligned : ℕ → Bool
+is_aligned n = is_alignment n && (nat_le 1 n && nat_le n 4096)
+
 power : (k : ℕ) → k ≤ 12 → IsAligned (2 ^ k)
-power zero h = record { good = refl; some = lit≤ tt; most = lit≤ tt }
-power (suc zero) h = record { good = refl; some = lit≤ tt; most = lit≤ tt }
-power (suc (suc zero)) h = record { good = refl; some = lit≤ tt; most = lit≤ tt }
-power (suc (suc (suc zero))) h = record { good = refl; some = lit≤ tt; most = lit≤ tt }
-power (suc (suc (suc (suc zero)))) h = record { good = refl; some = lit≤ tt; most = lit≤ tt }
-power (suc (suc (suc (suc (suc zero))))) h = record { good = refl; some = lit≤ tt; most = lit≤ tt }
-power (suc (suc (suc (suc (suc (suc zero)))))) h = record { good = refl; some = lit≤ tt; most = lit≤ tt }
-power (suc (suc (suc (suc (suc (suc (suc zero))))))) h = record { good = refl; some = lit≤ tt; most = lit≤ tt }
-power (suc (suc (suc (suc (suc (suc (suc (suc zero)))))))) h = record { good = refl; some = lit≤ tt; most = lit≤ tt }
-power (suc (suc (suc (suc (suc (suc (suc (suc (suc zero))))))))) h = record { good = refl; some = lit≤ tt; most = lit≤ tt }
-power (suc (suc (suc (suc (suc (suc (suc (suc (suc (suc zero)))))))))) h = record { good = refl; some = lit≤ tt; most = lit≤ tt }
-power (suc (suc (suc (suc (suc (suc (suc (suc (suc (suc (suc zero))))))))))) h = record { good = refl; some = lit≤ tt; most = lit≤ tt }
-power (suc (suc (suc (suc (suc (suc (suc (suc (suc (suc (suc (suc zero)))))))))))) h = record { good = refl; some = lit≤ tt; most = lit≤ tt }
-power (suc (suc (suc (suc (suc (suc (suc (suc (suc (suc (suc (suc (suc k))))))))))))) h = absurd (omega (arith, h))
+power k h =
+    let t : is_aligned (2 ^ k) ≡ true = all-In (λ j. is_aligned (2 ^ j)) (range_with_len 0 13) refl k (In-numbers 13 0 k (omega arith) (omega (arith, h))) in
+    let p = and_parts (is_alignment (2 ^ k)) (nat_le 1 (2 ^ k) && nat_le (2 ^ k) 4096) t in
+    let q = and_parts (nat_le 1 (2 ^ k)) (nat_le (2 ^ k) 4096) p.1 in
+    record { good = p.0; some = le_of 1 (2 ^ k) q.0; most = le_of (2 ^ k) 4096 q.1 }
 
 unit_aligned : (n : ℕ) → IsUnit n → IsAligned n
 unit_aligned n g = subst IsAligned (sym g.2) (power g.0 g.1)

@@ -2,29 +2,35 @@
 --     symbols_cost source lines
 use Rattle.std.proofs.Common.{◌≡◌, ℕ, suc, ◌+◌, ◌*◌, ◌≤◌, Bool, true, false, cond, not, List, [], ◌∷◌, ◌++◌, map, length, codes, Ok, Some, None, inl, inr, refl, subst, sym, ap, ◌∙◌, zero-add, true≢false, arith, ◌^◌, ◌<◌, replicate, ◌⊎◌, length-append, lit≤}
 use Rattle.std.proofs.lemmas.Bool.{and_parts}
-use Rattle.std.proofs.lemmas.List.{map-append, length-replicate}
+use Rattle.std.proofs.lemmas.List.{map-append, length-map, length-replicate}
 use Rattle.std.proofs.lemmas.List.Elements.{filter-append}
 use Rattle.std.proofs.lemmas.List.Sums.{sum_by-cons}
 use Rattle.std.specs.Prelude.{slice_get, Option, if◌then◌else◌, decimal, filter, flat_map, is_none, sum_by, ◌==◌}
 use Rattle.cell_image.proofs.Ruled.{IsWhole}
+use Rattle.cell_image.proofs.Headers.{rows_count}
+use Rattle.cell_image.proofs.Places.{even_length}
+use Rattle.cell_image.proofs.Stands.{entry_length}
+use Rattle.cell_image.proofs.Symbols.{symbols_length}
+use Rattle.cell_image.proofs.Tables.{numbered_length}
 use Rattle.cell_num.specs.Kinds.{is_pcrel_hi20}
 use Rattle.cell_num.specs.Lists.{numbered_from}
-use Rattle.cell_object.specs.Before.{with_before, with_before_from}
-use Rattle.cell_object.specs.Image.{own_row, symtab_row, strtab_row, shstrtab_row, table_row, section_rows, local_count}
-use Rattle.cell_object.specs.ImageParts.{padded, offset_after, symtab_number, entries_for, has_entries, relocated, content, filled, symbol_part_bytes, symbols_part, symbol_strings, table, own_names, table_name, names_before_tables, section_strings, parts_before_tables, parts_before_strings, parts_before_names}
+use Rattle.cell_object.specs.Image.{section_rows, local_count}
+use Rattle.cell_object.specs.ImageParts.{padded, offset_after, entries_for, has_entries, relocated, content, filled, symbols_part, symbol_strings, table, own_names, table_name, names_before_tables, section_strings, parts_before_tables, parts_before_strings, parts_before_names}
 use Rattle.cell_object.specs.ImageParts as parts
-use Rattle.cell_object.specs.Rows.{stored, fields, symbol_bytes, entry_bytes}
-use Rattle.cell_object.specs.Strings.{string, string_table, name_place}
+use Rattle.cell_object.specs.Rows.{entry_bytes}
+use Rattle.cell_object.specs.Strings.{string, string_table}
 use Rattle.cell_text.specs.Text.{onto, pieces, lines_in}
 use Rattle.cell_asm.specs.Assembled.{placed_lines}
-use Rattle.cell_asm.specs.Objects.{marks_in, globals, local_labels, label_names, statement_names, mentions, other_names, key_name, local_symbol, global_symbol, symbols, parts_of, part_name, section_of, sections, entries, object_of}
+use Rattle.cell_asm.specs.Objects.{globals, local_labels, label_names, statement_names, mentions, other_names, key_name, local_symbol, global_symbol, symbols, parts_of, part_name, section_of, sections, entries, object_of}
 use Rattle.cell_asm.specs.Objects as objects
-use Rattle.cell_asm.specs.Places.{is_same_part, is_at, is_in, placed, is_made, makes_label, may_stand, lays_nothing, taken, size_in, own_key, made_key, keys_of, label, labels_at, labels, is_key, holds_key}
-use Rattle.cell_asm.specs.Types.{Symbol, Mark, Part, Text, Statement, Bytes, Line, Laid, Label, Key, KeyNamed as Named, KeyMade as Made, Section, Entry, Object, Fill, Prog, Note, Zero}
+use Rattle.cell_asm.specs.Places.{marks_in, is_same_part, is_at, is_in, placed, is_made, makes_label, may_stand, lays_nothing, taken, size_in, own_key, made_key, keys_of, label, labels_at, labels, is_key, holds_key}
+use Rattle.cell_asm.specs.Types.{Symbol, Mark, Part, Text, Statement, Line, Laid, Label, Key, KeyNamed as Named, KeyMade as Made, Section, Entry, Object, Fill, Prog, Note, Zero}
 use Rattle.cell_asm.proofs.EntriesFit.{IsStanding, all_stand, section_fits, few_entries}
 use Rattle.cell_asm.proofs.GoodBlocks.{is_code, hi20_code, content_of, statement_marks, statement_taken, none_laid}
+use Rattle.cell_num.proofs.Ranges.{In-one}
+use Rattle.cell_num.proofs.Sublists.{length-filter_le}
 use Rattle.cell_num.proofs.Elements.{In, In-left, filter-In, any-Has, any-In, In-append, In-filtered, In-map, In-numbered, get-In}
-use Rattle.cell_asm.proofs.ListLemmas.{total, total-append, total-map, total_split, fold_total, total_times, total_le, flat_length, mapped_length, filter_le, le_trans}
+use Rattle.cell_asm.proofs.ListLemmas.{total, total-append, total-map, total_split, fold_total, total_le, flat_length, flat_most, le_trans}
 use Rattle.cell_asm.proofs.NamesFit.{cost, cost-append, cost_flat, made_short}
 use Rattle.cell_asm.proofs.ObjectLemmas.{few}
 use Rattle.cell_asm.proofs.PlacingLemmas.{GoesOn, grows_with}
@@ -89,10 +95,6 @@ some_there : (marks : List Mark) (m : Mark) → In m marks → 1 ≤ length mark
 some_there [] m k = absurd k
 some_there (n ∷ marks) m k = omega arith
 
-made_mark : (s : Statement) → makes_label s ≡ true → (m : Mark) × In m (marks_in s) × (is_made m.fix.target ≡ true)
-made_mark (Bytes content b) t = any-Has (λ m. is_made m.fix.target) b.marks t
-made_mark _ t = absurd cc
-
 in_text_by : (o : Option Part) (line : Line) (m : Mark) → may_stand o line ≡ true → In m (marks_in line.statement) → is_code (content_of line.statement) ≡ true → is_at Text o ≡ true
 in_text_by None line m t k code = absurd (none_laid line.statement m (and_parts (is_none line.label) (lays_nothing line.statement) t).1 k)
 in_text_by (Some part) line m t k code = ap (is_same_part Text) ((statement_taken part line.statement m t k).coded code)
@@ -100,7 +102,7 @@ in_text_by (Some part) line m t k code = ap (is_same_part Text) ((statement_take
 making : (l : Laid) → IsStanding l → makes_label l.line.statement ≡ true → IsMaking l
 making l s t =
     let st : Statement = l.line.statement in
-    let r : (m : Mark) × In m (marks_in st) × (is_made m.fix.target ≡ true) = made_mark st t in
+    let r : (m : Mark) × In m (marks_in st) × (is_made m.fix.target ≡ true) = any-Has (λ m. is_made m.fix.target) (marks_in st) t in
     let u : (m : Mark) × In m (marks_in st) × (is_pcrel_hi20 m.fix.kind ≡ true) = any-Has (λ m. is_pcrel_hi20 m.fix.kind) (marks_in st) (made_head st r.0 s.good r.1 r.2) in
     record {
       in_text = in_text_by l.part l.line u.0 s.stands u.1 (sym ((statement_marks st l.offset s.good).stand.0 u.0 u.1).fix.code ∙ hi20_code u.0.fix.kind u.2);
@@ -222,46 +224,26 @@ symbols_cost source lines e =
 -- THE COUNTS
 
 pub few_sections : (lines : List Laid) → length (sections lines) ≤ 4
-few_sections lines = subst (λ n. n ≤ 4) (sym (mapped_length (section_of lines) (parts_of lines))) (few lines (parts_of lines) refl)
-
-numbered_count : {X : Type 0} (i : ℕ) (xs : List X) → length (numbered_from i xs) ≡ length xs
-numbered_count i [] = refl
-numbered_count i (x ∷ xs) = ap suc (numbered_count (suc i) xs)
-
-relocated_few : (ss : List Section) (es : List Entry) → length (relocated ss es) ≤ length ss
-unfolding relocated
-relocated_few ss es = subst (λ n. length (filter (λ row. has_entries es row.0) (numbered_from 1 ss)) ≤ n) (numbered_count 1 ss) (filter_le (λ row. has_entries es row.0) (numbered_from 1 ss))
+few_sections lines = subst (λ n. n ≤ 4) (sym (length-map (parts_of lines) (section_of lines))) (few lines (parts_of lines) refl)
 
 few_tables : (lines : List Laid) → length (relocated (sections lines) (entries lines)) ≤ 4
-few_tables lines = le_trans (length (relocated (sections lines) (entries lines))) (length (sections lines)) 4 (relocated_few (sections lines) (entries lines)) (few_sections lines)
+unfolding relocated
+few_tables lines =
+    le_trans _ _ _ (length-filter_le (λ row. has_entries (entries lines) row.0) (numbered_from 1 (sections lines)))
+    (subst (λ n. n ≤ 4) (sym (numbered_length 1 (sections lines))) (few_sections lines))
 
-before_count_from : {X : Type 0} (before xs : List X) → length (with_before_from before xs) ≡ length xs
-before_count_from before [] = refl
-before_count_from before (x ∷ xs) = ap suc (before_count_from (before ++ (x ∷ [])) xs)
-
-before_count : {X : Type 0} (xs : List X) → length (with_before xs) ≡ length xs
-unfolding with_before
-before_count xs = before_count_from [] xs
-
-rows_few : (a b c : ℕ) → c ≡ a + suc (suc (suc b)) → a ≤ 4 → b ≤ 4 → suc c < 65280
-rows_few a b c e h k = omega (arith, e, h, k)
+rows_few : (n s t : ℕ) → n ≡ s + 4 + t → s ≤ 4 → t ≤ 4 → n < 65280
+rows_few n s t e h k = omega (arith, e, h, k)
 
 pub headers_fit : (lines : List Laid) → length (section_rows (object_of lines)) < 65280
 headers_fit lines =
-    let o : Object = object_of lines in
-    let own : length (map own_row (with_before (sections lines))) ≡ length (sections lines) = mapped_length own_row (with_before (sections lines)) ∙ before_count (sections lines) in
-    let tables : length (map (table_row o) (with_before (relocated (sections lines) (entries lines)))) ≡ length (relocated (sections lines) (entries lines)) =
-    mapped_length (table_row o) (with_before (relocated (sections lines) (entries lines))) ∙ before_count (relocated (sections lines) (entries lines)) in
-    rows_few (length (map own_row (with_before (sections lines)))) (length (map (table_row o) (with_before (relocated (sections lines) (entries lines)))))
-    (length (map own_row (with_before (sections lines)) ++ (symtab_row o ∷ strtab_row o ∷ shstrtab_row o ∷ map (table_row o) (with_before (relocated (sections lines) (entries lines))))))
-    (length-append (map own_row (with_before (sections lines))) (symtab_row o ∷ strtab_row o ∷ shstrtab_row o ∷ map (table_row o) (with_before (relocated (sections lines) (entries lines)))))
-    (subst (λ n. n ≤ 4) (sym own) (few_sections lines)) (subst (λ n. n ≤ 4) (sym tables) (few_tables lines))
+    rows_few (length (section_rows (object_of lines))) (length (sections lines)) (length (relocated (sections lines) (entries lines))) (rows_count (object_of lines)) (few_sections lines) (few_tables lines)
 
 symbols_number : (lines : List Laid) → length (symbols lines) ≡ length (local_labels lines) + length (other_names lines)
 symbols_number lines =
     length-append (map (local_symbol lines) (local_labels lines)) (map (global_symbol lines) (other_names lines))
-    ∙ ap (λ n. n + length (map (global_symbol lines) (other_names lines))) (mapped_length (local_symbol lines) (local_labels lines))
-    ∙ ap (λ n. length (local_labels lines) + n) (mapped_length (global_symbol lines) (other_names lines))
+    ∙ ap (λ n. n + length (map (global_symbol lines) (other_names lines))) (length-map (local_labels lines) (local_symbol lines))
+    ∙ ap (λ n. length (local_labels lines) + n) (length-map (other_names lines) (global_symbol lines))
 
 count_le : (ss : List Symbol) → length ss ≤ total symbol_cost ss
 count_le [] = omega arith
@@ -293,23 +275,18 @@ small_join a b m xs ys h k = record { count = omega (arith, h.count, k.count, le
     each t (inr i) = k.short t i
 
 small_one : (m : ℕ) (t : List ℕ) → length t ≤ m → AreSmall 1 m (t ∷ [])
-small_one m t h = record { count = omega arith; short = only }
-  where
-    only : (x : List ℕ) → In x (t ∷ []) → length x ≤ m
-    only x (inl e) = subst (λ v. length v ≤ m) (sym e) h
-    only x (inr i) = absurd i
+small_one m t h = record { count = omega arith; short = λ x k. subst (λ v. length v ≤ m) (sym (In-one x t k)) h }
 
 small_map : {X : Type 0} (n m : ℕ) (f : X → List ℕ) (xs : List X) → length xs ≤ n → ((x : X) → In x xs → length (f x) ≤ m) → AreSmall n m (map f xs)
-small_map n m f xs c h = record { count = subst (λ k. k ≤ n) (sym (mapped_length f xs)) c; short = λ t i. let r = In-map f xs t i in subst (λ v. length v ≤ m) (sym r.2) (h r.0 r.1) }
+small_map n m f xs c h = record { count = subst (λ k. k ≤ n) (sym (length-map xs f)) c; short = λ t i. let r = In-map f xs t i in subst (λ v. length v ≤ m) (sym r.2) (h r.0 r.1) }
 
-table_by : (t n k : ℕ) → t ≤ k * n → suc t ≤ 1 + k * n
-table_by t n k h = omega (arith, h)
+table_by_names : (t n k : ℕ) → t ≤ k * n → suc t ≤ 1 + k * n
+table_by_names t n k h = omega (arith, h)
 
 table_le : (n m : ℕ) (names : List (List ℕ)) → AreSmall n m names → length (string_table names) ≤ 1 + (m + 1) * length names
 unfolding string_table
 table_le n m names h =
-    table_by (length (flat_map string names)) (length names) (m + 1)
-    (subst (λ k. k ≤ (m + 1) * length names) (sym (flat_length string names)) (total_times (λ t. length (string t)) (m + 1) names (λ t k. string_le m t (h.short t k))))
+    table_by_names (length (flat_map string names)) (length names) (m + 1) (flat_most string (m + 1) names (λ t k. string_le m t (h.short t k)))
 
 -- a name and the zero behind it
 string_cost : (name : List ℕ) → length (string name) ≤ suc (length name)
@@ -382,44 +359,21 @@ filled_le Prog bytes size w h = subst (λ n. n ≤ 16777216) (sym w) h
 filled_le Note bytes size w h = subst (λ n. n ≤ 16777216) (sym w) h
 filled_le Zero bytes size w h = omega arith
 
-symbol_count : (symtab name : ℕ) (s : Symbol) → length (symbol_bytes symtab name s) ≡ 24
-unfolding symbol_bytes fields stored
-symbol_count symtab name s = refl
-
-entry_count : (e : Entry) → length (entry_bytes e) ≡ 24
-unfolding entry_bytes fields stored
-entry_count e = refl
-
-same_le : (a b : ℕ) → a ≡ b → a ≤ b
-same_le a b e = omega (arith, e)
-
-symbols_by : (a b c : ℕ) → a ≡ 24 + b → b ≤ 24 * c → c ≤ 2290089984 → a ≤ 54962159640
-symbols_by a b c e h k = omega (arith, e, h, k)
+symbols_by : (a c : ℕ) → a ≡ 24 + 24 * c → c ≤ 2290089984 → a ≤ 54962159640
+symbols_by a c e h = omega (arith, e, h)
 
 symbols_short_part : (source : List ℕ) (lines : List Laid) → placed_lines source ≡ Ok lines → length source < 2 ^ 31 → length (symbols_part (object_of lines)) ≤ 54962159640
-unfolding symbols_part
-symbols_short_part source lines e h =
-    symbols_by (length (replicate 24 0 ++ flat_map (symbol_part_bytes (symtab_number (object_of lines))) (with_before (symbols lines)))) (length (flat_map (symbol_part_bytes (symtab_number (object_of lines))) (with_before (symbols lines)))) (length (symbols lines))
-    (length-append (replicate 24 0) (flat_map (symbol_part_bytes (symtab_number (object_of lines))) (with_before (symbols lines))))
-    (subst (λ n. n ≤ 24 * length (symbols lines)) (sym (flat_length (symbol_part_bytes (symtab_number (object_of lines))) (with_before (symbols lines))))
-    (subst (λ n. total (λ p. length (symbol_part_bytes (symtab_number (object_of lines)) p)) (with_before (symbols lines)) ≤ 24 * n) (before_count (symbols lines))
-    (total_times (λ p. length (symbol_part_bytes (symtab_number (object_of lines)) p)) 24 (with_before (symbols lines))
-    (λ p k. same_le (length (symbol_part_bytes (symtab_number (object_of lines)) p)) 24 (symbol_count (symtab_number (object_of lines)) (name_place (map (λ b. b.name) p.0) p.1.name) p.1)))))
-    (few_symbols source lines e h)
+symbols_short_part source lines e h = symbols_by (length (symbols_part (object_of lines))) (length (symbols lines)) (symbols_length (object_of lines)) (few_symbols source lines e h)
 
 entries_for_few : (es : List Entry) (n : ℕ) → length (entries_for es n) ≤ length es
 unfolding entries_for
-entries_for_few es n = filter_le (λ e. e.section == n) es
+entries_for_few es n = length-filter_le (λ e. e.section == n) es
 
-table_by_entries : (a b c : ℕ) → a ≤ 24 * b → b ≤ c → c ≤ 134217728 → a ≤ 3221225472
-table_by_entries a b c h k l = omega (arith, h, k, l)
+table_by : (a b c : ℕ) → a ≡ 24 * b → b ≤ c → c ≤ 134217728 → a ≤ 3221225472
+table_by a b c e h k = omega (arith, e, h, k)
 
 table_few : (es : List Entry) (row : ℕ × Section) → length es ≤ 134217728 → length (table es row) ≤ 3221225472
-table_few es row h =
-    table_by_entries (length (table es row)) (length (entries_for es row.0)) (length es)
-    (subst (λ n. n ≤ 24 * length (entries_for es row.0)) (sym (flat_length entry_bytes (entries_for es row.0)))
-    (total_times (λ e. length (entry_bytes e)) 24 (entries_for es row.0) (λ e k. same_le (length (entry_bytes e)) 24 (entry_count e))))
-    (entries_for_few es row.0) h
+table_few es row h = table_by (length (table es row)) (length (entries_for es row.0)) (length es) (even_length entry_bytes 24 entry_length (entries_for es row.0)) (entries_for_few es row.0) h
 
 -- the largest part is that of the symbols
 abbrev most : ℕ
@@ -431,8 +385,8 @@ below n m h k = omega (arith, h, k)
 strings_below : (n : ℕ) → n < 2 ^ 32 → n ≤ most
 strings_below n h = omega (arith, h)
 
-all_below : (t l k : ℕ) → k ≡ t → t ≤ (most + 8) * l → l ≤ 11 → 64 + k < 2 ^ 64
-all_below t l k e h m = omega (arith, e, h, m)
+all_below : (n l : ℕ) → n ≤ (most + 8) * l → l ≤ 11 → 64 + n < 2 ^ 64
+all_below n l h m = omega (arith, h, m)
 
 pub size_fits : (source : List ℕ) (lines : List Laid) → placed_lines source ≡ Ok lines → length source < 2 ^ 31 → offset_after (parts.parts (object_of lines)) < 2 ^ 64
 size_fits source lines e h =
@@ -449,5 +403,4 @@ size_fits source lines e h =
     (small_map 4 most (table (entries lines)) (relocated (sections lines) (entries lines)) (few_tables lines) (λ row k. below (length (table (entries lines) row)) 3221225472 (table_few (entries lines) row (few_entries source lines e)) (lit≤ tt))))
     (small_one most (symbol_strings o) (strings_below (length (symbol_strings o)) (texts_fit source lines e h))))
     (small_one most (section_strings o) (strings_below (length (section_strings o)) (names_fit lines))) in
-    all_below (total (λ p. length (padded p)) (parts.parts o)) (length (parts.parts o)) (length (flat_map padded (parts.parts o))) (flat_length padded (parts.parts o))
-    (total_times (λ p. length (padded p)) (most + 8) (parts.parts o) (λ p k. padded_le most p (small.short p k))) small.count
+    all_below (length (flat_map padded (parts.parts o))) (length (parts.parts o)) (flat_most padded (most + 8) (parts.parts o) (λ p k. padded_le most p (small.short p k))) small.count

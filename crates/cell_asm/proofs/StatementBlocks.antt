@@ -6,7 +6,8 @@ use Rattle.std.specs.Prelude.{Option, if◌then◌else◌, nat_le, int_le, FitsS
 use Rattle.std.specs.List.{list_any, list_all}
 use Rattle.std.specs.Option.{option_map_or}
 use Rattle.std.specs.Int.{w64}
-use Rattle.std.proofs.lemmas.Bool.{and_parts}
+use Rattle.std.proofs.lemmas.Bool.{and_parts, or_from}
+use Rattle.std.proofs.Math.Bool.{or-false}
 use Rattle.std.proofs.lemmas.Bool.Decides.{nat_tests}
 use Rattle.std.proofs.lemmas.List.Concat.{flat_map-append}
 use Rattle.cell_asm.specs.Types.{RelKind, PcrelHi20, PcrelLo12I, PcrelLo12S, Op, AsmKind, Then, Expression, ExpressionName as Name, Sum, Difference, Modifier, Whole, Hi, Lo, PcrelHi, PcrelLo, Immediate, Number, ImmediatePart as Part, Operand, OperandValue as Value, OperandMemory as Memory, Form, Address, Slot, Rd, Rs1, Rs2, Fields, Width, Byte, Half, WidthWord as Word, Quad, Content, Code, Mark, Block, Piece, Fix, TargetMade as Made, Field, Statement, Bytes}
@@ -24,7 +25,7 @@ use Rattle.cell_asm.specs.Instructions.{unfilled, put, miscounted, filled, made_
 use Rattle.cell_asm.specs.Statements.{layout_of, stored, datum, numbers}
 use Rattle.cell_asm.specs.Statements as statements
 use Rattle.cell_num.proofs.Elements.{In, all-In, any-Has}
-use Rattle.cell_asm.proofs.ListLemmas.{itself, le_of, or_none}
+use Rattle.cell_asm.proofs.ListLemmas.{itself, le_of}
 use Rattle.cell_asm.proofs.NamesFit.{Any, Yields, yields_value, yields_joined, yields_any, yields_weaker, yields_gathered, Finds, IsNamed, none_named, IsPart, part_in, expression_names, immediate_names, operand_names, all_names}
 use Rattle.cell_asm.proofs.GoodBlocks.{is_code, any_upper, lo12_code, hi20_code, IsGoodFix, AreStacking, InFours, IsWithin, AreWithin, IsSound, IsGoodStatement, IsGoodPiece, one_there, both_there, piece_sound, empty_sound}
 
@@ -212,11 +213,7 @@ module _ (t : Option Then) (all : List (List ℕ)) where
   filled_holds r (s ∷ ss) [] g p h = miscounted_holds r
   filled_holds r (s ∷ ss) (o ∷ os) g p h =
       filled_holds (put r s o) ss os (λ x k. g x (inr k)) (λ x k. p x (inr k))
-      (λ e. put_holds r s o (g s (inl refl)) (p o (inl refl)) (λ f. h (neither (has_form s) (list_any has_form ss) f e)))
-    where
-      neither : (a b : Bool) → a ≡ false → b ≡ false → (a || b) ≡ false
-      neither true b e f = absurd (true≢false e)
-      neither false b e f = f
+      (λ e. put_holds r s o (g s (inl refl)) (p o (inl refl)) (λ f. h (or_from (has_form s) (list_any has_form ss) f e)))
 
 -- BLOCKS
 
@@ -262,7 +259,7 @@ module _ (all : List (List ℕ)) where
       record {
         good = record {
           sound = code_sound bytes n (m ∷ []) e some fours (omega arith) (one_there Code 0 n m (first_mark n f (given_good (is_first t) Code n h.0 f k h.1) k.fits));
-          made = λ u. absurd (true≢false (sym u ∙ or_none (is_made f.target) ∙ h.1.own));
+          made = λ u. absurd (true≢false (sym u ∙ or-false (is_made f.target) ∙ h.1.own));
         };
         part = part_one (target_names f.target) h.0 all h.1.named h.2;
       }

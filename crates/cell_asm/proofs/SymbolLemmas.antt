@@ -1,9 +1,9 @@
 -- The symbols of an object, and their numbers.
 --     added            a map from keys, after one more key
 --     all_symbols      the symbols that are made are those of the lines
-use Rattle.std.proofs.Common.{◌≡◌, ℕ, ◌==◌, Bool, true, false, cond, List, Some, None, refl, ap, sym, ◌∙◌, arith, ◌||◌, not, [], ◌∷◌, ◌++◌, map, subst, suc, ◌+◌, length, is_some, append_assoc}
+use Rattle.std.proofs.Common.{◌≡◌, ℕ, ◌==◌, Bool, true, false, cond, List, Some, None, refl, ap, sym, ◌∙◌, arith, ◌||◌, not, [], ◌∷◌, ◌++◌, map, subst, ◌+◌, length, is_some, append_assoc}
 use Rattle.std.proofs.lemmas.Bool.Decides.{nat_tests}
-use Rattle.std.proofs.lemmas.List.{map-append}
+use Rattle.std.proofs.lemmas.List.{length_push, map-append}
 use Rattle.std.proofs.lemmas.List.Folds.{list_any-append}
 use Rattle.std.specs.BTreeMap.{get}
 use Rattle.std.specs.List.{list_any}
@@ -123,10 +123,6 @@ module _ (kept : Progress) (lines : List Laid) (h : Follows kept lines) where
 
 -- The list of symbols, symbol by symbol.
 
-length_push : {X : Type 0} (xs : List X) (x : X) → length (xs ++ x ∷ []) ≡ suc (length xs)
-length_push [] x = refl
-length_push (y ∷ ys) x = ap suc (length_push ys x)
-
 abbrev made : List ℕ → Bind → Home → ℕ → Symbol
 made name bind home value = record { name = name; bind = bind; sort = NoType; home = home; value = value; size = 0 }
 
@@ -141,7 +137,7 @@ lists_by old new keys list kept k bind spot name home value n h items named home
       ∙ ap (λ o. old.list.items ++ made (key_name k) bind o value ∷ []) homed
       ∙ ap (λ v. old.list.items ++ made (key_name k) bind (home_in kept.parts.items spot) v ∷ []) valued
       ∙ ap (λ ss. ss ++ symbol_in kept k bind spot ∷ []) h.list;
-  count = length_push keys k ∙ ap suc h.count ∙ sym (length_push list (symbol_in kept k bind spot));
+  count = length_push keys k ∙ ap (λ n. n + 1) h.count ∙ sym (length_push list (symbol_in kept k bind spot));
   numbers = λ q.
       numbers q
       ∙ ap (λ o. or_else o (where_true (is_key k q) n)) (h.numbers q)

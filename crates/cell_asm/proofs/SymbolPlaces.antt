@@ -3,6 +3,7 @@
 use Rattle.std.proofs.Common.{◌≡◌, ℕ, ◌+◌, ◌≤◌, ◌==◌, Bool, true, false, cond, List, [], ◌∷◌, ◌++◌, ◌⊎◌, inl, inr, Ok, Some, None, refl, sym, ap, subst, ◌∙◌, zero-add, true≢false, arith, zero, suc, ◌-◌, ◌<◌, ◌||◌, not, map, length, slice_get}
 use Rattle.std.proofs.lemmas.Bool.{and_right}
 use Rattle.std.proofs.lemmas.Bool.Decides.{nat_tests}
+use Rattle.std.proofs.lemmas.List.{length-map}
 use Rattle.std.proofs.lemmas.Option.{slice_get_within}
 use Rattle.std.proofs.lemmas.Slice.Eq.{bytes_eq-Decides}
 use Rattle.std.specs.List.{list_any}
@@ -18,7 +19,7 @@ use Rattle.cell_asm.specs.Places.{makes_label, made_in, placed, own_key, made_ke
 use Rattle.cell_asm.specs.Types.{Part, Line, Laid, Label, Key, KeyNamed as Named, KeyMade as Made, Symbol, Inside}
 use Rattle.cell_asm.proofs.EntriesFit.{allowed}
 use Rattle.cell_num.proofs.Elements.{get-In, In, In-append, In-map, any-In, In-left, In-right, In-filtered, filter-In, found-In, find_there, any-Has, map-In}
-use Rattle.cell_asm.proofs.ListLemmas.{next_place, numbered_if, fold_there, same_of, IsSplit, get_split, get_map, get_mapped, mapped_length}
+use Rattle.cell_asm.proofs.ListLemmas.{next_place, numbered_if, fold_there, same_of, IsSplit, get_split, get_map, get_mapped}
 use Rattle.cell_asm.proofs.PlacingLemmas.{Goes, grows, made_more, labels_push}
 
 -- KEYS
@@ -187,39 +188,35 @@ get_behind [] ys i n e = let same : n ≡ i = omega arith in ap (slice_get ys) s
 get_behind (x ∷ xs) ys i zero e = absurd (omega arith)
 get_behind (x ∷ xs) ys i (suc n) e = get_behind xs ys i n (omega arith)
 
--- a label that no directive makes GLOBAL, or another name
-pub record IsLocalAt (lines : List Laid) (i : ℕ) (key : Key) : Type 0 where
-  pub l : Label
-  pub inside : In l (local_labels lines)
-  pub key_is : key ≡ l.key
-  pub symbol_is : slice_get (symbols lines) i ≡ Some (local_symbol lines l)
+-- the symbol at a place, of a label that no directive makes GLOBAL, or of another name
+record IsSymbolAt (lines : List Laid) (i : ℕ) (key : Key) : Type 0 where
+  s : Symbol
+  there : slice_get (symbols lines) i ≡ Some s
+  usable : is_unusable_symbol (Some s) ≡ false
+  comes : ((l : Label) × In l (local_labels lines) × (key ≡ l.key) × (s ≡ local_symbol lines l)) ⊎ ((name : List ℕ) × (key ≡ Named name) × (s ≡ global_symbol lines name))
 
-pub record IsOtherAt (lines : List Laid) (i : ℕ) (key : Key) : Type 0 where
-  pub name : List ℕ
-  pub key_is : key ≡ Named name
-  pub symbol_is : slice_get (symbols lines) i ≡ Some (global_symbol lines name)
-
-symbol_at : (lines : List Laid) (i : ℕ) (x : Key) → slice_get (symbol_keys lines) i ≡ Some x → IsLocalAt lines i x ⊎ IsOtherAt lines i x
+symbol_at : (lines : List Laid) (i : ℕ) (x : Key) → slice_get (symbol_keys lines) i ≡ Some x → IsSymbolAt lines i x
 symbol_at lines i x e = go (get_split (map (λ (l : Label). l.key) (local_labels lines)) (map (λ n. Named n) (other_names lines)) i x e)
   where
-    go : IsSplit (map (λ (l : Label). l.key) (local_labels lines)) (map (λ n. Named n) (other_names lines)) i x → IsLocalAt lines i x ⊎ IsOtherAt lines i x
+    go : IsSplit (map (λ (l : Label). l.key) (local_labels lines)) (map (λ n. Named n) (other_names lines)) i x → IsSymbolAt lines i x
     go (inl h) =
         let r : (l : Label) × (slice_get (local_labels lines) i ≡ Some l) × (x ≡ l.key) = get_map (λ (l : Label). l.key) (local_labels lines) i x h in
-        inl (record {
-          l = r.0;
-          inside = get-In (local_labels lines) i r.0 r.1;
-          key_is = r.2;
-          symbol_is = get_first (map (local_symbol lines) (local_labels lines)) (map (global_symbol lines) (other_names lines)) i (local_symbol lines r.0) (get_mapped (local_symbol lines) (local_labels lines) i r.0 r.1);
-        })
+        record {
+          s = local_symbol lines r.0;
+          there = get_first (map (local_symbol lines) (local_labels lines)) (map (global_symbol lines) (other_names lines)) i (local_symbol lines r.0) (get_mapped (local_symbol lines) (local_labels lines) i r.0 r.1);
+          usable = refl;
+          comes = inl (r.0, get-In (local_labels lines) i r.0 r.1, r.2, refl);
+        }
     go (inr h) =
         let r : (name : List ℕ) × (slice_get (other_names lines) h.0 ≡ Some name) × (x ≡ Named name) = get_map (λ n. Named n) (other_names lines) h.0 x h.2 in
-        inr (record {
-          name = r.0;
-          key_is = r.2;
-          symbol_is = get_behind (map (local_symbol lines) (local_labels lines)) (map (global_symbol lines) (other_names lines)) h.0 i
-              (h.1 ∙ ap (λ n. n + h.0) (mapped_length (λ (l : Label). l.key) (local_labels lines) ∙ sym (mapped_length (local_symbol lines) (local_labels lines))))
+        record {
+          s = global_symbol lines r.0;
+          there = get_behind (map (local_symbol lines) (local_labels lines)) (map (global_symbol lines) (other_names lines)) h.0 i
+              (h.1 ∙ ap (λ n. n + h.0) (length-map (local_labels lines) (λ (l : Label). l.key) ∙ sym (length-map (local_labels lines) (local_symbol lines))))
               ∙ get_mapped (global_symbol lines) (other_names lines) h.0 r.0 r.1;
-        })
+          usable = refl;
+          comes = inr (r.0, r.2, refl);
+        }
 
 -- THE NUMBER OF A KEY
 
@@ -249,7 +246,7 @@ numbered n (k ∷ keys) q h = go (is_key k q) refl h (numbered (suc n) keys q)
 record HasSymbol (lines : List Laid) (key : Key) : Type 0 where
   i : ℕ
   number : symbol_number lines key ≡ i + 1
-  at : IsLocalAt lines i key ⊎ IsOtherAt lines i key
+  at : IsSymbolAt lines i key
 
 symbol_there : (lines : List Laid) (key : Key) → has_symbol lines key ≡ true → HasSymbol lines key
 symbol_there lines key h =
@@ -263,23 +260,15 @@ none_is (Some n) e = absurd (true≢false e)
 symbol_none : (lines : List Laid) (key : Key) → has_symbol lines key ≡ false → symbol_number lines key ≡ 0
 symbol_none lines key h = none_is (number_from 1 (symbol_keys lines) key) (numbered_if 1 (symbol_keys lines) key ∙ h)
 
-get_below : {X : Type 0} (xs : List X) (i : ℕ) (x : X) → slice_get xs i ≡ Some x → i + 1 ≤ length xs
-get_below xs i x e = let h : i < length xs = slice_get_within xs i x e in omega (arith, h)
-
-either_below : (lines : List Laid) (i : ℕ) (key : Key) → IsLocalAt lines i key ⊎ IsOtherAt lines i key → i + 1 ≤ length (symbols lines)
-either_below lines i key (inl r) = get_below (symbols lines) i (local_symbol lines r.l) r.symbol_is
-either_below lines i key (inr r) = get_below (symbols lines) i (global_symbol lines r.name) r.symbol_is
+below_all : (i n : ℕ) → i < n → i + 1 ≤ n
+below_all i n h = omega (arith, h)
 
 small_by : (lines : List Laid) (key : Key) (b : Bool) → has_symbol lines key ≡ b → symbol_number lines key ≤ length (symbols lines)
-small_by lines key true h = let s = symbol_there lines key h in subst (λ n. n ≤ length (symbols lines)) (sym s.number) (either_below lines s.i key s.at)
+small_by lines key true h = let s = symbol_there lines key h in subst (λ n. n ≤ length (symbols lines)) (sym s.number) (below_all s.i (length (symbols lines)) (slice_get_within (symbols lines) s.i s.at.s s.at.there))
 small_by lines key false h = subst (λ n. n ≤ length (symbols lines)) (sym (symbol_none lines key h)) (omega arith)
 
 pub number_small : (lines : List Laid) (key : Key) → symbol_number lines key ≤ length (symbols lines)
 number_small lines key = small_by lines key (has_symbol lines key) refl
-
-either_usable : (lines : List Laid) (i : ℕ) (key : Key) → IsLocalAt lines i key ⊎ IsOtherAt lines i key → is_unusable_symbol (slice_get (symbols lines) i) ≡ false
-either_usable lines i key (inl r) = ap is_unusable_symbol r.symbol_is
-either_usable lines i key (inr r) = ap is_unusable_symbol r.symbol_is
 
 pub one_less : (i : ℕ) → (i + 1) - 1 ≡ i
 one_less i = omega arith
@@ -289,7 +278,7 @@ usable_by lines key true h =
     let s = symbol_there lines key h in
     ap (is_unusable (symbols lines)) s.number
     ∙ and_right (not (s.i + 1 == 0)) (is_unusable_symbol (slice_get (symbols lines) ((s.i + 1) - 1)))
-    (ap (λ j. is_unusable_symbol (slice_get (symbols lines) j)) (one_less s.i) ∙ either_usable lines s.i key s.at)
+    (ap (λ j. is_unusable_symbol (slice_get (symbols lines) j)) (one_less s.i) ∙ ap is_unusable_symbol s.at.there ∙ s.at.usable)
 usable_by lines key false h = ap (is_unusable (symbols lines)) (symbol_none lines key h)
 
 pub number_usable : (lines : List Laid) (key : Key) → is_unusable (symbols lines) (symbol_number lines key) ≡ false
@@ -348,15 +337,18 @@ name_found lines l name once h e =
     let f : In r.0 (labels lines) × (p r.0 ≡ true) = found-In p (labels lines) r.0 r.1 in
     r.1 ∙ ap Some (once r.0 l f.0 h (same_key r.0.key (Named name) f.1 ∙ sym e))
 
-by_place : (lines : List Laid) (l : Label) (n i : ℕ) → AreOncePlaced lines → In l (labels lines) → n ≡ i + 1 → IsLocalAt lines i l.key ⊎ IsOtherAt lines i l.key → IsLabelSymbol lines l n
-by_place lines l n i once h e (inl r) =
-    let same : r.l ≡ l = once r.l l (In-filtered (λ m. not (is_global (globals lines) m.key)) (labels lines) r.l r.inside) h (sym r.key_is) in
-    record { i = i; s = local_symbol lines r.l; numbered = e; symbol_is = r.symbol_is; home_is = ap (λ m. Inside (part_number lines m.part)) same; value_is = ap (λ m. m.offset) same }
-by_place lines l n i once h e (inr r) =
-    let found : label_named lines r.name ≡ Some l = name_found lines l r.name once h r.key_is in
-    record { i = i; s = global_symbol lines r.name; numbered = e; symbol_is = r.symbol_is; home_is = ap (home_at lines) found; value_is = ap (λ o. option_map_or (λ m. m.offset) o 0) found }
+by_place : (lines : List Laid) (l : Label) (n i : ℕ) → AreOncePlaced lines → In l (labels lines) → n ≡ i + 1 → IsSymbolAt lines i l.key → IsLabelSymbol lines l n
+by_place lines l n i once h e at = go at.comes
+  where
+    go : ((m : Label) × In m (local_labels lines) × (l.key ≡ m.key) × (at.s ≡ local_symbol lines m)) ⊎ ((name : List ℕ) × (l.key ≡ Named name) × (at.s ≡ global_symbol lines name)) → IsLabelSymbol lines l n
+    go (inl r) =
+        let same : r.0 ≡ l = once r.0 l (In-filtered (λ m. not (is_global (globals lines) m.key)) (labels lines) r.0 r.1) h (sym r.2) in
+        record { i = i; s = at.s; numbered = e; symbol_is = at.there; home_is = ap (λ x. x.home) r.3 ∙ ap (λ m. Inside (part_number lines m.part)) same; value_is = ap (λ x. x.value) r.3 ∙ ap (λ m. m.offset) same }
+    go (inr r) =
+        let found : label_named lines r.0 ≡ Some l = name_found lines l r.0 once h r.1 in
+        record { i = i; s = at.s; numbered = e; symbol_is = at.there; home_is = ap (λ x. x.home) r.2 ∙ ap (home_at lines) found; value_is = ap (λ x. x.value) r.2 ∙ ap (λ o. option_map_or (λ m. m.offset) o 0) found }
 
 pub label_symbol : (lines : List Laid) (l : Label) (key : Key) → AreOncePlaced lines → In l (labels lines) → l.key ≡ key → has_symbol lines key ≡ true → IsLabelSymbol lines l (symbol_number lines key)
 label_symbol lines l key once h e there =
     let s = symbol_there lines key there in
-    by_place lines l (symbol_number lines key) s.i once h s.number (subst (λ k. IsLocalAt lines s.i k ⊎ IsOtherAt lines s.i k) (sym e) s.at)
+    by_place lines l (symbol_number lines key) s.i once h s.number (subst (IsSymbolAt lines s.i) (sym e) s.at)

@@ -1,7 +1,8 @@
 -- Each line stands in a section that is chosen, and its bytes are within it.
---     all_held source lines        so it is of each line of a source
-use Rattle.std.proofs.Common.{◌≡◌, ℕ, ◌+◌, ◌≤◌, cond, List, [], ◌∷◌, ◌++◌, inl, inr, Ok, Some, None, refl, sym, subst, ◌∙◌, arith, true, Bool, false, ◌⊎◌, ap, zero, suc, ◌^◌, ◌<◌, not, ◌&&◌, ◌||◌, map, length, take, slice_get, append-nil, true≢false}
+use Rattle.std.proofs.Common.{◌≡◌, ℕ, ◌+◌, ◌≤◌, List, [], ◌∷◌, ◌++◌, inl, inr, Ok, Some, None, refl, sym, subst, ◌∙◌, arith, true, Bool, false, ◌⊎◌, ap, suc, ◌^◌, ◌<◌, not, ◌&&◌, ◌||◌, map, length, take, slice_get, append-nil, true≢false}
 use Rattle.std.proofs.lemmas.Bool.{or_from}
+use Rattle.std.proofs.Math.Seq.{take-append-add}
+use Rattle.std.proofs.lemmas.List.{length-map, take-map}
 use Rattle.std.proofs.lemmas.List.Elements.{filter_map-append, filter-append}
 use Rattle.std.proofs.lemmas.List.Folds.{list_any-append}
 use Rattle.std.proofs.lemmas.Option.{slice_get_within}
@@ -21,24 +22,20 @@ use Rattle.cell_asm.specs.Assembled.{placed_lines}
 use Rattle.cell_asm.specs.Names.{is_name}
 use Rattle.cell_asm.specs.Objects.{parts_of, key_name, label_names, mentions, statement_names, part_number, number_in, section_of, sections, globals, local_labels, other_names, label_named, home_at, local_symbol, global_symbol, symbols, object_of}
 use Rattle.cell_asm.specs.Objects as objects
-use Rattle.cell_asm.specs.Places.{is_same_part, is_at, is_in, choice, choices, taken, size_in, size_at, placed, keys_of, labels_at, labels, holds_key, is_key}
-use Rattle.cell_asm.specs.Types.{Part, Statement, Laid, Key, KeyNamed as Named, Label, Symbol}
-use Rattle.cell_asm.proofs.EntriesFit.{section_small}
-use Rattle.cell_num.proofs.Elements.{In, In-left, In-flat_map, In-filtered, found-In, get-In}
-use Rattle.cell_asm.proofs.ListLemmas.{fold_there, get_split, get_map, get_mapped, take_behind, mapped_length, AreApart, fold_apart, fold_In, before_fails}
+use Rattle.cell_asm.specs.Places.{is_same_part, is_at, is_in, choice, choices, taken, size_in, placed, keys_of, labels_at, labels, holds_key, is_key}
+use Rattle.cell_asm.specs.Types.{Part, Laid, Key, KeyNamed as Named, Label, Symbol}
+use Rattle.cell_asm.proofs.EntriesFit.{section_small, stacked, stack_inside}
+use Rattle.cell_num.proofs.Elements.{In, In-left, In-flat_map, In-filtered, filter-In, found-In, get-In}
+use Rattle.cell_asm.proofs.ListLemmas.{fold_there, get_split, get_map, get_mapped, AreApart, fold_apart, fold_In, before_fails}
 use Rattle.cell_asm.proofs.NamesFit.{key_fits, AreNames, IsGoodName, name_fits}
 use Rattle.cell_asm.proofs.ObjectLemmas.{part_itself, same_part}
-use Rattle.cell_asm.proofs.PlacingLemmas.{Goes, grows, pushed, each_line, size_more}
+use Rattle.cell_asm.proofs.PlacingLemmas.{Goes, grows, pushed, each_line}
 use Rattle.cell_asm.proofs.ReadLines.{line_names, read_line}
 use Rattle.cell_asm.proofs.SymbolPlaces.{names_apart, IsOwn, IsMade, key_of_line, IsAt, label_at, not_both}
 use Rattle.cell_asm.proofs.WritableEntries.{part_numbered}
 
-pub record IsHeld (lines : List Laid) (part : Part) (l : Laid) : Type 0 where
-  pub chosen : In part (choices lines)
-  pub inside : l.offset + taken l.line.statement l.offset ≤ size_in part lines
-
-abbrev AllHeld : List Laid → Type 0
-AllHeld lines = (l : Laid) → In l lines → (part : Part) → l.part ≡ Some part → IsHeld lines part l
+abbrev AllChosen : List Laid → Type 0
+AllChosen lines = (l : Laid) → In l lines → (part : Part) → l.part ≡ Some part → In part (choices lines)
 
 last_In : (parts : List Part) (part : Part) → last parts ≡ Some part → In part parts
 last_In [] part e = absurd cc
@@ -50,43 +47,19 @@ still_chosen : (before : List Laid) (l : Laid) (part : Part) → In part (choice
 still_chosen before l part k =
     subst (In part) (sym (filter_map-append (λ m. choice m.line.statement) before (l ∷ []))) (In-left (choices before) (choices (l ∷ [])) part k)
 
-at_itself : (part : Part) (before : List Laid) (s : Statement)
-    → size_in part before + taken s (size_in part before) ≤ size_in part before + cond (is_same_part part part) (taken s (size_in part before)) 0
-at_itself part before s =
-    subst (λ b. size_in part before + taken s (size_in part before) ≤ size_in part before + cond b (taken s (size_in part before)) 0) (sym (part_itself part)) (omega arith)
-
-new_inside : (part : Part) (o : Option Part) (before : List Laid) (s : Statement) → o ≡ Some part
-    → size_at o before + taken s (size_at o before) ≤ size_in part before + cond (is_at part o) (taken s (size_at o before)) 0
-new_inside part None before s e = absurd cc
-new_inside part (Some other) before s e =
-    let same : part ≡ other = cc in
-    subst (λ q. size_in q before + taken s (size_in q before) ≤ size_in part before + cond (is_same_part part q) (taken s (size_in q before)) 0) same (at_itself part before s)
-
-old_held : (before : List Laid) (new : Laid) (l : Laid) (part : Part) → IsHeld before part l → IsHeld (before ++ new ∷ []) part l
-old_held before new l part h = record {
-  chosen = still_chosen before new part h.chosen;
-  inside = subst (λ n. l.offset + taken l.line.statement l.offset ≤ n) (sym (size_more part before new))
-      (omega (arith, h.inside));
-}
-
--- the new line, which stands behind the others
-abbrev IsNext : List Laid → Laid → Type 0
-IsNext before new = (new.part ≡ last (choices before)) × (new.offset ≡ size_at new.part before)
-
-new_held : (before : List Laid) (new : Laid) (part : Part) → IsNext before new → new.part ≡ Some part → IsHeld (before ++ new ∷ []) part new
-new_held before new part h e = record {
-  chosen = still_chosen before new part (last_In (choices before) part (sym h.0 ∙ e));
-  inside = subst (λ n. new.offset + taken new.line.statement new.offset ≤ n) (sym (size_more part before new))
-      (subst (λ o. o + taken new.line.statement o ≤ size_in part before + cond (is_in part new) (taken new.line.statement o) 0) (sym h.1) (new_inside part new.part before new.line.statement e));
-}
-
-goes : Goes AllHeld
+goes : Goes AllChosen
 goes before n text line h e f =
     let new : Laid = placed before n line in
-    pushed (λ l. (part : Part) → l.part ≡ Some part → IsHeld (before ++ new ∷ []) part l) before new (λ l i part at. old_held before new l part (h l i part at)) (λ part at. new_held before new part (refl, refl) at)
+    pushed (λ l. (part : Part) → l.part ≡ Some part → In part (choices (before ++ new ∷ []))) before new
+    (λ l i part at. still_chosen before new part (h l i part at)) (λ part at. still_chosen before new part (last_In (choices before) part at))
 
-pub all_held : (source : List ℕ) (lines : List Laid) → placed_lines source ≡ Ok lines → (l : Laid) → In l lines → (part : Part) → l.part ≡ Some part → IsHeld lines part l
-all_held source lines e = grows AllHeld goes (lines_in source) lines (λ l k. absurd k) e
+all_chosen : (source : List ℕ) (lines : List Laid) → placed_lines source ≡ Ok lines → AllChosen lines
+all_chosen source lines e = grows AllChosen goes (lines_in source) lines (λ l k. absurd k) e
+
+-- the bytes of a line are within its section
+line_inside : (source : List ℕ) (lines : List Laid) (l : Laid) (part : Part) → placed_lines source ≡ Ok lines → In l lines → l.part ≡ Some part → l.offset + taken l.line.statement l.offset ≤ size_in part lines
+line_inside source lines l part e k at =
+    omega (arith, stack_inside 0 (filter (is_in part) lines) (stacked source lines part e) l (filter-In (is_in part) lines l k (ap (is_at part) at ∙ part_itself part)))
 
 -- The sections that a source chooses.
 --     part_there lines part    a section that a line chooses stands among them
@@ -128,17 +101,15 @@ key_named l key name k e = go (key_of_line l key k)
         In-left (label_names l.line.label) (statement_names l.line.statement) name (subst (λ o. In name (label_names o)) (sym own.labelled) (inl same))
     go (inr made) = absurd (not_both name l.made key e made.made)
 
-within : (a t n : ℕ) → a + t ≤ n → a ≤ n
-within a t n h = omega (arith, h)
+within : (a b t n : ℕ) → a ≡ b → b + t ≤ n → a ≤ n
+within a b t n e h = omega (arith, e, h)
 
 label_fits : (source : List ℕ) (lines : List Laid) (l : Laid) (m : Label) → placed_lines source ≡ Ok lines → In l lines → l.part ≡ Some m.part → m.offset ≡ l.offset → In m.key (keys_of l) → IsFitLabel lines m
-label_fits source lines l m e k part offset key =
-    let h : IsHeld lines m.part l = all_held source lines e l k m.part part in
-    record {
-      chosen = part_there lines m.part h.chosen;
-      inside = subst (λ n. n ≤ size_in m.part lines) (sym offset) (within l.offset (taken l.line.statement l.offset) (size_in m.part lines) h.inside);
-      name = key_fits m.key (λ name is. lines_named source lines e l k name (key_named l m.key name key is));
-    }
+label_fits source lines l m e k part offset key = record {
+  chosen = part_there lines m.part (all_chosen source lines e l k m.part part);
+  inside = within m.offset l.offset (taken l.line.statement l.offset) (size_in m.part lines) offset (line_inside source lines l m.part e k part);
+  name = key_fits m.key (λ name is. lines_named source lines e l k name (key_named l m.key name key is));
+}
 
 pub labels_fit : (source : List ℕ) (lines : List Laid) → placed_lines source ≡ Ok lines → (m : Label) → In m (labels lines) → IsFitLabel lines m
 labels_fit source lines e m k =
@@ -166,7 +137,7 @@ locals_count lines =
     ∙ ap (λ ss. ss ++ filter (λ s. is_local s.bind) (map (global_symbol lines) (other_names lines))) (locals_pass lines (local_labels lines))
     ∙ ap (λ ss. map (local_symbol lines) (local_labels lines) ++ ss) (globals_fail lines (other_names lines))
     ∙ append-nil (map (local_symbol lines) (local_labels lines)))
-    ∙ mapped_length (local_symbol lines) (local_labels lines)
+    ∙ length-map (local_labels lines) (local_symbol lines)
 
 -- WHERE A SYMBOL IS
 
@@ -242,17 +213,12 @@ globals_define : (lines : List Laid) (names : List (List ℕ)) (name : List ℕ)
 globals_define lines [] name h = refl
 globals_define lines (n ∷ names) name h = or_from (equals n name) (list_any (is_defined_as name) (map (global_symbol lines) names)) (h n (inl refl)) (globals_define lines names name (λ m k. h m (inr k)))
 
-take_mapped : {X Y : Type 0} (f : X → Y) (n : ℕ) (xs : List X) → take n (map f xs) ≡ map f (take n xs)
-take_mapped f zero xs = refl
-take_mapped f (suc n) [] = refl
-take_mapped f (suc n) (x ∷ xs) = ap (λ ys. f x ∷ ys) (take_mapped f n xs)
-
 symbols_before : (lines : List Laid) (k j : ℕ) → k ≡ length (map (local_symbol lines) (local_labels lines)) + j
     → take k (symbols lines) ≡ map (local_symbol lines) (local_labels lines) ++ map (global_symbol lines) (take j (other_names lines))
 symbols_before lines k j e =
     ap (λ n. take n (symbols lines)) e
-    ∙ take_behind (map (local_symbol lines) (local_labels lines)) (map (global_symbol lines) (other_names lines)) j
-    ∙ ap (λ ss. map (local_symbol lines) (local_labels lines) ++ ss) (take_mapped (global_symbol lines) j (other_names lines))
+    ∙ take-append-add (map (local_symbol lines) (local_labels lines)) (map (global_symbol lines) (other_names lines)) j
+    ∙ ap (λ ss. map (local_symbol lines) (local_labels lines) ++ ss) (take-map (global_symbol lines) j (other_names lines))
 
 not_defined : (lines : List Laid) (k j : ℕ) (name : List ℕ) → k ≡ length (map (local_symbol lines) (local_labels lines)) + j → slice_get (other_names lines) j ≡ Some name
     → defines (take k (symbols lines)) name ≡ false
@@ -288,7 +254,7 @@ global_fits source lines k j name e place h =
     record {
       name = good.plain;
       first = λ less.
-          not_first k j (length (map (local_symbol lines) (local_labels lines))) (local_count (object_of lines)) (length (local_labels lines)) place (mapped_length (local_symbol lines) (local_labels lines)) (locals_count lines) less;
+          not_first k j (length (map (local_symbol lines) (local_labels lines))) (local_count (object_of lines)) (length (local_labels lines)) place (length-map (local_labels lines) (local_symbol lines)) (locals_count lines) less;
       last = λ more. refl;
       sort = refl;
       filed = λ is. absurd (true≢false (sym is));

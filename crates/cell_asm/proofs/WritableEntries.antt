@@ -4,12 +4,12 @@
 --     entries_grouped      all entries are those of the first section, of the second, and so on
 use Rattle.std.proofs.Common.{◌≡◌, ℕ, zero, suc, ◌+◌, ◌<◌, ◌==◌, Bool, true, false, ◌||◌, not, cond, List, [], ◌∷◌, ◌++◌, inl, map, length, slice_get, Ok, Some, None, refl, sym, ap, ◌∙◌, append-nil, one-add, true≢false, arith, ◌-◌, pos, ◌&&◌, subst, int_eq, ◌%◌, ◌^◌, ◌≤◌, take}
 use Rattle.std.proofs.lemmas.Bool.{and_parts, and_from}
+use Rattle.std.proofs.Math.Bool.{and-false}
 use Rattle.std.proofs.lemmas.Bool.Decides.{nat_tests}
 use Rattle.std.proofs.lemmas.List.Elements.{filter-append}
-use Rattle.std.proofs.lemmas.Map.Keys.{IsDistinct-head, IsDistinct-tail}
 use Rattle.std.proofs.lemmas.Option.{slice_get_within}
 use Rattle.std.specs.Int.{w64}
-use Rattle.std.specs.List.{IsDistinct, AllByRecursion, list_any, position_or_len}
+use Rattle.std.specs.List.{list_any, position_or_len}
 use Rattle.std.specs.Option.{option_map_or}
 use Rattle.std.specs.Prelude.{nat_lt, filter, flat_map, Option, if◌then◌else◌, find, FitsSigned}
 use Rattle.cell_image.proofs.Ruled.{IsStorable, IsWritableEntry}
@@ -19,60 +19,30 @@ use Rattle.cell_object.specs.ImageParts.{entries_for}
 use Rattle.cell_object.specs.Relocations.{is_label, is_label_symbol, has_label, is_unpaired, is_unusable}
 use Rattle.cell_object.specs.Sound.{is_known_kind}
 use Rattle.cell_asm.specs.Assembled.{placed_lines, has_upper, is_upper_label, is_lost, is_lost_mark, has_lost}
-use Rattle.cell_asm.specs.Objects.{parts_of, part_number, section_of, sections, entries_in, entries, marks_in, label_named, entries_of, target_names, statement_names, label_names, mentions, symbols, symbol_number, target_key, entry_of, fill_of, is_text, object_of}
-use Rattle.cell_asm.specs.Places.{is_same_part, is_in, may_stand, is_made, makes_label, own_key, made_key, keys_of, label, labels_at, labels, is_key, is_long, largest, taken}
+use Rattle.cell_asm.specs.Objects.{parts_of, part_number, section_of, sections, entries_in, entries, label_named, entries_of, target_names, statement_names, label_names, mentions, symbols, symbol_number, target_key, entry_of, fill_of, is_text, object_of}
+use Rattle.cell_asm.specs.Places.{marks_in, is_same_part, is_in, choices, may_stand, is_made, makes_label, own_key, made_key, keys_of, label, labels_at, labels, is_key}
 use Rattle.cell_asm.specs.Types.{Entry, Part, Laid, Inside, Text, Target, Mark, Statement, Bytes, Label, Key, KeyNamed as Named, KeyMade as Made, Section, Zero, Bss}
 use Rattle.cell_asm.specs.declared.statement.Target.TheVariants as targets
-use Rattle.cell_asm.proofs.EntriesFit.{entry_origin, IsStanding, all_stand, at_part, Origin, in_fours, not_past, largest_most, entry_high, entries_apart, apart_take}
+use Rattle.cell_asm.proofs.EntriesFit.{entry_origin, IsStanding, all_stand, at_part, Origin, in_fours, line_room, largest_most, entry_high, entries_apart, apart_take}
 use Rattle.cell_asm.proofs.GoodBlocks.{is_code, lo12_code, any_upper, IsGoodStatement, content_of, statement_taken, IsTaken}
 use Rattle.cell_num.proofs.Elements.{In, map-In, In-right, filter-In, flat_map-In, unfound-In, found-In, any-Has, any-In, none-In, In-flat_map, get-In, filter_all, filter_none}
-use Rattle.cell_asm.proofs.ListLemmas.{get_map, not_false, same_of, same_test}
-use Rattle.cell_asm.proofs.ObjectLemmas.{same_part, part_itself, parts_distinct}
+use Rattle.cell_asm.proofs.ListLemmas.{AreApart, fold_apart, get_map, not_false, same_of, same_test}
+use Rattle.cell_asm.proofs.ObjectLemmas.{same_part, part_itself}
 use Rattle.cell_asm.proofs.SymbolPlaces.{same_key, labels_once, has_symbol, mentioned_there, made_there, one_less, label_symbol, number_small, number_usable}
 
 -- THE SECTIONS ARE APART
 
-none_same : (p : Part) (parts : List Part) → AllByRecursion (λ q. is_same_part p q ≡ false) parts → list_any (is_same_part p) parts ≡ false
-none_same p [] h = refl
-none_same p (q ∷ parts) h = ap (λ b. b || list_any (is_same_part p) parts) h.0 ∙ none_same p parts h.1
+same_some : {A : Type 0} (a b : A) → Some a ≡ Some b → a ≡ b
+same_some a b e = cc
 
--- the n-th of the list is the first of its kind there
-place_by : (p q : Part) (parts : List Part) (n : ℕ) (b : Bool) → is_same_part q p ≡ b → b ≡ false → position_or_len (is_same_part q) parts ≡ n
-    → cond (not b) (1 + position_or_len (is_same_part q) parts) 0 ≡ suc n
-place_by p q parts n true e f h = absurd (true≢false f)
-place_by p q parts n false e f h = one-add (position_or_len (is_same_part q) parts) ∙ ap suc h
-
-get_any : (parts : List Part) (n : ℕ) (q : Part) → slice_get parts n ≡ Some q → list_any (is_same_part q) parts ≡ true
-get_any [] n q e = absurd cc
-get_any (p ∷ parts) zero q e = go (is_same_part q p) (ap (is_same_part q) (same_some p q e) ∙ part_itself q)
-  where
-    same_some : (x y : Part) → Some x ≡ Some y → x ≡ y
-    same_some x y h = cc
-
-    go : (b : Bool) → b ≡ true → (b || list_any (is_same_part q) parts) ≡ true
-    go true h = refl
-    go false h = absurd (true≢false (sym h))
-get_any (p ∷ parts) (suc n) q e = go (is_same_part q p) (get_any parts n q e)
-  where
-    go : (b : Bool) → list_any (is_same_part q) parts ≡ true → (b || list_any (is_same_part q) parts) ≡ true
-    go true h = refl
-    go false h = h
-
-not_first : (p q : Part) (parts : List Part) → list_any (is_same_part p) parts ≡ false → list_any (is_same_part q) parts ≡ true → is_same_part q p ≡ false
-not_first p q parts e t = go (is_same_part q p) refl
-  where
-    go : (b : Bool) → is_same_part q p ≡ b → is_same_part q p ≡ false
-    go true h = absurd (true≢false (sym t ∙ ap (λ x. list_any (is_same_part x) parts) (same_part q p h) ∙ e))
-    go false h = h
-
-place_is : (parts : List Part) (n : ℕ) (q : Part) → IsDistinct is_same_part parts → slice_get parts n ≡ Some q → position_or_len (is_same_part q) parts ≡ n
+-- the n-th of sections that are apart is the first of its kind
+place_is : (parts : List Part) (n : ℕ) (q : Part) → AreApart is_same_part parts → slice_get parts n ≡ Some q → position_or_len (is_same_part q) parts ≡ n
 place_is [] n q d e = absurd cc
 place_is (p ∷ parts) zero q d e = ap (λ b. cond (not b) (1 + position_or_len (is_same_part q) parts) 0) (ap (is_same_part q) (same_some p q e) ∙ part_itself q)
-  where
-    same_some : (x y : Part) → Some x ≡ Some y → x ≡ y
-    same_some x y h = cc
 place_is (p ∷ parts) (suc n) q d e =
-    place_by p q parts n (is_same_part q p) refl (not_first p q parts (none_same p parts (IsDistinct-head is_same_part p parts d)) (get_any parts n q e)) (place_is parts n q (IsDistinct-tail is_same_part p parts d) e)
+    ap (λ b. cond (not b) (1 + position_or_len (is_same_part q) parts) 0) (d.0 q (get-In parts n q e))
+    ∙ one-add (position_or_len (is_same_part q) parts)
+    ∙ ap suc (place_is parts n q d.1 e)
 
 below_test : (m n : ℕ) → m < n → nat_lt m n ≡ true
 below_test m n h = grind (arith, nat_tests)
@@ -85,7 +55,7 @@ number_by parts n m q e h =
 pub part_numbered : (lines : List Laid) (n : ℕ) (part : Part) → slice_get (parts_of lines) n ≡ Some part → part_number lines part ≡ n + 1
 part_numbered lines n part e =
     let parts = parts_of lines in
-    number_by parts n (position_or_len (is_same_part part) parts) part (place_is parts n part (parts_distinct lines) e) (slice_get_within parts n part e)
+    number_by parts n (position_or_len (is_same_part part) parts) part (place_is parts n part (fold_apart is_same_part [] (choices lines) tt) e) (slice_get_within parts n part e)
 
 -- THE ENTRIES WITH A NUMBER
 
@@ -123,9 +93,6 @@ module _ {A : Type 0} (g : A → List Entry) (number : A → ℕ) (own : (a : A)
       filter-append (λ e. e.section == m) (g a) (flat_map g xs)
       ∙ ap (λ es. es ++ filter (λ e. e.section == m) (flat_map g xs)) (filter_none (λ e. e.section == m) (g a) (λ e i. other_number e.section m k (own a e i ∙ r.0) l))
       ∙ none_below xs (suc k) m r.1 (omega (arith, l))
-
-  same_some : (a b : A) → Some a ≡ Some b → a ≡ b
-  same_some a b e = cc
 
   -- the entries with the n-th number are those of the n-th
   with_number : (xs : List A) (k n : ℕ) (a : A) → Rises k xs → slice_get xs n ≡ Some a → filter (λ e. e.section == k + n) (flat_map g xs) ≡ g a
@@ -212,8 +179,7 @@ not_zero : (i : ℕ) → not (i + 1 == 0) ≡ true
 not_zero i = grind (arith, nat_tests)
 
 second_false : (a b : Bool) → (a && b) ≡ false → a ≡ true → b ≡ false
-second_false true b e t = e
-second_false false b e t = absurd (true≢false (sym t))
+second_false a b e t = sym (ap (λ x. x && b) t) ∙ e
 
 passing : (p : Label → Bool) (o : Option Label) → option_map_or p o false ≡ true → (l : Label) × (o ≡ Some l) × (p l ≡ true)
 passing p None e = absurd (true≢false (sym e))
@@ -237,10 +203,6 @@ mentions_target lines l m name i j t =
     of_statement (Bytes content b) k = flat_map-In (λ x. target_names x.fix.target) b.marks m name k (subst (λ u. In name (target_names u)) (sym t) (inl refl))
     of_statement _ k = absurd k
 
-makes_by : (s : Statement) (m : Mark) → In m (marks_in s) → is_made m.fix.target ≡ true → makes_label s ≡ true
-makes_by (Bytes content b) m k e = any-In (λ x. is_made x.fix.target) b.marks m k e
-makes_by _ m k e = absurd k
-
 pub made_head : (s : Statement) (m : Mark) → IsGoodStatement s → In m (marks_in s) → is_made m.fix.target ≡ true → any_upper (marks_in s) ≡ true
 made_head (Bytes content b) m g k e = g.made (any-In (λ x. is_made x.fix.target) b.marks m k e)
 made_head _ m g k e = absurd k
@@ -250,9 +212,7 @@ pub line_taken : (part : Part) (l : Laid) (m : Mark) → IsStanding l → is_in 
 line_taken part l m s e k = statement_taken part l.line.statement m (subst (λ o. may_stand o l.line ≡ true) (at_part part l.part e) s.stands) k
 
 neither : (a b : Bool) → a ≡ true → b ≡ true → (true && (not a || not b)) ≡ false
-neither true true e f = refl
-neither true false e f = absurd (true≢false (sym f))
-neither false b e f = absurd (true≢false (sym e))
+neither a b e f = rw (e, f) refl
 
 module _ (source : List ℕ) (lines : List Laid) (read : placed_lines source ≡ Ok lines) (kept : find (has_lost lines) lines ≡ None) where
   -- the label that is made at the line itself
@@ -262,7 +222,7 @@ module _ (source : List ℕ) (lines : List Laid) (read : placed_lines source ≡
       record {
         l = label Text l.offset (Made l.made);
         there = in_labels lines l Text (Made l.made) i (at_part Text l.part t)
-            (In-right (own_key l.line.label) (made_key l.line.statement l.made) (Made l.made) (made_in_keys (makes_label l.line.statement) l.made (makes_by l.line.statement m j e)));
+            (In-right (own_key l.line.label) (made_key l.line.statement l.made) (Made l.made) (made_in_keys (makes_label l.line.statement) l.made (any-In (λ x. is_made x.fix.target) (marks_in l.line.statement) m j e)));
         key_is = refl;
         in_text = refl;
         upper = line_upper lines Text l i t s (made_head l.line.statement m s.good j e);
@@ -352,24 +312,17 @@ zero_fill Bss e = refl
 zero_fill _ e = absurd cc
 
 code_there : (a x f : Bool) → x ≡ true → f ≡ true → (a && (not x || not f)) ≡ false
-code_there true true true e h = refl
-code_there false x f e h = refl
-code_there true false f e h = absurd (true≢false (sym e))
-code_there true true false e h = absurd (true≢false (sym h))
+code_there a x f e h = rw (e, h) (and-false a)
 
 no_code : (a b : Bool) → a ≡ false → (a && b) ≡ false
-no_code true b e = absurd (true≢false e)
-no_code false b e = refl
+no_code a b e = rw e refl
 
 module _ (source : List ℕ) (lines : List Laid) (read : placed_lines source ≡ Ok lines) where
   stands : (part : Part) (e : Entry) (o : Origin source lines read part e) → IsStanding o.l
   stands part e o = all_stand source lines read o.l o.in_lines
 
   offset_small : (part : Part) (e : Entry) → Origin source lines read part e → e.offset < 2 ^ 32
-  offset_small part e o =
-      let t = taken o.l.line.statement o.l.offset in
-      let room : is_long (Some part) (o.l.offset + t) ≡ false = subst (λ p. is_long p (o.l.offset + t) ≡ false) (at_part part o.l.part o.in_part) (stands part e o).room in
-      (omega (arith, o.comes.high, (not_past (largest part) (o.l.offset + t) room), (largest_most part)))
+  offset_small part e o = omega (arith, o.comes.high, line_room part o.l (stands part e o) o.in_part, largest_most part)
 
   storable : (part : Part) (e : Entry) → length (symbols lines) < 2 ^ 32 → Origin source lines read part e → IsStorable e
   storable part e few o = record {

@@ -9,8 +9,8 @@ use Rattle.cell_text.specs.Text.{lines_in}
 use Rattle.cell_asm.specs.Types.{Object, AsmKind, AsmFail, AsmFailFault as Fault, AsmFailOutOfMemory as OutOfMemory, Text, Target, TargetNamed as Named, TargetMade as Made, Mark, Line, Laid, Label}
 use Rattle.cell_asm.specs.declared.kind.AsmKind.TheVariants as kinds
 use Rattle.cell_asm.specs.Lines.{line_of}
-use Rattle.cell_asm.specs.Places.{is_in, is_same_part, placed, fault_at}
-use Rattle.cell_asm.specs.Objects.{marks_in, label_named, object_of}
+use Rattle.cell_asm.specs.Places.{marks_in, is_in, is_same_part, placed, fault_at}
+use Rattle.cell_asm.specs.Objects.{label_named, object_of}
 
 -- a line of the source in its place, or what is wrong with it there
 abbrev pub placed_unless : List Laid → ℕ → Line → Option AsmKind → Result Laid AsmKind

@@ -7,7 +7,7 @@ use Rattle.cell_num.specs.Bits.{bytes_of}
 use Rattle.cell_asm.specs.Types.{Object, Section, Symbol, Entry, Fill, Prog, Zero, Bind, Local, NoType, Home, Undef, Inside, Part, Text, Rodata, Data, Bss, Target, Mark, Statement, StatementGlobal as Global, StatementZeros as Zeros, StatementAlign as Align, Bytes, Laid, Key, KeyNamed as Named, KeyMade as Made, Label}
 use Rattle.cell_object.specs.declared.object.Bind.TheVariants as binds
 use Rattle.cell_asm.specs.declared.statement.Target.TheVariants as targets
-use Rattle.cell_asm.specs.Places.{is_same_part, is_in, is_key, holds_key, choice, choices, gap, size_in, labels}
+use Rattle.cell_asm.specs.Places.{marks_in, is_same_part, is_in, is_key, holds_key, choice, choices, gap, size_in, labels}
 
 -- SECTIONS, by first use
 
@@ -186,10 +186,6 @@ entry_of lines part l m =
       symbol = symbol_number lines (target_key l m.fix.target);
       addend = m.fix.addend;
     }
-
-abbrev pub marks_in : Statement → List Mark
-marks_in (Bytes content b) = b.marks
-marks_in _ = []
 
 abbrev pub entries_of : List Laid → Part → Laid → List Entry
 entries_of lines part l = map (entry_of lines part l) (marks_in l.line.statement)

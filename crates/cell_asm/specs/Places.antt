@@ -4,7 +4,7 @@
 use Rattle.std.specs.Prelude.{ℕ, ◌+◌, ◌-◌, ◌%◌, nat_lt, nat_le, ◌==◌, Bool, true, false, not, ◌&&◌, List, [], ◌∷◌, ◌++◌, map, Option, Some, None, is_none, if◌then◌else◌, filter, filter_map, flat_map, sum_by, count_by, length}
 use Rattle.std.specs.List.{list_any}
 use Rattle.cell_num.specs.Lists.{equals, last, where_true, or_else}
-use Rattle.cell_asm.specs.Types.{AsmKind, AsmKindSection as Section, Twice, Long, Part, Text, Rodata, Data, Bss, Code, Narrow, Target, TargetNamed as Name, TargetMade as Made, Statement, Nothing, StatementChoose as Choose, StatementGlobal as Global, StatementZeros as Zeros, StatementAlign as Align, Bytes, Line, Laid, Key, KeyNamed as Named, KeyMade, Label}
+use Rattle.cell_asm.specs.Types.{AsmKind, AsmKindSection as Section, Twice, Long, Part, Text, Rodata, Data, Bss, Code, Narrow, Target, TargetNamed as Name, TargetMade as Made, Mark, Statement, Nothing, StatementChoose as Choose, StatementGlobal as Global, StatementZeros as Zeros, StatementAlign as Align, Bytes, Line, Laid, Key, KeyNamed as Named, KeyMade, Label}
 
 abbrev pub is_same_part : Part → Part → Bool
 is_same_part Text Text = true
@@ -48,14 +48,18 @@ abbrev pub size_at : Option Part → List Laid → ℕ
 size_at None lines = 0
 size_at (Some part) lines = size_in part lines
 
+-- the entries for the bytes of a statement
+abbrev pub marks_in : Statement → List Mark
+marks_in (Bytes content b) = b.marks
+marks_in _ = []
+
 -- a statement whose second instruction names the first: it makes a label
 abbrev pub is_made : Target → Bool
 is_made Made = true
 is_made (Name name) = false
 
 abbrev pub makes_label : Statement → Bool
-makes_label (Bytes content b) = list_any (λ m. is_made m.fix.target) b.marks
-makes_label _ = false
+makes_label s = list_any (λ m. is_made m.fix.target) (marks_in s)
 
 abbrev pub made_in : List Laid → ℕ
 made_in lines = count_by (λ l. makes_label l.line.statement) lines

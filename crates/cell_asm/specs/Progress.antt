@@ -11,8 +11,8 @@ use Rattle.std.specs.Ordering.{nat_cmp}
 use Rattle.cell_num.specs.Kinds.{is_pcrel_lo12}
 use Rattle.cell_num.specs.Lists.{equals, where_true, holds_name, last, or_else}
 use Rattle.cell_asm.specs.Types.{Part, Text, Rodata, Data, Bss, Statement, StatementGlobal as Global, Line, Laid, Label, Key, KeyNamed as Named, KeyMade as Made, Mark, Spot, Known, Body, Bodies, Reference, AsmKind, Progress, AsmFail, AsmFailFault as Fault, AsmFailOutOfMemory as OutOfMemory, Stop, StopFault as Stopped, StopOutOfMemory as NoMemory}
-use Rattle.cell_asm.specs.Places.{is_key, keys_of, labels_at, labels, choices, choice, size_in, made_in, is_in, taken, makes_label, fault_by, is_same_part}
-use Rattle.cell_asm.specs.Objects.{adds_choice, parts_of, alignment_asked, alignment, bytes_at, contents, globals, marks_in, target_key, label_names, statement_names, mentions}
+use Rattle.cell_asm.specs.Places.{marks_in, is_key, keys_of, labels_at, labels, choices, choice, size_in, made_in, is_in, taken, makes_label, fault_by, is_same_part}
+use Rattle.cell_asm.specs.Objects.{adds_choice, parts_of, alignment_asked, alignment, bytes_at, contents, globals, target_key, label_names, statement_names, mentions}
 use Rattle.cell_asm.specs.Assembled.{has_upper}
 
 -- NAMES

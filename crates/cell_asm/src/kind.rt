@@ -43,14 +43,6 @@ impl From<AllocError> for AsmFail {
     }
 }
 
-impl<T: Drop> From<AllocFailed<T>> for AsmFail {
-    ghost from_gives = { λ _ e. e ≡ OutOfMemory };
-
-    fn from(_error: AllocFailed<T>) -> AsmFail {
-        AsmFail::OutOfMemory
-    }
-}
-
 /// Why a line is not read.
 #[derive(Clone, Copy, Debug, PartialEq, Eq)]
 pub enum Stop {

@@ -2,12 +2,12 @@
 
 ghost use Rattle.std.specs.Prelude.{◌≡◌, ◌++◌, ◌||◌, ℕ, List, is_some, flat_map, OnOk};
 ghost use Rattle.cell_num.specs.Lists.{or_else};
-ghost use Rattle.std.specs.List.{list_any};
 ghost use Rattle.cell_asm.specs.Objects.{target_names};
-ghost use Rattle.cell_asm.specs.Places.{is_made, makes_label as label_made, keys_of, labels_at};
+ghost use Rattle.cell_asm.specs.Places.{makes_label as label_made, keys_of, labels_at};
 ghost use Rattle.cell_asm.specs.Progress.{names_in, known, spot_here, declares};
 
 use crate::known::Known;
+use crate::reference::marks_in;
 use crate::statement::{Key, Label, Laid, Line, Mark, Spot, Statement, Target};
 use crate::text::Text;
 use std::alloc::AllocError;
@@ -16,16 +16,7 @@ use std::alloc::AllocError;
 pub fn makes_label(statement: &Statement<'_>) -> bool
     ensures { result ≡ label_made statement.now }
 {
-    match statement {
-        Statement::Bytes(_, block) => make_label(block.marks.as_slice()),
-        _ => false,
-    }
-}
-
-fn make_label(marks: &[Mark<'_>]) -> bool
-    ensures { result ≡ list_any (λ m. is_made m.fix.target) marks.now }
-{
-    marks
+    marks_in(statement)
         .iter()
         .any(|mark| matches!(mark.fix.target, Target::Made))
 }

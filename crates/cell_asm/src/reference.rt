@@ -5,7 +5,8 @@ ghost use Rattle.std.specs.List.{list_any};
 ghost use Rattle.std.specs.Ordering.{nat_cmp};
 ghost use Rattle.std.specs.BTreeSet.{contains};
 ghost use Rattle.cell_num.specs.Kinds.{is_pcrel_hi20 as pcrel_hi20};
-ghost use Rattle.cell_asm.specs.Objects.{marks_in as marks_of, target_key as key_of};
+ghost use Rattle.cell_asm.specs.Places.{marks_in as marks_of};
+ghost use Rattle.cell_asm.specs.Objects.{target_key as key_of};
 ghost use Rattle.cell_asm.specs.Progress.{HasRoom, reference_at, references_of, is_upper_at};
 
 use crate::statement::{Key, Laid, Mark, Part, Statement, Target};
@@ -61,7 +62,8 @@ fn target_key<'a>(laid: &Laid<'a>, target: &Target<'a>) -> Key<'a>
     }
 }
 
-fn marks_in<'b, 'a>(statement: &'b Statement<'a>) -> &'b [Mark<'a>]
+/// The entries for the bytes of a statement.
+pub fn marks_in<'b, 'a>(statement: &'b Statement<'a>) -> &'b [Mark<'a>]
     ensures { result.now ≡ marks_of statement.now }
 {
     match statement {

@@ -1,5 +1,5 @@
 use Rattle.std.proofs.Common.{◌≡◌, ◌++◌, map, take}
-use Rattle.cell_asm.specs.Objects.{marks_in}
+use Rattle.cell_asm.specs.Places.{marks_in}
 use Rattle.cell_asm.specs.Progress.{reference_at}
 use Rattle.cell_asm.proofs.reference.put_references.Given as goal
 
