@@ -1,8 +1,8 @@
 #!/usr/bin/env python3
 """Where the minutes of the gate go, crate by crate: proof, tests, edits.
 
-    bench/gate.py run FILE [CRATE..]  runs `rt ci`, or `rt ci CRATE..`, shows what it prints, writes to FILE how long each of
-                                      its checks took, and prints the table
+    bench/gate.py run FILE [CRATE..]  runs `rt ci`, or `rt ci CRATE..`, which toolchains from `rattle-kit-13f` on know, shows
+                                      what it prints, writes to FILE how long each of its checks took, and prints the table
     bench/gate.py table FILE          prints the table of such a FILE: minutes of one processor for each crate, the chain of
                                       crates that stand on each other whose proofs take longest, and the ten dearest edits
     bench/gate.py functions CRATE..   proves these crates from nothing in a copy, with their tests, and prints the ten
