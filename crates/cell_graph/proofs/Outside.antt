@@ -120,6 +120,15 @@ of_links sec rows r has = let w = of_filter (λ r. is_same r.target sec) rows r 
 pub in_links : (sec : SecKey) (rows : List LinkRow) (r : LinkRow) → Contains rows r → r.target ≡ sec → Contains (links_to sec rows) r
 in_links sec rows r has to = in_filter (λ r. is_same r.target sec) rows r has (key_same r.target sec to)
 
+-- where no link leads to the section, there are none
+pub none_to : (sec : SecKey) (rows : List LinkRow) → ((r : LinkRow) → Contains rows r → r.target ≡ sec → ⊥) → links_to sec rows ≡ []
+none_to sec [] f = refl
+none_to sec (r ∷ rows) f = go (is_same r.target sec) refl (none_to sec rows (λ x has to. f x (Contains-cons r x rows has) to))
+  where
+    go : (b : Bool) → is_same r.target sec ≡ b → links_to sec rows ≡ [] → cond b (r ∷ links_to sec rows) (links_to sec rows) ≡ []
+    go true e none = absurd (f r (Contains-head r rows) (same_key r.target sec e))
+    go false e none = none
+
 -- the target of a link that is seen is a section that is seen
 pub target_seen : (rows : ℕ → Option ChainRow) (sections : ℕ → Option Section) (section_list : List SectionPlace) (row_list : List RowPlace) (r : LinkRow)
     → IsWhole rows sections section_list row_list → Contains (map (link_at rows) row_list) r → (s : SectionPlace) × Contains section_list s × (s.key ≡ r.target)

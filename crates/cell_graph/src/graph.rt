@@ -189,11 +189,13 @@ impl Graph {
         (link_named(&self.rows, &self.row_list, index), index + 1)
     }
 
-    /// The links of others to a section that is there, in no stated order.
+    /// The links of others to a section, in no stated order; none where it isn't there.
     pub fn users_of(&self, sec: SecKey) -> Users<'_>
-        requires { Contains self.now.sections sec }
         ensures { IsPermutation (links_to sec self.now.rows) result }
     {
+        if !has_section(&self.section_list, sec) {
+            return Users::of(&self.rows, None, 0);
+        }
         let place = section_place(&self.section_list, sec);
         match self.sections.get(place) {
             Some(section) => Users::of(&self.rows, section.first, section.users),
