@@ -6,8 +6,7 @@ use Rattle.std.specs.List.Sorted.{IsPartitionPoint}
 use Rattle.std.proofs.lemmas.Bool.{cases_lt, eq-eqb, ne_eqb, leb-true, leb-false, ltb-true, ltb-false}
 use Rattle.std.proofs.lemmas.List.Sorted.{list_any-IsPermutation}
 use Rattle.cell_world.specs.declared.state.Placed.{Placed}
-use Rattle.cell_hold.specs.declared.spots.Spot.{Spot}
-use Rattle.cell_hold.specs.Spots.{IsIndexed, places_of}
+use Rattle.cell_hold.specs.Spots.{IsIndexed}
 use Rattle.cell_hold.proofs.Rows.{any_filtered, filter_row}
 
 abbrev pub no_place : Placed
@@ -37,14 +36,9 @@ module _ (cell : ℕ) (places : List Placed) (start end : ℕ) (high : end ≤ l
       eq-eqb (get_or places k d).key.cell.0 cell (omega (arith, up, low)))
       (λ k d a b. let above : cell < (get_or places k d).key.cell.0 = leb-false (get_or places k d).key.cell.0 cell (up_to.1 k d a b) in ne_eqb (get_or places k d).key.cell.0 cell (λ e. omega (arith, above, e)))
 
-module _ (list by_cell : List Placed) (by_start : List Spot) (indexed : IsIndexed list by_cell by_start) (p : Placed → Bool) where
-  -- one of the cell's own sections passes
-  pub any_own : (cell : ℕ) (own : List Placed) → own ≡ filter (λ s. s.key.cell.0 == cell) by_cell → list_any p own ≡ list_any (λ s. s.key.cell.0 == cell && p s) list
-  any_own cell own is =
-      ap (list_any p) is
-      ∙ (any_filtered p (λ s. s.key.cell.0 == cell) by_cell
-      ∙ sym (list_any-IsPermutation (λ s. s.key.cell.0 == cell && p s) list by_cell indexed.of_cells))
-
-  -- one of the spots' sections passes
-  pub any_spot : list_any p (places_of by_start) ≡ list_any p list
-  any_spot = sym (list_any-IsPermutation p list (places_of by_start) indexed.of_spots)
+-- one of the cell's own sections passes
+pub any_own : (list by_cell : List Placed) → IsIndexed list by_cell → (p : Placed → Bool) (cell : ℕ) (own : List Placed) → own ≡ filter (λ s. s.key.cell.0 == cell) by_cell → list_any p own ≡ list_any (λ s. s.key.cell.0 == cell && p s) list
+any_own list by_cell indexed p cell own is =
+    ap (list_any p) is
+    ∙ (any_filtered p (λ s. s.key.cell.0 == cell) by_cell
+    ∙ sym (list_any-IsPermutation (λ s. s.key.cell.0 == cell && p s) list by_cell indexed.of_cells))

@@ -10,5 +10,7 @@ pub mod Rooting
 pub mod Claiming
 pub mod Spreading
 pub mod Counting
+pub mod Using
+pub mod Opening
 pub mod Keeping
 pub mod Cutting

@@ -1,5 +1,5 @@
 -- The sections near a word.
-use Rattle.std.proofs.Common.{◌≡◌, refl, sym, ◌∙◌, ap, arith, ℕ, ◌+◌, ◌-◌, ◌^◌, ◌≤◌, ◌<◌, Bool, true, false, ◌&&◌, List, length, take, drop, get_or}
+use Rattle.std.proofs.Common.{◌≡◌, refl, sym, ◌∙◌, ap, arith, ℕ, ◌+◌, ◌-◌, ◌^◌, ◌≤◌, ◌<◌, Bool, true, false, ◌&&◌, ◌||◌, List, [], ◌∷◌, length, take, drop, get_or}
 use Rattle.std.specs.Prelude.{◌==◌, nat_le, nat_lt}
 use Rattle.std.specs.List.{list_any, list_all}
 use Rattle.std.specs.List.Sorted.{IsNonDecreasingBy}
@@ -93,6 +93,15 @@ outside_at c w s h = go (s.key.cell.0 == c) (nat_le s.start w) (nat_le w (s.star
     go : (e a b : Bool) → (a && b) ≡ false → ((e && a) && b) ≡ false
     go true a b h = h
     go false a b h = refl
+
+-- a word lies in a section of the cell where it lies in one of the cell's own
+pub at_own : (places : List Placed) (c w : ℕ) → list_any (λ s. s.key.cell.0 == c && is_at w s) places ≡ is_cells_at c w places
+at_own [] c w = refl
+at_own (s ∷ places) c w = go (s.key.cell.0 == c) (nat_le s.start w) (nat_le w (s.start + s.size)) (at_own places c w)
+  where
+    go : (e a b : Bool) → list_any (λ s. s.key.cell.0 == c && is_at w s) places ≡ is_cells_at c w places → ((e && (a && b)) || list_any (λ s. s.key.cell.0 == c && is_at w s) places) ≡ (((e && a) && b) || is_cells_at c w places)
+    go true a b ih = ap (λ d. (a && b) || d) ih
+    go false a b ih = ih
 
 module _ (places : List Placed) (spots : List Spot) (span : Span) (word room : ℕ) (old new : List CellId) (fits : word < 2 ^ 64)
     (here : is_within span word ≡ true) (only : OnlyNear span spots places)

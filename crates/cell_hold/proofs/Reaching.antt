@@ -1,5 +1,5 @@
 -- What a cell reaches: by its links, and by the words of its sections.
-use Rattle.std.proofs.Common.{◌≡◌, refl, sym, ◌∙◌, ap, ℕ, ◌+◌, Bool, true, false, cond, ◌&&◌, ◌||◌, List, [], ◌∷◌, length, take, get_or, ◌≤◌, ◌<◌, take_all}
+use Rattle.std.proofs.Common.{◌≡◌, refl, sym, ◌∙◌, ap, ℕ, ◌+◌, Bool, true, false, cond, ◌&&◌, ◌||◌, not, List, [], ◌∷◌, length, take, get_or, ◌≤◌, ◌<◌, take_all}
 use Rattle.std.specs.Prelude.{◌==◌, filter, flat_map, nat_le}
 use Rattle.std.specs.List.{list_any}
 use Rattle.std.proofs.lemmas.List.Folds.{list_any-append, list_any_at}
@@ -9,7 +9,7 @@ use Rattle.cell_mem.specs.State.{MemoryState}
 use Rattle.cell_world.specs.declared.state.Placed.{Placed}
 use Rattle.cell_world.specs.Kept.{reaches, words_inside}
 use Rattle.cell_hold.specs.Adds.{Adds}
-use Rattle.cell_hold.specs.Reached.{cell_leads, linked, links_lead, section_leads, touches}
+use Rattle.cell_hold.specs.Reached.{cell_leads, linked, links_lead, section_leads, touches, words_reach}
 use Rattle.cell_hold.proofs.Adding.{none_added, added_all, added_same, added_then, in_room}
 
 module _ (memory : MemoryState) (places : List Placed) (a c : ℕ) where
@@ -41,13 +41,11 @@ module _ (memory : MemoryState) (places : List Placed) (a c : ℕ) where
   pub reaches_by_word : (graph : Links) (b : Bool) → links_lead graph a c ≡ false → b ≡ list_any (λ s. cell_leads memory places a s c) places → b ≡ reaches (linked graph memory places) a c
   reaches_by_word graph b h e = e ∙ (sym (ap (λ d. d || list_any (λ s. cell_leads memory places a s c) places) h) ∙ reaches_by graph)
 
--- its links and its sections have been gone over
-pub reached_added : (graph : Links) (memory : MemoryState) (places : List Placed) (a now room : ℕ) (old mid new : List CellId) → now ≡ room → Adds (links_lead graph a) room old mid
-    → Adds (λ c. list_any (λ s. cell_leads memory places a s c) places) now mid new → Adds (reaches (linked graph memory places) a) room old new
-reached_added graph memory places a now room old mid new e t u =
-    added_same (λ c. links_lead graph a c || list_any (λ s. cell_leads memory places a s c) places) (reaches (linked graph memory places) a) room old new
-    (λ c. reaches_by memory places a c graph)
-    (added_then (links_lead graph a) (λ c. list_any (λ s. cell_leads memory places a s c) places) room old mid new t (in_room (λ c. list_any (λ s. cell_leads memory places a s c) places) now room mid new e u))
+-- its links, unless they are known, and its sections have been gone over
+pub reached_added : (graph : Links) (memory : MemoryState) (places others : List Placed) (a now room : ℕ) (known : Bool) (old mid new : List CellId) → now ≡ room → Adds (λ c. not known && links_lead graph a c) room old mid
+    → Adds (words_reach memory places others a) now mid new → Adds (λ c. not known && links_lead graph a c || words_reach memory places others a c) room old new
+reached_added graph memory places others a now room known old mid new e t u =
+    added_then (λ c. not known && links_lead graph a c) (words_reach memory places others a) room old mid new t (in_room (words_reach memory places others a) now room mid new e u)
 
 module _ (memory : MemoryState) (places : List Placed) (s : Placed) where
   -- a section that may not be written leads nowhere
@@ -62,11 +60,11 @@ module _ (memory : MemoryState) (places : List Placed) (s : Placed) where
 
 module _ (memory : MemoryState) (places own : List Placed) (a : ℕ) (is : (p : Placed → Bool) → list_any p own ≡ list_any (λ s. s.key.cell.0 == a && p s) places) where
   -- all sections of the cell have been gone over
-  pub own_added : (i room : ℕ) (old new : List CellId) → length own ≤ i → Adds (λ c. list_any (λ s. section_leads memory places s c) (take i own)) room old new
-      → Adds (λ c. list_any (λ s. cell_leads memory places a s c) places) room old new
-  own_added i room old new le t =
-      added_same (λ c. list_any (λ s. section_leads memory places s c) own) (λ c. list_any (λ s. cell_leads memory places a s c) places) room old new
-      (λ c. is (λ s. section_leads memory places s c)) (added_all (λ (s : Placed) (c : ℕ). section_leads memory places s c) own i room old new le t)
+  pub own_added : (others : List Placed) (i room : ℕ) (old new : List CellId) → length own ≤ i → Adds (λ c. list_any (λ s. section_leads memory others s c) (take i own)) room old new
+      → Adds (words_reach memory places others a) room old new
+  own_added others i room old new le t =
+      added_same (λ c. list_any (λ s. section_leads memory others s c) own) (words_reach memory places others a) room old new
+      (λ c. is (λ s. section_leads memory others s c)) (added_all (λ (s : Placed) (c : ℕ). section_leads memory others s c) own i room old new le t)
 
   -- none of them leads there
   pub none_leads : (c i : ℕ) → length own ≤ i → list_any (λ s. section_leads memory places s c) (take i own) ≡ false → false ≡ list_any (λ s. cell_leads memory places a s c) places

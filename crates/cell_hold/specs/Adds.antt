@@ -4,7 +4,7 @@
 --     AreMarked cells marks        a mark says whether the cell of its number is in the list
 --     IsOnceEach cells             no cell stands there twice
 --     Adds test room old new       new is old and then, while there is room, what passes the test and wasn't there
---     Spreads reach room done old new   new is old and then what is reached, so far from its first `done` cells
+--     Spreads may must room done old new   new is old and then what may be reached, and has what must be from its first `done` cells
 use Rattle.std.specs.Prelude.{ℕ, ◌≡◌, ◌≤◌, ◌<◌, nat_le, ◌==◌, Bool, true, false, ◌||◌, List, ◌++◌, length, slice_index_or, take}
 use Rattle.std.specs.List.{list_any, count_by}
 use Rattle.cell_num.specs.declared.ids.CellId.{CellId}
@@ -33,10 +33,10 @@ pub record Adds (test : ℕ → Bool) (room : ℕ) (old new : List CellId) : Typ
   pub only : (c : ℕ) → has_cell new c ≡ true → (has_cell old c || test c) ≡ true
   pub has : (c : ℕ) → test c ≡ true → has_or_full new room c ≡ true
 
-pub record Spreads (reach : ℕ → ℕ → Bool) (room done : ℕ) (old new : List CellId) : Type 0 where
+pub record Spreads (may must : ℕ → ℕ → Bool) (room done : ℕ) (old new : List CellId) : Type 0 where
   pub more : List CellId
   pub is : new ≡ old ++ more
   pub once : IsOnceEach old → IsOnceEach new
-  -- what goes on along `reach` and holds of the old cells holds of the new ones
-  pub only : (p : ℕ → Bool) → ((a b : ℕ) → p a ≡ true → reach a b ≡ true → p b ≡ true) → ((c : ℕ) → has_cell old c ≡ true → p c ≡ true) → (c : ℕ) → has_cell new c ≡ true → p c ≡ true
-  pub has : (a b : ℕ) → has_cell (take done new) a ≡ true → reach a b ≡ true → has_or_full new room b ≡ true
+  -- what goes on along `may` and holds of the old cells holds of the new ones
+  pub only : (p : ℕ → Bool) → ((a b : ℕ) → p a ≡ true → may a b ≡ true → p b ≡ true) → ((c : ℕ) → has_cell old c ≡ true → p c ≡ true) → (c : ℕ) → has_cell new c ≡ true → p c ≡ true
+  pub has : (a b : ℕ) → has_cell (take done new) a ≡ true → must a b ≡ true → has_or_full new room b ≡ true

@@ -4,3 +4,4 @@ pub mod Spots
 pub mod Spans
 pub mod Adds
 pub mod Reached
+pub mod Uses

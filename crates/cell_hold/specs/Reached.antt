@@ -3,11 +3,14 @@
 --     links_lead graph a c          a link of the one cell has the other as target
 --     section_leads .. s c          the section may be written, and an aligned word of it lies in the cell
 --     cell_leads .. a s c           the same, where the section is one of a
+--     words_reach .. a c            the same for any of its sections
+--     reaches_on, reaches_anew      a link or a word leads there; a word does, or a link of a cell that isn't among some
 --     root_holds .. root c          the cell is held by this root
 --     claimant .. root c            the task that holds the cell by this root
 --     linked, rooted                a Holding of no roots, and one of no links
 use Rattle.std.specs.Prelude.{ℕ, ◌==◌, Bool, not, ◌&&◌, ◌||◌, List, [], Option, None, find, flat_map, option_map}
 use Rattle.std.specs.List.{list_any}
+use Rattle.cell_num.specs.declared.ids.CellId.{CellId}
 use Rattle.cell_num.specs.declared.ids.Holder.{Holder}
 use Rattle.cell_num.specs.declared.ids.Holder.TheVariants.{Cell}
 use Rattle.cell_num.specs.Lists.{where_true}
@@ -19,6 +22,7 @@ use Rattle.cell_world.specs.Words.{words_of}
 use Rattle.cell_hold.specs.declared.roots.Root.{Root}
 use Rattle.cell_hold.specs.declared.roots.Root.TheVariants.{Attached, Task, Word}
 use Rattle.cell_hold.specs.declared.roots.TaskView.{TaskView}
+use Rattle.cell_hold.specs.Adds.{has_cell}
 use Rattle.cell_hold.specs.Places.{is_cells_at}
 use Rattle.cell_hold.specs.Roots.{attached_by, claims_by, holding_by, task_of}
 
@@ -33,6 +37,18 @@ section_leads memory places s c = s.write && touches places (words_inside memory
 
 abbrev pub cell_leads : MemoryState → List Placed → ℕ → Placed → ℕ → Bool
 cell_leads memory places a s c = s.key.cell.0 == a && section_leads memory places s c
+
+-- a word of a writable section of the one cell lies in a section of the other that is one of these
+abbrev pub words_reach : MemoryState → List Placed → List Placed → ℕ → ℕ → Bool
+words_reach memory places others a c = list_any (λ s. cell_leads memory others a s c) places
+
+-- a link leads there, or such a word
+abbrev pub reaches_on : Links → MemoryState → List Placed → List Placed → ℕ → ℕ → Bool
+reaches_on graph memory places others a c = links_lead graph a c || words_reach memory places others a c
+
+-- the same, but for the links of some cells
+abbrev pub reaches_anew : Links → MemoryState → List Placed → List Placed → List CellId → ℕ → ℕ → Bool
+reaches_anew graph memory places others known a c = not (has_cell known a) && links_lead graph a c || words_reach memory places others a c
 
 -- the task began in the cell or has a word in it
 abbrev pub task_holds : MemoryState → List Placed → TaskView → ℕ → Bool

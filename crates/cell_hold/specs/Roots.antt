@@ -2,7 +2,7 @@
 --     holding_by cells graph memory places roots   the holding of these parts
 --     AreCells cells places roots                  the numbers rise, and each cell that places or roots name is among them
 --     HasRoom places roots room                    there is room for each cell that is named
-use Rattle.std.specs.Prelude.{ℕ, ◌≤◌, IsTrue, List, [], ◌∷◌, None, Some, flat_map, length, nat_lt}
+use Rattle.std.specs.Prelude.{ℕ, ◌≤◌, ◌==◌, Bool, false, IsTrue, List, [], ◌∷◌, None, Some, flat_map, length, nat_lt}
 use Rattle.std.specs.List.{list_all}
 use Rattle.cell_num.specs.Lists.{each_pair, holds}
 use Rattle.cell_graph.specs.Links.{Links}
@@ -18,6 +18,12 @@ use Rattle.cell_hold.specs.declared.roots.TaskView.{TaskView}
 -- the task of the machine that is viewed
 abbrev pub task_of : TaskView → WorldTask
 task_of t = record { number = t.task; root = t.root.0; stack = t.stack; pc = t.pc; registers = t.x; fault = None }
+
+-- the root is that attached cell
+abbrev pub is_attached : Root → ℕ → Bool
+is_attached (Attached cell) c = cell.0 == c
+is_attached (Task t) c = false
+is_attached (Word task word) c = false
 
 -- the attached cell, if the root is one
 abbrev pub attached_by : Root → List ℕ

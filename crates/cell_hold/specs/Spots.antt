@@ -1,7 +1,8 @@
 -- What the lists beside the sections say of them.
 --     Covers reach s                    a word above the reach is above the section's end
 --     AreSpots spots                    starts and reaches rise, and each reach covers its section
---     IsIndexed list by_cell by_start   the same sections by their cells, and by their starts
+--     OtherSections                      some sections, and how many there is room for
+--     IsIndexed list by_cell            the same sections by their cells
 use Rattle.std.specs.Prelude.{ℕ, ◌+◌, ◌^◌, ◌<◌, List, All, map}
 use Rattle.std.specs.List.Sorted.{IsNonDecreasingBy, IsPermutation}
 use Rattle.cell_world.specs.declared.state.Placed.{Placed}
@@ -18,8 +19,10 @@ pub record AreSpots (spots : List Spot) : Type 0 where
 abbrev pub places_of : List Spot → List Placed
 places_of spots = map (λ r. r.place) spots
 
-pub record IsIndexed (list by_cell : List Placed) (by_start : List Spot) : Type 0 where
+pub record OtherSections : Type 0 where
+  pub items : List Placed
+  pub room : ℕ
+
+pub record IsIndexed (list by_cell : List Placed) : Type 0 where
   pub of_cells : IsPermutation list by_cell
   pub cells_rise : IsNonDecreasingBy (λ s. s.key.cell.0) by_cell
-  pub of_spots : IsPermutation list (places_of by_start)
-  pub are_spots : AreSpots by_start

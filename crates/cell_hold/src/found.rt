@@ -88,7 +88,7 @@ impl Found {
     }
 
     /// Whether the cell is among them.
-    fn has(&self, cell: CellId) -> bool
+    pub fn has(&self, cell: CellId) -> bool
         ensures { result ≡ has_cell self.now.items cell.0 }
     {
         let place = cell.0 as usize;

@@ -7,11 +7,13 @@ mod direct;
 mod found;
 mod holder;
 mod leads;
+mod others;
 mod places;
 mod reached;
 mod roots;
 mod sections;
 mod spots;
+mod used;
 mod words;
 mod worklist;
 

@@ -4,20 +4,17 @@ ghost use Rattle.std.specs.Prelude.{◌≡◌, ◌≤◌, ◌==◌, ◌&&◌, tr
 ghost use Rattle.std.specs.List.{list_any};
 ghost use Rattle.std.specs.List.Sorted.{IsNonDecreasingBy, IsPartitionPoint, IsPermutation};
 ghost use Rattle.cell_world.specs.declared.state.Placed.{Placed as PlacedAt};
-ghost use Rattle.cell_hold.specs.Spans.{is_within, OnlyNear};
 
-use crate::spots::{Near, Spot, near_word, spots};
 use cell_num::CellId;
 use cell_world::Placed;
 use std::alloc::{AllocError, Global};
 use std::marker::Model;
 
-/// Sections, to be found by their cells and by addresses. Contracts see them as they were given.
+/// Sections, to be found by their cells. Contracts see them as they were given.
 #[derive(Drop)]
 pub struct Sections {
     list: Vec<Placed>,
     by_cell: Vec<Placed>,
-    by_start: Vec<Spot>,
 }
 
 impl Model for Sections {
@@ -29,7 +26,7 @@ impl Model for Sections {
 
     ghost view = { λ p. p.list.items };
 
-    ghost invariant = { λ p. IsIndexed p.list.items p.by_cell.items p.by_start.items };
+    ghost invariant = { λ p. IsIndexed p.list.items p.by_cell.items };
 }
 
 /// The sections by their cells.
@@ -142,12 +139,14 @@ impl Sections {
         ensures { IfOk result (λ sections. sections ≡ list.items) }
     {
         let by_cell = by_cell(alloc, &list)?;
-        let by_start = spots(alloc, &list)?;
-        Ok(Sections {
-            list,
-            by_cell,
-            by_start,
-        })
+        Ok(Sections { list, by_cell })
+    }
+
+    /// The sections as they were given.
+    pub fn all(&self) -> &[Placed]
+        ensures { result.now ≡ self.now }
+    {
+        &self.list
     }
 
     /// The highest number of a cell; 0 where there is none.
@@ -169,13 +168,5 @@ impl Sections {
         ensures { (p : PlacedAt → Bool) → list_any p result.0.now ≡ list_any (λ s. s.key.cell.0 == cell.0 && p s) self.now }
     {
         sections_near(&self.by_cell, near, cell)
-    }
-
-    /// The sections near a word.
-    pub fn near(&self, word: u64) -> Near<'_>
-        ensures here { is_within result.span word ≡ true }
-        ensures only { OnlyNear result.span result.spots.now self.now }
-    {
-        near_word(&self.by_start, word)
     }
 }

@@ -1,13 +1,12 @@
 //! Sections in the order of their starts, and the words near them.
 
-ghost use Rattle.std.specs.Prelude.{◌≡◌, ◌≤◌, ℕ, ◌+◌, ◌^◌, ◌<◌, true, false, nat_le, length, slice_index_or, IfOk};
+ghost use Rattle.std.specs.Prelude.{◌≡◌, ◌≤◌, ℕ, ◌+◌, ◌^◌, ◌<◌, [], true, false, nat_le, length, slice_index_or, vec_capacity};
 ghost use Rattle.std.specs.List.Sorted.{IsNonDecreasingBy, IsPartitionPoint, IsPermutation};
 ghost use Rattle.cell_hold.specs.declared.spots.Spot.{Spot as SpotOf};
 ghost use Rattle.cell_hold.specs.Spans.{is_above, is_below, is_within, OnlyNear};
 ghost use Rattle.cell_hold.specs.Spots.{AreSpots, Covers, places_of};
 
 use cell_world::Placed;
-use std::alloc::{AllocError, Global};
 
 /// A section, and how far it and all before it reach.
 #[derive(Clone, Copy, Debug, PartialEq, Eq)]
@@ -68,15 +67,13 @@ fn is_below(bound: Option<u64>, word: u64) -> bool
     }
 }
 
-/// The sections by their starts, and of those with one start the shorter first.
-fn by_start(alloc: Global, places: &[Placed]) -> Result<Vec<Placed>, AllocError>
-    ensures same { IfOk result (λ sorted. IsPermutation places.now sorted.items) }
-    ensures rising { IfOk result (λ sorted. IsNonDecreasingBy (λ s. s.start) sorted.items) }
+/// Puts the sections in the order of their starts, and of those with one start the shorter first.
+pub fn sort_by_start(places: &mut Vec<Placed>)
+    ensures same { IsPermutation places.old.items places.new.items }
+    ensures rising { IsNonDecreasingBy (λ s. s.start) places.new.items }
+    ensures room { vec_capacity places.new ≡ vec_capacity places.old }
 {
-    let mut sorted = Vec::from_slice(alloc, places)?;
-    // Stable, since it goes by the few rising runs that sections by their cells are.
-    sorted.sort_by_key(|place| (place.start, place.size))?;
-    Ok(sorted)
+    places.sort_unstable_by_key(|place| (place.start, place.size));
 }
 
 /// The end of a section, or the highest word where the end is beyond it.
@@ -89,31 +86,23 @@ fn end_of(place: &Placed) -> u64
         .unwrap_or(u64::MAX)
 }
 
-/// The sections with their reaches.
-fn with_reaches(alloc: Global, sorted: &[Placed]) -> Result<Vec<Spot>, AllocError>
-    requires { IsNonDecreasingBy (λ s. s.start) sorted.now }
-    ensures places { IfOk result (λ spots. places_of spots.items ≡ sorted.now) }
-    ensures spots { IfOk result (λ spots. AreSpots spots.items) }
+/// Puts the sections with their reaches into a list with room for them, in place of what it has.
+pub fn put_reaches(spots: &mut Vec<Spot>, sorted: &[Placed])
+    requires rising { IsNonDecreasingBy (λ s. s.start) sorted.now }
+    requires room { length sorted.now ≤ vec_capacity spots.old }
+    ensures places { places_of spots.new.items ≡ sorted.now }
+    ensures spots { AreSpots spots.new.items }
+    ensures room { vec_capacity spots.old ≤ vec_capacity spots.new }
 {
-    let mut spots = Vec::with_capacity(alloc, sorted.len())?;
+    spots.clear();
     let mut reach = 0;
     for place in sorted {
         reach = end_of(place).max(reach);
-        spots.push(Spot {
+        spots.push_reserved(Spot {
             place: *place,
             reach,
-        })?;
+        });
     }
-    Ok(spots)
-}
-
-/// The sections in the order of their starts.
-pub fn spots(alloc: Global, places: &[Placed]) -> Result<Vec<Spot>, AllocError>
-    ensures places { IfOk result (λ spots. IsPermutation places.now (places_of spots.items)) }
-    ensures spots { IfOk result (λ spots. AreSpots spots.items) }
-{
-    let sorted = by_start(alloc, places)?;
-    with_reaches(alloc, &sorted)
 }
 
 /// How many sections start at the word or below it.

@@ -11,6 +11,7 @@ ghost use Rattle.cell_hold.specs.Spans.{IsPast, IsSettled};
 
 use crate::bytes::{after, first_word};
 use crate::found::Found;
+use crate::others::Others;
 use crate::sections::Sections;
 use crate::spots::{Span, Spot};
 use cell_num::CellId;
@@ -57,12 +58,12 @@ fn add_at(spots: &[Spot], word: u64, into: &mut Found)
 
 /// Adds the cells that a word lies in. The answer are words that needn't be looked at any more: all
 /// cells that they lie in are added.
-fn add_found(places: &Sections, word: u64, into: &mut Found) -> Span
-    ensures added { Adds (λ c. is_cells_at c word places.now) into.old.room into.old.items into.new.items }
-    ensures settled { IsSettled places.now result into.old.room into.new.items }
+fn add_found(others: &Others, word: u64, into: &mut Found) -> Span
+    ensures added { Adds (λ c. is_cells_at c word others.now.items) into.old.room into.old.items into.new.items }
+    ensures settled { IsSettled others.now.items result into.old.room into.new.items }
     ensures room { into.new.room ≡ into.old.room }
 {
-    let near = places.near(word);
+    let near = others.near(word);
     add_at(near.spots, word, into);
     if are_at(near.spots, word) {
         return near.span;
@@ -71,11 +72,11 @@ fn add_found(places: &Sections, word: u64, into: &mut Found) -> Span
 }
 
 /// Adds the cells that a word lies in.
-pub fn add_word(places: &Sections, word: u64, into: &mut Found)
-    ensures added { Adds (λ c. is_cells_at c word places.now) into.old.room into.old.items into.new.items }
+pub fn add_word(others: &Others, word: u64, into: &mut Found)
+    ensures added { Adds (λ c. is_cells_at c word others.now.items) into.old.room into.old.items into.new.items }
     ensures room { into.new.room ≡ into.old.room }
 {
-    let _ = add_found(places, word, into);
+    let _ = add_found(others, word, into);
 }
 
 /// The bytes from the first word on that isn't one of these.
@@ -95,43 +96,36 @@ fn unsettled(bytes: &[u8], settled: Span) -> &[u8]
 }
 
 /// Adds the cells that the whole words of these bytes lie in.
-pub fn add_words(places: &Sections, bytes: &[u8], into: &mut Found)
-    ensures added { Adds (touches places.now (words_in bytes.now)) into.old.room into.old.items into.new.items }
+pub fn add_words(others: &Others, bytes: &[u8], into: &mut Found)
+    ensures added { Adds (touches others.now.items (words_in bytes.now)) into.old.room into.old.items into.new.items }
     ensures room { into.new.room ≡ into.old.room }
 {
     let mut rest = bytes;
     while rest.len() >= 8 {
         let word = first_word(rest);
-        let settled = add_found(places, word, into);
+        let settled = add_found(others, word, into);
         rest = unsettled(after(rest, 8), settled);
     }
 }
 
 /// Adds the cells that these numbers, as words, lie in.
-pub fn add_numbers(places: &Sections, words: &[u64], into: &mut Found)
-    ensures added { Adds (touches places.now words.now) into.old.room into.old.items into.new.items }
+pub fn add_numbers(others: &Others, words: &[u64], into: &mut Found)
+    ensures added { Adds (touches others.now.items words.now) into.old.room into.old.items into.new.items }
     ensures room { into.new.room ≡ into.old.room }
 {
     for word in words {
-        add_word(places, *word, into);
+        add_word(others, *word, into);
     }
 }
 
-/// Whether the word lies in the section, and the section is one of the cell.
-fn is_inside(place: &Placed, word: u64, cell: CellId) -> bool
-    ensures { result ≡ is_inside cell.0 word place.now }
+/// Whether the word lies in one of the sections.
+fn is_in_one(places: &[Placed], word: u64) -> bool
+    ensures { result ≡ list_any (is_at word) places.now }
 {
-    place.key.cell.0 == cell.0 && is_at(place, word)
-}
-
-/// Whether the word lies in one of these sections that is the cell's.
-fn is_cells(spots: &[Spot], word: u64, cell: CellId) -> bool
-    ensures { result ≡ list_any (λ r. is_inside cell.0 word r.place) spots.now }
-{
-    spots.iter().any(
-        |spot: &Spot| -> bool
-            ensures { result ≡ is_inside cell.0 word spot.now.place }
-        { is_inside(&spot.place, word, cell) },
+    places.iter().any(
+        |place: &Placed| -> bool
+            ensures { result ≡ is_at word place.now }
+        { is_at(place, word) },
     )
 }
 
@@ -139,17 +133,18 @@ fn is_cells(spots: &[Spot], word: u64, cell: CellId) -> bool
 pub fn word_leads(places: &Sections, word: u64, cell: CellId) -> bool
     ensures { result ≡ is_cells_at cell.0 word places.now }
 {
-    is_cells(places.near(word).spots, word, cell)
+    is_in_one(places.own(cell), word)
 }
 
 /// Whether one of the whole words of these bytes lies in a section of the cell.
 pub fn words_lead(places: &Sections, bytes: &[u8], cell: CellId) -> bool
     ensures { result ≡ touches places.now (words_in bytes.now) cell.0 }
 {
+    let own = places.own(cell);
     let mut rest = bytes;
     while rest.len() >= 8 {
         let word = first_word(rest);
-        if word_leads(places, word, cell) {
+        if is_in_one(own, word) {
             return true;
         }
         rest = after(rest, 8);

@@ -1,26 +1,31 @@
 //! The kept cells.
 
-ghost use Rattle.std.specs.Prelude.{◌≡◌, ℕ, List, [], map, vec_capacity};
-ghost use Rattle.cell_world.specs.Kept.{kept_in, reaches};
+ghost use Rattle.std.specs.Prelude.{◌≡◌, ◌≤◌, ℕ, List, [], length, map, take, vec_capacity};
+ghost use Rattle.cell_world.specs.Kept.{kept_in};
 ghost use Rattle.cell_hold.specs.Adds.{Spreads};
 ghost use Rattle.cell_hold.specs.Places.{HasTargets};
-ghost use Rattle.cell_hold.specs.Reached.{linked};
+ghost use Rattle.cell_hold.specs.Uses.{AddsKept};
+ghost use Rattle.cell_hold.specs.Reached.{reaches_anew, reaches_on};
 ghost use Rattle.cell_hold.specs.Roots.{AreCells, HasRoom, holding_by};
 
-use crate::direct::add_held;
+use crate::direct::{add_attached, add_held};
 use crate::found::Found;
+use crate::others::Others;
 use crate::places::Places;
-use crate::reached::{Near, add_reached};
+use crate::reached::{Near, Reading};
 use crate::roots::Root;
 use crate::sections::Sections;
+use crate::used::add_used;
 use cell_graph::Graph;
 use cell_mem::Memory;
 use cell_num::CellId;
 use std::mem;
 
-/// Adds what the cells reach, and what these reach, and so on: the list itself has those whose turn is still to come.
-fn spread(graph: &Graph, memory: &Memory, places: &Sections, into: &mut Found)
-    ensures spread { Spreads (reaches (linked graph.now memory.now places.now)) into.old.room into.old.room into.old.items into.new.items }
+/// Adds what the cells reach, and what these reach, and so on: the list itself has those whose turn is still
+/// to come. The links of the first so many are known.
+fn spread(reading: &Reading<'_>, known: usize, into: &mut Found)
+    requires { known ≤ length into.old.items }
+    ensures spread { Spreads (reaches_on reading.now.graph.now reading.now.memory.now reading.now.places.now reading.now.others.now.items) (reaches_anew reading.now.graph.now reading.now.memory.now reading.now.places.now reading.now.others.now.items (take known into.old.items)) into.old.room into.old.room into.old.items into.new.items }
     ensures room { into.new.room ≡ into.old.room }
 {
     let mut near = Near::start();
@@ -29,8 +34,37 @@ fn spread(graph: &Graph, memory: &Memory, places: &Sections, into: &mut Found)
             return;
         }
         let cell = into.at(next);
-        near = add_reached(graph, memory, places, cell, near, into);
+        near = reading.add_reached(cell, next < known, near, into);
     }
+}
+
+/// Adds the kept cells to a list that has the attached ones. Whatever leads to one of those is passed over:
+/// `others` gets the sections of all others, and of the attached cells' links those into these are looked for
+/// from there.
+fn add_kept(
+    graph: &Graph,
+    memory: &Memory,
+    places: &Sections,
+    others: &mut Others,
+    roots: &[Root],
+    into: &mut Found,
+)
+    requires room { length places.now ≤ others.old.room }
+    ensures kept { AddsKept graph.now memory.now places.now roots.now into.old.room into.old.items into.new.items }
+    ensures room { into.new.room ≡ into.old.room }
+    ensures others { others.old.room ≤ others.new.room }
+{
+    let attached = into.len();
+    others.take(places.all(), into);
+    add_held(memory, others, roots, into);
+    add_used(graph, others, into);
+    let reading = Reading {
+        graph,
+        memory,
+        places,
+        others,
+    };
+    spread(&reading, attached, into);
 }
 
 /// The kept cells, ascending, in a list that is empty before; and the marks again.
@@ -38,6 +72,7 @@ fn list_kept(
     graph: &Graph,
     memory: &Memory,
     places: &Sections,
+    others: &mut Others,
     roots: &[Root],
     cells: Vec<CellId>,
     marks: Vec<bool>,
@@ -45,12 +80,14 @@ fn list_kept(
     requires targets { HasTargets graph.now places.now }
     requires empty { cells.items ≡ [] }
     requires room { HasRoom places.now roots.now (vec_capacity cells) }
+    requires others { length places.now ≤ others.old.room }
     ensures kept { (cells : List ℕ) → AreCells cells places.now roots.now → map (λ c. c.0) result.0.items ≡ kept_in (holding_by cells graph.now memory.now places.now roots.now) }
     ensures room { vec_capacity result.0 ≡ vec_capacity cells }
+    ensures others { others.old.room ≤ others.new.room }
 {
     let mut found = Found::none(cells, marks);
-    add_held(memory, places, roots, &mut found);
-    spread(graph, memory, places, &mut found);
+    add_attached(roots, &mut found);
+    add_kept(graph, memory, places, others, roots, &mut found);
     let (mut kept, marks) = found.into_parts();
     kept.sort_unstable_by_key(|cell| cell.0);
     (kept, marks)
@@ -77,7 +114,15 @@ pub fn kept(
     let alloc = *into.allocator();
     let cells = mem::replace(into, Vec::new(alloc));
     let marks = mem::replace(&mut places.marks, Vec::new(alloc));
-    let (cells, marks) = list_kept(graph, memory, &places.sections, roots, cells, marks);
+    let (cells, marks) = list_kept(
+        graph,
+        memory,
+        &places.sections,
+        &mut places.others,
+        roots,
+        cells,
+        marks,
+    );
     places.marks = marks;
     *into = cells;
 }

@@ -8,7 +8,7 @@ use Rattle.cell_hold.proofs.direct.add_held.Goals as goal
 
 pub loop-root-preserved : goal.loop-root-preserved
 loop-root-preserved c =
-    let f : Root → ℕ → Bool = λ root. root_holds c.args.memory.now c.args.places.now root in
+    let f : Root → ℕ → Bool = λ root. root_holds c.args.memory.now c.args.others.now.items root in
     record {
       added =
           added_next (λ (root : Root). λ (k : ℕ). f root k) c.args.roots.now c.loop-root.root-index c.root-item.result _ _ _ _ _ c.loop-root-test.true c.loop-root.invariant.room c.loop-root.invariant.added
@@ -17,4 +17,4 @@ loop-root-preserved c =
     }
 
 pub returns-clause-added : goal.returns-clause-added
-returns-clause-added c = roots_added c.args.memory.now c.args.places.now c.args.roots.now c.loop-root.root-index _ _ _ c.loop-root-test.false c.loop-root.invariant.added
+returns-clause-added c = roots_added c.args.memory.now c.args.others.now.items c.args.roots.now c.loop-root.root-index _ _ _ c.loop-root-test.false c.loop-root.invariant.added

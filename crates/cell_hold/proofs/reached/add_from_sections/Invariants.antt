@@ -7,6 +7,6 @@ use Rattle.cell_hold.proofs.reached.add_from_sections.Given as goal
 
 abbrev pub invariant-loop-place : goal.invariant-loop-place
 invariant-loop-place l = record {
-  added : Adds (λ c. list_any (λ (s : Placed). section_leads l.memory l.places s c) (take l.place-index l.own)) l.fn.into.room l.fn.into.items l.into.items;
+  added : Adds (λ c. list_any (λ (s : Placed). section_leads l.memory l.others.items s c) (take l.place-index l.own)) l.fn.into.room l.fn.into.items l.into.items;
   room : l.into.room ≡ l.fn.into.room;
 }

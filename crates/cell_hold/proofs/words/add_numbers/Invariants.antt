@@ -5,6 +5,6 @@ use Rattle.cell_hold.proofs.words.add_numbers.Given as goal
 
 abbrev pub invariant-loop-word : goal.invariant-loop-word
 invariant-loop-word l = record {
-  added : Adds (touches l.places (take l.word-index l.words)) l.fn.into.room l.fn.into.items l.into.items;
+  added : Adds (touches l.others.items (take l.word-index l.words)) l.fn.into.room l.fn.into.items l.into.items;
   room : l.into.room ≡ l.fn.into.room;
 }

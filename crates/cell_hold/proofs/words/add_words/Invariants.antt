@@ -4,7 +4,7 @@ use Rattle.cell_hold.proofs.words.add_words.Given as goal
 
 abbrev pub invariant-loop-rest : goal.invariant-loop-rest
 invariant-loop-rest l = record {
-  added : SoFar l.places l.fn.into.room l.bytes l.rest l.fn.into.items l.into.items;
+  added : SoFar l.others.items l.fn.into.room l.bytes l.rest l.fn.into.items l.into.items;
   room : l.into.room ≡ l.fn.into.room;
 }
 
