@@ -95,8 +95,8 @@ impl<'a> Exchange<'a> {
         requires may { All (λ c. MayChange (view_of self.now) c.now) users.now }
         ensures { Change (view_of self.now) (map (λ c. c.now) users.now) result }
     {
-        // Each user has a field that changes, or more.
-        let mut changed = Changed::with_room(alloc, users.len())?;
+        // Most users have one field or two that change.
+        let mut changed = Changed::with_room(alloc, users.len() * 2)?;
         let mut room = Room::new(alloc);
         let mut named = None;
         for place in 0..users.len() {
