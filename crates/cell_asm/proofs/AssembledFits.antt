@@ -15,9 +15,10 @@ use Rattle.cell_asm.specs.Assembled.{has_lost, object_unless, object_from, place
 use Rattle.cell_asm.specs.Lines.{line_of}
 use Rattle.cell_asm.specs.Progress.{AreInside, HasRoom, fault_after, laid_after, offset_of, twice_of}
 use Rattle.cell_asm.specs.Objects.{object_of}
-use Rattle.cell_asm.specs.Places.{marks_in, taken, is_long, may_stand, lays_nothing}
-use Rattle.cell_asm.specs.Types.{Object, AsmKind, Laid, Fill, Prog, Note, Zero, Part, Bss, Line, AsmFail, Progress}
-use Rattle.cell_asm.proofs.EntriesFit.{not_past, no_fault}
+use Rattle.cell_asm.specs.Places.{largest, marks_in, taken, is_long, may_stand, lays_nothing}
+use Rattle.cell_asm.specs.Types.{Object, AsmKind, Laid, Fill, Prog, Note, Zero, Part, Line, AsmFail, Progress}
+use Rattle.cell_asm.proofs.ListLemmas.{ok_once}
+use Rattle.cell_asm.proofs.EntriesFit.{not_past, largest_most, no_fault}
 use Rattle.cell_asm.proofs.GoodBlocks.{statement_marks, none_laid}
 use Rattle.cell_asm.proofs.ReadLines.{read_line}
 use Rattle.cell_num.proofs.Elements.{In-All}
@@ -32,11 +33,8 @@ pub record IsRead (source : List ℕ) (o : Object) : Type 0 where
   pub kept : find (has_lost lines) lines ≡ None
   pub made : o ≡ object_of lines
 
-same_object : (a b : Object) (r : Result Object (ℕ × AsmKind)) → r ≡ Ok a → r ≡ Ok b → b ≡ a
-same_object a b r e f = cc
-
 by_lost : (source : List ℕ) (o : Object) (lines : List Laid) (lost : Option Laid) → placed_lines source ≡ Ok lines → find (has_lost lines) lines ≡ lost → object_unless lines lost ≡ Ok o → IsRead source o
-by_lost source o lines None read kept e = record { lines = lines; read = read; kept = kept; made = same_object (object_of lines) o (Ok (object_of lines)) refl e }
+by_lost source o lines None read kept e = record { lines = lines; read = read; kept = kept; made = ok_once o (object_of lines) (Ok (object_of lines)) e refl }
 by_lost source o lines (Some l) read kept e = absurd cc
 
 by_lines : (source : List ℕ) (o : Object) (r : Result (List Laid) (ℕ × AsmKind)) → placed_lines source ≡ r → object_from r ≡ Ok o → IsRead source o
@@ -96,18 +94,13 @@ inside text line e = λ offset.
     In-All (λ m. m.at ≤ taken line.statement offset) (marks_in line.statement)
     (λ m k. omega (arith, ((statement_marks line.statement offset (read_line text line e).good).stand.0 m k).inside))
 
-not_long : (part : Part) (n : ℕ) → is_long (Some part) n ≡ false → n ≤ 16777216
-not_long Bss n e = not_past 16777216 n e
-not_long _ n e = let h : n ≤ 1048576 = not_past 1048576 n e in omega (arith, h)
-
-small : (at taken offset : ℕ) → at ≤ taken → offset + taken ≤ 16777216 → offset + at < 2 ^ 32
-small at taken offset h k = omega (arith, h, k)
-
 room_by : (part : Option Part) (offset : ℕ) (line : Line) → may_stand part line ≡ true → is_long part (offset + taken line.statement offset) ≡ false → AreInside line.statement
     → All (λ m. offset + m.at < 2 ^ 32) (marks_in line.statement)
 room_by None offset line s l g = In-All (λ m. offset + m.at < 2 ^ 32) (marks_in line.statement) (λ m k. absurd (none_laid line.statement m (and_parts (is_none line.label) (lays_nothing line.statement) s).1 k))
 room_by (Some part) offset line s l g =
-    λ k d lt. small (slice_index_or (marks_in line.statement) k d).at (taken line.statement offset) offset (g offset k d lt) (not_long part (offset + taken line.statement offset) l)
+    λ k d lt.
+    let at : (slice_index_or (marks_in line.statement) k d).at ≤ taken line.statement offset = g offset k d lt in
+    omega (arith, at, not_past (largest part) (offset + taken line.statement offset) l, largest_most part)
 
 pub placed_room : (p : Progress) (n : ℕ) (line : Line) → fault_after p line ≡ None → AreInside line.statement → HasRoom (laid_after p n line)
 placed_room p n line e g =

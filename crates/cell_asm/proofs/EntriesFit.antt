@@ -2,7 +2,6 @@
 --     all_stand source lines        each line of a source has a good statement, which may stand there and has room
 use Rattle.std.proofs.Common.{◌≡◌, ℕ, ◌+◌, Bool, true, false, not, List, Ok, None, refl, zero, suc, ◌-◌, ◌*◌, ◌/◌, ◌%◌, ◌^◌, ◌≤◌, ◌==◌, cond, [], ◌∷◌, ◌++◌, Some, sym, ap, ◌∙◌, div-add-mod', pow-suc, arith, subst, add_assoc, append-nil, ◌⊎◌, inl, inr, take, slice_get, length, length-append}
 use Rattle.std.proofs.Math.Nat.{mul_left_comm}
-use Rattle.std.proofs.lemmas.Bool.{or_from}
 use Rattle.std.proofs.lemmas.Bool.Decides.{nat_tests}
 use Rattle.std.proofs.lemmas.List.{length-map}
 use Rattle.std.proofs.lemmas.List.Elements.{filter-append}
@@ -19,8 +18,8 @@ use Rattle.cell_asm.specs.Objects.{entries_of, entries_in, parts_of, entry_of, e
 use Rattle.cell_asm.specs.Places.{marks_in, choices, size_at, taken, is_long, is_twice, may_stand, placed, fault_at, fault_by, is_at, is_in, gap, takes, size_in, largest}
 use Rattle.cell_asm.specs.Types.{AsmKindSection as Section, Twice, Long, Part, Line, Laid, Text, Code, Narrow, Wide, Statement, StatementZeros as Zeros, StatementAlign as Align, Bytes, Entry, Bss}
 use Rattle.cell_asm.proofs.GoodBlocks.{IsGoodStatement, IsFrom, line_origin, Apart, behind, line_apart, statement_marks}
-use Rattle.cell_num.proofs.Elements.{In, In-append, In-flat_map, In-filtered, filter-In, filter-Passes, get-In}
-use Rattle.cell_asm.proofs.ListLemmas.{pairwise_join, flat_most, le_of, le_trans, least}
+use Rattle.cell_num.proofs.Elements.{In, In-append, In-flat_map, In-filtered, filter-In, filter-Passes, In-none}
+use Rattle.cell_asm.proofs.ListLemmas.{before_fails, same_of, pairwise_join, flat_most, le_of, le_trans, least}
 use Rattle.cell_asm.proofs.ObjectLemmas.{same_part, few}
 use Rattle.cell_asm.proofs.PlacingLemmas.{each_line, Goes, grows}
 use Rattle.cell_asm.proofs.ReadLines.{read_line}
@@ -84,11 +83,8 @@ stacked_push : (o : ℕ) (ls : List Laid) (l : Laid) → Stacked o ls → l.offs
 stacked_push o [] l h e = ((omega (arith, e)), tt)
 stacked_push o (m ∷ ls) l h e = (h.0, stacked_push (o + taken m.line.statement m.offset) ls l h.1 (e ∙ taken_cons o m ls))
 
-from_none : (n m : ℕ) → n ≡ m → n ≡ 0 + m
-from_none n m e = omega arith
-
 at_size : (part : Part) (o : Option Part) (before : List Laid) → is_at part o ≡ true → size_at o before ≡ 0 + size_in part before
-at_size part o before e = from_none (size_at o before) (size_in part before) (ap (λ p. size_at p before) (at_part part o e))
+at_size part o before e = omega (arith, ap (λ p. size_at p before) (at_part part o e))
 
 pushed_by : (part : Part) (b : Bool) (before : List Laid) (l : Laid) → Stacked 0 (filter (is_in part) before) → (b ≡ true → l.offset ≡ 0 + size_in part before)
     → Stacked 0 (filter (is_in part) before ++ cond b (l ∷ []) [])
@@ -115,6 +111,11 @@ stack_inside o (m ∷ ls) h l (inl e) =
     (subst (λ n. m.offset + taken m.line.statement m.offset ≤ n) (sym (taken_cons o m ls)) (omega (arith, h.0)))
 stack_inside o (m ∷ ls) h l (inr k) =
     subst (λ n. l.offset + taken l.line.statement l.offset ≤ n) (sym (taken_cons o m ls)) (stack_inside (o + taken m.line.statement m.offset) ls h.1 l k)
+
+stack_from : (o : ℕ) (ls : List Laid) → Stacked o ls → (l : Laid) → In l ls → o ≤ l.offset
+stack_from o [] h l k = absurd k
+stack_from o (m ∷ ls) h l (inl e) = omega (arith, h.0, ap (λ x. x.offset) e)
+stack_from o (m ∷ ls) h l (inr k) = omega (arith, stack_from (o + taken m.line.statement m.offset) ls h.1 l k)
 
 -- they all take no more than each has room for
 stack_room : (o n : ℕ) (ls : List Laid) → Stacked o ls → o ≤ n → ((l : Laid) → In l ls → l.offset + taken l.line.statement l.offset ≤ n) → o + all_taken ls ≤ n
@@ -155,14 +156,8 @@ gap_by false unit r m e h = omega arith
 gap_fours : (unit offset m : ℕ) → offset % 4 ≡ 0 → unit ≡ 4 * m → gap unit offset % 4 ≡ 0
 gap_fours unit offset m h e = gap_by (offset % unit == 0) unit (offset % unit) m e (remainder_fours offset unit m h e)
 
-four_zeros : (n : ℕ) → (n % 4 == 0) ≡ true → n % 4 ≡ 0
-four_zeros n e = grind (arith, nat_tests)
-
-sum_fours : (a b : ℕ) → a % 4 ≡ 0 → b % 4 ≡ 0 → (a + b) % 4 ≡ 0
-sum_fours a b h k = omega arith
-
 taken_fours : (s : Statement) (offset : ℕ) → takes Text s ≡ true → IsGoodStatement s → offset % 4 ≡ 0 → taken s offset % 4 ≡ 0
-taken_fours (Zeros n) offset t g h = four_zeros n t
+taken_fours (Zeros n) offset t g h = same_of (n % 4) 0 t
 taken_fours (Align unit) offset t g h =
     let r : (m : ℕ) × (unit ≡ 4 * m) = four_of unit g.0 (le_of 4 unit t) g.2 in
     gap_fours unit offset r.0 h r.1
@@ -180,7 +175,7 @@ stack_fours : (o : ℕ) (ls : List Laid) → Stacked o ls → o % 4 ≡ 0 → ((
 stack_fours o [] h z fours l k = absurd k
 stack_fours o (m ∷ ls) h z fours l (inl e) = ap (λ x. x.offset % 4) e ∙ ap (λ n. n % 4) h.0 ∙ z
 stack_fours o (m ∷ ls) h z fours l (inr k) =
-    stack_fours (o + taken m.line.statement m.offset) ls h.1 (sum_fours o (taken m.line.statement m.offset) z (fours m (inl refl) (ap (λ n. n % 4) h.0 ∙ z))) (λ x i. fours x (inr i)) l k
+    stack_fours (o + taken m.line.statement m.offset) ls h.1 (omega (arith, z, fours m (inl refl) (ap (λ n. n % 4) h.0 ∙ z))) (λ x i. fours x (inr i)) l k
 
 pub in_fours : (source : List ℕ) (lines : List Laid) → placed_lines source ≡ Ok lines → (l : Laid) → In l lines → is_in Text l ≡ true → l.offset % 4 ≡ 0
 in_fours source lines e l k t =
@@ -201,28 +196,12 @@ record IsWithin (low high : ℕ) (e : Entry) : Type 0 where
   from : low ≤ e.offset
   to : e.offset + width_of e.kind ≤ high
 
-line_within : (lines : List Laid) (part : Part) (l : Laid) (e : Entry) → IsGoodStatement l.line.statement → In e (entries_of lines part l) → IsWithin l.offset (l.offset + taken l.line.statement l.offset) e
-line_within lines part l e g k =
-    let h = line_origin lines part l e g k in
-    record { from = h.low; to = h.high }
-
-wider : (low t rest : ℕ) (e : Entry) → IsWithin low (low + t) e → IsWithin low ((low + t) + rest) e
-wider low t rest e h = record { from = h.from; to = (omega (arith, h.to)) }
-
-lower : (low t high : ℕ) (e : Entry) → IsWithin (low + t) high e → IsWithin low high e
-lower low t high e h = record { from = omega (arith, h.from); to = h.to }
-
 -- each entry of lines that stand one behind the other is within them
 within : (lines : List Laid) (part : Part) (o : ℕ) (ls : List Laid) → Stacked o ls → AreGood ls → (e : Entry) → In e (flat_map (entries_of lines part) ls) → IsWithin o (o + all_taken ls) e
-within lines part o [] h g e k = absurd k
-within lines part o (l ∷ ls) h g e k =
-    subst (λ n. IsWithin o n e) (sym (taken_cons o l ls))
-    (go (In-append (entries_of lines part l) (flat_map (entries_of lines part) ls) e k) (within lines part (o + taken l.line.statement l.offset) ls h.1 (λ m i. g m (inr i)) e))
-  where
-    go : In e (entries_of lines part l) ⊎ In e (flat_map (entries_of lines part) ls) → (In e (flat_map (entries_of lines part) ls) → IsWithin (o + taken l.line.statement l.offset) ((o + taken l.line.statement l.offset) + all_taken ls) e)
-        → IsWithin o ((o + taken l.line.statement l.offset) + all_taken ls) e
-    go (inl i) f = wider o (taken l.line.statement l.offset) (all_taken ls) e (subst (λ n. IsWithin n (n + taken l.line.statement l.offset) e) h.0 (line_within lines part l e (g l (inl refl)) i))
-    go (inr i) f = lower o (taken l.line.statement l.offset) ((o + taken l.line.statement l.offset) + all_taken ls) e (f i)
+within lines part o ls h g e k =
+    let r : (l : Laid) × In l ls × In e (entries_of lines part l) = In-flat_map (entries_of lines part) ls e k in
+    let f = line_origin lines part r.0 e (g r.0 r.1) r.2 in
+    record { from = omega (arith, stack_from o ls h r.0 r.1, f.low); to = omega (arith, f.high, stack_inside o ls h r.0 r.1) }
 
 lines_apart : (lines : List Laid) (part : Part) (o : ℕ) (ls : List Laid) → Stacked o ls → AreGood ls → Apart (flat_map (entries_of lines part) ls)
 lines_apart lines part o [] h g = tt
@@ -230,7 +209,7 @@ lines_apart lines part o (l ∷ ls) h g =
     pairwise_join (λ e f. is_clash f e ≡ false) (entries_of lines part l) (flat_map (entries_of lines part) ls)
     (line_apart lines part l (g l (inl refl)))
     (lines_apart lines part (o + taken l.line.statement l.offset) ls h.1 (λ m i. g m (inr i)))
-    (λ e i f j. behind e f (l.offset + taken l.line.statement l.offset) (line_within lines part l e (g l (inl refl)) i).to
+    (λ e i f j. behind e f (l.offset + taken l.line.statement l.offset) (line_origin lines part l e (g l (inl refl)) i).high
     (subst (λ n. n + taken l.line.statement l.offset ≤ f.offset) (sym h.0) (within lines part (o + taken l.line.statement l.offset) ls h.1 (λ m k. g m (inr k)) f j).from))
 
 module _ (source : List ℕ) (lines : List Laid) (read : placed_lines source ≡ Ok lines) (part : Part) where
@@ -257,9 +236,7 @@ module _ (source : List ℕ) (lines : List Laid) (read : placed_lines source ≡
 
 -- none before the k-th clashes with it
 pub apart_take : (es : List Entry) (k : ℕ) (e : Entry) → Apart es → slice_get es k ≡ Some e → list_any (is_clash e) (take k es) ≡ false
-apart_take [] k e h g = absurd cc
-apart_take (x ∷ es) zero e h g = refl
-apart_take (x ∷ es) (suc k) e h g = or_from (is_clash e x) (list_any (is_clash e) (take k es)) (h.0 e (get-In es k e g)) (apart_take es k e h.1 g)
+apart_take es k e h g = In-none (is_clash e) (take k es) (λ x i. before_fails is_clash es k e x h g i)
 
 -- How many entries there are.
 --     section_small       a section has at most 16777216 bytes
@@ -292,27 +269,17 @@ section_small source lines part e = le_trans _ _ _ (section_fits source lines pa
 
 -- THE ENTRIES OF A SECTION
 
-line_more : (a c b t n : ℕ) → a ≡ c → c ≤ 2 * t → b ≤ 2 * n → a + b ≤ 2 * (t + n)
-line_more a c b t n h k l = omega arith
-
 lines_count : (lines : List Laid) (part : Part) (ls : List Laid) → ((l : Laid) → In l ls → IsGoodStatement l.line.statement) → length (flat_map (entries_of lines part) ls) ≤ 2 * all_taken ls
 lines_count lines part [] g = least 0
 lines_count lines part (l ∷ ls) g =
     subst (λ n. length (flat_map (entries_of lines part) (l ∷ ls)) ≤ 2 * n) (sym (sum_by-cons (λ m. taken m.line.statement m.offset) l ls))
-    (subst (λ n. n ≤ 2 * (taken l.line.statement l.offset + all_taken ls)) (sym (length-append (entries_of lines part l) (flat_map (entries_of lines part) ls)))
-    (line_more (length (entries_of lines part l)) (length (marks_in l.line.statement)) (length (flat_map (entries_of lines part) ls)) (taken l.line.statement l.offset) (all_taken ls)
-    (length-map (marks_in l.line.statement) (entry_of lines part l)) (statement_marks l.line.statement l.offset (g l (inl refl))).few (lines_count lines part ls (λ m i. g m (inr i)))))
+    (omega (arith, length-append (entries_of lines part l) (flat_map (entries_of lines part) ls), length-map (marks_in l.line.statement) (entry_of lines part l), (statement_marks l.line.statement l.offset (g l (inl refl))).few, lines_count lines part ls (λ m i. g m (inr i))))
 
 pub part_count : (source : List ℕ) (lines : List Laid) (part : Part) → placed_lines source ≡ Ok lines → length (entries_in lines part) ≤ 2 * size_in part lines
 part_count source lines part e = lines_count lines part (filter (is_in part) lines) (λ l k. (all_stand source lines e l (In-filtered (is_in part) lines l k)).good)
 
 -- ALL ENTRIES
 
-four_times : (n k : ℕ) → n ≤ 33554432 * k → k ≤ 4 → n ≤ 134217728
-four_times n k h l = omega arith
-
 pub few_entries : (source : List ℕ) (lines : List Laid) → placed_lines source ≡ Ok lines → length (entries lines) ≤ 134217728
 few_entries source lines e =
-    four_times (length (entries lines)) (length (parts_of lines))
-    (flat_most (entries_in lines) 33554432 (parts_of lines) (λ part k. (omega (arith, (part_count source lines part e), (section_small source lines part e)))))
-    (few lines (parts_of lines) refl)
+    omega (arith, flat_most (entries_in lines) 33554432 (parts_of lines) (λ part k. (omega (arith, (part_count source lines part e), (section_small source lines part e)))), few lines (parts_of lines) refl)

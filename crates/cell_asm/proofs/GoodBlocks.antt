@@ -143,20 +143,14 @@ one_most : (at : ℕ) (o : Option Fix) → length (marks_at at o) ≤ 1
 one_most at None = omega arith
 one_most at (Some f) = omega arith
 
-two_more : (a c d e n w m : ℕ) → a ≤ 2 * n → c ≤ 1 → d ≤ 1 → e ≡ a + (c + d) → 1 ≤ w → m ≡ n + w → e ≤ 2 * m
-two_more a c d e n w m x y z q l is = omega arith
-
 pub piece_sound : (content : Content) (b : Block) (p : Piece) → IsSound content b → IsGoodPiece content p → IsSound content (appended b p)
 piece_sound content b p h g =
     let n : ℕ = length b.bytes in
     let size : length (appended b p).bytes ≡ n + p.width = length-append b.bytes (bytes_of p.width p.value) ∙ ap (λ k. n + k) (bytes_count p.width p.value) in
-    let one : List Mark = marks_at n p.fix in
-    let two : List Mark = marks_at n p.second in
     record {
       marks_are = record {
         stand = subst (λ k. AreWithin content 0 k (appended b p).marks) (sym size) (join content 0 n (n + p.width) b.marks (marks_of n p) (least n) (more n p.width) h.marks_are.stand (g.stands n h.whole));
-        few = two_more (length b.marks) (length one) (length two) (length (appended b p).marks) n p.width (length (appended b p).bytes)
-            h.marks_are.few (one_most n p.fix) (one_most n p.second) (length-append b.marks (marks_of n p) ∙ ap (λ k. length b.marks + k) (length-append one two)) g.low size;
+        few = omega (arith, h.marks_are.few, one_most n p.fix, one_most n p.second, length-append b.marks (marks_of n p), length-append (marks_at n p.fix) (marks_at n p.second), g.low, size);
       };
       whole = λ wide. omega (arith, (h.whole wide), (g.in_fours wide), size);
     }
@@ -220,9 +214,6 @@ pub record IsFrom (lines : List Laid) (part : Part) (l : Laid) (e : Entry) : Typ
   pub low : l.offset ≤ e.offset
   pub high : e.offset + width_of e.kind ≤ l.offset + taken l.line.statement l.offset
 
-inside_base : (base at w size offset v : ℕ) → at + w ≤ size → offset ≡ base + at → v ≡ w → offset + v ≤ base + size
-inside_base base at w size offset v h e f = omega (arith, h, e, f)
-
 pub line_origin : (lines : List Laid) (part : Part) (l : Laid) (e : Entry) → IsGoodStatement l.line.statement → In e (entries_of lines part l) → IsFrom lines part l e
 line_origin lines part l e g k =
     let r : (m : Mark) × In m (marks_in l.line.statement) × (e ≡ entry_of lines part l m) = In-map (entry_of lines part l) (marks_in l.line.statement) e k in
@@ -238,7 +229,7 @@ line_origin lines part l e g k =
       good = a.fix;
       fours = λ wide. omega (arith, (a.fours wide), at);
       low = omega (arith, at);
-      high = inside_base l.offset r.0.at (width_of r.0.fix.kind) (taken l.line.statement l.offset) e.offset (width_of e.kind) a.inside at (ap (λ x. width_of x.kind) r.2);
+      high = omega (arith, a.inside, at, ap (λ x. width_of x.kind) r.2);
     }
 
 -- APART

@@ -22,8 +22,8 @@ use Rattle.cell_asm.specs.Operands.{is_sign, less, with_rest, expression, modifi
 use Rattle.cell_asm.specs.Operands as operands
 use Rattle.cell_asm.specs.Types.{AsmKind, Key, KeyNamed as Named, KeyMade as Made, Expression, ExpressionName as Name, Sum, Difference, Whole, Immediate, Number, ImmediatePart as Part, Operand, OperandValue as Value, OperandMemory as Memory}
 use Rattle.cell_asm.specs.declared.kind.AsmKind.TheVariants as faults
-use Rattle.cell_num.proofs.Elements.{In, In-append, flat_map-In}
-use Rattle.cell_asm.proofs.ListLemmas.{take_le, drop_le, total, total-append, total_le, total-map, le_trans}
+use Rattle.cell_num.proofs.Elements.{In, In-all, In-none, all-In, In-append, flat_map-In}
+use Rattle.cell_asm.proofs.ListLemmas.{ok_once, take_le, drop_le, total, total-append, total_le, total-map, le_trans}
 
 abbrev pub Any : {A : Type 0} → A → Type 0
 Any a = Unit {0}
@@ -61,11 +61,8 @@ pub yields_weaker : {A : Type 0} (P Q : A → Type 0) (r : Result A AsmKind) →
 yields_weaker P Q (Ok a) go h = go a h
 yields_weaker P Q (Err k) go h = tt
 
-same_value : {A : Type 0} (a b : A) (r : Result A AsmKind) → r ≡ Ok a → r ≡ Ok b → a ≡ b
-same_value a b r e f = cc
-
 pub yields_ok : {A : Type 0} (P : A → Type 0) (r : Result A AsmKind) (x : A) → Yields P r → r ≡ Ok x → P x
-yields_ok P (Ok a) x h e = subst P (same_value a x (Ok a) refl e) h
+yields_ok P (Ok a) x h e = subst P (ok_once a x (Ok a) refl e) h
 yields_ok P (Err k) x h e = absurd cc
 
 abbrev pub Finds : {A : Type 0} → (A → Type 0) → Option A → Type 0
@@ -115,16 +112,10 @@ printed : (b : ℕ) → object_names.is_name_byte b ≡ true → is_zero b ≡ f
 printed b e = grind (arith, nat_tests)
 
 plain_bytes : (name : List ℕ) → list_all is_name_byte name ≡ true → IsPlain name
-plain_bytes [] e = refl
-plain_bytes (b ∷ bs) e =
-    let p : (is_name_byte b ≡ true) × (list_all is_name_byte bs ≡ true) = and_parts (is_name_byte b) (list_all is_name_byte bs) e in
-    or_from (is_zero b) (list_any is_zero bs) (printed b (prints b p.0)) (plain_bytes bs p.1)
+plain_bytes name e = In-none is_zero name (λ b k. printed b (prints b (all-In is_name_byte name e b k)))
 
 printing : (name : List ℕ) → list_all is_name_byte name ≡ true → list_all object_names.is_name_byte name ≡ true
-printing [] e = refl
-printing (b ∷ bs) e =
-    let p : (is_name_byte b ≡ true) × (list_all is_name_byte bs ≡ true) = and_parts (is_name_byte b) (list_all is_name_byte bs) e in
-    and_from (object_names.is_name_byte b) (list_all object_names.is_name_byte bs) (prints b p.0) (printing bs p.1)
+printing name e = In-all object_names.is_name_byte name (λ b k. prints b (all-In is_name_byte name e b k))
 
 first_three : (a b c d e f : Bool) → (a && b && c && d && e && f) ≡ true → (a ≡ true) × (b ≡ true) × (c ≡ true)
 first_three true true true d e f h = (refl, refl, refl)
@@ -267,23 +258,20 @@ operand_names (Memory i base) = immediate_names i
 abbrev NamesExpression : ℕ → Expression → Type 0
 NamesExpression m e = IsNamed m (expression_names e)
 
-one_within : (a r n : ℕ) → a + r ≡ n → suc a ≤ suc n
-one_within a r n e = omega (arith, e)
-
 two_named : (m : ℕ) (a b : List ℕ) → is_name a ≡ true → is_name b ≡ true → length a + suc (length b) ≡ m → IsNamed (suc m) (a ∷ b ∷ [])
 two_named m a b h k e = record { named = more_names a (b ∷ []) h (more_names b [] k no_names); few = omega (arith, e) }
 
 less_named : (m : ℕ) (a t : List ℕ) → is_name a ≡ true → length a + suc (length t) ≡ m → Finds (NamesExpression (suc m)) (less a t)
 less_named m a t h e =
     finds_else (NamesExpression (suc m)) (option_map (λ n. Sum a (neg_ℤ n)) (number t)) (where_true (is_name t) (Difference a t))
-    (finds_map Any (NamesExpression (suc m)) (λ n. Sum a (neg_ℤ n)) (number t) (λ n u. one_named (suc m) a h (one_within (length a) (suc (length t)) m e)) (finds_any (number t)))
+    (finds_map Any (NamesExpression (suc m)) (λ n. Sum a (neg_ℤ n)) (number t) (λ n u. one_named (suc m) a h (omega (arith, e))) (finds_any (number t)))
     (finds_where (NamesExpression (suc m)) (is_name t) (Difference a t) (λ k. two_named m a t h k e))
 
 rest_named : (m : ℕ) (a r : List ℕ) → is_name a ≡ true → length a + length r ≡ m → Finds (NamesExpression (suc m)) (with_rest a r)
-rest_named m a [] h e = one_named (suc m) a h (one_within (length a) 0 m e)
+rest_named m a [] h e = one_named (suc m) a h (omega (arith, e))
 rest_named m a (sign ∷ t) h e =
     finds_if (NamesExpression (suc m)) (sign == 43) (option_map (λ n. Sum a n) (number t)) (less a t)
-    (λ b. finds_map Any (NamesExpression (suc m)) (λ n. Sum a n) (number t) (λ n u. one_named (suc m) a h (one_within (length a) (suc (length t)) m e)) (finds_any (number t)))
+    (λ b. finds_map Any (NamesExpression (suc m)) (λ n. Sum a n) (number t) (λ n u. one_named (suc m) a h (omega (arith, e))) (finds_any (number t)))
     (less_named m a t h e)
 
 pub split_length : (n : ℕ) (text : List ℕ) → length (take n text) + length (drop n text) ≡ length text

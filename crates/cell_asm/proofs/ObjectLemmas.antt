@@ -2,8 +2,8 @@
 --     same_part, part_itself     the test of parts decides whether they are the same
 --     few lines parts            there are at most four
 --     object_is                  what is made of what is kept is the object
-use Rattle.std.proofs.Common.{◌≡◌, ◌≤◌, Bool, true, false, List, [], ◌∷◌, ◌++◌, length, refl, sym, subst, ap, ◌∙◌, true≢false, ℕ, zero, suc, ◌+◌, ◌<◌, map, replicate, append_assoc, add-one, ◌||◌, ◌&&◌, not, cond, find, Some, None, get_or, take}
-use Rattle.std.proofs.lemmas.List.{take_more, map-append}
+use Rattle.std.proofs.Common.{◌≡◌, ◌≤◌, Bool, true, false, List, [], ◌∷◌, ◌++◌, length, refl, sym, subst, ap, ◌∙◌, true≢false, ℕ, ◌+◌, map, replicate, append_assoc, ◌||◌, ◌&&◌, not, cond, find, Some, None}
+use Rattle.std.proofs.lemmas.List.{replicate-append-replicate, map-append}
 use Rattle.std.proofs.lemmas.List.Concat.{flat_map-append}
 use Rattle.std.proofs.lemmas.List.Elements.{filter-append}
 use Rattle.std.proofs.lemmas.Map.Keys.{IsDistinct-push}
@@ -66,19 +66,12 @@ few lines parts e = subst (λ ps. length ps ≤ 4) (sym e) (length-le_from_is_me
 
 -- BYTES
 
-same_suc : {X : Type 0} (x : X) (i : ℕ) → replicate (suc i) x ≡ replicate i x ++ x ∷ []
-same_suc x zero = refl
-same_suc x (suc i) = ap (λ xs. x ∷ xs) (same_suc x i)
-
-same_again : {X : Type 0} (x : X) (i : ℕ) → replicate (i + 1) x ≡ replicate i x ++ x ∷ []
-same_again x i = ap (λ k. replicate k x) (add-one i) ∙ same_suc x i
-
 pub zeros_more : (bs : List ℕ) (i : ℕ) → bs ++ replicate (i + 1) 0 ≡ (bs ++ replicate i 0) ++ 0 ∷ []
-zeros_more bs i = ap (λ xs. bs ++ xs) (same_again 0 i) ∙ sym (append_assoc bs (replicate i 0) (0 ∷ []))
+zeros_more bs i = ap (λ xs. bs ++ xs) (sym (replicate-append-replicate i 1 0)) ∙ sym (append_assoc bs (replicate i 0) (0 ∷ []))
 
 pub nops_more : (bs : List ℕ) (i : ℕ) → bs ++ flat_map (λ word. bytes_of 4 word) (replicate (i + 1) 0x13) ≡ (bs ++ flat_map (λ word. bytes_of 4 word) (replicate i 0x13)) ++ bytes_of 4 0x13
 nops_more bs i =
-    ap (λ xs. bs ++ flat_map (λ word. bytes_of 4 word) xs) (same_again 0x13 i)
+    ap (λ xs. bs ++ flat_map (λ word. bytes_of 4 word) xs) (sym (replicate-append-replicate i 1 0x13))
     ∙ ap (λ ys. bs ++ ys) (flat_map-append (λ word. bytes_of 4 word) (replicate i 0x13) (0x13 ∷ []))
     ∙ sym (append_assoc bs (flat_map (λ word. bytes_of 4 word) (replicate i 0x13)) (bytes_of 4 0x13))
 
@@ -140,10 +133,6 @@ module _ (part : Part) (e : Reference → Entry) where
       ∙ joined (is_in part l) l (filter (is_in part) ls)
 
 -- THE OBJECT, BY WHAT IS KEPT
-
--- one section more
-pub section_more : (f : Part → Section) (parts : List Part) (i : ℕ) (d : Part) → i < length parts → map f (take (i + 1) parts) ≡ map f (take i parts) ++ f (get_or parts i d) ∷ []
-section_more f parts i d lt = ap (map f) (take_more parts i d lt) ∙ map-append f (take i parts) (get_or parts i d ∷ [])
 
 module _ (kept : Progress) (lines : List Laid) (h : Follows kept lines) where
   upper_is : (o : Option Label) → is_upper_spot kept (option_map spot_at o) ≡ option_map_or (is_upper_label lines) o false

@@ -1,5 +1,5 @@
 -- What is known of names, after one more name, and behind one more line.
-use Rattle.std.proofs.Common.{◌≡◌, ℕ, Bool, true, false, ◌||◌, List, [], ◌∷◌, ◌++◌, cond, find, map, Some, None, refl, sym, ap, ◌∙◌, append-nil, ◌+◌, add-zero, zero-add, suc, ◌<◌, length, drop, get_or, Bor, Result, Ok, Err, subst, add-one, ◌≤◌, ◌^◌, arith, append_assoc, ◌⊎◌, inl, inr}
+use Rattle.std.proofs.Common.{◌≡◌, ℕ, Bool, true, false, ◌||◌, List, [], ◌∷◌, ◌++◌, cond, find, map, Some, None, refl, sym, ap, ◌∙◌, append-nil, ◌+◌, add-zero, zero-add, suc, ◌<◌, length, drop, get_or, Bor, Result, Ok, Err, subst, add-one, ◌^◌, arith, append_assoc, ◌⊎◌, inl, inr}
 use Rattle.std.proofs.lemmas.List.{drop_more, length-map, map-append}
 use Rattle.std.proofs.lemmas.List.Concat.{flat_map-append}
 use Rattle.std.proofs.lemmas.List.Elements.{filter_map-append, filter-append}
@@ -15,10 +15,11 @@ use Rattle.cell_asm.specs.Assembled.{add_line, with_line, placed_line, placed_te
 use Rattle.cell_asm.specs.Progress.{spot_here, declares, spot_at, spot_among, names_in, grown_in, grown_with, bytes_laid, references_of, is_upper_at, Goes as GoesBehind, Places, failure, body_of, offset_of, twice_of, fault_after, laid_after, Adds, Follows}
 use Rattle.cell_asm.specs.Lines.{line_of}
 use Rattle.cell_asm.specs.Objects.{adds_part, adds_choice, parts_of, alignment_asked, first_alignment, alignment, bytes_at, contents, global_name, globals, object_of}
-use Rattle.cell_asm.specs.Places.{is_key, holds_key, makes_label, own_key, made_key, keys_of, label, labels_at, labels, fault_at, is_at, is_in, choice, choices, taken, size_in, size_at, made_in, is_twice, placed}
+use Rattle.cell_asm.specs.Places.{is_key, makes_label, own_key, made_key, keys_of, label, labels_at, labels, fault_at, is_at, is_in, choice, choices, taken, size_in, size_at, made_in, is_twice, placed}
 use Rattle.cell_asm.specs.Types.{Part, Bss, Statement, StatementGlobal as Global, Laid, Label, AsmKindLabel, KeyNamed as Named, KeyMade as Made, Line, Progress, AsmKind, Stop, StopFault as Fault, StopOutOfMemory as OutOfMemory, Object, AsmFail, AsmFailFault as Faulty, AsmFailOutOfMemory as NoMemory}
 use Rattle.cell_num.proofs.Elements.{In, In-append}
 use Rattle.cell_num.proofs.Ranges.{In-one}
+use Rattle.cell_asm.proofs.ListLemmas.{ok_once}
 use Rattle.cell_asm.proofs.ObjectLemmas.{same_part}
 
 -- ONE MORE LINE
@@ -75,9 +76,6 @@ found_is p (l ∷ ls) = go (p l) (found_is p ls)
     go true e = refl
     go false e = e
 
-pub taken_is : (ls : List Label) (q : List ℕ) → is_some (spot_among ls q) ≡ holds_key ls (Named q)
-taken_is ls q = found_is (λ l. is_key l.key (Named q)) ls
-
 -- One line more behind those that are in their places.
 
 size_is : (p : Progress) (before : List Laid) (part : Option Part) → Follows p before → option_map_or (λ chosen. (body_of p.bodies chosen).size) part 0 ≡ size_at part before
@@ -89,7 +87,7 @@ offset_is p before h = ap (λ o. option_map_or (λ part. (body_of p.bodies part)
 
 twice_is : (p : Progress) (before : List Laid) (name : Option (List ℕ)) → Follows p before → twice_of p name ≡ is_twice before name
 twice_is p before None h = refl
-twice_is p before (Some name) h = ap is_some (h.spots name) ∙ taken_is (labels before) name
+twice_is p before (Some name) h = ap is_some (h.spots name) ∙ found_is (λ l. is_key l.key (Named name)) (labels before)
 
 -- what is wrong with the next line
 pub fault_is : (p : Progress) (before : List Laid) (line : Line) → Follows p before → fault_after p line ≡ fault_at before line
@@ -230,17 +228,10 @@ module _ (p q : Progress) (n : ℕ) (text : List ℕ) (texts : List (List ℕ)) 
 pub dropped : (texts : List (Bor (List ℕ))) (i : ℕ) (d : Bor (List ℕ)) → i < length texts → map (λ text. text.now) (drop i texts) ≡ (get_or texts i d).now ∷ map (λ text. text.now) (drop (i + 1) texts)
 dropped texts i d lt = ap (map (λ text. text.now)) (drop_more texts i d lt)
 
-behind_last : (n m : ℕ) → m ≡ n → n < suc m
-behind_last n m e = omega arith
-
-last_line : (size n rest : ℕ) → n + rest ≤ size → size < 2 ^ 31 → suc n < 2 ^ 32
-last_line size n rest h small = omega arith
-
 -- there are no more line feeds than bytes
 pub few_lines : (size : ℕ) (texts : List (Bor (List ℕ))) → Behind size (map (λ text. text.now) texts) → size < 2 ^ 31 → length texts < 2 ^ 32
 few_lines size [] h small = omega arith
-few_lines size (text ∷ texts) h small =
-    last_line size (length texts) _ (h (length texts) (behind_last (length texts) _ (length-map texts (λ t. t.now)))) small
+few_lines size (text ∷ texts) h small = omega (arith, h (length texts) (omega (arith, length-map texts (λ t. t.now))), small)
 
 -- the source has the fault at which its lines stop
 pub stops_all : (fail : AsmFail) (texts : List (List ℕ)) (source : List ℕ) → texts ≡ lines_in source → Places (Err fail) (placed_texts texts) → Assembles (Err fail) (assembled source)
@@ -278,9 +269,6 @@ GoesOn P =
 not_both : (fault : ℕ × AsmKind) (lines : List Laid) (r : Result (List Laid) (ℕ × AsmKind)) → r ≡ Err fault → r ≡ Ok lines → {P : Type 0} → P
 not_both fault lines r e f = absurd cc
 
-same_lines : (a b : List Laid) (r : Result (List Laid) (ℕ × AsmKind)) → r ≡ Ok a → r ≡ Ok b → a ≡ b
-same_lines a b r e f = cc
-
 module _ (P : List (List ℕ) → List Laid → Type 0) (goes : GoesOn P) where
   -- what follows the line
   abbrev Rest : List (List ℕ) → List Laid → ℕ → List ℕ → List (List ℕ) → List Laid → Type 0
@@ -297,7 +285,7 @@ module _ (P : List (List ℕ) → List Laid → Type 0) (goes : GoesOn P) where
   by_line done before n text texts lines (Err k) p rest read e = not_both (n, k) lines _ (after_fault (n, k) (suc n) texts) e
 
   from : (done : List (List ℕ)) (before : List Laid) (n : ℕ) (texts : List (List ℕ)) (lines : List Laid) → P done before → placed_from (Ok before) n texts ≡ Ok lines → P (done ++ texts) lines
-  from done before n [] lines p e = subst (λ ts. P ts lines) (sym (append-nil done)) (subst (P done) (same_lines before lines (Ok before) refl e) p)
+  from done before n [] lines p e = subst (λ ts. P ts lines) (sym (append-nil done)) (subst (P done) (ok_once before lines (Ok before) refl e) p)
   from done before n (text ∷ texts) lines p e =
       by_line done before n text texts lines (line_of text) p
       (λ l q h. subst (λ ts. P ts lines) (append_assoc done (text ∷ []) texts) (from (done ++ text ∷ []) (before ++ l ∷ []) (suc n) texts lines q h)) refl e

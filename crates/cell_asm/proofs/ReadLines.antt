@@ -11,6 +11,7 @@ use Rattle.cell_asm.specs.declared.mnemonic.Directive.TheVariants as directives
 use Rattle.cell_asm.specs.Faults.{with_value}
 use Rattle.cell_asm.specs.Names.{is_name}
 use Rattle.cell_asm.specs.Objects.{label_names, statement_names}
+use Rattle.cell_asm.specs.Progress.{names_in}
 use Rattle.cell_asm.specs.Wanted.{name}
 use Rattle.cell_asm.specs.Mnemonics.{Row, directive, mnemonic}
 use Rattle.cell_asm.specs.Statements.{count, unit_of, unit, none, one, directed, worded, statement}
@@ -59,13 +60,10 @@ worded_read (Some d) i os h = directed_read d os
 worded_read None None os h = tt
 worded_read None (Some i) os h = instruction_good i os h
 
-abbrev pub line_names : Line → List (List ℕ)
-line_names line = label_names line.label ++ statement_names line.statement
-
 -- a line that is read, whose names take so many bytes
 pub record IsReadLine (m : ℕ) (line : Line) : Type 0 where
   pub good : IsGoodStatement line.statement
-  pub names : IsNamed m (line_names line)
+  pub names : IsNamed m (names_in line)
 
 -- the same of a statement
 abbrev IsReadIn : ℕ → Statement → Type 0

@@ -1,6 +1,6 @@
 -- The sections of an assembled source can be written.
 --     sections_fit source lines    each section is as it must be
-use Rattle.std.proofs.Common.{◌≡◌, ℕ, zero, suc, ◌+◌, ◌*◌, ◌/◌, ◌%◌, ◌^◌, ◌<◌, ◌≤◌, max, true, false, ◌&&◌, List, [], ◌∷◌, map, length, replicate, slice_get, Some, Ok, refl, sym, ap, subst, ◌∙◌, ◌⊎◌, inl, inr, length-append, arith, lit≤}
+use Rattle.std.proofs.Common.{◌≡◌, ℕ, zero, suc, ◌+◌, ◌*◌, ◌/◌, ◌%◌, ◌^◌, ◌<◌, ◌≤◌, max, true, false, ◌&&◌, List, [], ◌∷◌, map, length, replicate, slice_get, Some, Ok, refl, sym, ap, subst, ◌∙◌, ◌⊎◌, inl, inr, length-append, arith}
 use Rattle.std.specs.Prelude.{Bool, filter, flat_map, fold, nat_le}
 use Rattle.std.specs.List.{range_with_len}
 use Rattle.std.proofs.lemmas.Bool.{and_parts, cases_lt}
@@ -65,21 +65,12 @@ whole part lines words = filled_length part lines words
 
 -- ALIGNMENTS
 
-at_start : 0 ≤ 12
-at_start = lit≤ tt
-
-second_power : 2 ≤ 12
-second_power = lit≤ tt
-
-third_power : 3 ≤ 12
-third_power = lit≤ tt
-
 one_unit : IsUnit 1
-one_unit = (0, at_start, refl)
+one_unit = (0, (omega arith), refl)
 
 first_unit : (part : Part) → IsUnit (first_alignment part)
-first_unit Text = (2, second_power, refl)
-first_unit _ = (3, third_power, refl)
+first_unit Text = (2, (omega arith), refl)
+first_unit _ = (3, (omega arith), refl)
 
 asked_unit : (s : Statement) → IsGoodStatement s → IsUnit (alignment_asked s)
 asked_unit (Align unit) g = g

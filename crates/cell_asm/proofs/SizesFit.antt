@@ -5,7 +5,7 @@ use Rattle.std.proofs.lemmas.Bool.{and_parts}
 use Rattle.std.proofs.lemmas.List.{map-append, length-map, length-replicate}
 use Rattle.std.proofs.lemmas.List.Elements.{filter-append}
 use Rattle.std.proofs.lemmas.List.Sums.{sum_by-cons}
-use Rattle.std.specs.Prelude.{slice_get, Option, if◌then◌else◌, decimal, filter, flat_map, is_none, sum_by, ◌==◌}
+use Rattle.std.specs.Prelude.{Option, if◌then◌else◌, decimal, filter, is_none, sum_by, ◌==◌}
 use Rattle.cell_image.proofs.Ruled.{IsWhole}
 use Rattle.cell_image.proofs.Headers.{rows_count}
 use Rattle.cell_image.proofs.Places.{even_length}
@@ -34,7 +34,8 @@ use Rattle.cell_asm.proofs.ListLemmas.{total, total-append, total-map, total_spl
 use Rattle.cell_asm.proofs.NamesFit.{cost, cost-append, cost_flat, made_short}
 use Rattle.cell_asm.proofs.ObjectLemmas.{few}
 use Rattle.cell_asm.proofs.PlacingLemmas.{GoesOn, grows_with}
-use Rattle.cell_asm.proofs.ReadLines.{line_names, read_line}
+use Rattle.cell_asm.specs.Progress.{names_in}
+use Rattle.cell_asm.proofs.ReadLines.{read_line}
 use Rattle.cell_asm.proofs.SectionsFit.{section_whole}
 use Rattle.cell_asm.proofs.SymbolPlaces.{names_apart, key_itself}
 use Rattle.cell_asm.proofs.SymbolsFit.{locals_count}
@@ -65,11 +66,8 @@ lines_room source = pieces_room _ source
 
 -- NAMES
 
-names_by : (a b c d : ℕ) → a ≡ b → b ≤ c → c ≤ d + 1 → a ≤ d + 1
-names_by a b c d p h k = omega (arith, p, h, k)
-
 abbrev names_cost : Laid → ℕ
-names_cost l = cost (line_names l.line)
+names_cost l = cost (names_in l.line)
 
 goes : GoesOn (λ done ls. total names_cost ls ≤ total room done)
 goes done before n text line h e f =
@@ -78,8 +76,7 @@ goes done before n text line h e f =
 -- the names that the lines mention take no more bytes than the source and one
 pub mentions_cost : (source : List ℕ) (lines : List Laid) → placed_lines source ≡ Ok lines → cost (mentions lines) ≤ length source + 1
 mentions_cost source lines e =
-    names_by (cost (mentions lines)) (total names_cost lines) (total room (lines_in source)) (length source) (cost_flat (λ l. line_names l.line) lines)
-    (grows_with (λ done ls. total names_cost ls ≤ total room done) goes (lines_in source) lines (omega arith) e) (lines_room source)
+    omega (arith, cost_flat (λ l. names_in l.line) lines, grows_with (λ done ls. total names_cost ls ≤ total room done) goes (lines_in source) lines (omega arith) e, lines_room source)
 
 -- LABELS THAT ARE MADE
 
@@ -124,14 +121,10 @@ text_taken : (b : Bool) (l : Laid) (ls : List Laid) → sum_by (λ m. taken m.li
 text_taken true l ls = sum_by-cons (λ m. taken m.line.statement m.offset) l ls
 text_taken false l ls = sym (zero-add (sum_by (λ m. taken m.line.statement m.offset) ls))
 
-makes_more : (a b c d e : ℕ) → a ≤ 2 * b → c ≤ 2 * d → e ≡ b + d → a + c ≤ 2 * e
-makes_more a b c d e h k is = omega (arith, h, k, is)
-
 makes_few : (ls : List Laid) → ((l : Laid) → In l ls → IsStanding l) → total makes ls ≤ 2 * size_in Text ls
 makes_few [] h = omega arith
 makes_few (l ∷ ls) h =
-    makes_more (makes l) (if is_in Text l then taken l.line.statement l.offset else 0) (total makes ls) (size_in Text ls) (size_in Text (l ∷ ls))
-    (line_makes l (makes_label l.line.statement) refl (h l (inl refl))) (makes_few ls (λ m k. h m (inr k))) (text_taken (is_in Text l) l (filter (is_in Text) ls))
+    omega (arith, line_makes l (makes_label l.line.statement) refl (h l (inl refl)), makes_few ls (λ m k. h m (inr k)), text_taken (is_in Text l) l (filter (is_in Text) ls))
 
 -- LOCAL LABELS
 
@@ -167,34 +160,32 @@ module _ (lines : List Laid) where
   made_by part offset n true = let d : length (codes ".La" ++ decimal n) ≤ 67 = made_short n in omega (arith, d)
   made_by part offset n false = omega arith
 
-  both_cost : (a b c d e f g : ℕ) → a ≡ b + c → b ≤ d → c ≤ 68 * e → f ≡ d + g → a ≤ f + 68 * e
-  both_cost a b c d e f g p h k q = omega (arith, p, h, k, q)
-
   line_cost : (o : Option Part) (l : Laid) → ((part : Part) → o ≡ Some part → (k : Key) → In k (keys_of l) → In (label part l.offset k) (labels lines))
-      → total label_cost (filter is_local (labels_at o l.offset (keys_of l))) ≤ cost (filter is_own (line_names l.line)) + 68 * makes l
+      → total label_cost (filter is_local (labels_at o l.offset (keys_of l))) ≤ cost (filter is_own (names_in l.line)) + 68 * makes l
   line_cost None l h = omega arith
   line_cost (Some part) l h =
       let own : List Key = own_key l.line.label in
       let made : List Key = made_key l.line.statement l.made in
-      both_cost (total label_cost (filter is_local (map (label part l.offset) (own ++ made)))) (total label_cost (filter is_local (map (label part l.offset) own))) (total label_cost (filter is_local (map (label part l.offset) made)))
-      (cost (filter is_own (label_names l.line.label))) (makes l) (cost (filter is_own (line_names l.line))) (cost (filter is_own (statement_names l.line.statement)))
-      (ap (λ xs. total label_cost (filter is_local xs)) (map-append (label part l.offset) own made) ∙ ap (total label_cost) (filter-append is_local (map (label part l.offset) own) (map (label part l.offset) made))
-      ∙ total-append label_cost (filter is_local (map (label part l.offset) own)) (filter is_local (map (label part l.offset) made)))
-      (own_cost part l.offset l.line.label (λ k i. h part refl k (In-left own made k i))) (made_by part l.offset l.made (makes_label l.line.statement))
-      (ap cost (filter-append is_own (label_names l.line.label) (statement_names l.line.statement)) ∙ cost-append (filter is_own (label_names l.line.label)) (filter is_own (statement_names l.line.statement)))
-
-  more_cost : (a b c d e f g h m : ℕ) → a ≡ b + c → b ≤ d + 68 * e → c ≤ f + 68 * g → h ≡ d + f → a ≤ h + 68 * (e + g)
-  more_cost a b c d e f g h m p q r s = omega (arith, p, q, r, s)
+      omega (
+        arith,
+        (ap (λ xs. total label_cost (filter is_local xs)) (map-append (label part l.offset) own made) ∙ ap (total label_cost) (filter-append is_local (map (label part l.offset) own) (map (label part l.offset) made))
+            ∙ total-append label_cost (filter is_local (map (label part l.offset) own)) (filter is_local (map (label part l.offset) made))),
+        own_cost part l.offset l.line.label (λ k i. h part refl k (In-left own made k i)),
+        made_by part l.offset l.made (makes_label l.line.statement),
+        (ap cost (filter-append is_own (label_names l.line.label) (statement_names l.line.statement)) ∙ cost-append (filter is_own (label_names l.line.label)) (filter is_own (statement_names l.line.statement))),
+      )
 
   labels_cost : (ls : List Laid) → ((l : Laid) → In l ls → In l lines)
       → total label_cost (filter is_local (labels ls)) ≤ cost (filter is_own (mentions ls)) + 68 * total makes ls
   labels_cost [] h = omega arith
   labels_cost (l ∷ ls) h =
-      more_cost (total label_cost (filter is_local (labels (l ∷ ls)))) (total label_cost (filter is_local (labels_at l.part l.offset (keys_of l)))) (total label_cost (filter is_local (labels ls)))
-      (cost (filter is_own (line_names l.line))) (makes l) (cost (filter is_own (mentions ls))) (total makes ls) (cost (filter is_own (mentions (l ∷ ls)))) 0
-      (ap (total label_cost) (filter-append is_local (labels_at l.part l.offset (keys_of l)) (labels ls)) ∙ total-append label_cost (filter is_local (labels_at l.part l.offset (keys_of l))) (filter is_local (labels ls)))
-      (line_cost l.part l (λ part e k i. in_labels lines l part k (h l (inl refl)) e i)) (labels_cost ls (λ m k. h m (inr k)))
-      (ap cost (filter-append is_own (line_names l.line) (mentions ls)) ∙ cost-append (filter is_own (line_names l.line)) (filter is_own (mentions ls)))
+      omega (
+        arith,
+        (ap (total label_cost) (filter-append is_local (labels_at l.part l.offset (keys_of l)) (labels ls)) ∙ total-append label_cost (filter is_local (labels_at l.part l.offset (keys_of l))) (filter is_local (labels ls))),
+        line_cost l.part l (λ part e k i. in_labels lines l part k (h l (inl refl)) e i),
+        labels_cost ls (λ m k. h m (inr k)),
+        (ap cost (filter-append is_own (names_in l.line) (mentions ls)) ∙ cost-append (filter is_own (names_in l.line)) (filter is_own (mentions ls))),
+      )
 
 -- ALL SYMBOLS
 
@@ -207,16 +198,19 @@ symbols_total lines =
     ∙ ap (λ n. n + total symbol_cost (map (global_symbol lines) (other_names lines))) (total-map symbol_cost (local_symbol lines) (local_labels lines))
     ∙ ap (λ n. total label_cost (local_labels lines) + n) (total-map symbol_cost (global_symbol lines) (other_names lines))
 
-all_cost : (a b c d e f g s m n : ℕ) → a ≡ b + c → b ≤ d + 68 * e → c ≤ 0 + f → d + f ≡ g → g ≤ s + 1 → e ≤ 2 * n → n ≤ 1048576 → a ≤ s + 142606337
-all_cost a b c d e f g s m n p q r t u v w = omega (arith, p, q, r, t, u, v, w)
-
 -- the names of the symbols take no more bytes than the source and what labels that are made take
 pub symbols_cost : (source : List ℕ) (lines : List Laid) → placed_lines source ≡ Ok lines → total symbol_cost (symbols lines) ≤ length source + 142606337
 symbols_cost source lines e =
-    all_cost (total symbol_cost (symbols lines)) (total label_cost (local_labels lines)) (cost (other_names lines)) (cost (filter (is_own lines) (mentions lines))) (total makes lines) (cost (filter (λ n. not (is_own lines n)) (mentions lines)))
-    (cost (mentions lines)) (length source) 0 (size_in Text lines) (symbols_total lines) (labels_cost lines lines (λ l k. k))
-    (fold_total names_apart (λ n. suc (length n)) [] (filter (λ n. not (is_own lines n)) (mentions lines))) (total_split (λ n. suc (length n)) (is_own lines) (mentions lines))
-    (mentions_cost source lines e) (makes_few lines (all_stand source lines e)) (section_fits source lines Text e)
+    omega (
+      arith,
+      symbols_total lines,
+      labels_cost lines lines (λ l k. k),
+      fold_total names_apart (λ n. suc (length n)) [] (filter (λ n. not (is_own lines n)) (mentions lines)),
+      total_split (λ n. suc (length n)) (is_own lines) (mentions lines),
+      mentions_cost source lines e,
+      makes_few lines (all_stand source lines e),
+      section_fits source lines Text e,
+    )
 
 -- The tables of an assembled source's image aren't too large, and there aren't too many headers.
 --     headers_fit, locals_fit, texts_fit, names_fit, size_fits
@@ -232,12 +226,8 @@ few_tables lines =
     le_trans _ _ _ (length-filter_le (λ row. has_entries (entries lines) row.0) (numbered_from 1 (sections lines)))
     (subst (λ n. n ≤ 4) (sym (numbered_length 1 (sections lines))) (few_sections lines))
 
-rows_few : (n s t : ℕ) → n ≡ s + 4 + t → s ≤ 4 → t ≤ 4 → n < 65280
-rows_few n s t e h k = omega (arith, e, h, k)
-
 pub headers_fit : (lines : List Laid) → length (section_rows (object_of lines)) < 65280
-headers_fit lines =
-    rows_few (length (section_rows (object_of lines))) (length (sections lines)) (length (relocated (sections lines) (entries lines))) (rows_count (object_of lines)) (few_sections lines) (few_tables lines)
+headers_fit lines = omega (arith, rows_count (object_of lines), few_sections lines, few_tables lines)
 
 symbols_number : (lines : List Laid) → length (symbols lines) ≡ length (local_labels lines) + length (other_names lines)
 symbols_number lines =
@@ -280,27 +270,15 @@ small_one m t h = record { count = omega arith; short = λ x k. subst (λ v. len
 small_map : {X : Type 0} (n m : ℕ) (f : X → List ℕ) (xs : List X) → length xs ≤ n → ((x : X) → In x xs → length (f x) ≤ m) → AreSmall n m (map f xs)
 small_map n m f xs c h = record { count = subst (λ k. k ≤ n) (sym (length-map xs f)) c; short = λ t i. let r = In-map f xs t i in subst (λ v. length v ≤ m) (sym r.2) (h r.0 r.1) }
 
-table_by_names : (t n k : ℕ) → t ≤ k * n → suc t ≤ 1 + k * n
-table_by_names t n k h = omega (arith, h)
-
 table_le : (n m : ℕ) (names : List (List ℕ)) → AreSmall n m names → length (string_table names) ≤ 1 + (m + 1) * length names
 unfolding string_table
-table_le n m names h =
-    table_by_names (length (flat_map string names)) (length names) (m + 1) (flat_most string (m + 1) names (λ t k. string_le m t (h.short t k)))
-
--- a name and the zero behind it
-string_cost : (name : List ℕ) → length (string name) ≤ suc (length name)
-string_cost name = omega (arith, string_le (length name) name (omega arith))
-
-texts_by : (t u v k s : ℕ) → t ≡ u → u ≤ v → v ≡ k → k ≤ s + 142606337 → s < 2 ^ 31 → suc t < 2 ^ 32
-texts_by t u v k s e h f l m = omega (arith, e, h, f, l, m)
+table_le n m names h = omega (arith, flat_most string (m + 1) names (λ t k. string_le m t (h.short t k)))
 
 pub texts_fit : (source : List ℕ) (lines : List Laid) → placed_lines source ≡ Ok lines → length source < 2 ^ 31 → length (symbol_strings (object_of lines)) < 2 ^ 32
 unfolding symbol_strings string_table
 texts_fit source lines e h =
     let names : List (List ℕ) = map (λ s. s.name) (symbols lines) in
-    texts_by (length (flat_map string names)) (total (λ n. length (string n)) names) (total (λ n. suc (length n)) names) (total symbol_cost (symbols lines)) (length source)
-    (flat_length string names) (total_le (λ n. length (string n)) (λ n. suc (length n)) names (λ n k. string_cost n)) (total-map (λ n. suc (length n)) (λ (s : Symbol). s.name) (symbols lines)) (symbols_cost source lines e) h
+    omega (arith, flat_length string names, total_le (λ n. length (string n)) (λ n. suc (length n)) names (λ n k. (omega (arith, string_le (length n) n (omega arith)))), total-map (λ n. suc (length n)) (λ (s : Symbol). s.name) (symbols lines), symbols_cost source lines e, h)
 
 -- THE NAMES OF SECTIONS
 
@@ -313,12 +291,9 @@ section_short lines s k =
     let r : (part : Part) × In part (parts_of lines) × (s ≡ section_of lines part) = In-map (section_of lines) (parts_of lines) s k in
     subst (λ t. length t.name ≤ 7) (sym r.2) (part_short r.0)
 
-numbered_In : {X : Type 0} (i : ℕ) (xs : List X) (row : ℕ × X) → In row (numbered_from i xs) → In row.1 xs
-numbered_In i xs row k = let r : (n : ℕ) × (slice_get xs n ≡ Some row.1) × (row.0 ≡ i + n) = In-numbered xs i row k in get-In xs r.0 row.1 r.1
-
 relocated_In : (ss : List Section) (es : List Entry) (row : ℕ × Section) → In row (relocated ss es) → In row.1 ss
 unfolding relocated
-relocated_In ss es row k = numbered_In 1 ss row (In-filtered (λ r. has_entries es r.0) (numbered_from 1 ss) row k)
+relocated_In ss es row k = let r = In-numbered ss 1 row (In-filtered (λ r. has_entries es r.0) (numbered_from 1 ss) row k) in get-In ss r.0 row.1 r.1
 
 table_short : (lines : List Laid) (row : ℕ × Section) → In row (relocated (sections lines) (entries lines)) → length (table_name row) ≤ 12
 table_short lines row k =
@@ -345,35 +320,25 @@ names_fit lines =
 
 -- THE WHOLE FILE
 
-padded_by : (a n z p : ℕ) → p ≡ n + z → z ≤ 8 → n ≤ a → p ≤ a + 8
-padded_by a n z p e h k = omega (arith, e, h, k)
-
 padded_le : (m : ℕ) (part : List ℕ) → length part ≤ m → length (padded part) ≤ m + 8
 unfolding padded
 padded_le m part h =
-    padded_by m (length part) (parts.padding (length part)) (length (part ++ replicate (parts.padding (length part)) 0))
-    (length-append part (replicate (parts.padding (length part)) 0) ∙ ap (λ n. length part + n) (length-replicate (parts.padding (length part)) 0)) (omega arith) h
+    omega (arith, length-append part (replicate (parts.padding (length part)) 0), length-replicate {A = ℕ} (parts.padding (length part)) 0, h)
 
 filled_le : (f : Fill) (bytes : List ℕ) (size : ℕ) → IsWhole f bytes size → size ≤ 16777216 → length (filled f bytes) ≤ 16777216
 filled_le Prog bytes size w h = subst (λ n. n ≤ 16777216) (sym w) h
 filled_le Note bytes size w h = subst (λ n. n ≤ 16777216) (sym w) h
 filled_le Zero bytes size w h = omega arith
 
-symbols_by : (a c : ℕ) → a ≡ 24 + 24 * c → c ≤ 2290089984 → a ≤ 54962159640
-symbols_by a c e h = omega (arith, e, h)
-
 symbols_short_part : (source : List ℕ) (lines : List Laid) → placed_lines source ≡ Ok lines → length source < 2 ^ 31 → length (symbols_part (object_of lines)) ≤ 54962159640
-symbols_short_part source lines e h = symbols_by (length (symbols_part (object_of lines))) (length (symbols lines)) (symbols_length (object_of lines)) (few_symbols source lines e h)
+symbols_short_part source lines e h = omega (arith, symbols_length (object_of lines), few_symbols source lines e h)
 
 entries_for_few : (es : List Entry) (n : ℕ) → length (entries_for es n) ≤ length es
 unfolding entries_for
 entries_for_few es n = length-filter_le (λ e. e.section == n) es
 
-table_by : (a b c : ℕ) → a ≡ 24 * b → b ≤ c → c ≤ 134217728 → a ≤ 3221225472
-table_by a b c e h k = omega (arith, e, h, k)
-
 table_few : (es : List Entry) (row : ℕ × Section) → length es ≤ 134217728 → length (table es row) ≤ 3221225472
-table_few es row h = table_by (length (table es row)) (length (entries_for es row.0)) (length es) (even_length entry_bytes 24 entry_length (entries_for es row.0)) (entries_for_few es row.0) h
+table_few es row h = omega (arith, even_length entry_bytes 24 entry_length (entries_for es row.0), entries_for_few es row.0, h)
 
 -- the largest part is that of the symbols
 abbrev most : ℕ
@@ -384,9 +349,6 @@ below n m h k = omega (arith, h, k)
 
 strings_below : (n : ℕ) → n < 2 ^ 32 → n ≤ most
 strings_below n h = omega (arith, h)
-
-all_below : (n l : ℕ) → n ≤ (most + 8) * l → l ≤ 11 → 64 + n < 2 ^ 64
-all_below n l h m = omega (arith, h, m)
 
 pub size_fits : (source : List ℕ) (lines : List Laid) → placed_lines source ≡ Ok lines → length source < 2 ^ 31 → offset_after (parts.parts (object_of lines)) < 2 ^ 64
 size_fits source lines e h =
@@ -403,4 +365,4 @@ size_fits source lines e h =
     (small_map 4 most (table (entries lines)) (relocated (sections lines) (entries lines)) (few_tables lines) (λ row k. below (length (table (entries lines) row)) 3221225472 (table_few (entries lines) row (few_entries source lines e)) (lit≤ tt))))
     (small_one most (symbol_strings o) (strings_below (length (symbol_strings o)) (texts_fit source lines e h))))
     (small_one most (section_strings o) (strings_below (length (section_strings o)) (names_fit lines))) in
-    all_below (length (flat_map padded (parts.parts o))) (length (parts.parts o)) (flat_most padded (most + 8) (parts.parts o) (λ p k. padded_le most p (small.short p k))) small.count
+    omega (arith, flat_most padded (most + 8) (parts.parts o) (λ p k. padded_le most p (small.short p k)), small.count)

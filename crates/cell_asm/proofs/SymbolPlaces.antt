@@ -1,8 +1,7 @@
 -- No two labels have the same key.
 --     labels_once source lines      two labels of the lines with the same key are one
-use Rattle.std.proofs.Common.{◌≡◌, ℕ, ◌+◌, ◌≤◌, ◌==◌, Bool, true, false, cond, List, [], ◌∷◌, ◌++◌, ◌⊎◌, inl, inr, Ok, Some, None, refl, sym, ap, subst, ◌∙◌, zero-add, true≢false, arith, zero, suc, ◌-◌, ◌<◌, ◌||◌, not, map, length, slice_get}
+use Rattle.std.proofs.Common.{◌≡◌, ℕ, ◌+◌, ◌≤◌, ◌==◌, Bool, true, false, cond, List, [], ◌∷◌, ◌++◌, ◌⊎◌, inl, inr, Ok, Some, None, refl, sym, ap, subst, ◌∙◌, zero-add, true≢false, arith, zero, suc, ◌-◌, ◌||◌, not, map, length, slice_get}
 use Rattle.std.proofs.lemmas.Bool.{and_right}
-use Rattle.std.proofs.lemmas.Bool.Decides.{nat_tests}
 use Rattle.std.proofs.lemmas.List.{length-map}
 use Rattle.std.proofs.lemmas.Option.{slice_get_within}
 use Rattle.std.proofs.lemmas.Slice.Eq.{bytes_eq-Decides}
@@ -18,8 +17,9 @@ use Rattle.cell_asm.specs.Objects.{part_number, is_global, globals, local_labels
 use Rattle.cell_asm.specs.Places.{makes_label, made_in, placed, own_key, made_key, keys_of, label, labels_at, labels, is_twice, is_key, holds_key}
 use Rattle.cell_asm.specs.Types.{Part, Line, Laid, Label, Key, KeyNamed as Named, KeyMade as Made, Symbol, Inside}
 use Rattle.cell_asm.proofs.EntriesFit.{allowed}
+use Rattle.cell_num.proofs.Ranges.{In-one}
 use Rattle.cell_num.proofs.Elements.{get-In, In, In-append, In-map, any-In, In-left, In-right, In-filtered, filter-In, found-In, find_there, any-Has, map-In}
-use Rattle.cell_asm.proofs.ListLemmas.{next_place, numbered_if, fold_there, same_of, IsSplit, get_split, get_map, get_mapped}
+use Rattle.cell_asm.proofs.ListLemmas.{next_place, numbered_if, fold_there, same_of, same_test, IsSplit, get_split, get_map, get_mapped}
 use Rattle.cell_asm.proofs.PlacingLemmas.{Goes, grows, made_more, labels_push}
 
 -- KEYS
@@ -34,9 +34,6 @@ same_name a b e = (bytes_eq-Decides a b).0 e
 pub name_itself : (a : List ℕ) → bytes_eq a a ≡ true
 name_itself a = (bytes_eq-Decides a a).1 refl
 
-number_itself : (n : ℕ) → (n == n) ≡ true
-number_itself n = grind (arith, nat_tests)
-
 pub same_key : (k q : Key) → is_key k q ≡ true → k ≡ q
 same_key (Named a) (Named b) e = ap Named (same_name a b e)
 same_key (Named a) (Made n) e = absurd cc
@@ -45,7 +42,7 @@ same_key (Made m) (Made n) e = ap Made (same_of m n e)
 
 pub key_itself : (k : Key) → is_key k k ≡ true
 key_itself (Named a) = name_itself a
-key_itself (Made n) = number_itself n
+key_itself (Made n) = same_test n n refl
 
 -- a key of a line: that of its own label, or of the one that is made
 pub record IsOwn (line : Line) (k : Key) : Type 0 where
@@ -57,26 +54,20 @@ pub record IsMade (line : Line) (number : ℕ) (k : Key) : Type 0 where
   pub makes : makes_label line.statement ≡ true
   pub made : k ≡ Made number
 
-own_by : (o : Option (List ℕ)) (k : Key) → In k (own_key o) → (name : List ℕ) × (o ≡ Some name) × (k ≡ Named name)
-own_by None k h = absurd h
-own_by (Some name) k (inl e) = (name, refl, e)
-own_by (Some name) k (inr h) = absurd h
+own_by : (line : Line) (k : Key) (o : Option (List ℕ)) → line.label ≡ o → In k (own_key o) → IsOwn line k
+own_by line k None e h = absurd h
+own_by line k (Some name) e h = record { name = name; labelled = e; named = In-one k (Named name) h }
 
-made_by : (b : Bool) (n : ℕ) (k : Key) → In k (if b then Made n ∷ [] else []) → (b ≡ true) × (k ≡ Made n)
-made_by true n k (inl e) = (refl, e)
-made_by true n k (inr h) = absurd h
-made_by false n k h = absurd h
+made_by : (line : Line) (k : Key) (n : ℕ) (b : Bool) → makes_label line.statement ≡ b → In k (if b then Made n ∷ [] else []) → IsMade line n k
+made_by line k n true e h = record { makes = e; made = In-one k (Made n) h }
+made_by line k n false e h = absurd h
 
 pub key_of_line : (l : Laid) (k : Key) → In k (keys_of l) → IsOwn l.line k ⊎ IsMade l.line l.made k
 key_of_line l k h = go (In-append (own_key l.line.label) (made_key l.line.statement l.made) k h)
   where
     go : In k (own_key l.line.label) ⊎ In k (made_key l.line.statement l.made) → IsOwn l.line k ⊎ IsMade l.line l.made k
-    go (inl i) =
-        let r : (name : List ℕ) × (l.line.label ≡ Some name) × (k ≡ Named name) = own_by l.line.label k i in
-        inl (record { name = r.0; labelled = r.1; named = r.2 })
-    go (inr i) =
-        let r : (makes_label l.line.statement ≡ true) × (k ≡ Made l.made) = made_by (makes_label l.line.statement) l.made k i in
-        inr (record { makes = r.0; made = r.1 })
+    go (inl i) = inl (own_by l.line k l.line.label refl i)
+    go (inr i) = inr (made_by l.line k l.made (makes_label l.line.statement) refl i)
 
 -- a label of a line is there where the line stands
 pub record IsAt (o : Option Part) (offset : ℕ) (keys : List Key) (a : Label) : Type 0 where
@@ -260,11 +251,8 @@ none_is (Some n) e = absurd (true≢false e)
 symbol_none : (lines : List Laid) (key : Key) → has_symbol lines key ≡ false → symbol_number lines key ≡ 0
 symbol_none lines key h = none_is (number_from 1 (symbol_keys lines) key) (numbered_if 1 (symbol_keys lines) key ∙ h)
 
-below_all : (i n : ℕ) → i < n → i + 1 ≤ n
-below_all i n h = omega (arith, h)
-
 small_by : (lines : List Laid) (key : Key) (b : Bool) → has_symbol lines key ≡ b → symbol_number lines key ≤ length (symbols lines)
-small_by lines key true h = let s = symbol_there lines key h in subst (λ n. n ≤ length (symbols lines)) (sym s.number) (below_all s.i (length (symbols lines)) (slice_get_within (symbols lines) s.i s.at.s s.at.there))
+small_by lines key true h = let s = symbol_there lines key h in subst (λ n. n ≤ length (symbols lines)) (sym s.number) (omega (arith, slice_get_within (symbols lines) s.i s.at.s s.at.there))
 small_by lines key false h = subst (λ n. n ≤ length (symbols lines)) (sym (symbol_none lines key h)) (omega arith)
 
 pub number_small : (lines : List Laid) (key : Key) → symbol_number lines key ≤ length (symbols lines)

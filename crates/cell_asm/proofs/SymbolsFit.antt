@@ -25,12 +25,13 @@ use Rattle.cell_asm.specs.Objects as objects
 use Rattle.cell_asm.specs.Places.{is_same_part, is_at, is_in, choice, choices, taken, size_in, placed, keys_of, labels_at, labels, holds_key, is_key}
 use Rattle.cell_asm.specs.Types.{Part, Laid, Key, KeyNamed as Named, Label, Symbol}
 use Rattle.cell_asm.proofs.EntriesFit.{section_small, stacked, stack_inside}
-use Rattle.cell_num.proofs.Elements.{In, In-left, In-flat_map, In-filtered, filter-In, found-In, get-In}
+use Rattle.cell_num.proofs.Elements.{In, In-map, In-none, filter_all, filter_none, In-left, In-flat_map, In-filtered, filter-In, found-In, get-In}
 use Rattle.cell_asm.proofs.ListLemmas.{fold_there, get_split, get_map, get_mapped, AreApart, fold_apart, fold_In, before_fails}
 use Rattle.cell_asm.proofs.NamesFit.{key_fits, AreNames, IsGoodName, name_fits}
 use Rattle.cell_asm.proofs.ObjectLemmas.{part_itself, same_part}
 use Rattle.cell_asm.proofs.PlacingLemmas.{Goes, grows, pushed, each_line}
-use Rattle.cell_asm.proofs.ReadLines.{line_names, read_line}
+use Rattle.cell_asm.specs.Progress.{names_in}
+use Rattle.cell_asm.proofs.ReadLines.{read_line}
 use Rattle.cell_asm.proofs.SymbolPlaces.{names_apart, IsOwn, IsMade, key_of_line, IsAt, label_at, not_both}
 use Rattle.cell_asm.proofs.WritableEntries.{part_numbered}
 
@@ -73,12 +74,12 @@ part_there lines part k = fold_there is_same_part part_itself [] (choices lines)
 
 -- MENTIONS
 
-lines_named : (source : List ℕ) (lines : List Laid) → placed_lines source ≡ Ok lines → (l : Laid) → In l lines → AreNames (line_names l.line)
-lines_named = each_line (λ l. AreNames (line_names l.line)) (λ before n text line e f. (read_line text line e).names.named)
+lines_named : (source : List ℕ) (lines : List Laid) → placed_lines source ≡ Ok lines → (l : Laid) → In l lines → AreNames (names_in l.line)
+lines_named = each_line (λ l. AreNames (names_in l.line)) (λ before n text line e f. (read_line text line e).names.named)
 
 pub all_named : (source : List ℕ) (lines : List Laid) → placed_lines source ≡ Ok lines → AreNames (mentions lines)
 all_named source lines e n k =
-    let r : (l : Laid) × In l lines × In n (line_names l.line) = In-flat_map (λ l. line_names l.line) lines n k in
+    let r : (l : Laid) × In l lines × In n (names_in l.line) = In-flat_map (λ l. names_in l.line) lines n k in
     lines_named source lines e r.0 r.1 n r.2
 
 -- LABELS
@@ -92,22 +93,19 @@ pub record IsFitLabel (lines : List Laid) (l : Label) : Type 0 where
 named_once : (a b : List ℕ) (k : Key) → k ≡ Named a → k ≡ Named b → a ≡ b
 named_once a b k e f = cc
 
-key_named : (l : Laid) (key : Key) (name : List ℕ) → In key (keys_of l) → key ≡ Named name → In name (line_names l.line)
+key_named : (l : Laid) (key : Key) (name : List ℕ) → In key (keys_of l) → key ≡ Named name → In name (names_in l.line)
 key_named l key name k e = go (key_of_line l key k)
   where
-    go : IsOwn l.line key ⊎ IsMade l.line l.made key → In name (line_names l.line)
+    go : IsOwn l.line key ⊎ IsMade l.line l.made key → In name (names_in l.line)
     go (inl own) =
         let same : name ≡ own.name = named_once name own.name key e own.named in
         In-left (label_names l.line.label) (statement_names l.line.statement) name (subst (λ o. In name (label_names o)) (sym own.labelled) (inl same))
     go (inr made) = absurd (not_both name l.made key e made.made)
 
-within : (a b t n : ℕ) → a ≡ b → b + t ≤ n → a ≤ n
-within a b t n e h = omega (arith, e, h)
-
 label_fits : (source : List ℕ) (lines : List Laid) (l : Laid) (m : Label) → placed_lines source ≡ Ok lines → In l lines → l.part ≡ Some m.part → m.offset ≡ l.offset → In m.key (keys_of l) → IsFitLabel lines m
 label_fits source lines l m e k part offset key = record {
   chosen = part_there lines m.part (all_chosen source lines e l k m.part part);
-  inside = within m.offset l.offset (taken l.line.statement l.offset) (size_in m.part lines) offset (line_inside source lines l m.part e k part);
+  inside = omega (arith, offset, line_inside source lines l m.part e k part);
   name = key_fits m.key (λ name is. lines_named source lines e l k name (key_named l m.key name key is));
 }
 
@@ -123,19 +121,11 @@ labels_fit source lines e m k =
 
 -- HOW MANY ARE LOCAL
 
-locals_pass : (lines : List Laid) (ls : List Label) → filter (λ s. is_local s.bind) (map (local_symbol lines) ls) ≡ map (local_symbol lines) ls
-locals_pass lines [] = refl
-locals_pass lines (l ∷ ls) = ap (λ ss. local_symbol lines l ∷ ss) (locals_pass lines ls)
-
-globals_fail : (lines : List Laid) (names : List (List ℕ)) → filter (λ s. is_local s.bind) (map (global_symbol lines) names) ≡ []
-globals_fail lines [] = refl
-globals_fail lines (name ∷ names) = globals_fail lines names
-
 pub locals_count : (lines : List Laid) → local_count (object_of lines) ≡ length (local_labels lines)
 locals_count lines =
     ap length (filter-append (λ s. is_local s.bind) (map (local_symbol lines) (local_labels lines)) (map (global_symbol lines) (other_names lines))
-    ∙ ap (λ ss. ss ++ filter (λ s. is_local s.bind) (map (global_symbol lines) (other_names lines))) (locals_pass lines (local_labels lines))
-    ∙ ap (λ ss. map (local_symbol lines) (local_labels lines) ++ ss) (globals_fail lines (other_names lines))
+    ∙ ap (λ ss. ss ++ filter (λ s. is_local s.bind) (map (global_symbol lines) (other_names lines))) (filter_all (λ s. is_local s.bind) (map (local_symbol lines) (local_labels lines)) (λ s k. ap (λ t. is_local t.bind) (In-map (local_symbol lines) (local_labels lines) s k).2))
+    ∙ ap (λ ss. map (local_symbol lines) (local_labels lines) ++ ss) (filter_none (λ s. is_local s.bind) (map (global_symbol lines) (other_names lines)) (λ s k. ap (λ t. is_local t.bind) (In-map (global_symbol lines) (other_names lines) s k).2))
     ∙ append-nil (map (local_symbol lines) (local_labels lines)))
     ∙ length-map (local_labels lines) (local_symbol lines)
 
@@ -171,16 +161,13 @@ none_64 = omega arith
 
 -- LOCAL SYMBOLS
 
-not_last : {P : Type 0} (k n m : ℕ) → k < n → m ≡ n → m ≤ k → P
-not_last k n m h e l = absurd (omega (arith, h, e, l))
-
 local_fits : (source : List ℕ) (lines : List Laid) (k : ℕ) (l : Label) → placed_lines source ≡ Ok lines → slice_get (local_labels lines) k ≡ Some l → IsWritableSymbol (object_of lines) k (local_symbol lines l)
 local_fits source lines k l e h =
     let fit : IsFitLabel lines l = labels_fit source lines e l (In-filtered (λ m. not (objects.is_global (globals lines) m.key)) (labels lines) l (get-In (local_labels lines) k l h)) in
     record {
       name = fit.name;
       first = λ less. refl;
-      last = λ more. not_last k (length (local_labels lines)) (local_count (object_of lines)) (slice_get_within (local_labels lines) k l h) (locals_count lines) more;
+      last = λ more. absurd (omega (arith, slice_get_within (local_labels lines) k l h, locals_count lines, more));
       sort = refl;
       filed = λ is. absurd (true≢false (sym is));
       home = label_within lines l.part l.offset fit.chosen fit.inside;
@@ -206,8 +193,7 @@ abbrev is_defined_as : List ℕ → Symbol → Bool
 is_defined_as name s = is_global s.bind && bytes_eq s.name name
 
 locals_define : (lines : List Laid) (ls : List Label) (name : List ℕ) → list_any (is_defined_as name) (map (local_symbol lines) ls) ≡ false
-locals_define lines [] name = refl
-locals_define lines (l ∷ ls) name = locals_define lines ls name
+locals_define lines ls name = In-none (is_defined_as name) (map (local_symbol lines) ls) (λ s k. ap (is_defined_as name) (In-map (local_symbol lines) ls s k).2)
 
 globals_define : (lines : List Laid) (names : List (List ℕ)) (name : List ℕ) → ((n : List ℕ) → In n names → equals n name ≡ false) → list_any (is_defined_as name) (map (global_symbol lines) names) ≡ false
 globals_define lines [] name h = refl
@@ -243,9 +229,6 @@ value_by : (source : List ℕ) (lines : List Laid) (o : Option Label) → placed
 value_by source lines None e h = none_64
 value_by source lines (Some l) e h = offset_fits source lines l e (labels_fit source lines e l (h l refl))
 
-not_first : {P : Type 0} (k j n m p : ℕ) → k ≡ n + j → n ≡ p → m ≡ p → k < m → P
-not_first k j n m p e f g l = absurd (omega (arith, e, f, g, l))
-
 global_fits : (source : List ℕ) (lines : List Laid) (k j : ℕ) (name : List ℕ) → placed_lines source ≡ Ok lines → k ≡ length (map (local_symbol lines) (local_labels lines)) + j
     → slice_get (other_names lines) j ≡ Some name → IsWritableSymbol (object_of lines) k (global_symbol lines name)
 global_fits source lines k j name e place h =
@@ -253,8 +236,7 @@ global_fits source lines k j name e place h =
     let known : (l : Label) → label_named lines name ≡ Some l → In l (labels lines) = λ l is. (found-In (λ m. is_key m.key (Named name)) (labels lines) l is).0 in
     record {
       name = good.plain;
-      first = λ less.
-          not_first k j (length (map (local_symbol lines) (local_labels lines))) (local_count (object_of lines)) (length (local_labels lines)) place (length-map (local_labels lines) (local_symbol lines)) (locals_count lines) less;
+      first = λ less. absurd (omega (arith, place, length-map (local_labels lines) (local_symbol lines), locals_count lines, less));
       last = λ more. refl;
       sort = refl;
       filed = λ is. absurd (true≢false (sym is));

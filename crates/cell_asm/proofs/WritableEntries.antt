@@ -3,7 +3,7 @@
 --     entries_of_part      its entries are those with its number
 --     entries_grouped      all entries are those of the first section, of the second, and so on
 use Rattle.std.proofs.Common.{◌≡◌, ℕ, zero, suc, ◌+◌, ◌<◌, ◌==◌, Bool, true, false, ◌||◌, not, cond, List, [], ◌∷◌, ◌++◌, inl, map, length, slice_get, Ok, Some, None, refl, sym, ap, ◌∙◌, append-nil, one-add, true≢false, arith, ◌-◌, pos, ◌&&◌, subst, int_eq, ◌%◌, ◌^◌, ◌≤◌, take}
-use Rattle.std.proofs.lemmas.Bool.{and_parts, and_from}
+use Rattle.std.proofs.lemmas.Bool.{and_parts, and_from, not-false, lt-ltb, ne_eqb}
 use Rattle.std.proofs.Math.Bool.{and-false}
 use Rattle.std.proofs.lemmas.Bool.Decides.{nat_tests}
 use Rattle.std.proofs.lemmas.List.Elements.{filter-append}
@@ -26,7 +26,7 @@ use Rattle.cell_asm.specs.declared.statement.Target.TheVariants as targets
 use Rattle.cell_asm.proofs.EntriesFit.{entry_origin, IsStanding, all_stand, at_part, Origin, in_fours, line_room, largest_most, entry_high, entries_apart, apart_take}
 use Rattle.cell_asm.proofs.GoodBlocks.{is_code, lo12_code, any_upper, IsGoodStatement, content_of, statement_taken, IsTaken}
 use Rattle.cell_num.proofs.Elements.{In, map-In, In-right, filter-In, flat_map-In, unfound-In, found-In, any-Has, any-In, none-In, In-flat_map, get-In, filter_all, filter_none}
-use Rattle.cell_asm.proofs.ListLemmas.{AreApart, fold_apart, get_map, not_false, same_of, same_test}
+use Rattle.cell_asm.proofs.ListLemmas.{AreApart, fold_apart, get_map, same_of, same_test}
 use Rattle.cell_asm.proofs.ObjectLemmas.{same_part, part_itself}
 use Rattle.cell_asm.proofs.SymbolPlaces.{same_key, labels_once, has_symbol, mentioned_there, made_there, one_less, label_symbol, number_small, number_usable}
 
@@ -44,13 +44,10 @@ place_is (p ∷ parts) (suc n) q d e =
     ∙ one-add (position_or_len (is_same_part q) parts)
     ∙ ap suc (place_is parts n q d.1 e)
 
-below_test : (m n : ℕ) → m < n → nat_lt m n ≡ true
-below_test m n h = grind (arith, nat_tests)
-
 number_by : (parts : List Part) (n m : ℕ) (q : Part) → m ≡ n → n < length parts → option_map_or (λ i. i + 1) (cond (nat_lt m (length parts)) (Some m) None) 0 ≡ n + 1
 number_by parts n m q e h =
     ap (λ k. option_map_or (λ i. i + 1) (cond (nat_lt k (length parts)) (Some k) None) 0) e
-    ∙ ap (λ b. option_map_or (λ i. i + 1) (cond b (Some n) None) 0) (below_test n (length parts) h)
+    ∙ ap (λ b. option_map_or (λ i. i + 1) (cond b (Some n) None) 0) (lt-ltb n (length parts) h)
 
 pub part_numbered : (lines : List Laid) (n : ℕ) (part : Part) → slice_get (parts_of lines) n ≡ Some part → part_number lines part ≡ n + 1
 part_numbered lines n part e =
@@ -58,12 +55,6 @@ part_numbered lines n part e =
     number_by parts n (position_or_len (is_same_part part) parts) part (place_is parts n part (fold_apart is_same_part [] (choices lines) tt) e) (slice_get_within parts n part e)
 
 -- THE ENTRIES WITH A NUMBER
-
-other_number : (m n k : ℕ) → m ≡ k → n < k → (m == n) ≡ false
-other_number m n k h l = grind (arith, nat_tests)
-
-smaller_number : (m n k : ℕ) → m ≡ k → k < n → (m == n) ≡ false
-smaller_number m n k h l = grind (arith, nat_tests)
 
 after_none : (test : Entry → Bool) (es fs gs : List Entry) → filter test es ≡ [] → filter test fs ≡ gs → filter test (es ++ fs) ≡ gs
 after_none test es fs gs e f = filter-append test es fs ∙ ap (λ xs. xs ++ filter test fs) e ∙ f
@@ -91,7 +82,7 @@ module _ {A : Type 0} (g : A → List Entry) (number : A → ℕ) (own : (a : A)
   none_below [] k m r l = refl
   none_below (a ∷ xs) k m r l =
       filter-append (λ e. e.section == m) (g a) (flat_map g xs)
-      ∙ ap (λ es. es ++ filter (λ e. e.section == m) (flat_map g xs)) (filter_none (λ e. e.section == m) (g a) (λ e i. other_number e.section m k (own a e i ∙ r.0) l))
+      ∙ ap (λ es. es ++ filter (λ e. e.section == m) (flat_map g xs)) (filter_none (λ e. e.section == m) (g a) (λ e i. ne_eqb e.section m (λ same. omega (arith, own a e i ∙ r.0, same, l))))
       ∙ none_below xs (suc k) m r.1 (omega (arith, l))
 
   -- the entries with the n-th number are those of the n-th
@@ -104,7 +95,7 @@ module _ {A : Type 0} (g : A → List Entry) (number : A → ℕ) (own : (a : A)
       ∙ ap g (same_some b a h)
   with_number (b ∷ xs) k (suc n) a r h =
       after_none (λ e. e.section == k + suc n) (g b) (flat_map g xs) (g a)
-      (filter_none (λ e. e.section == k + suc n) (g b) (λ e i. smaller_number e.section (k + suc n) k (own b e i ∙ r.0) (omega arith)))
+      (filter_none (λ e. e.section == k + suc n) (g b) (λ e i. ne_eqb e.section (k + suc n) (λ same. omega (arith, own b e i ∙ r.0, same))))
       (ap (λ m. filter (λ e. e.section == m) (flat_map g xs)) (moved k n) ∙ with_number xs (suc k) n a r.1 h)
 
   rises : (xs : List A) (k : ℕ) → ((n : ℕ) (a : A) → slice_get xs n ≡ Some a → number a ≡ k + n) → Rises k xs
@@ -231,7 +222,7 @@ module _ (source : List ℕ) (lines : List Laid) (read : placed_lines source ≡
   -- the label with a name that isn't lost
   named_upper : (name : List ℕ) → is_lost lines (targets.Named name) ≡ false → IsUpperAt lines (Named name)
   named_upper name e =
-      let r : (l : Label) × (label_named lines name ≡ Some l) × (is_upper_label lines l ≡ true) = passing (is_upper_label lines) (label_named lines name) (not_false _ e) in
+      let r : (l : Label) × (label_named lines name ≡ Some l) × (is_upper_label lines l ≡ true) = passing (is_upper_label lines) (label_named lines name) (not-false _ e) in
       let is : In r.0 (labels lines) × (is_key r.0.key (Named name) ≡ true) = found-In (λ l. is_key l.key (Named name)) (labels lines) r.0 r.1 in
       let text : (is_same_part Text r.0.part ≡ true) × (list_any (λ l. is_in Text l && l.offset == r.0.offset && has_upper l) lines ≡ true) =
       and_parts (is_same_part Text r.0.part) (list_any (λ l. is_in Text l && l.offset == r.0.offset && has_upper l) lines) r.2 in

@@ -21,10 +21,10 @@ pub enum AsmKind {
     Section,
     /// A name is defined twice.
     Twice,
-    /// `%pcrel_lo` of a name that is no label of an instruction with `%pcrel_hi`.
-    Label,
     /// `.bss` is above 16 MiB, or another section above 1 MiB.
     Long,
+    /// `%pcrel_lo` of a name that is no label of an instruction with `%pcrel_hi`.
+    Label,
 }
 
 /// Why a source was not assembled.
@@ -71,15 +71,7 @@ fn rank(kind: AsmKind) -> u8
     ensures rank { result ≡ rank_of kind }
     ensures small { result < 7 }
 {
-    match kind {
-        AsmKind::Word => 0,
-        AsmKind::Operand => 1,
-        AsmKind::Range => 2,
-        AsmKind::Section => 3,
-        AsmKind::Twice => 4,
-        AsmKind::Long => 5,
-        AsmKind::Label => 6,
-    }
+    kind as u8
 }
 
 /// The fault that is answered of two on one line.

@@ -111,13 +111,7 @@ pub fn add_choice(parts: &mut Vec<Part>, statement: &Statement<'_>) -> Result<()
 fn is_same_part(a: Part, b: Part) -> bool
     ensures { result ≡ same a b }
 {
-    match (a, b) {
-        (Part::Text, Part::Text)
-        | (Part::Rodata, Part::Rodata)
-        | (Part::Data, Part::Data)
-        | (Part::Bss, Part::Bss) => true,
-        _ => false,
-    }
+    a == b
 }
 
 fn holds(parts: &[Part], part: Part) -> bool

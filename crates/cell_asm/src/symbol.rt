@@ -82,7 +82,11 @@ pub fn make_symbols<'a>(alloc: Global, kept: &Progress<'a>) -> Result<Symbols<'a
     requires { length kept.now.parts.items ≤ 4 }
     ensures { IfOk result (λ s. Mentions s kept.now (fold (mentioned kept.now) [] kept.now.mentions.items)) }
 {
-    let mut symbols = Symbols::new(alloc);
+    let mut symbols = Symbols {
+        alloc,
+        list: Vec::new(alloc),
+        numbers: Numbering::new(alloc),
+    };
     symbols.add_labels(kept)?;
     symbols.add_mentions(kept)?;
     Ok(symbols)
@@ -114,16 +118,6 @@ fn key_name(alloc: Global, key: &Key<'_>) -> Result<Bytes, AllocError>
 }
 
 impl<'a> Symbols<'a> {
-    fn new(alloc: Global) -> Symbols<'a>
-        ensures { Lists result [] [] }
-    {
-        Symbols {
-            alloc,
-            list: Vec::new(alloc),
-            numbers: Numbering::new(alloc),
-        }
-    }
-
     /// The number of a symbol, from 1.
     pub fn number(&self, key: &Key<'a>) -> u32
         ensures { result ≡ number_kept self.now key.now }
@@ -230,8 +224,5 @@ fn home(kept: &Progress<'_>, spot: Option<Spot>) -> Home
 fn value(spot: Option<Spot>) -> u64
     ensures { result ≡ option_map_or (λ s. s.offset) spot 0 }
 {
-    match spot {
-        Some(spot) => u64::from(spot.offset),
-        None => 0,
-    }
+    spot.map_or(0, |spot| u64::from(spot.offset))
 }
