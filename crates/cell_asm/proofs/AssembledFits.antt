@@ -1,27 +1,14 @@
 -- The lines of a source that is assembled.
 --     read_lines source o      the object is that of its lines, of which none refers to a label that is none
-use Rattle.std.proofs.Common.{◌≡◌, ℕ, List, Result, Ok, Err, Some, None, refl, ◌≤◌, ◌<◌, ◌^◌, [], length, sym, subst, arith, ◌+◌, true, false, slice_index_or}
-use Rattle.std.proofs.lemmas.Bool.{and_parts}
-use Rattle.std.specs.Prelude.{Option, find, IfOk, All, is_none}
+use Rattle.cell_asm.proofs.Facts.{◌≡◌, ℕ, List, Result, Ok, Err, Some, None, refl, ◌≤◌, ◌<◌, ◌^◌, [], length, sym, subst, arith, ◌+◌, true, false, slice_index_or, and_parts, Option, find, IfOk, All, is_none, IsWhole, IsRuled, image, IsSoundObject, IsWritable, has_lost, object_unless, object_from, placed_lines, assembled, Assembles, line_of, AreInside, HasRoom, fault_after, laid_after, offset_of, twice_of, object_of, largest, marks_in, taken, is_long, may_stand, lays_nothing, Object, AsmKind, Laid, Fill, Prog, Note, Zero, Part, Line, AsmFail, Progress, In-All}
 use Rattle.std.specs.declared.result.Result.{}
 use Rattle.cell_elf.proofs.LoadableCounts.{reads_passed}
 use Rattle.cell_elf.proofs.Soundness.{object_sound}
 use Rattle.cell_image.proofs.RoundTrip.{read_again}
-use Rattle.cell_image.proofs.Ruled.{IsWhole, IsRuled}
-use Rattle.cell_object.specs.Image.{image}
-use Rattle.cell_object.specs.Sound.{IsSoundObject}
-use Rattle.cell_object.specs.Writable.{IsWritable}
-use Rattle.cell_asm.specs.Assembled.{has_lost, object_unless, object_from, placed_lines, assembled, Assembles}
-use Rattle.cell_asm.specs.Lines.{line_of}
-use Rattle.cell_asm.specs.Progress.{AreInside, HasRoom, fault_after, laid_after, offset_of, twice_of}
-use Rattle.cell_asm.specs.Objects.{object_of}
-use Rattle.cell_asm.specs.Places.{largest, marks_in, taken, is_long, may_stand, lays_nothing}
-use Rattle.cell_asm.specs.Types.{Object, AsmKind, Laid, Fill, Prog, Note, Zero, Part, Line, AsmFail, Progress}
 use Rattle.cell_asm.proofs.ListLemmas.{ok_once}
 use Rattle.cell_asm.proofs.EntriesFit.{not_past, largest_most, no_fault}
 use Rattle.cell_asm.proofs.GoodBlocks.{statement_marks, none_laid}
 use Rattle.cell_asm.proofs.ReadLines.{read_line}
-use Rattle.cell_num.proofs.Elements.{In-All}
 use Rattle.cell_asm.proofs.SectionsFit.{sections_fit}
 use Rattle.cell_asm.proofs.SizesFit.{few_symbols, headers_fit, locals_fit, texts_fit, names_fit, size_fits}
 use Rattle.cell_asm.proofs.SymbolsFit.{symbols_fit}

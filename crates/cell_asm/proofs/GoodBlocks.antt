@@ -3,22 +3,7 @@
 --     IsGoodBlock content b            instructions, or numbers
 --     IsGoodStatement s                a statement has such bytes
 --     piece_sound                      bytes stay sound with a good piece more
-use Rattle.std.proofs.Common.{◌≡◌, ◌≤◌, ◌+◌, ◌*◌, ◌^◌, ◌%◌, ◌/◌, ℕ, zero, suc, Bool, true, false, List, [], ◌∷◌, ◌++◌, length, ◌⊎◌, inl, inr, pos, Some, None, refl, sym, subst, ap, ◌∙◌, length-append, arith, ◌&&◌, ◌||◌, ◌==◌, not, map, true≢false}
-use Rattle.std.proofs.lemmas.Bool.{or_right}
-use Rattle.std.proofs.Math.Bool.{and-false}
-use Rattle.std.specs.Int.{w64}
-use Rattle.std.specs.List.{list_any}
-use Rattle.std.specs.Prelude.{Option, FitsSigned, nat_lt}
-use Rattle.cell_num.specs.Bits.{bytes_of}
-use Rattle.cell_num.specs.Kinds.{width_of, is_instruction, is_stacking, is_pcrel_lo12, is_pcrel_hi20}
-use Rattle.cell_object.specs.Relocations.{is_shared, is_stack, is_clash}
-use Rattle.cell_object.specs.Sound.{is_known_kind}
-use Rattle.cell_asm.specs.Blocks.{marks_at, marks_of, appended, empty}
-use Rattle.cell_asm.specs.Objects.{part_number, symbol_number, target_key, entry_of, entries_of}
-use Rattle.cell_asm.specs.Places.{marks_in, is_made, taken, takes, lays_nothing}
-use Rattle.cell_asm.specs.Types.{RelKind, PcrelHi20, PcrelLo12I, PcrelLo12S, Mark, Block, Content, Code, Narrow, Wide, Fix, Piece, Statement, StatementZeros as Zeros, StatementAlign as Align, Bytes, Entry, Part, Text, Rodata, Data, Bss, Laid}
-use Rattle.cell_num.proofs.Elements.{In, In-append, In-map}
-use Rattle.cell_num.proofs.Ranges.{In-one}
+use Rattle.cell_asm.proofs.Facts.{◌≡◌, ◌≤◌, ◌+◌, ◌*◌, ◌^◌, ◌%◌, ◌/◌, ℕ, zero, suc, Bool, true, false, List, [], ◌∷◌, ◌++◌, length, ◌⊎◌, inl, inr, pos, Some, None, refl, sym, subst, ap, ◌∙◌, length-append, arith, ◌&&◌, ◌||◌, ◌==◌, not, map, true≢false, or_right, and-false, w64, list_any, Option, FitsSigned, nat_lt, bytes_of, width_of, is_instruction, is_stacking, is_pcrel_lo12, is_pcrel_hi20, is_shared, is_stack, is_clash, is_known_kind, marks_at, marks_of, appended, empty, entry_of, entries_of, marks_in, is_made, taken, takes, lays_nothing, RelKind, PcrelHi20, PcrelLo12I, PcrelLo12S, Mark, Block, Content, Code, Narrow, Wide, Fix, Piece, Statement, StatementZeros as Zeros, StatementAlign as Align, Bytes, Entry, Part, Text, Rodata, Data, Bss, Laid, In, In-append, In-map, In-one}
 use Rattle.cell_asm.proofs.ListLemmas.{Pairwise, pairwise_one, pairwise_join, itself, le_trans, least, not_less, same_test}
 
 abbrev pub is_code : Content → Bool
@@ -205,12 +190,8 @@ none_laid _ m e k = k
 pub record IsFrom (lines : List Laid) (part : Part) (l : Laid) (e : Entry) : Type 0 where
   pub m : Mark
   pub there : In m (marks_in l.line.statement)
-  pub section_is : e.section ≡ part_number lines part
-  pub kind_is : e.kind ≡ m.fix.kind
-  pub symbol_is : e.symbol ≡ symbol_number lines (target_key l m.fix.target)
-  pub addend_is : e.addend ≡ m.fix.addend
-  pub good : IsGoodFix (content_of l.line.statement) m.fix
-  pub fours : (content_of l.line.statement ≡ Narrow → ⊥) → e.offset % 4 ≡ l.offset % 4
+  pub is : e ≡ entry_of lines part l m
+  pub within : IsWithin (content_of l.line.statement) 0 (taken l.line.statement l.offset) m
   pub low : l.offset ≤ e.offset
   pub high : e.offset + width_of e.kind ≤ l.offset + taken l.line.statement l.offset
 
@@ -219,18 +200,7 @@ line_origin lines part l e g k =
     let r : (m : Mark) × In m (marks_in l.line.statement) × (e ≡ entry_of lines part l m) = In-map (entry_of lines part l) (marks_in l.line.statement) e k in
     let a : IsWithin (content_of l.line.statement) 0 (taken l.line.statement l.offset) r.0 = (statement_marks l.line.statement l.offset g).stand.0 r.0 r.1 in
     let at : e.offset ≡ l.offset + r.0.at = ap (λ x. x.offset) r.2 in
-    record {
-      m = r.0;
-      there = r.1;
-      section_is = ap (λ x. x.section) r.2;
-      kind_is = ap (λ x. x.kind) r.2;
-      symbol_is = ap (λ x. x.symbol) r.2;
-      addend_is = ap (λ x. x.addend) r.2;
-      good = a.fix;
-      fours = λ wide. omega (arith, (a.fours wide), at);
-      low = omega (arith, at);
-      high = omega (arith, a.inside, at, ap (λ x. width_of x.kind) r.2);
-    }
+    record { m = r.0; there = r.1; is = r.2; within = a; low = omega (arith, at); high = omega (arith, a.inside, at, ap (λ x. width_of x.kind) r.2) }
 
 -- APART
 

@@ -4,23 +4,7 @@
 --     Pairwise R xs           each element stands so to each behind it
 --     AreApart t xs           no element passes the test of one before it
 --     adds t xs x             the element behind the others, unless one of them passes its test
-use Rattle.std.proofs.Common.{Result, Ok, ◌≡◌, refl, sym, subst, ◌⊎◌, inl, inr, ℕ, zero, suc, Bool, true, false, ◌||◌, cond, List, [], ◌∷◌, ◌++◌, ap, ◌∙◌, map, Some, None, slice_get, ◌+◌, ◌*◌, ◌≤◌, not, length, take, drop, zero-add, arith, ◌<◌}
-use Rattle.std.proofs.lemmas.Bool.{or_left, or_right}
-use Rattle.std.proofs.lemmas.Bool.Decides.{nat_tests}
-use Rattle.std.proofs.lemmas.List.{length-take, length-drop}
-use Rattle.std.proofs.lemmas.List.Concat.{length-flat_map}
-use Rattle.std.proofs.lemmas.List.Folds.{list_any-append}
-use Rattle.std.proofs.lemmas.List.Sums.{sum_by-cons, prefix_len-drop_yes, prefix_len-drop_no, prefix_len-drop_all, suffix_len-take_yes, suffix_len-take_no, suffix_len-le-length, prefix_len-le-length}
-use Rattle.std.specs.List.{list_any, position_or_len}
-use Rattle.std.proofs.lemmas.Option.{slice_get-map}
-use Rattle.std.specs.Prelude.{option_map, filter, flat_map, if◌then◌else◌, fold, sum_by, IfSome, nat_lt, nat_le, ◌==◌, position, Option, is_some}
-use Rattle.cell_num.specs.Lists.{or_else, where_true}
-use Rattle.cell_num.proofs.Elements.{In, In-append, get-In, none-In}
-use Rattle.cell_num.proofs.Ranges.{In-one}
-use Rattle.cell_asm.specs.Numberings.{has_key}
-use Rattle.cell_asm.specs.Objects.{number_from}
-use Rattle.cell_asm.specs.Places.{is_key}
-use Rattle.cell_asm.specs.Types.{Key}
+use Rattle.cell_asm.proofs.Facts.{Result, Ok, ◌≡◌, refl, sym, subst, ◌⊎◌, inl, inr, ℕ, zero, suc, Bool, true, false, ◌||◌, cond, List, [], ◌∷◌, ◌++◌, ap, ◌∙◌, map, Some, None, slice_get, ◌+◌, ◌*◌, ◌≤◌, not, length, take, drop, zero-add, arith, ◌<◌, or_left, or_right, nat_tests, length-take, length-drop, length-flat_map, list_any-append, sum_by-cons, prefix_len-drop_yes, prefix_len-drop_no, prefix_len-drop_all, suffix_len-take_yes, suffix_len-take_no, suffix_len-le-length, prefix_len-le-length, list_any, position_or_len, slice_get-map, option_map, filter, flat_map, if◌then◌else◌, fold, sum_by, IfSome, nat_lt, nat_le, ◌==◌, position, Option, is_some, or_else, where_true, In, In-append, get-In, none-In, In-one, has_key, number_from, is_key, Key}
 
 -- ORDERS AND TESTS
 

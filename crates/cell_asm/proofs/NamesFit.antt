@@ -1,28 +1,13 @@
 -- What is read, where it is read.
 --     Yields P r        P holds of the value, where there is one
 --     Finds P o         the same of an option
-use Rattle.std.proofs.Common.{◌≡◌, Bool, true, false, Result, Ok, Err, Some, None, refl, subst, ℕ, zero, suc, ◌+◌, ◌/◌, ◌%◌, ◌<◌, ◌≤◌, not, ◌&&◌, ◌==◌, List, [], ◌∷◌, ◌++◌, length, codes, decimal, nat_le, nat_lt, ◌⊎◌, inl, inr, arith, ◌-◌, cond, map, take, drop, sym, ap, ◌∙◌, length-append, take-append-drop, append_assoc, append-nil}
-use Rattle.std.proofs.lemmas.Bool.{ltb-true, le-leb, ne_eqb, and_parts, and_from, or_from}
-use Rattle.std.proofs.lemmas.List.Concat.{flat_map-append}
-use Rattle.std.proofs.lemmas.Bool.Decides.{nat_tests}
+use Rattle.cell_asm.proofs.Facts.{◌≡◌, Bool, true, false, Result, Ok, Err, Some, None, refl, subst, ℕ, zero, suc, ◌+◌, ◌/◌, ◌%◌, ◌<◌, ◌≤◌, not, ◌&&◌, ◌==◌, List, [], ◌∷◌, ◌++◌, length, codes, decimal, nat_le, nat_lt, ◌⊎◌, inl, inr, arith, ◌-◌, cond, map, take, drop, sym, ap, ◌∙◌, length-append, take-append-drop, append_assoc, append-nil, ltb-true, le-leb, ne_eqb, or_from, flat_map-append, nat_tests, list_any, list_all, position_or_len, prefix_len, suffix_len, after_last, slice_split, onto_first, Option, option_map, option_and_then, if◌then◌else◌, ok_or, neg_ℤ, flat_map, fold, where_true, or_else, is_global_name, IsPlain, joined, with_value, is_blank, trimmed, operand_texts, spelled, operands as operands_of, is_name, is_name_byte, begins_with_digit, ends, begins, number, key_name, is_sign, less, with_rest, expression, modifier, is_open, front, inside, modified, immediate, operand, AsmKind, Key, KeyNamed as Named, KeyMade as Made, Expression, ExpressionName as Name, Sum, Difference, Whole, Immediate, Number, ImmediatePart as Part, Operand, OperandValue as Value, OperandMemory as Memory, In, In-all, In-none, all-In, In-append, flat_map-In}
 use Rattle.std.specs.Fmt.{digits, digits_onto, digit_glyph}
-use Rattle.std.specs.List.{list_any, list_all, position_or_len, prefix_len, suffix_len, after_last, slice_split, onto_first}
-use Rattle.std.specs.Prelude.{Option, option_map, option_and_then, if◌then◌else◌, ok_or, neg_ℤ, flat_map, fold}
-use Rattle.cell_num.specs.Lists.{where_true, or_else}
 use Rattle.cell_object.specs.Bytes.{is_zero}
-use Rattle.cell_object.specs.Symbols.{is_global_name}
 use Rattle.cell_object.specs.Symbols as object_names
-use Rattle.cell_object.specs.Writable.{IsPlain}
-use Rattle.cell_asm.specs.Faults.{joined, with_value}
-use Rattle.cell_asm.specs.Lines.{is_blank, trimmed, operand_texts, spelled, operands as operands_of}
-use Rattle.cell_asm.specs.Names.{is_name, is_name_byte, is_letter, begins_with_digit, ends, begins, number}
 use Rattle.cell_asm.specs.Names as names
-use Rattle.cell_asm.specs.Objects.{key_name}
-use Rattle.cell_asm.specs.Operands.{is_sign, less, with_rest, expression, modifier, is_open, front, inside, modified, immediate, operand}
 use Rattle.cell_asm.specs.Operands as operands
-use Rattle.cell_asm.specs.Types.{AsmKind, Key, KeyNamed as Named, KeyMade as Made, Expression, ExpressionName as Name, Sum, Difference, Whole, Immediate, Number, ImmediatePart as Part, Operand, OperandValue as Value, OperandMemory as Memory}
 use Rattle.cell_asm.specs.declared.kind.AsmKind.TheVariants as faults
-use Rattle.cell_num.proofs.Elements.{In, In-all, In-none, all-In, In-append, flat_map-In}
 use Rattle.cell_asm.proofs.ListLemmas.{ok_once, take_le, drop_le, total, total-append, total_le, total-map, le_trans}
 
 abbrev pub Any : {A : Type 0} → A → Type 0

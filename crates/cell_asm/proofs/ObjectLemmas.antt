@@ -2,25 +2,11 @@
 --     same_part, part_itself     the test of parts decides whether they are the same
 --     few lines parts            there are at most four
 --     object_is                  what is made of what is kept is the object
-use Rattle.std.proofs.Common.{◌≡◌, ◌≤◌, Bool, true, false, List, [], ◌∷◌, ◌++◌, length, refl, sym, subst, ap, ◌∙◌, true≢false, ℕ, ◌+◌, map, replicate, append_assoc, ◌||◌, ◌&&◌, not, cond, find, Some, None}
-use Rattle.std.proofs.lemmas.List.{replicate-append-replicate, map-append}
-use Rattle.std.proofs.lemmas.List.Concat.{flat_map-append}
-use Rattle.std.proofs.lemmas.List.Elements.{filter-append}
+use Rattle.cell_asm.proofs.Facts.{◌≡◌, ◌≤◌, Bool, true, false, List, [], ◌∷◌, ◌++◌, length, refl, sym, subst, ap, ◌∙◌, ℕ, ◌+◌, map, replicate, append_assoc, ◌||◌, ◌&&◌, not, cond, find, Some, None, replicate-append-replicate, map-append, flat_map-append, filter-append, list_any, option_map_or, unwrap_or, fold, if◌then◌else◌, flat_map, Option, option_map, filter, bytes_of, is_pcrel_lo12, is_upper_label, is_lost, is_lost_mark, has_lost, spot_at, Follows, reference_at, references_of, is_upper_spot, key_lost_by, lost_by, section_kept, Lists, mentioned, Mentions, entry_kept, part_entries, adds_part, parts_of, number_in, section_of, sections, symbols, symbol_keys, label_named, part_number, target_key, entry_of, entries_of, entries_in, entries, object_of, marks_in, is_same_part, choices, is_at, is_in, Part, Text, Rodata, Data, Bss, Laid, Target, TargetNamed as Named, TargetMade as Made, Label, Progress, Reference, Section, Symbol, Entry, Object, Mark, Symbols, map_same, flat_same}
 use Rattle.std.proofs.lemmas.Map.Keys.{IsDistinct-push}
 use Rattle.std.proofs.lemmas.Map.Made.{length-le_from_is_member}
 use Rattle.std.specs.Cmp.{IsEquivalence}
-use Rattle.std.specs.List.{list_any, IsDistinct}
-use Rattle.std.specs.Option.{option_map_or, unwrap_or}
-use Rattle.std.specs.Prelude.{fold, if◌then◌else◌, flat_map, Option, option_map, filter}
-use Rattle.cell_num.specs.Bits.{bytes_of}
-use Rattle.cell_num.specs.Kinds.{is_pcrel_lo12}
-use Rattle.cell_asm.specs.Assembled.{is_upper_label, is_lost, is_lost_mark, has_lost}
-use Rattle.cell_asm.specs.Progress.{spot_at, Follows, reference_at, references_of, is_upper_spot, key_lost_by, lost_by}
-use Rattle.cell_asm.specs.Numberings.{section_kept, Lists, mentioned, Mentions, entry_kept, part_entries}
-use Rattle.cell_asm.specs.Objects.{adds_part, parts_of, number_in, section_of, sections, symbols, symbol_keys, label_named, part_number, target_key, entry_of, entries_of, entries_in, entries, object_of}
-use Rattle.cell_asm.specs.Places.{marks_in, is_same_part, choices, is_at, is_in}
-use Rattle.cell_asm.specs.Types.{Part, Text, Rodata, Data, Bss, Laid, Target, TargetNamed as Named, TargetMade as Made, Label, Progress, Reference, Section, Symbol, Entry, Object, Mark, Symbols}
-use Rattle.cell_num.proofs.Elements.{map_same, flat_same}
+use Rattle.std.specs.List.{IsDistinct}
 use Rattle.cell_asm.proofs.SymbolLemmas.{all_symbols}
 
 pub same_part : (p q : Part) → is_same_part p q ≡ true → p ≡ q
@@ -34,16 +20,15 @@ pub part_itself : (p : Part) → is_same_part p p ≡ true
 part_itself Text = refl
 part_itself _ = refl
 
-turned : (p q : Part) (b : Bool) → is_same_part p q ≡ b → b ≡ is_same_part q p
-turned p q true e = sym (ap (λ x. is_same_part x p) (sym (same_part p q e)) ∙ part_itself p)
-turned p q false e = by_test (is_same_part q p) refl
-  where
-    by_test : (b : Bool) → is_same_part q p ≡ b → false ≡ b
-    by_test true t = absurd (true≢false (sym (part_itself p) ∙ ap (is_same_part p) (sym (same_part q p t)) ∙ e))
-    by_test false t = refl
+turned : (p q : Part) → is_same_part p q ≡ is_same_part q p
+turned Text Text = refl
+turned Rodata Rodata = refl
+turned Data Data = refl
+turned Bss Bss = refl
+turned _ _ = refl
 
 laws : IsEquivalence is_same_part
-laws = record { refl = part_itself; symm = λ p q. turned p q (is_same_part p q) refl; congr = λ p q r e. ap (λ x. is_same_part x r) (same_part p q e) }
+laws = record { refl = part_itself; symm = turned; congr = λ p q r e. ap (λ x. is_same_part x r) (same_part p q e) }
 
 added : (parts : List Part) (p : Part) (b : Bool) → list_any (is_same_part p) parts ≡ b → IsDistinct is_same_part parts → IsDistinct is_same_part (if b then parts else parts ++ p ∷ [])
 added parts p true e d = d

@@ -1,24 +1,5 @@
 -- What is known of names, after one more name, and behind one more line.
-use Rattle.std.proofs.Common.{◌≡◌, ℕ, Bool, true, false, ◌||◌, List, [], ◌∷◌, ◌++◌, cond, find, map, Some, None, refl, sym, ap, ◌∙◌, append-nil, ◌+◌, add-zero, zero-add, suc, ◌<◌, length, drop, get_or, Bor, Result, Ok, Err, subst, add-one, ◌^◌, arith, append_assoc, ◌⊎◌, inl, inr}
-use Rattle.std.proofs.lemmas.List.{drop_more, length-map, map-append}
-use Rattle.std.proofs.lemmas.List.Concat.{flat_map-append}
-use Rattle.std.proofs.lemmas.List.Elements.{filter_map-append, filter-append}
-use Rattle.std.proofs.lemmas.List.Folds.{list_any-append, find-append}
-use Rattle.std.proofs.lemmas.List.Sums.{sum_by-append, fold-append}
-use Rattle.std.proofs.Math.Bool.{or-false}
-use Rattle.std.specs.List.{list_any, cons_option}
-use Rattle.std.specs.Option.{option_or, option_map_or}
-use Rattle.std.specs.Prelude.{Option, option_map, is_some, if◌then◌else◌, filter, flat_map, sum_by, fold, max}
-use Rattle.cell_num.specs.Lists.{equals, where_true, holds_name, last, or_else, numbered_from}
-use Rattle.cell_text.specs.Text.{lines_in, Behind}
-use Rattle.cell_asm.specs.Assembled.{add_line, with_line, placed_line, placed_texts, object_from, object_unless, has_lost, assembled, Assembles, placed_unless, placed_lines}
-use Rattle.cell_asm.specs.Progress.{spot_here, declares, spot_at, spot_among, names_in, grown_in, grown_with, bytes_laid, references_of, is_upper_at, Goes as GoesBehind, Places, failure, body_of, offset_of, twice_of, fault_after, laid_after, Adds, Follows}
-use Rattle.cell_asm.specs.Lines.{line_of}
-use Rattle.cell_asm.specs.Objects.{adds_part, adds_choice, parts_of, alignment_asked, first_alignment, alignment, bytes_at, contents, global_name, globals, object_of}
-use Rattle.cell_asm.specs.Places.{is_key, makes_label, own_key, made_key, keys_of, label, labels_at, labels, fault_at, is_at, is_in, choice, choices, taken, size_in, size_at, made_in, is_twice, placed}
-use Rattle.cell_asm.specs.Types.{Part, Bss, Statement, StatementGlobal as Global, Laid, Label, AsmKindLabel, KeyNamed as Named, KeyMade as Made, Line, Progress, AsmKind, Stop, StopFault as Fault, StopOutOfMemory as OutOfMemory, Object, AsmFail, AsmFailFault as Faulty, AsmFailOutOfMemory as NoMemory}
-use Rattle.cell_num.proofs.Elements.{In, In-append}
-use Rattle.cell_num.proofs.Ranges.{In-one}
+use Rattle.cell_asm.proofs.Facts.{◌≡◌, ℕ, Bool, true, false, ◌||◌, List, [], ◌∷◌, ◌++◌, cond, find, map, Some, None, refl, sym, ap, ◌∙◌, append-nil, ◌+◌, add-zero, zero-add, suc, ◌<◌, length, drop, get_or, Bor, Result, Ok, Err, subst, add-one, ◌^◌, arith, append_assoc, ◌⊎◌, inl, inr, drop_more, length-map, map-append, flat_map-append, filter_map-append, filter-append, list_any-append, find-append, sum_by-append, fold-append, or-false, list_any, cons_option, option_or, option_map_or, Option, option_map, is_some, if◌then◌else◌, filter, flat_map, sum_by, fold, max, equals, where_true, holds_name, last, or_else, numbered_from, lines_in, Behind, add_line, with_line, placed_line, placed_texts, object_from, object_unless, has_lost, assembled, Assembles, placed_unless, placed_lines, spot_here, declares, spot_at, spot_among, names_in, grown_in, grown_with, bytes_laid, references_of, is_upper_at, Goes as GoesBehind, Places, failure, body_of, offset_of, twice_of, fault_after, laid_after, Adds, Follows, line_of, adds_part, adds_choice, parts_of, alignment_asked, first_alignment, alignment, bytes_at, contents, global_name, globals, object_of, is_key, makes_label, own_key, made_key, keys_of, label, labels_at, labels, fault_at, is_at, is_in, choice, choices, taken, size_in, size_at, made_in, is_twice, placed, Part, Bss, Statement, StatementGlobal as Global, Laid, Label, AsmKindLabel, KeyNamed as Named, KeyMade as Made, Line, Progress, AsmKind, Stop, StopFault as Fault, StopOutOfMemory as OutOfMemory, Object, AsmFail, AsmFailFault as Faulty, AsmFailOutOfMemory as NoMemory, In, In-append, In-one}
 use Rattle.cell_asm.proofs.ListLemmas.{ok_once}
 use Rattle.cell_asm.proofs.ObjectLemmas.{same_part}
 
@@ -124,7 +105,7 @@ made_more before l =
     sum_by-append (λ m. cond (makes_label m.line.statement) 1 0) before (l ∷ []) ∙ ap (λ n. made_in before + n) (zero-add (cond (makes_label l.line.statement) 1 0))
 
 -- where a line stands in a section, its offset is the section's size
-stands_at : (part : Part) (before : List Laid) (o : Option Part) → is_at part o ≡ true → size_at o before ≡ size_in part before
+pub stands_at : (part : Part) (before : List Laid) (o : Option Part) → is_at part o ≡ true → size_at o before ≡ size_in part before
 stands_at part before None e = absurd cc
 stands_at part before (Some other) e = ap (λ p. size_in p before) (sym (same_part part other e))
 

@@ -1,21 +1,8 @@
 -- A line that is read: its statement is good, and its names take no more bytes than its text and one.
 --     read_line text line
-use Rattle.std.proofs.Common.{◌≡◌, ◌≤◌, ◌+◌, ◌-◌, ◌^◌, ℕ, suc, Bool, true, false, List, [], ◌∷◌, ◌++◌, map, take, drop, length, Result, Ok, Err, Some, None, refl, arith}
-use Rattle.std.specs.Prelude.{Option, ◌==◌, if◌then◌else◌, nat_le}
-use Rattle.std.specs.List.{position_or_len, prefix_len, before_first}
-use Rattle.std.proofs.lemmas.List.{length-take}
-use Rattle.cell_num.specs.Lists.{where_true}
-use Rattle.cell_asm.specs.Types.{AsmKind, Directive, ExpressionName as Name, Whole, ImmediatePart as Part, Operand, OperandValue as Value, Statement, StatementChoose as Choose, StatementGlobal as Global, StatementZeros as Zeros, StatementAlign as Align, Line}
+use Rattle.cell_asm.proofs.Facts.{◌≡◌, ◌≤◌, ◌+◌, ◌-◌, ◌^◌, ℕ, suc, Bool, true, false, List, [], ◌∷◌, ◌++◌, map, take, drop, length, Result, Ok, Err, Some, None, refl, arith, Option, ◌==◌, if◌then◌else◌, nat_le, position_or_len, prefix_len, before_first, length-take, where_true, AsmKind, Directive, ExpressionName as Name, Whole, ImmediatePart as Part, Operand, OperandValue as Value, Statement, StatementChoose as Choose, StatementGlobal as Global, StatementZeros as Zeros, StatementAlign as Align, Line, with_value, is_name, label_names, statement_names, names_in, name, Row, directive, mnemonic, count, unit_of, unit, none, one, directed, worded, statement, is_inked, read_with, statement_in, spelled, operand_texts, first_word, after_word, has_label, label_name, labelled, line_of, code_of, operands}
 use Rattle.cell_asm.specs.declared.kind.AsmKind.TheVariants as faults
 use Rattle.cell_asm.specs.declared.mnemonic.Directive.TheVariants as directives
-use Rattle.cell_asm.specs.Faults.{with_value}
-use Rattle.cell_asm.specs.Names.{is_name}
-use Rattle.cell_asm.specs.Objects.{label_names, statement_names}
-use Rattle.cell_asm.specs.Progress.{names_in}
-use Rattle.cell_asm.specs.Wanted.{name}
-use Rattle.cell_asm.specs.Mnemonics.{Row, directive, mnemonic}
-use Rattle.cell_asm.specs.Statements.{count, unit_of, unit, none, one, directed, worded, statement}
-use Rattle.cell_asm.specs.Lines.{is_inked, read_with, statement_in, spelled, operand_texts, first_word, after_word, has_label, label_name, labelled, line_of, code_of, operands}
 use Rattle.cell_asm.proofs.ListLemmas.{take_le, drop_le, le_trans, itself, le_of}
 use Rattle.cell_asm.proofs.NamesFit.{Any, Yields, Finds, yields_value, yields_any, yields_ok, yields_weaker, IsNamed, none_named, one_named, join_named, more_named, IsPart, split_length, trimmed_le, all_names, NamesAll, operands_named, name_fits}
 use Rattle.cell_asm.proofs.GoodBlocks.{IsUnit, IsGoodStatement}

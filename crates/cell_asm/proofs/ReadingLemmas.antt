@@ -1,20 +1,5 @@
 -- Values that are read one after the other, and the earliest of their faults.
-use Rattle.std.proofs.Common.{◌≡◌, ℕ, ◌<◌, ◌+◌, Bool, true, false, List, [], ◌∷◌, ◌++◌, map, length, get_or, take, Result, Ok, Err, Some, None, refl, sym, ap, ◌∙◌, arith, Bor, ◌==◌, ◌⊎◌, inl, inr, ◌*◌, ◌%◌, ◌≤◌, cond, ◌-◌, drop}
-use Rattle.std.proofs.lemmas.Bool.Decides.{nat_tests}
-use Rattle.std.proofs.lemmas.List.{map_more, map-append, take_all, take-append-drop}
-use Rattle.std.proofs.lemmas.List.Sums.{fold-append}
-use Rattle.std.specs.Char.{digit_value, is_ascii_digit}
-use Rattle.std.specs.List.{slice_split, list_all}
-use Rattle.std.specs.Prelude.{if◌then◌else◌, Option, ok_or, nat_lt, find, option_map, bytes_eq, fold}
-use Rattle.std.specs.Str.Parse.{digits_value, digits_value_after}
-use Rattle.cell_asm.specs.Faults.{joined, gathered}
-use Rattle.cell_asm.specs.Instructions.{put, miscounted, filled}
-use Rattle.cell_asm.specs.Lines.{spelled, trimmed, operand_texts, statement_in, read_with, first_word, after_word, operands}
-use Rattle.cell_asm.specs.Mnemonics.{row_of}
-use Rattle.cell_asm.specs.Names.{held, is_hex_digit}
-use Rattle.cell_asm.specs.Statements.{statement}
-use Rattle.cell_asm.specs.Types.{AsmKind, AsmKindWord as Word, Operand, Slot, Fields}
-use Rattle.cell_num.proofs.Elements.{In-all, all-In}
+use Rattle.cell_asm.proofs.Facts.{◌≡◌, ℕ, ◌<◌, ◌+◌, Bool, true, false, List, [], ◌∷◌, map, length, get_or, take, Result, Ok, Err, Some, None, refl, sym, ap, ◌∙◌, arith, Bor, ◌==◌, ◌⊎◌, inl, inr, ◌*◌, ◌%◌, ◌≤◌, cond, ◌-◌, drop, nat_tests, map_more, map-append, take_all, take-append-drop, fold-append, is_ascii_digit, slice_split, list_all, if◌then◌else◌, Option, ok_or, nat_lt, find, option_map, bytes_eq, fold, joined, gathered, put, miscounted, filled, spelled, trimmed, operand_texts, statement_in, read_with, first_word, after_word, operands, row_of, held, is_hex_digit, statement, AsmKind, AsmKindWord as Word, Operand, Slot, Fields, In-all, all-In}
 use Rattle.cell_asm.proofs.ListLemmas.{not_less}
 
 -- what is gathered with one value more

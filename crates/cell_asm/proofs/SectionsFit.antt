@@ -1,20 +1,7 @@
 -- The sections of an assembled source can be written.
 --     sections_fit source lines    each section is as it must be
-use Rattle.std.proofs.Common.{◌≡◌, ℕ, zero, suc, ◌+◌, ◌*◌, ◌/◌, ◌%◌, ◌^◌, ◌<◌, ◌≤◌, max, true, false, ◌&&◌, List, [], ◌∷◌, map, length, replicate, slice_get, Some, Ok, refl, sym, ap, subst, ◌∙◌, ◌⊎◌, inl, inr, length-append, arith}
-use Rattle.std.specs.Prelude.{Bool, filter, flat_map, fold, nat_le}
-use Rattle.std.specs.List.{range_with_len}
-use Rattle.std.proofs.lemmas.Bool.{and_parts, cases_lt}
-use Rattle.std.proofs.lemmas.List.{length-replicate}
-use Rattle.cell_num.specs.Bits.{bytes_of}
+use Rattle.cell_asm.proofs.Facts.{◌≡◌, ℕ, zero, suc, ◌+◌, ◌*◌, ◌/◌, ◌%◌, ◌^◌, ◌<◌, ◌≤◌, max, true, false, ◌&&◌, List, [], ◌∷◌, map, length, replicate, slice_get, Some, Ok, refl, sym, ap, subst, ◌∙◌, ◌⊎◌, inl, inr, length-append, arith, Bool, filter, flat_map, fold, nat_le, range_with_len, and_parts, cases_lt, length-replicate, bytes_of, Section, Part, Text, Bss, Statement, StatementZeros as Zeros, StatementAlign as Align, Laid, IsPlain, IsWhole, IsWritableSection, is_in, gap, taken, size_in, parts_of, part_name, is_text, first_alignment, alignment_asked, alignment, padding, bytes_at, contents, fill_of, may_write, section_of, sections, placed_lines, In-numbers, In, all-In, In-filtered, filter-Passes, In-map}
 use Rattle.cell_object.specs.Sections.{is_alignment}
-use Rattle.cell_asm.specs.Types.{Section, Part, Text, Bss, Statement, StatementZeros as Zeros, StatementAlign as Align, Laid}
-use Rattle.cell_object.specs.Writable.{IsPlain}
-use Rattle.cell_image.proofs.Ruled.{IsWhole, IsWritableSection}
-use Rattle.cell_asm.specs.Places.{is_in, gap, taken, size_in}
-use Rattle.cell_asm.specs.Objects.{parts_of, part_name, is_text, first_alignment, alignment_asked, alignment, padding, bytes_at, contents, fill_of, may_write, section_of, sections}
-use Rattle.cell_asm.specs.Assembled.{placed_lines}
-use Rattle.cell_num.proofs.Ranges.{In-numbers}
-use Rattle.cell_num.proofs.Elements.{In, all-In, In-filtered, filter-Passes, In-map}
 use Rattle.cell_asm.proofs.ListLemmas.{le_of, get_map, flat_length, total_same, sum_is_total}
 use Rattle.cell_asm.proofs.GoodBlocks.{IsUnit, IsGoodStatement}
 use Rattle.cell_asm.proofs.EntriesFit.{IsStanding, all_stand, text_fours, in_fours, section_small}

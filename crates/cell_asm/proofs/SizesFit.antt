@@ -1,40 +1,22 @@
 -- How many bytes the names of a source's symbols take.
 --     symbols_cost source lines
-use Rattle.std.proofs.Common.{◌≡◌, ℕ, suc, ◌+◌, ◌*◌, ◌≤◌, Bool, true, false, cond, not, List, [], ◌∷◌, ◌++◌, map, length, codes, Ok, Some, None, inl, inr, refl, subst, sym, ap, ◌∙◌, zero-add, true≢false, arith, ◌^◌, ◌<◌, replicate, ◌⊎◌, length-append, lit≤}
-use Rattle.std.proofs.lemmas.Bool.{and_parts}
-use Rattle.std.proofs.lemmas.List.{map-append, length-map, length-replicate}
-use Rattle.std.proofs.lemmas.List.Elements.{filter-append}
-use Rattle.std.proofs.lemmas.List.Sums.{sum_by-cons}
-use Rattle.std.specs.Prelude.{Option, if◌then◌else◌, decimal, filter, is_none, sum_by, ◌==◌}
-use Rattle.cell_image.proofs.Ruled.{IsWhole}
+use Rattle.cell_asm.proofs.Facts.{◌≡◌, ℕ, suc, ◌+◌, ◌*◌, ◌≤◌, Bool, true, false, cond, not, List, [], ◌∷◌, ◌++◌, map, length, codes, Ok, Some, None, inl, inr, refl, subst, sym, ap, ◌∙◌, zero-add, true≢false, arith, ◌^◌, ◌<◌, replicate, ◌⊎◌, length-append, lit≤, and_parts, map-append, length-map, length-replicate, filter-append, sum_by-cons, Option, if◌then◌else◌, decimal, filter, is_none, sum_by, ◌==◌, IsWhole, is_pcrel_hi20, numbered_from, section_rows, local_count, offset_after, has_entries, content, symbols_part, table, own_names, table_name, names_before_tables, parts_before_tables, parts_before_strings, parts_before_names, onto, pieces, lines_in, placed_lines, globals, local_labels, label_names, statement_names, mentions, other_names, key_name, symbols, parts_of, part_name, section_of, sections, entries, object_of, marks_in, is_same_part, is_at, is_in, placed, is_made, makes_label, may_stand, lays_nothing, taken, size_in, own_key, made_key, keys_of, label, labels_at, labels, is_key, holds_key, Symbol, Mark, Part, Text, Statement, Line, Laid, Label, Key, KeyNamed as Named, KeyMade as Made, Section, Entry, Object, Fill, Prog, Note, Zero, In-one, length-filter_le, In, In-left, filter-In, any-Has, any-In, In-append, In-filtered, In-map, In-numbered, get-In, names_in}
 use Rattle.cell_image.proofs.Headers.{rows_count}
 use Rattle.cell_image.proofs.Places.{even_length}
 use Rattle.cell_image.proofs.Stands.{entry_length}
 use Rattle.cell_image.proofs.Symbols.{symbols_length}
 use Rattle.cell_image.proofs.Tables.{numbered_length}
-use Rattle.cell_num.specs.Kinds.{is_pcrel_hi20}
-use Rattle.cell_num.specs.Lists.{numbered_from}
-use Rattle.cell_object.specs.Image.{section_rows, local_count}
-use Rattle.cell_object.specs.ImageParts.{padded, offset_after, entries_for, has_entries, relocated, content, filled, symbols_part, symbol_strings, table, own_names, table_name, names_before_tables, section_strings, parts_before_tables, parts_before_strings, parts_before_names}
+use Rattle.cell_object.specs.ImageParts.{padded, entries_for, relocated, filled, symbol_strings, section_strings}
 use Rattle.cell_object.specs.ImageParts as parts
 use Rattle.cell_object.specs.Rows.{entry_bytes}
 use Rattle.cell_object.specs.Strings.{string, string_table}
-use Rattle.cell_text.specs.Text.{onto, pieces, lines_in}
-use Rattle.cell_asm.specs.Assembled.{placed_lines}
-use Rattle.cell_asm.specs.Objects.{globals, local_labels, label_names, statement_names, mentions, other_names, key_name, local_symbol, global_symbol, symbols, parts_of, part_name, section_of, sections, entries, object_of}
 use Rattle.cell_asm.specs.Objects as objects
-use Rattle.cell_asm.specs.Places.{marks_in, is_same_part, is_at, is_in, placed, is_made, makes_label, may_stand, lays_nothing, taken, size_in, own_key, made_key, keys_of, label, labels_at, labels, is_key, holds_key}
-use Rattle.cell_asm.specs.Types.{Symbol, Mark, Part, Text, Statement, Line, Laid, Label, Key, KeyNamed as Named, KeyMade as Made, Section, Entry, Object, Fill, Prog, Note, Zero}
 use Rattle.cell_asm.proofs.EntriesFit.{IsStanding, all_stand, section_fits, few_entries}
-use Rattle.cell_asm.proofs.GoodBlocks.{is_code, hi20_code, content_of, statement_marks, statement_taken, none_laid}
-use Rattle.cell_num.proofs.Ranges.{In-one}
-use Rattle.cell_num.proofs.Sublists.{length-filter_le}
-use Rattle.cell_num.proofs.Elements.{In, In-left, filter-In, any-Has, any-In, In-append, In-filtered, In-map, In-numbered, get-In}
-use Rattle.cell_asm.proofs.ListLemmas.{total, total-append, total-map, total_split, fold_total, total_le, flat_length, flat_most, le_trans}
+use Rattle.cell_asm.proofs.GoodBlocks.{AreMarks, is_code, hi20_code, content_of, statement_marks, statement_taken, none_laid}
+use Rattle.cell_asm.proofs.ListLemmas.{total, total-append, total-map, total_split, fold_total, total_le, flat_length, flat_most, le_trans, itself}
 use Rattle.cell_asm.proofs.NamesFit.{cost, cost-append, cost_flat, made_short}
 use Rattle.cell_asm.proofs.ObjectLemmas.{few}
 use Rattle.cell_asm.proofs.PlacingLemmas.{GoesOn, grows_with}
-use Rattle.cell_asm.specs.Progress.{names_in}
 use Rattle.cell_asm.proofs.ReadLines.{read_line}
 use Rattle.cell_asm.proofs.SectionsFit.{section_whole}
 use Rattle.cell_asm.proofs.SymbolPlaces.{names_apart, key_itself}
@@ -83,11 +65,6 @@ mentions_cost source lines e =
 abbrev makes : Laid → ℕ
 makes l = if makes_label l.line.statement then 1 else 0
 
--- a label is made at an entry, in .text alone
-record IsMaking (l : Laid) : Type 0 where
-  in_text : is_in Text l ≡ true
-  entered : 1 ≤ length (marks_in l.line.statement)
-
 some_there : (marks : List Mark) (m : Mark) → In m marks → 1 ≤ length marks
 some_there [] m k = absurd k
 some_there (n ∷ marks) m k = omega arith
@@ -96,25 +73,18 @@ in_text_by : (o : Option Part) (line : Line) (m : Mark) → may_stand o line ≡
 in_text_by None line m t k code = absurd (none_laid line.statement m (and_parts (is_none line.label) (lays_nothing line.statement) t).1 k)
 in_text_by (Some part) line m t k code = ap (is_same_part Text) ((statement_taken part line.statement m t k).coded code)
 
-making : (l : Laid) → IsStanding l → makes_label l.line.statement ≡ true → IsMaking l
-making l s t =
-    let st : Statement = l.line.statement in
-    let r : (m : Mark) × In m (marks_in st) × (is_made m.fix.target ≡ true) = any-Has (λ m. is_made m.fix.target) (marks_in st) t in
-    let u : (m : Mark) × In m (marks_in st) × (is_pcrel_hi20 m.fix.kind ≡ true) = any-Has (λ m. is_pcrel_hi20 m.fix.kind) (marks_in st) (made_head st r.0 s.good r.1 r.2) in
-    record {
-      in_text = in_text_by l.part l.line u.0 s.stands u.1 (sym ((statement_marks st l.offset s.good).stand.0 u.0 u.1).fix.code ∙ hi20_code u.0.fix.kind u.2);
-      entered = some_there (marks_in st) r.0 r.1;
-    }
+many : (n t : ℕ) → 1 ≤ n → n ≤ 2 * t → 1 ≤ 2 * t
+many n t h k = omega (arith, h, k)
 
-many : (m n t : ℕ) → 1 ≤ n → n ≤ 2 * t → 1 ≤ 2 * t
-many m n t h k = omega (arith, h, k)
-
--- so many labels a line makes in .text
+-- so many labels a line makes, at an entry, in .text alone
 line_makes : (l : Laid) (b : Bool) → makes_label l.line.statement ≡ b → IsStanding l → (if b then 1 else 0) ≤ 2 * (if is_in Text l then taken l.line.statement l.offset else 0)
 line_makes l true e s =
-    let m : IsMaking l = making l s e in
-    subst (λ c. 1 ≤ 2 * (if c then taken l.line.statement l.offset else 0)) (sym m.in_text)
-    (many 1 (length (marks_in l.line.statement)) (taken l.line.statement l.offset) m.entered (statement_marks l.line.statement l.offset s.good).few)
+    let st : Statement = l.line.statement in
+    let marks : AreMarks (content_of st) (taken st l.offset) (marks_in st) = statement_marks st l.offset s.good in
+    let r : (m : Mark) × In m (marks_in st) × (is_made m.fix.target ≡ true) = any-Has (λ m. is_made m.fix.target) (marks_in st) e in
+    let u : (m : Mark) × In m (marks_in st) × (is_pcrel_hi20 m.fix.kind ≡ true) = any-Has (λ m. is_pcrel_hi20 m.fix.kind) (marks_in st) (made_head st r.0 s.good r.1 r.2) in
+    let text : is_in Text l ≡ true = in_text_by l.part l.line u.0 s.stands u.1 (sym (marks.stand.0 u.0 u.1).fix.code ∙ hi20_code u.0.fix.kind u.2) in
+    subst (λ c. 1 ≤ 2 * (if c then taken st l.offset else 0)) (sym text) (many (length (marks_in st)) (taken st l.offset) (some_there (marks_in st) r.0 r.1) marks.few)
 line_makes l false e s = omega arith
 
 text_taken : (b : Bool) (l : Laid) (ls : List Laid) → sum_by (λ m. taken m.line.statement m.offset) (cond b (l ∷ ls) ls) ≡ (if b then taken l.line.statement l.offset else 0) + sum_by (λ m. taken m.line.statement m.offset) ls
@@ -144,9 +114,6 @@ module _ (lines : List Laid) where
 
   own_by : (x : Label) (name : List ℕ) (t p : Bool) → x.key ≡ Named name → (t ≡ true → p ≡ true) → total label_cost (cond t (x ∷ []) []) ≤ cost (cond p (name ∷ []) [])
   own_by x name true true e h = subst (λ q. suc (length (key_name q)) + 0 ≤ suc (length name) + 0) (sym e) (itself (suc (length name) + 0))
-    where
-      itself : (n : ℕ) → n ≤ n
-      itself n = omega arith
   own_by x name true false e h = absurd (true≢false (sym (h refl)))
   own_by x name false p e h = omega arith
 
@@ -193,10 +160,7 @@ abbrev pub symbol_cost : Symbol → ℕ
 symbol_cost s = suc (length s.name)
 
 symbols_total : (lines : List Laid) → total symbol_cost (symbols lines) ≡ total label_cost (local_labels lines) + cost (other_names lines)
-symbols_total lines =
-    total-append symbol_cost (map (local_symbol lines) (local_labels lines)) (map (global_symbol lines) (other_names lines))
-    ∙ ap (λ n. n + total symbol_cost (map (global_symbol lines) (other_names lines))) (total-map symbol_cost (local_symbol lines) (local_labels lines))
-    ∙ ap (λ n. total label_cost (local_labels lines) + n) (total-map symbol_cost (global_symbol lines) (other_names lines))
+symbols_total lines = simp (total-append, total-map)
 
 -- the names of the symbols take no more bytes than the source and what labels that are made take
 pub symbols_cost : (source : List ℕ) (lines : List Laid) → placed_lines source ≡ Ok lines → total symbol_cost (symbols lines) ≤ length source + 142606337
@@ -230,10 +194,7 @@ pub headers_fit : (lines : List Laid) → length (section_rows (object_of lines)
 headers_fit lines = omega (arith, rows_count (object_of lines), few_sections lines, few_tables lines)
 
 symbols_number : (lines : List Laid) → length (symbols lines) ≡ length (local_labels lines) + length (other_names lines)
-symbols_number lines =
-    length-append (map (local_symbol lines) (local_labels lines)) (map (global_symbol lines) (other_names lines))
-    ∙ ap (λ n. n + length (map (global_symbol lines) (other_names lines))) (length-map (local_labels lines) (local_symbol lines))
-    ∙ ap (λ n. length (local_labels lines) + n) (length-map (other_names lines) (global_symbol lines))
+symbols_number lines = simp (length-append, length-map)
 
 count_le : (ss : List Symbol) → length ss ≤ total symbol_cost ss
 count_le [] = omega arith

@@ -1,23 +1,7 @@
 -- The symbols of an object, and their numbers.
 --     added            a map from keys, after one more key
 --     all_symbols      the symbols that are made are those of the lines
-use Rattle.std.proofs.Common.{◌≡◌, ℕ, ◌==◌, Bool, true, false, cond, List, Some, None, refl, ap, sym, ◌∙◌, arith, ◌||◌, not, [], ◌∷◌, ◌++◌, map, subst, ◌+◌, length, is_some, append_assoc}
-use Rattle.std.proofs.lemmas.Bool.Decides.{nat_tests}
-use Rattle.std.proofs.lemmas.List.{length_push, map-append}
-use Rattle.std.proofs.lemmas.List.Folds.{list_any-append}
-use Rattle.std.specs.BTreeMap.{get}
-use Rattle.std.specs.List.{list_any}
-use Rattle.std.specs.Option.{option_map_or}
-use Rattle.std.specs.Ordering.{nat_cmp, is_eq}
-use Rattle.std.specs.Prelude.{Option, option_map, if◌then◌else◌, filter, fold}
-use Rattle.cell_num.specs.Lists.{equals, or_else, where_true, holds_name}
-use Rattle.cell_asm.specs.Progress.{known, spot_at, Follows}
-use Rattle.cell_asm.specs.Numberings.{is_global_in, locals_in, number_of, has_key, keys_with, mentioned, home_in, symbol_in, other_in, local_in, Lists, Mentions}
-use Rattle.cell_asm.specs.Objects.{is_global, globals, local_labels, adds_name, other_names, mentions, home_at, label_named, number_in, number_from, symbol, global_symbol, local_symbol, symbols, symbol_keys, key_name}
-use Rattle.cell_asm.specs.Places.{is_key, labels, holds_key}
-use Rattle.cell_asm.specs.Types.{Key, KeyNamed as Named, KeyMade as Made, Numbering, Symbol, Local, Inside, Laid, Label, Spot, Progress, Symbols, Bind, BindGlobal as Global, NoType, Home}
-use Rattle.cell_num.proofs.Elements.{map_same, fold_same}
-use Rattle.cell_num.proofs.Sublists.{filter_same}
+use Rattle.cell_asm.proofs.Facts.{◌≡◌, ℕ, ◌==◌, Bool, true, false, cond, List, Some, None, refl, ap, sym, ◌∙◌, arith, ◌||◌, not, [], ◌∷◌, ◌++◌, map, subst, ◌+◌, length, is_some, append_assoc, nat_tests, length_push, map-append, list_any-append, get, list_any, option_map_or, nat_cmp, is_eq, Option, option_map, if◌then◌else◌, filter, fold, equals, or_else, where_true, holds_name, known, spot_at, Follows, is_global_in, locals_in, number_of, has_key, keys_with, mentioned, home_in, symbol_in, other_in, local_in, Lists, Mentions, is_global, globals, local_labels, adds_name, other_names, mentions, home_at, label_named, number_in, number_from, symbol, global_symbol, local_symbol, symbols, symbol_keys, key_name, is_key, labels, holds_key, Key, KeyNamed as Named, KeyMade as Made, Numbering, Symbol, Local, Inside, Laid, Label, Spot, Progress, Symbols, Bind, BindGlobal as Global, NoType, Home, map_same, fold_same, filter_same}
 use Rattle.cell_asm.proofs.ListLemmas.{number_more, numbered_if}
 
 pub or_none : {X : Type 0} (o : Option X) → or_else o None ≡ o

@@ -1,38 +1,16 @@
 -- Each line stands in a section that is chosen, and its bytes are within it.
-use Rattle.std.proofs.Common.{◌≡◌, ℕ, ◌+◌, ◌≤◌, List, [], ◌∷◌, ◌++◌, inl, inr, Ok, Some, None, refl, sym, subst, ◌∙◌, arith, true, Bool, false, ◌⊎◌, ap, suc, ◌^◌, ◌<◌, not, ◌&&◌, ◌||◌, map, length, take, slice_get, append-nil, true≢false}
-use Rattle.std.proofs.lemmas.Bool.{or_from}
+use Rattle.cell_asm.proofs.Facts.{◌≡◌, ℕ, ◌+◌, ◌≤◌, List, [], ◌∷◌, ◌++◌, inl, inr, Ok, Some, None, refl, sym, subst, ◌∙◌, arith, true, Bool, false, ◌⊎◌, ap, suc, ◌^◌, ◌<◌, not, ◌&&◌, ◌||◌, map, length, take, slice_get, append-nil, true≢false, or_from, length-map, take-map, filter_map-append, filter-append, list_any-append, slice_get_within, list_any, option_map_or, Option, filter, bytes_eq, IsWithin, IsWritableHome, IsWritableSymbol, last, equals, local_count, is_global_name, defines, IsPlain, lines_in, placed_lines, is_name, parts_of, key_name, label_names, mentions, statement_names, part_number, section_of, sections, globals, local_labels, other_names, label_named, home_at, local_symbol, global_symbol, symbols, object_of, is_same_part, is_at, is_in, choice, choices, taken, size_in, placed, keys_of, labels_at, labels, holds_key, is_key, Part, Laid, Key, KeyNamed as Named, Label, Symbol, In, In-map, In-none, filter_all, filter_none, In-left, In-flat_map, In-filtered, filter-In, found-In, get-In, names_in, makes_label, own_key, KeyMade as Made, In-one, if◌then◌else◌}
 use Rattle.std.proofs.Math.Seq.{take-append-add}
-use Rattle.std.proofs.lemmas.List.{length-map, take-map}
-use Rattle.std.proofs.lemmas.List.Elements.{filter_map-append, filter-append}
-use Rattle.std.proofs.lemmas.List.Folds.{list_any-append}
-use Rattle.std.proofs.lemmas.Option.{slice_get_within}
-use Rattle.std.specs.List.{list_any}
-use Rattle.std.specs.Option.{option_map_or}
-use Rattle.std.specs.Prelude.{Option, filter}
-use Rattle.std.specs.Str.{bytes_eq}
-use Rattle.cell_image.proofs.Ruled.{IsWithin, IsWritableHome, IsWritableSymbol}
-use Rattle.cell_num.specs.Lists.{last, equals}
-use Rattle.cell_object.specs.Image.{local_count}
 use Rattle.cell_object.specs.Parts.{is_global, is_local}
-use Rattle.cell_object.specs.Symbols.{is_global_name, defines}
-use Rattle.cell_object.specs.Writable.{IsPlain}
 use Rattle.cell_object.specs.declared.object.Bind.TheVariants as binds
-use Rattle.cell_text.specs.Text.{lines_in}
-use Rattle.cell_asm.specs.Assembled.{placed_lines}
-use Rattle.cell_asm.specs.Names.{is_name}
-use Rattle.cell_asm.specs.Objects.{parts_of, key_name, label_names, mentions, statement_names, part_number, number_in, section_of, sections, globals, local_labels, other_names, label_named, home_at, local_symbol, global_symbol, symbols, object_of}
 use Rattle.cell_asm.specs.Objects as objects
-use Rattle.cell_asm.specs.Places.{is_same_part, is_at, is_in, choice, choices, taken, size_in, placed, keys_of, labels_at, labels, holds_key, is_key}
-use Rattle.cell_asm.specs.Types.{Part, Laid, Key, KeyNamed as Named, Label, Symbol}
-use Rattle.cell_asm.proofs.EntriesFit.{section_small, stacked, stack_inside}
-use Rattle.cell_num.proofs.Elements.{In, In-map, In-none, filter_all, filter_none, In-left, In-flat_map, In-filtered, filter-In, found-In, get-In}
+use Rattle.cell_asm.proofs.EntriesFit.{section_small, stacked}
 use Rattle.cell_asm.proofs.ListLemmas.{fold_there, get_split, get_map, get_mapped, AreApart, fold_apart, fold_In, before_fails}
 use Rattle.cell_asm.proofs.NamesFit.{key_fits, AreNames, IsGoodName, name_fits}
 use Rattle.cell_asm.proofs.ObjectLemmas.{part_itself, same_part}
 use Rattle.cell_asm.proofs.PlacingLemmas.{Goes, grows, pushed, each_line}
-use Rattle.cell_asm.specs.Progress.{names_in}
 use Rattle.cell_asm.proofs.ReadLines.{read_line}
-use Rattle.cell_asm.proofs.SymbolPlaces.{names_apart, IsOwn, IsMade, key_of_line, IsAt, label_at, not_both}
+use Rattle.cell_asm.proofs.SymbolPlaces.{names_apart, IsAt, label_at}
 use Rattle.cell_asm.proofs.WritableEntries.{part_numbered}
 
 abbrev AllChosen : List Laid → Type 0
@@ -60,7 +38,7 @@ all_chosen source lines e = grows AllChosen goes (lines_in source) lines (λ l k
 -- the bytes of a line are within its section
 line_inside : (source : List ℕ) (lines : List Laid) (l : Laid) (part : Part) → placed_lines source ≡ Ok lines → In l lines → l.part ≡ Some part → l.offset + taken l.line.statement l.offset ≤ size_in part lines
 line_inside source lines l part e k at =
-    omega (arith, stack_inside 0 (filter (is_in part) lines) (stacked source lines part e) l (filter-In (is_in part) lines l k (ap (is_at part) at ∙ part_itself part)))
+    (stacked source lines part e).inside l (filter-In (is_in part) lines l k (ap (is_at part) at ∙ part_itself part))
 
 -- The sections that a source chooses.
 --     part_there lines part    a section that a line chooses stands among them
@@ -94,13 +72,17 @@ named_once : (a b : List ℕ) (k : Key) → k ≡ Named a → k ≡ Named b → 
 named_once a b k e f = cc
 
 key_named : (l : Laid) (key : Key) (name : List ℕ) → In key (keys_of l) → key ≡ Named name → In name (names_in l.line)
-key_named l key name k e = go (key_of_line l key k)
+key_named l key name k e = In-left (label_names l.line.label) (statement_names l.line.statement) name (go l.line.label (makes_label l.line.statement) k)
   where
-    go : IsOwn l.line key ⊎ IsMade l.line l.made key → In name (names_in l.line)
-    go (inl own) =
-        let same : name ≡ own.name = named_once name own.name key e own.named in
-        In-left (label_names l.line.label) (statement_names l.line.statement) name (subst (λ o. In name (label_names o)) (sym own.labelled) (inl same))
-    go (inr made) = absurd (not_both name l.made key e made.made)
+    made_named : key ≡ Made l.made → ⊥
+    made_named is = absurd cc
+
+    go : (o : Option (List ℕ)) (b : Bool) → In key (own_key o ++ (if b then Made l.made ∷ [] else [])) → In name (label_names o)
+    go None true i = made_named (In-one key (Made l.made) i)
+    go None false i = i
+    go (Some own) b (inl is) = inl (named_once name own key e is)
+    go (Some own) true (inr i) = absurd (made_named (In-one key (Made l.made) i))
+    go (Some own) false (inr i) = absurd i
 
 label_fits : (source : List ℕ) (lines : List Laid) (l : Laid) (m : Label) → placed_lines source ≡ Ok lines → In l lines → l.part ≡ Some m.part → m.offset ≡ l.offset → In m.key (keys_of l) → IsFitLabel lines m
 label_fits source lines l m e k part offset key = record {

@@ -2,30 +2,12 @@
 --     part_numbered        the n-th section that is chosen has the number n + 1
 --     entries_of_part      its entries are those with its number
 --     entries_grouped      all entries are those of the first section, of the second, and so on
-use Rattle.std.proofs.Common.{◌≡◌, ℕ, zero, suc, ◌+◌, ◌<◌, ◌==◌, Bool, true, false, ◌||◌, not, cond, List, [], ◌∷◌, ◌++◌, inl, map, length, slice_get, Ok, Some, None, refl, sym, ap, ◌∙◌, append-nil, one-add, true≢false, arith, ◌-◌, pos, ◌&&◌, subst, int_eq, ◌%◌, ◌^◌, ◌≤◌, take}
-use Rattle.std.proofs.lemmas.Bool.{and_parts, and_from, not-false, lt-ltb, ne_eqb}
-use Rattle.std.proofs.Math.Bool.{and-false}
-use Rattle.std.proofs.lemmas.Bool.Decides.{nat_tests}
-use Rattle.std.proofs.lemmas.List.Elements.{filter-append}
-use Rattle.std.proofs.lemmas.Option.{slice_get_within}
-use Rattle.std.specs.Int.{w64}
-use Rattle.std.specs.List.{list_any, position_or_len}
-use Rattle.std.specs.Option.{option_map_or}
-use Rattle.std.specs.Prelude.{nat_lt, filter, flat_map, Option, if◌then◌else◌, find, FitsSigned}
-use Rattle.cell_image.proofs.Ruled.{IsStorable, IsWritableEntry}
-use Rattle.cell_num.specs.Kinds.{is_instruction, is_pcrel_lo12, is_pcrel_hi20}
-use Rattle.cell_num.specs.Lists.{numbered_from}
+use Rattle.cell_asm.proofs.Facts.{◌≡◌, ℕ, zero, suc, ◌+◌, ◌<◌, ◌==◌, Bool, true, false, ◌||◌, not, cond, List, [], ◌∷◌, ◌++◌, inl, map, length, slice_get, Ok, Some, None, refl, sym, ap, ◌∙◌, append-nil, one-add, true≢false, arith, ◌-◌, pos, ◌&&◌, subst, int_eq, ◌%◌, ◌^◌, ◌≤◌, take, and_parts, and_from, not-false, lt-ltb, ne_eqb, and-false, nat_tests, filter-append, slice_get_within, list_any, position_or_len, option_map_or, nat_lt, filter, flat_map, Option, if◌then◌else◌, find, IsStorable, IsWritableEntry, is_instruction, is_pcrel_lo12, is_pcrel_hi20, numbered_from, is_label, is_label_symbol, is_unpaired, is_unusable, placed_lines, has_upper, is_upper_label, is_lost, is_lost_mark, has_lost, parts_of, part_number, section_of, sections, entries_in, entries, label_named, entries_of, target_names, statement_names, label_names, mentions, symbols, symbol_number, target_key, entry_of, fill_of, is_text, object_of, marks_in, is_same_part, is_in, choices, may_stand, is_made, makes_label, own_key, made_key, keys_of, label, labels_at, labels, is_key, Entry, Part, Laid, Inside, Text, Target, Mark, Statement, Bytes, Label, Key, KeyNamed as Named, KeyMade as Made, Section, Zero, Bss, In, map-In, In-right, filter-In, flat_map-In, unfound-In, found-In, any-Has, any-In, none-In, In-flat_map, get-In, filter_all, filter_none}
 use Rattle.cell_object.specs.ImageParts.{entries_for}
-use Rattle.cell_object.specs.Relocations.{is_label, is_label_symbol, has_label, is_unpaired, is_unusable}
-use Rattle.cell_object.specs.Sound.{is_known_kind}
-use Rattle.cell_asm.specs.Assembled.{placed_lines, has_upper, is_upper_label, is_lost, is_lost_mark, has_lost}
-use Rattle.cell_asm.specs.Objects.{parts_of, part_number, section_of, sections, entries_in, entries, label_named, entries_of, target_names, statement_names, label_names, mentions, symbols, symbol_number, target_key, entry_of, fill_of, is_text, object_of}
-use Rattle.cell_asm.specs.Places.{marks_in, is_same_part, is_in, choices, may_stand, is_made, makes_label, own_key, made_key, keys_of, label, labels_at, labels, is_key}
-use Rattle.cell_asm.specs.Types.{Entry, Part, Laid, Inside, Text, Target, Mark, Statement, Bytes, Label, Key, KeyNamed as Named, KeyMade as Made, Section, Zero, Bss}
+use Rattle.cell_object.specs.Relocations.{has_label}
 use Rattle.cell_asm.specs.declared.statement.Target.TheVariants as targets
 use Rattle.cell_asm.proofs.EntriesFit.{entry_origin, IsStanding, all_stand, at_part, Origin, in_fours, line_room, largest_most, entry_high, entries_apart, apart_take}
 use Rattle.cell_asm.proofs.GoodBlocks.{is_code, lo12_code, any_upper, IsGoodStatement, content_of, statement_taken, IsTaken}
-use Rattle.cell_num.proofs.Elements.{In, map-In, In-right, filter-In, flat_map-In, unfound-In, found-In, any-Has, any-In, none-In, In-flat_map, get-In, filter_all, filter_none}
 use Rattle.cell_asm.proofs.ListLemmas.{AreApart, fold_apart, get_map, same_of, same_test}
 use Rattle.cell_asm.proofs.ObjectLemmas.{same_part, part_itself}
 use Rattle.cell_asm.proofs.SymbolPlaces.{same_key, labels_once, has_symbol, mentioned_there, made_there, one_less, label_symbol, number_small, number_usable}
@@ -111,7 +93,7 @@ module _ {A : Type 0} (g : A → List Entry) (number : A → ℕ) (own : (a : A)
 
 module _ (source : List ℕ) (lines : List Laid) (read : placed_lines source ≡ Ok lines) where
   own_section : (part : Part) (e : Entry) → In e (entries_in lines part) → e.section ≡ part_number lines part
-  own_section part e k = (entry_origin source lines read part e k).comes.section_is
+  own_section part e k = ap (λ x. x.section) (entry_origin source lines read part e k).comes.is
 
   parts_rise : Rises (entries_in lines) (part_number lines) own_section 1 (parts_of lines)
   parts_rise = rises (entries_in lines) (part_number lines) own_section (parts_of lines) 1 (λ n part e. (omega (arith, part_numbered lines n part e)))
@@ -273,22 +255,22 @@ module _ (source : List ℕ) (lines : List Laid) (read : placed_lines source ≡
   text_label part e o low =
       let c = o.comes in
       let s = all_stand source lines read o.l o.in_lines in
-      let code : is_code (content_of o.l.line.statement) ≡ true = sym c.good.code ∙ lo12_code c.m.fix.kind low in
+      let code : is_code (content_of o.l.line.statement) ≡ true = sym c.within.fix.code ∙ lo12_code c.m.fix.kind low in
       let text : part ≡ Text = (line_taken part o.l c.m s o.in_part c.there).coded code in
       let in_text : is_in Text o.l ≡ true = subst (λ q. is_in q o.l ≡ true) text o.in_part in
       let named : IsNamed (target_key o.l c.m.fix.target) = target_named o.l c.m c.m.fix.target o.in_lines in_text c.there refl (not_lost o.l c.m o.in_lines c.there low) in
       subst (λ q. has_label e.section (entries_in lines q) (symbols lines) e.symbol ≡ true) (sym text)
-      (ap (has_label e.section (entries_in lines Text) (symbols lines)) c.symbol_is
-      ∙ symbol_upper (target_key o.l c.m.fix.target) e.section (c.section_is ∙ ap (part_number lines) text) named)
+      (ap (λ x. has_label x.section (entries_in lines Text) (symbols lines) x.symbol) c.is
+      ∙ symbol_upper (target_key o.l c.m.fix.target) (part_number lines part) (ap (part_number lines) text) named)
 
   by_kind : (part : Part) (e : Entry) (b : Bool) → is_pcrel_lo12 e.kind ≡ b → In e (entries_in lines part) → is_unpaired (symbols lines) (entries_in lines part) e.section e.kind e.addend e.symbol ≡ false
   by_kind part e false h k = ap (λ b. b && (not (int_eq e.addend (pos 0)) || not (has_label e.section (entries_in lines part) (symbols lines) e.symbol))) h
   by_kind part e true h k =
       let o : Origin source lines read part e = entry_origin source lines read part e k in
-      let low : is_pcrel_lo12 o.comes.m.fix.kind ≡ true = ap is_pcrel_lo12 (sym o.comes.kind_is) ∙ h in
+      let low : is_pcrel_lo12 o.comes.m.fix.kind ≡ true = ap (λ x. is_pcrel_lo12 x.kind) (sym o.comes.is) ∙ h in
       ap (λ b. b && (not (int_eq e.addend (pos 0)) || not (has_label e.section (entries_in lines part) (symbols lines) e.symbol))) h
       ∙ neither (int_eq e.addend (pos 0)) (has_label e.section (entries_in lines part) (symbols lines) e.symbol)
-      (ap (λ z. int_eq z (pos 0)) (o.comes.addend_is ∙ o.comes.good.plain low)) (text_label part e o low)
+      (ap (λ x. int_eq x.addend (pos 0)) o.comes.is ∙ ap (λ z. int_eq z (pos 0)) (o.comes.within.fix.plain low)) (text_label part e o low)
 
   pub entry_paired : (part : Part) (e : Entry) → In e (entries_in lines part) → is_unpaired (symbols lines) (entries_in lines part) e.section e.kind e.addend e.symbol ≡ false
   entry_paired part e k = by_kind part e (is_pcrel_lo12 e.kind) refl k
@@ -316,12 +298,10 @@ module _ (source : List ℕ) (lines : List Laid) (read : placed_lines source ≡
   offset_small part e o = omega (arith, o.comes.high, line_room part o.l (stands part e o) o.in_part, largest_most part)
 
   storable : (part : Part) (e : Entry) → length (symbols lines) < 2 ^ 32 → Origin source lines read part e → IsStorable e
-  storable part e few o = record {
-    kind = ap is_known_kind o.comes.kind_is ∙ o.comes.good.known;
-    offset = offset_small part e o;
-    symbol = subst (λ n. n < 2 ^ 32) (sym o.comes.symbol_is) (omega (arith, (number_small lines (target_key o.l o.comes.m.fix.target)), few));
-    addend = subst (FitsSigned w64) (sym o.comes.addend_is) o.comes.good.addend;
-  }
+  storable part e few o =
+      let n : symbol_number lines (target_key o.l o.comes.m.fix.target) ≤ length (symbols lines) = number_small lines (target_key o.l o.comes.m.fix.target) in
+      subst IsStorable (sym o.comes.is)
+      (record { kind = o.comes.within.fix.known; offset = subst (λ x. x.offset < 2 ^ 32) o.comes.is (offset_small part e o); symbol = omega (arith, n, few); addend = o.comes.within.fix.addend })
 
   pub entry_storable : length (symbols lines) < 2 ^ 32 → (k : ℕ) (e : Entry) → slice_get (entries lines) k ≡ Some e → IsStorable e
   entry_storable few k e g =
@@ -332,10 +312,13 @@ module _ (source : List ℕ) (lines : List Laid) (read : placed_lines source ≡
   taken_in part e o = line_taken part o.l o.comes.m (stands part e o) o.in_part o.comes.there
 
   in_code : (part : Part) (e : Entry) (o : Origin source lines read part e) → is_instruction e.kind ≡ true → part ≡ Text
-  in_code part e o i = (taken_in part e o).coded (sym o.comes.good.code ∙ ap is_instruction (sym o.comes.kind_is) ∙ i)
+  in_code part e o i = (taken_in part e o).coded (sym o.comes.within.fix.code ∙ ap (λ x. is_instruction x.kind) (sym o.comes.is) ∙ i)
 
   at_four : (part : Part) (e : Entry) (o : Origin source lines read part e) → part ≡ Text → e.offset % 4 ≡ 0
-  at_four part e o text = o.comes.fours ((taken_in part e o).wide text) ∙ in_fours source lines read o.l o.in_lines (subst (λ q. is_in q o.l ≡ true) text o.in_part)
+  at_four part e o text =
+      let f : o.comes.m.at % 4 ≡ 0 = o.comes.within.fours ((taken_in part e o).wide text) in
+      let l : o.l.offset % 4 ≡ 0 = in_fours source lines read o.l o.in_lines (subst (λ q. is_in q o.l ≡ true) text o.in_part) in
+      omega (arith, f, l, ap (λ x. x.offset) o.comes.is)
 
   coded : (part : Part) (e : Entry) (o : Origin source lines read part e) (b : Bool) → is_instruction e.kind ≡ b → (is_instruction e.kind && (not (is_text part) || not (e.offset % 4 == 0))) ≡ false
   coded part e o true i =
@@ -349,8 +332,8 @@ module _ (source : List ℕ) (lines : List Laid) (read : placed_lines source ≡
         let o : Origin source lines read part e = entry_origin source lines read part e i in
         record {
           filled = λ z. (taken_in part e o).filled (zero_fill part z);
-          symbol = subst (λ n. n ≤ length (symbols lines)) (sym o.comes.symbol_is) (number_small lines (target_key o.l o.comes.m.fix.target));
-          usable = ap (is_unusable (symbols lines)) o.comes.symbol_is ∙ number_usable lines (target_key o.l o.comes.m.fix.target);
+          symbol = subst (λ x. x.symbol ≤ length (symbols lines)) (sym o.comes.is) (number_small lines (target_key o.l o.comes.m.fix.target));
+          usable = ap (λ x. is_unusable (symbols lines) x.symbol) o.comes.is ∙ number_usable lines (target_key o.l o.comes.m.fix.target);
           inside = entry_high source lines read part e i;
           code = coded part e o (is_instruction e.kind) refl;
           apart = apart_take (entries_in lines part) k e (entries_apart source lines read part) g;

@@ -1,8 +1,5 @@
-use Rattle.std.proofs.Common.{◌≡◌, ◌+◌, ◌*◌, ◌<◌, take, length, get_or, ap, sym, ◌∙◌, arith}
+use Rattle.cell_asm.proofs.Facts.{◌≡◌, ◌+◌, ◌*◌, ◌<◌, take, length, get_or, ap, sym, ◌∙◌, arith, digit_value, digits_value, held}
 use Rattle.std.proofs.lemmas.Int.Digits.{digits_value_more}
-use Rattle.std.specs.Char.{digit_value}
-use Rattle.std.specs.Str.Parse.{digits_value}
-use Rattle.cell_asm.specs.Names.{held}
 use Rattle.cell_asm.proofs.ReadingLemmas.{held_step}
 use Rattle.cell_asm.proofs.number.value.Goals as goal
 

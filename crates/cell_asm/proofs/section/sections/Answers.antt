@@ -1,6 +1,4 @@
-use Rattle.std.proofs.Common.{◌<◌, ◌++◌, ◌∷◌, [], map, take, length, ap, sym, ◌∙◌, arith}
-use Rattle.std.proofs.lemmas.List.{map_more}
-use Rattle.cell_asm.specs.Numberings.{section_kept}
+use Rattle.cell_asm.proofs.Facts.{◌<◌, ◌++◌, ◌∷◌, [], map, take, length, ap, sym, ◌∙◌, arith, map_more, section_kept}
 use Rattle.cell_asm.proofs.section.sections.Goals as goal
 
 pub loop-part-preserved : goal.loop-part-preserved

@@ -1,5 +1,4 @@
-use Rattle.std.proofs.Common.{ℕ, List, Bor, Err, ◌+◌, ◌<◌, [], map, drop, length, get_or, Ok, sym, subst, arith}
-use Rattle.cell_asm.specs.Progress.{Places}
+use Rattle.cell_asm.proofs.Facts.{ℕ, List, Bor, Err, ◌+◌, ◌<◌, [], map, drop, length, get_or, Ok, sym, subst, arith, Places}
 use Rattle.cell_asm.proofs.PlacingLemmas.{placed_from, IsPlaced, next_placed, stopped, dropped}
 use Rattle.cell_asm.proofs.source.place_lines.Goals as goal
 
