@@ -55,10 +55,7 @@ pub zeros_more : (bs : List ℕ) (i : ℕ) → bs ++ replicate (i + 1) 0 ≡ (bs
 zeros_more bs i = ap (λ xs. bs ++ xs) (sym (replicate-append-replicate i 1 0)) ∙ sym (append_assoc bs (replicate i 0) (0 ∷ []))
 
 pub nops_more : (bs : List ℕ) (i : ℕ) → bs ++ flat_map (λ word. bytes_of 4 word) (replicate (i + 1) 0x13) ≡ (bs ++ flat_map (λ word. bytes_of 4 word) (replicate i 0x13)) ++ bytes_of 4 0x13
-nops_more bs i =
-    ap (λ xs. bs ++ flat_map (λ word. bytes_of 4 word) xs) (sym (replicate-append-replicate i 1 0x13))
-    ∙ ap (λ ys. bs ++ ys) (flat_map-append (λ word. bytes_of 4 word) (replicate i 0x13) (0x13 ∷ []))
-    ∙ sym (append_assoc bs (flat_map (λ word. bytes_of 4 word) (replicate i 0x13)) (bytes_of 4 0x13))
+nops_more bs i = rw (← (replicate-append-replicate {A = ℕ} i 1 0x13), flat_map-append, append_assoc) refl
 
 -- REFERENCES
 
@@ -95,12 +92,8 @@ module _ (part : Part) (e : Reference → Entry) where
   kept_in : (l : Laid) (ms : List Mark) (b : Bool) → is_in part l ≡ b → map e (filter (λ r. is_at part r.part) (map (reference_at l) ms)) ≡ cond b (map (λ m. e (reference_at l m)) ms) []
   kept_in l [] true h = refl
   kept_in l [] false h = refl
-  kept_in l (m ∷ ms) true h =
-      ap (λ b. map e (cond b (reference_at l m ∷ filter (λ r. is_at part r.part) (map (reference_at l) ms)) (filter (λ r. is_at part r.part) (map (reference_at l) ms)))) h
-      ∙ ap (λ es. e (reference_at l m) ∷ es) (kept_in l ms true h)
-  kept_in l (m ∷ ms) false h =
-      ap (λ b. map e (cond b (reference_at l m ∷ filter (λ r. is_at part r.part) (map (reference_at l) ms)) (filter (λ r. is_at part r.part) (map (reference_at l) ms)))) h
-      ∙ kept_in l ms false h
+  kept_in l (m ∷ ms) true h = simp (h, kept_in l ms true h)
+  kept_in l (m ∷ ms) false h = simp (h, kept_in l ms false h)
 
   joined : (b : Bool) (l : Laid) (ls : List Laid) → cond b (map (λ m. e (reference_at l m)) (marks_in l.line.statement)) [] ++ flat_map (λ x. map (λ m. e (reference_at x m)) (marks_in x.line.statement)) ls
       ≡ flat_map (λ x. map (λ m. e (reference_at x m)) (marks_in x.line.statement)) (cond b (l ∷ ls) ls)
@@ -110,12 +103,7 @@ module _ (part : Part) (e : Reference → Entry) where
   pub kept_of : (lines : List Laid) → map e (filter (λ r. is_at part r.part) (flat_map references_of lines))
       ≡ flat_map (λ l. map (λ m. e (reference_at l m)) (marks_in l.line.statement)) (filter (is_in part) lines)
   kept_of [] = refl
-  kept_of (l ∷ ls) =
-      ap (map e) (filter-append (λ r. is_at part r.part) (references_of l) (flat_map references_of ls))
-      ∙ map-append e (filter (λ r. is_at part r.part) (references_of l)) (filter (λ r. is_at part r.part) (flat_map references_of ls))
-      ∙ ap (λ es. es ++ map e (filter (λ r. is_at part r.part) (flat_map references_of ls))) (kept_in l (marks_in l.line.statement) (is_in part l) refl)
-      ∙ ap (λ es. cond (is_in part l) (map (λ m. e (reference_at l m)) (marks_in l.line.statement)) [] ++ es) (kept_of ls)
-      ∙ joined (is_in part l) l (filter (is_in part) ls)
+  kept_of (l ∷ ls) = rw (filter-append, map-append, kept_in l (marks_in l.line.statement) (is_in part l) refl, kept_of ls) (joined (is_in part l) l (filter (is_in part) ls))
 
 -- THE OBJECT, BY WHAT IS KEPT
 
@@ -163,6 +151,4 @@ module _ (kept : Progress) (lines : List Laid) (h : Follows kept lines) where
       → ss ≡ map (section_kept kept.parts.items kept.bodies) kept.parts.items → list ≡ s.list.items → es ≡ flat_map (part_entries kept s) kept.parts.items → object ss list es ≡ object_of lines
   object_is s ss list es m sectioned listed entered =
       let made = all_symbols kept lines h s m in
-      ap (λ x. object x list es) (sectioned ∙ sections_are)
-      ∙ ap (λ x. object (sections lines) x es) (listed ∙ made.list)
-      ∙ ap (object (sections lines) (symbols lines)) (entered ∙ entries_are s made)
+      rw (sectioned, sections_are, listed, made.list, entered, entries_are s made) refl

@@ -31,22 +31,14 @@ pub labels_push : (lines : List Laid) (l : Laid) → labels (lines ++ l ∷ []) 
 labels_push lines l = flat_more (λ m. labels_at m.part m.offset (keys_of m)) lines l
 
 spot_more : (before : List Laid) (l : Laid) (q : List ℕ) → spot_among (labels (before ++ l ∷ [])) q ≡ or_else (spot_among (labels before) q) (spot_here l.part l.offset l.line.label q)
-spot_more before l q =
-    let new : List Label = labels_at l.part l.offset (keys_of l) in
-    ap (λ ls. spot_among ls q) (labels_push before l)
-    ∙ ap (option_map spot_at) (find-append (λ m. is_key m.key (Named q)) (labels before) new)
-    ∙ mapped_or (find (λ m. is_key m.key (Named q)) (labels before)) (find (λ m. is_key m.key (Named q)) new)
-    ∙ ap (or_else (spot_among (labels before) q)) (here_is l.part l.offset l.made l.line.label l.line.statement q)
+spot_more before l q = simp (labels_push before l, find-append, mapped_or, here_is l.part l.offset l.made l.line.label l.line.statement q)
 
 declared : (q : List ℕ) (s : Statement) → list_any (λ other. equals other q) (cons_option (global_name s) []) ≡ declares q s
 declared q (Global name) = or-false (equals name q)
 declared q _ = refl
 
 global_more : (before : List Laid) (l : Laid) (q : List ℕ) → holds_name (globals (before ++ l ∷ [])) q ≡ (holds_name (globals before) q || declares q l.line.statement)
-global_more before l q =
-    ap (λ names. holds_name names q) (filter_map-append (λ m. global_name m.line.statement) before (l ∷ []))
-    ∙ list_any-append (λ other. equals other q) (globals before) (cons_option (global_name l.line.statement) [])
-    ∙ ap (λ b. holds_name (globals before) q || b) (declared q l.line.statement)
+global_more before l q = simp (filter_map-append, list_any-append, declared q l.line.statement)
 
 -- whether a label has the name
 found_is : (p : Label → Bool) (ls : List Label) → is_some (option_map spot_at (find p ls)) ≡ list_any p ls
@@ -87,18 +79,14 @@ last_more xs None = ap last (append-nil xs)
 last_more xs (Some x) = last_push xs x
 
 chosen_more : (before : List Laid) (l : Laid) → last (choices (before ++ l ∷ [])) ≡ or_else (choice l.line.statement) (last (choices before))
-chosen_more before l =
-    ap last (filter_map-append (λ m. choice m.line.statement) before (l ∷ [])) ∙ last_more (choices before) (choice l.line.statement)
+chosen_more before l = simp (filter_map-append, last_more (choices before) (choice l.line.statement))
 
 one_size : (part : Part) (l : Laid) (b : Bool) → sum_by (λ m. taken m.line.statement m.offset) (cond b (l ∷ []) []) ≡ (if b then taken l.line.statement l.offset else 0)
 one_size part l true = zero-add (taken l.line.statement l.offset)
 one_size part l false = refl
 
 pub size_more : (part : Part) (before : List Laid) (l : Laid) → size_in part (before ++ l ∷ []) ≡ size_in part before + (if is_in part l then taken l.line.statement l.offset else 0)
-size_more part before l =
-    ap (sum_by (λ m. taken m.line.statement m.offset)) (filter-append (is_in part) before (l ∷ []))
-    ∙ sum_by-append (λ m. taken m.line.statement m.offset) (filter (is_in part) before) (filter (is_in part) (l ∷ []))
-    ∙ ap (λ n. size_in part before + n) (one_size part l (is_in part l))
+size_more part before l = simp (filter-append, sum_by-append, one_size part l (is_in part l))
 
 pub made_more : (before : List Laid) (l : Laid) → made_in (before ++ l ∷ []) ≡ made_in before + (if makes_label l.line.statement then 1 else 0)
 made_more before l =
@@ -117,17 +105,12 @@ any_more : {X : Type 0} (p : X → Bool) (xs : List X) (x : X) → list_any p (x
 any_more p xs x = list_any-append p xs (x ∷ []) ∙ ap (λ b. list_any p xs || b) (or-false (p x))
 
 parts_more : (before : List Laid) (l : Laid) → parts_of (before ++ l ∷ []) ≡ adds_choice (parts_of before) l.line.statement
-parts_more before l =
-    ap (fold adds_part []) (filter_map-append (λ m. choice m.line.statement) before (l ∷ []))
-    ∙ fold-append adds_part [] (choices before) (choices (l ∷ []))
+parts_more before l = simp (filter_map-append, fold-append)
 
 -- the alignment, the size and the bytes of a section
 module _ (part : Part) (before : List Laid) (l : Laid) where
   aligned : (b : Bool) → is_in part l ≡ b → alignment part (before ++ l ∷ []) ≡ (if b then max (alignment part before) (alignment_asked l.line.statement) else alignment part before)
-  aligned true e =
-      ap (λ ls. fold max (first_alignment part) (map (λ m. alignment_asked m.line.statement) ls)) (filter_more (is_in part) before l true e)
-      ∙ ap (fold max (first_alignment part)) (map-append (λ m. alignment_asked m.line.statement) (filter (is_in part) before) (l ∷ []))
-      ∙ fold-append max (first_alignment part) (map (λ m. alignment_asked m.line.statement) (filter (is_in part) before)) (alignment_asked l.line.statement ∷ [])
+  aligned true e = simp (filter_more (is_in part) before l true e, map-append, fold-append)
   aligned false e = ap (λ ls. fold max (first_alignment part) (map (λ m. alignment_asked m.line.statement) ls)) (filter_more (is_in part) before l false e)
 
   sized : (b : Bool) → is_in part l ≡ b → l.offset ≡ size_at l.part before
@@ -142,9 +125,7 @@ bytes_more : (part : Part) (before : List Laid) (l : Laid) (b : Bool) → is_in 
     → contents part (before ++ l ∷ []) ≡ (if b then contents part before ++ bytes_laid part l.offset l.line.statement else contents part before)
 bytes_more Bss before l true e = refl
 bytes_more Bss before l false e = refl
-bytes_more part before l true e =
-    ap (flat_map (λ m. bytes_at part m.offset m.line.statement)) (filter_more (is_in part) before l true e)
-    ∙ flat_more (λ m. bytes_at part m.offset m.line.statement) (filter (is_in part) before) l
+bytes_more part before l true e = simp (filter_more (is_in part) before l true e, flat_more)
 bytes_more part before l false e = ap (flat_map (λ m. bytes_at part m.offset m.line.statement)) (filter_more (is_in part) before l false e)
 
 triple : (a b m n : ℕ) (xs ys : List ℕ) → a ≡ b → m ≡ n → xs ≡ ys → ◌≡◌ {A = ℕ × ℕ × List ℕ} (a, m, xs) (b, n, ys)

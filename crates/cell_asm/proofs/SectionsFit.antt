@@ -11,10 +11,7 @@ use Rattle.cell_asm.proofs.WritableEntries.{part_numbered}
 
 nops_count : (m : ℕ) → length (flat_map (λ word. bytes_of 4 word) (replicate m 0x13)) ≡ 4 * m
 nops_count zero = refl
-nops_count (suc m) =
-    length-append (bytes_of 4 0x13) (flat_map (λ word. bytes_of 4 word) (replicate m 0x13))
-    ∙ ap (λ n. 4 + n) (nops_count m)
-    ∙ (omega arith)
+nops_count (suc m) = omega (arith, length-append (bytes_of 4 0x13) (flat_map (λ word. bytes_of 4 word) (replicate m 0x13)), nops_count m)
 
 padding_length : (part : Part) (n : ℕ) → (is_text part ≡ true → n % 4 ≡ 0) → length (padding part n) ≡ n
 padding_length Text n h = nops_count (n / 4) ∙ (omega (arith, h refl))

@@ -298,11 +298,7 @@ mark_names at None = refl
 mark_names at (Some f) = append-nil (target_names f.target)
 
 piece_names : (b : Block) (p : Piece) → names_of (appended b p).marks ≡ names_of b.marks ++ (fix_names p.fix ++ fix_names p.second)
-piece_names b p =
-    let n : ℕ = length b.bytes in
-    flat_map-append (λ x. target_names x.fix.target) b.marks (marks_at n p.fix ++ marks_at n p.second)
-    ∙ ap (λ ns. names_of b.marks ++ ns)
-    (flat_map-append (λ x. target_names x.fix.target) (marks_at n p.fix) (marks_at n p.second) ∙ ap (λ ns. ns ++ names_of (marks_at n p.second)) (mark_names n p.fix) ∙ ap (λ ns. fix_names p.fix ++ ns) (mark_names n p.second))
+piece_names b p = simp (flat_map-append, mark_names)
 
 module _ (w : Width) where
   abbrev bytes : ℕ

@@ -87,10 +87,9 @@ goes before n text line h e f =
           ∙ pairs-append keys_apart (labels before) (labels_at new.part new.offset (keys_of new)) h.once (line_once new.part new.offset new.made line.label b)
           (λ x y i j. ap not (none-In (λ l. is_key l.key y.key) (labels before) (fresh before line.label b new.made twice next y.key (label_at new.part new.offset (keys_of new) y j).key_in) x i));
       made = λ m less.
-          ap (λ ls. holds_key ls (Made m)) (labels_push before new)
-          ∙ list_any-append (λ l. is_key l.key (Made m)) (labels before) (labels_at new.part new.offset (keys_of new))
-          ∙ or_from (holds_key (labels before) (Made m)) (holds_key (labels_at new.part new.offset (keys_of new)) (Made m)) (h.made m (omega (arith, made_more before new, less)))
-          (line_makes new.part new.offset new.made m line.label b (λ t. ne_eqb new.made m (λ same. omega (arith, made_more before new ∙ ap (λ c. made_in before + (if c then 1 else 0)) t, less, same))));
+          rw (labels_push before new, list_any-append)
+          (or_from _ _ (h.made m (omega (arith, made_more before new, less)))
+          (line_makes new.part new.offset new.made m line.label b (λ t. ne_eqb new.made m (λ same. omega (arith, made_more before new ∙ ap (λ c. made_in before + (if c then 1 else 0)) t, less, same)))));
     }
 
 pub labels_once : (source : List ℕ) (lines : List Laid) → placed_lines source ≡ Ok lines → (a b : Label) → In a (labels lines) → In b (labels lines) → a.key ≡ b.key → a ≡ b
@@ -191,9 +190,7 @@ one_less i = omega arith
 usable_by : (lines : List Laid) (key : Key) (b : Bool) → has_symbol lines key ≡ b → is_unusable (symbols lines) (symbol_number lines key) ≡ false
 usable_by lines key true h =
     let s = symbol_there lines key h in
-    ap (is_unusable (symbols lines)) s.number
-    ∙ and_right (not (s.i + 1 == 0)) (is_unusable_symbol (slice_get (symbols lines) ((s.i + 1) - 1)))
-    (ap (λ j. is_unusable_symbol (slice_get (symbols lines) j)) (one_less s.i) ∙ ap is_unusable_symbol s.at.there ∙ s.at.usable)
+    rw (s.number, one_less s.i, s.at.there) (and_right (not (s.i + 1 == 0)) (is_unusable_symbol (Some s.at.s)) s.at.usable)
 usable_by lines key false h = ap (is_unusable (symbols lines)) (symbol_none lines key h)
 
 pub number_usable : (lines : List Laid) (key : Key) → is_unusable (symbols lines) (symbol_number lines key) ≡ false

@@ -105,11 +105,13 @@ labels_fit source lines e m k =
 
 pub locals_count : (lines : List Laid) → local_count (object_of lines) ≡ length (local_labels lines)
 locals_count lines =
-    ap length (filter-append (λ s. is_local s.bind) (map (local_symbol lines) (local_labels lines)) (map (global_symbol lines) (other_names lines))
-    ∙ ap (λ ss. ss ++ filter (λ s. is_local s.bind) (map (global_symbol lines) (other_names lines))) (filter_all (λ s. is_local s.bind) (map (local_symbol lines) (local_labels lines)) (λ s k. ap (λ t. is_local t.bind) (In-map (local_symbol lines) (local_labels lines) s k).2))
-    ∙ ap (λ ss. map (local_symbol lines) (local_labels lines) ++ ss) (filter_none (λ s. is_local s.bind) (map (global_symbol lines) (other_names lines)) (λ s k. ap (λ t. is_local t.bind) (In-map (global_symbol lines) (other_names lines) s k).2))
-    ∙ append-nil (map (local_symbol lines) (local_labels lines)))
-    ∙ length-map (local_labels lines) (local_symbol lines)
+    simp (
+      filter-append,
+      filter_all (λ s. is_local s.bind) (map (local_symbol lines) (local_labels lines)) (λ s k. ap (λ t. is_local t.bind) (In-map (local_symbol lines) (local_labels lines) s k).2),
+      filter_none (λ s. is_local s.bind) (map (global_symbol lines) (other_names lines)) (λ s k. ap (λ t. is_local t.bind) (In-map (global_symbol lines) (other_names lines) s k).2),
+      append-nil,
+      length-map,
+    )
 
 -- WHERE A SYMBOL IS
 
@@ -183,19 +185,13 @@ globals_define lines (n ∷ names) name h = or_from (equals n name) (list_any (i
 
 symbols_before : (lines : List Laid) (k j : ℕ) → k ≡ length (map (local_symbol lines) (local_labels lines)) + j
     → take k (symbols lines) ≡ map (local_symbol lines) (local_labels lines) ++ map (global_symbol lines) (take j (other_names lines))
-symbols_before lines k j e =
-    ap (λ n. take n (symbols lines)) e
-    ∙ take-append-add (map (local_symbol lines) (local_labels lines)) (map (global_symbol lines) (other_names lines)) j
-    ∙ ap (λ ss. map (local_symbol lines) (local_labels lines) ++ ss) (take-map (global_symbol lines) j (other_names lines))
+symbols_before lines k j e = rw (e, take-append-add, take-map) refl
 
 not_defined : (lines : List Laid) (k j : ℕ) (name : List ℕ) → k ≡ length (map (local_symbol lines) (local_labels lines)) + j → slice_get (other_names lines) j ≡ Some name
     → defines (take k (symbols lines)) name ≡ false
 not_defined lines k j name e h =
-    ap (list_any (is_defined_as name)) (symbols_before lines k j e)
-    ∙ list_any-append (is_defined_as name) (map (local_symbol lines) (local_labels lines)) (map (global_symbol lines) (take j (other_names lines)))
-    ∙ or_from (list_any (is_defined_as name) (map (local_symbol lines) (local_labels lines))) (list_any (is_defined_as name) (map (global_symbol lines) (take j (other_names lines))))
-    (locals_define lines (local_labels lines) name)
-    (globals_define lines (take j (other_names lines)) name (λ n i. before_fails names_apart (other_names lines) j name n (others_apart lines) h i))
+    rw (symbols_before lines k j e, list_any-append)
+    (or_from _ _ (locals_define lines (local_labels lines) name) (globals_define lines (take j (other_names lines)) name (λ n i. before_fails names_apart (other_names lines) j name n (others_apart lines) h i)))
 
 good_and_new : (good taken : Bool) → good ≡ true → taken ≡ false → (true && (not good || taken)) ≡ false
 good_and_new good taken e f = rw (e, f) refl

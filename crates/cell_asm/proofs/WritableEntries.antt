@@ -21,10 +21,7 @@ same_some a b e = cc
 place_is : (parts : List Part) (n : ℕ) (q : Part) → AreApart is_same_part parts → slice_get parts n ≡ Some q → position_or_len (is_same_part q) parts ≡ n
 place_is [] n q d e = absurd cc
 place_is (p ∷ parts) zero q d e = ap (λ b. cond (not b) (1 + position_or_len (is_same_part q) parts) 0) (ap (is_same_part q) (same_some p q e) ∙ part_itself q)
-place_is (p ∷ parts) (suc n) q d e =
-    ap (λ b. cond (not b) (1 + position_or_len (is_same_part q) parts) 0) (d.0 q (get-In parts n q e))
-    ∙ one-add (position_or_len (is_same_part q) parts)
-    ∙ ap suc (place_is parts n q d.1 e)
+place_is (p ∷ parts) (suc n) q d e = rw (d.0 q (get-In parts n q e), one-add) (ap suc (place_is parts n q d.1 e))
 
 number_by : (parts : List Part) (n m : ℕ) (q : Part) → m ≡ n → n < length parts → option_map_or (λ i. i + 1) (cond (nat_lt m (length parts)) (Some m) None) 0 ≡ n + 1
 number_by parts n m q e h =
@@ -37,12 +34,6 @@ part_numbered lines n part e =
     number_by parts n (position_or_len (is_same_part part) parts) part (place_is parts n part (fold_apart is_same_part [] (choices lines) tt) e) (slice_get_within parts n part e)
 
 -- THE ENTRIES WITH A NUMBER
-
-after_none : (test : Entry → Bool) (es fs gs : List Entry) → filter test es ≡ [] → filter test fs ≡ gs → filter test (es ++ fs) ≡ gs
-after_none test es fs gs e f = filter-append test es fs ∙ ap (λ xs. xs ++ filter test fs) e ∙ f
-
-all_first : (test : Entry → Bool) (es fs : List Entry) → filter test es ≡ es → filter test fs ≡ [] → filter test (es ++ fs) ≡ es
-all_first test es fs e f = filter-append test es fs ∙ ap (λ xs. xs ++ filter test fs) e ∙ ap (λ xs. es ++ xs) f ∙ append-nil es
 
 same_plus : (k : ℕ) → k ≡ k + 0
 same_plus k = omega arith
@@ -63,22 +54,15 @@ module _ {A : Type 0} (g : A → List Entry) (number : A → ℕ) (own : (a : A)
   none_below : (xs : List A) (k m : ℕ) → Rises k xs → m < k → filter (λ e. e.section == m) (flat_map g xs) ≡ []
   none_below [] k m r l = refl
   none_below (a ∷ xs) k m r l =
-      filter-append (λ e. e.section == m) (g a) (flat_map g xs)
-      ∙ ap (λ es. es ++ filter (λ e. e.section == m) (flat_map g xs)) (filter_none (λ e. e.section == m) (g a) (λ e i. ne_eqb e.section m (λ same. omega (arith, own a e i ∙ r.0, same, l))))
-      ∙ none_below xs (suc k) m r.1 (omega (arith, l))
+      rw (filter-append, filter_none (λ e. e.section == m) (g a) (λ e i. ne_eqb e.section m (λ same. omega (arith, own a e i ∙ r.0, same, l)))) (none_below xs (suc k) m r.1 (omega (arith, l)))
 
   -- the entries with the n-th number are those of the n-th
   with_number : (xs : List A) (k n : ℕ) (a : A) → Rises k xs → slice_get xs n ≡ Some a → filter (λ e. e.section == k + n) (flat_map g xs) ≡ g a
   with_number [] k n a r h = absurd cc
   with_number (b ∷ xs) k zero a r h =
-      all_first (λ e. e.section == k + 0) (g b) (flat_map g xs)
-      (filter_all (λ e. e.section == k + 0) (g b) (λ e i. same_test e.section (k + 0) (own b e i ∙ r.0 ∙ same_plus k)))
-      (none_below xs (suc k) (k + 0) r.1 (omega arith))
-      ∙ ap g (same_some b a h)
+      rw (filter-append, filter_all (λ e. e.section == k + 0) (g b) (λ e i. same_test e.section (k + 0) (own b e i ∙ r.0 ∙ same_plus k)), none_below xs (suc k) (k + 0) r.1 (omega arith), append-nil) (ap g (same_some b a h))
   with_number (b ∷ xs) k (suc n) a r h =
-      after_none (λ e. e.section == k + suc n) (g b) (flat_map g xs) (g a)
-      (filter_none (λ e. e.section == k + suc n) (g b) (λ e i. ne_eqb e.section (k + suc n) (λ same. omega (arith, own b e i ∙ r.0, same))))
-      (ap (λ m. filter (λ e. e.section == m) (flat_map g xs)) (moved k n) ∙ with_number xs (suc k) n a r.1 h)
+      rw (filter-append, filter_none (λ e. e.section == k + suc n) (g b) (λ e i. ne_eqb e.section (k + suc n) (λ same. omega (arith, own b e i ∙ r.0, same))), moved k n) (with_number xs (suc k) n a r.1 h)
 
   rises : (xs : List A) (k : ℕ) → ((n : ℕ) (a : A) → slice_get xs n ≡ Some a → number a ≡ k + n) → Rises k xs
   rises [] k h = tt
@@ -242,14 +226,9 @@ module _ (source : List ℕ) (lines : List Laid) (read : placed_lines source ≡
       let u = n.label_is in
       let s = label_symbol lines u.l key (labels_once source lines read) u.there u.key_is n.symbol_there in
       let home : s.s.home ≡ Inside (part_number lines Text) = s.home_is ∙ ap (λ q. Inside (part_number lines q)) u.in_text in
-      ap (has_label section (entries_in lines Text) (symbols lines)) s.numbered
-      ∙ and_from (not (s.i + 1 == 0)) (is_label_symbol section (entries_in lines Text) (slice_get (symbols lines) ((s.i + 1) - 1))) (not_zero s.i)
-      (ap (λ j. is_label_symbol section (entries_in lines Text) (slice_get (symbols lines) j)) (one_less s.i)
-      ∙ ap (is_label_symbol section (entries_in lines Text)) s.symbol_is
-      ∙ ap (λ h. is_label section (entries_in lines Text) h s.s.value) home
-      ∙ and_from (part_number lines Text == section) (list_any (λ e. is_pcrel_hi20 e.kind && e.offset == s.s.value) (entries_in lines Text)) (same_test (part_number lines Text) section (sym at))
-      (any-In (λ e. is_pcrel_hi20 e.kind && e.offset == s.s.value) (entries_in lines Text) u.upper.e u.upper.there
-      (and_from (is_pcrel_hi20 u.upper.e.kind) (u.upper.e.offset == s.s.value) u.upper.upper (same_test u.upper.e.offset s.s.value (u.upper.stands ∙ sym s.value_is)))))
+      rw (s.numbered, one_less s.i, s.symbol_is, home)
+      (and_from _ _ (not_zero s.i) (and_from _ _ (same_test (part_number lines Text) section (sym at))
+      (any-In (λ e. is_pcrel_hi20 e.kind && e.offset == s.s.value) (entries_in lines Text) u.upper.e u.upper.there (and_from _ _ u.upper.upper (same_test u.upper.e.offset s.s.value (u.upper.stands ∙ sym s.value_is))))))
 
   text_label : (part : Part) (e : Entry) (o : Origin source lines read part e) → is_pcrel_lo12 o.comes.m.fix.kind ≡ true → has_label e.section (entries_in lines part) (symbols lines) e.symbol ≡ true
   text_label part e o low =
