@@ -1,5 +1,4 @@
 -- The lines of a source that is assembled.
---     read_lines source o      the object is that of its lines, of which none refers to a label that is none
 use Rattle.cell_asm.proofs.Facts.{◌≡◌, ℕ, List, Result, Ok, Err, Some, None, refl, ◌≤◌, ◌<◌, ◌^◌, [], length, sym, subst, arith, ◌+◌, true, false, slice_index_or, and_parts, Option, find, IfOk, All, is_none, IsWhole, IsRuled, image, IsSoundObject, IsWritable, has_lost, object_unless, object_from, placed_lines, assembled, Assembles, line_of, AreInside, HasRoom, fault_after, laid_after, offset_of, twice_of, object_of, largest, marks_in, taken, is_long, may_stand, lays_nothing, Object, AsmKind, Laid, Fill, Prog, Note, Zero, Part, Line, AsmFail, Progress, In-All}
 use Rattle.std.specs.declared.result.Result.{}
 use Rattle.cell_elf.proofs.LoadableCounts.{reads_passed}
@@ -27,9 +26,6 @@ by_lost source o lines (Some l) read kept e = absurd cc
 by_lines : (source : List ℕ) (o : Object) (r : Result (List Laid) (ℕ × AsmKind)) → placed_lines source ≡ r → object_from r ≡ Ok o → IsRead source o
 by_lines source o (Ok lines) read e = by_lost source o lines (find (has_lost lines) lines) read refl e
 by_lines source o (Err fault) read e = absurd cc
-
-pub read_lines : (source : List ℕ) (o : Object) → assembled source ≡ Ok o → IsRead source o
-read_lines source o e = by_lines source o (placed_lines source) refl e
 
 -- What a source is assembled to can be written: it keeps the rules, so that it is read again, and what is
 -- read is sound.
@@ -69,7 +65,7 @@ writable object r =
 
 pub assembled_fits : (source : List ℕ) (o : Object) → assembled source ≡ Ok o → length source < 2 ^ 31 → IsWritable o
 assembled_fits source o e h =
-    let r : IsRead source o = read_lines source o e in
+    let r : IsRead source o = by_lines source o (placed_lines source) refl e in
     subst IsWritable (sym r.made) (writable (object_of r.lines) (lines_ruled source r.lines r.read r.kept h))
 
 -- The offsets of the entries to come are numbers of 32 bits.

@@ -1,10 +1,10 @@
 -- What holds of each line in its place.
 --     all_stand source lines        each line of a source has a good statement, which may stand there and has room
-use Rattle.cell_asm.proofs.Facts.{◌≡◌, ℕ, ◌+◌, Bool, true, false, not, List, Ok, None, refl, zero, suc, ◌-◌, ◌*◌, ◌%◌, ◌^◌, ◌≤◌, ◌==◌, cond, [], ◌∷◌, ◌++◌, Some, sym, ap, ◌∙◌, pow-suc, arith, subst, append-nil, inl, inr, take, slice_get, length, length-append, nat_tests, length-map, filter-append, sum_by-cons, sum_by-append, In-one, list_any, Option, if◌then◌else◌, filter, sum_by, flat_map, nat_lt, width_of, last, or_else, where_true, is_clash, lines_in, placed_lines, line_of, entries_of, entries_in, parts_of, entry_of, entries, marks_in, choices, size_at, taken, is_long, is_twice, may_stand, placed, fault_at, fault_by, is_at, is_in, takes, size_in, largest, AsmKindSection as Section, Twice, Long, Part, Line, Laid, Text, Code, Narrow, Wide, Statement, StatementZeros as Zeros, StatementAlign as Align, Bytes, Entry, Bss, In, In-flat_map, In-filtered, filter-In, filter-Passes, In-none}
+use Rattle.cell_asm.proofs.Facts.{◌≡◌, ℕ, ◌+◌, Bool, true, false, not, List, Ok, None, refl, zero, suc, ◌-◌, ◌*◌, ◌%◌, ◌^◌, ◌≤◌, ◌==◌, cond, [], ◌∷◌, ◌++◌, Some, sym, ap, ◌∙◌, pow-suc, arith, subst, append-nil, inl, inr, length, length-append, nat_tests, length-map, filter-append, sum_by-cons, sum_by-append, In-one, Option, if◌then◌else◌, filter, sum_by, flat_map, nat_lt, width_of, last, or_else, where_true, is_clash, lines_in, placed_lines, line_of, entries_of, entries_in, parts_of, entry_of, entries, marks_in, choices, size_at, taken, is_long, is_twice, may_stand, placed, fault_at, fault_by, is_at, is_in, takes, size_in, largest, AsmKindSection as Section, Twice, Long, Part, Line, Laid, Text, Code, Narrow, Wide, Statement, StatementZeros as Zeros, StatementAlign as Align, Bytes, Entry, Bss, In, In-flat_map, In-filtered, filter-In, filter-Passes}
 use Rattle.std.proofs.Math.Nat.{dvd-mod_iff}
 use Rattle.std.proofs.lemmas.Nat.Gcd.{dvd_of_mod-eq-zero, mod-eq-zero_of_dvd}
 use Rattle.cell_asm.proofs.GoodBlocks.{IsGoodStatement, IsFrom, line_origin, Apart, behind, line_apart, statement_marks}
-use Rattle.cell_asm.proofs.ListLemmas.{before_fails, same_of, Pairwise, pairwise_one, pairwise_join, flat_most, le_of, le_trans, least}
+use Rattle.cell_asm.proofs.ListLemmas.{same_of, Pairwise, pairwise_one, pairwise_join, flat_most, le_of, le_trans, least}
 use Rattle.cell_asm.proofs.ObjectLemmas.{same_part, few}
 use Rattle.cell_asm.proofs.PlacingLemmas.{each_line, Goes, grows, pushed, stands_at}
 use Rattle.cell_asm.proofs.ReadLines.{read_line}
@@ -180,10 +180,6 @@ module _ (source : List ℕ) (lines : List Laid) (read : placed_lines source ≡
 
   pub entry_high : (e : Entry) → In e (entries_in lines part) → e.offset + width_of e.kind ≤ size_in part lines
   entry_high e k = let o : Origin e = entry_origin e k in omega (arith, o.comes.high, (stacked source lines part read).inside o.l (filter-In (is_in part) lines o.l o.in_lines o.in_part))
-
--- none before the k-th clashes with it
-pub apart_take : (es : List Entry) (k : ℕ) (e : Entry) → Apart es → slice_get es k ≡ Some e → list_any (is_clash e) (take k es) ≡ false
-apart_take es k e h g = In-none (is_clash e) (take k es) (λ x i. before_fails is_clash es k e x h g i)
 
 -- How many entries there are.
 --     section_small       a section has at most 16777216 bytes

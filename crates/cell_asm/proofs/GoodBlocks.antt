@@ -3,7 +3,7 @@
 --     IsGoodBlock content b            instructions, or numbers
 --     IsGoodStatement s                a statement has such bytes
 --     piece_sound                      bytes stay sound with a good piece more
-use Rattle.cell_asm.proofs.Facts.{◌≡◌, ◌≤◌, ◌+◌, ◌*◌, ◌^◌, ◌%◌, ◌/◌, ℕ, zero, suc, Bool, true, false, List, [], ◌∷◌, ◌++◌, length, ◌⊎◌, inl, inr, pos, Some, None, refl, sym, subst, ap, ◌∙◌, length-append, arith, ◌&&◌, ◌||◌, ◌==◌, not, map, true≢false, or_right, and-false, w64, list_any, Option, FitsSigned, nat_lt, bytes_of, width_of, is_instruction, is_stacking, is_pcrel_lo12, is_pcrel_hi20, is_shared, is_stack, is_clash, is_known_kind, marks_at, marks_of, appended, empty, entry_of, entries_of, marks_in, is_made, taken, takes, lays_nothing, RelKind, PcrelHi20, PcrelLo12I, PcrelLo12S, Mark, Block, Content, Code, Narrow, Wide, Fix, Piece, Statement, StatementZeros as Zeros, StatementAlign as Align, Bytes, Entry, Part, Text, Rodata, Data, Bss, Laid, In, In-append, In-map, In-one}
+use Rattle.cell_asm.proofs.Facts.{◌≡◌, ◌≤◌, ◌+◌, ◌*◌, ◌^◌, ◌%◌, ◌/◌, ℕ, zero, suc, Bool, true, false, List, [], ◌∷◌, ◌++◌, length, ◌⊎◌, inl, inr, pos, Some, None, refl, sym, subst, ap, ◌∙◌, length-append, arith, ◌||◌, map, true≢false, or_right, and-false, w64, list_any, Option, FitsSigned, bytes_of, width_of, is_instruction, is_stacking, is_pcrel_lo12, is_pcrel_hi20, is_shared, is_clash, is_known_kind, marks_at, marks_of, appended, empty, entry_of, entries_of, marks_in, is_made, taken, takes, lays_nothing, RelKind, PcrelHi20, PcrelLo12I, PcrelLo12S, Mark, Block, Content, Code, Narrow, Wide, Fix, Piece, Statement, StatementZeros as Zeros, StatementAlign as Align, Bytes, Entry, Part, Text, Rodata, Data, Bss, Laid, In, In-append, In-map, In-one}
 use Rattle.cell_asm.proofs.ListLemmas.{Pairwise, pairwise_one, pairwise_join, itself, le_trans, least, not_less, same_test}
 
 abbrev pub is_code : Content → Bool
@@ -207,22 +207,13 @@ line_origin lines part l e g k =
 abbrev pub Apart : List Entry → Type 0
 Apart es = Pairwise (λ e f. is_clash f e ≡ false) es
 
-no_clash : (a b c : Bool) → a ≡ false → (a && b && c) ≡ false
-no_clash a b c e = rw e refl
-
 -- an entry behind another
 pub behind : (e f : Entry) (mid : ℕ) → e.offset + width_of e.kind ≤ mid → mid ≤ f.offset → is_clash f e ≡ false
-behind e f mid h k =
-    no_clash (nat_lt f.offset (e.offset + width_of e.kind)) (nat_lt e.offset (f.offset + width_of f.kind)) (not (is_stack f e))
-    (not_less f.offset (e.offset + width_of e.kind) (omega (arith, h, k)))
-
-stacked_free : (a b c d e : Bool) → b ≡ true → c ≡ true → d ≡ true → e ≡ true → (a && not (b && c && d && e)) ≡ false
-stacked_free a b c d e p q r s = rw (p, q, r, s) (and-false a)
+behind e f mid h k = rw (not_less f.offset (e.offset + width_of e.kind) (omega (arith, h, k))) refl
 
 -- two entries that add to one field
 together : (e f : Entry) → f.offset ≡ e.offset → width_of f.kind ≡ width_of e.kind → is_stacking f.kind ≡ true → is_stacking e.kind ≡ true → is_clash f e ≡ false
-together e f at wide a b =
-    stacked_free (is_shared f e) (f.offset == e.offset) (width_of f.kind == width_of e.kind) (is_stacking f.kind) (is_stacking e.kind) (same_test f.offset e.offset at) (same_test (width_of f.kind) (width_of e.kind) wide) a b
+together e f at wide a b = rw (same_test f.offset e.offset at, same_test (width_of f.kind) (width_of e.kind) wide, a, b) (and-false (is_shared f e))
 
 module _ (lines : List Laid) (part : Part) (l : Laid) where
   never_clash : (m n : Mark) → AreApart m n → is_clash (entry_of lines part l n) (entry_of lines part l m) ≡ false

@@ -86,21 +86,12 @@ finds_both P R Q f (Some x) (Some y) go h k = go x y h k
 
 -- NAMES OF A SOURCE
 
-not_zero : (b : ℕ) → 36 ≤ b → is_zero b ≡ false
-not_zero b h = ne_eqb b 0 (λ e. omega (arith, h, e))
-
 -- a byte of a name prints
 prints : (b : ℕ) → is_name_byte b ≡ true → object_names.is_name_byte b ≡ true
 prints b e = grind (arith, nat_tests)
 
 printed : (b : ℕ) → object_names.is_name_byte b ≡ true → is_zero b ≡ false
 printed b e = grind (arith, nat_tests)
-
-plain_bytes : (name : List ℕ) → list_all is_name_byte name ≡ true → IsPlain name
-plain_bytes name e = In-none is_zero name (λ b k. printed b (prints b (all-In is_name_byte name e b k)))
-
-printing : (name : List ℕ) → list_all is_name_byte name ≡ true → list_all object_names.is_name_byte name ≡ true
-printing name e = In-all object_names.is_name_byte name (λ b k. prints b (all-In is_name_byte name e b k))
 
 first_three : (a b c d e f : Bool) → (a && b && c && d && e && f) ≡ true → (a ≡ true) × (b ≡ true) × (c ≡ true)
 first_three true true true d e f h = (refl, refl, refl)
@@ -114,18 +105,15 @@ pub record IsGoodName (name : List ℕ) : Type 0 where
   pub some : 1 ≤ length name
   pub good : is_global_name name ≡ true
 
-global_name_by : (a b c : Bool) → a ≡ true → b ≡ true → c ≡ true → (a && b && c) ≡ true
-global_name_by a b c e f g = rw (e, f, g) refl
-
 pub name_fits : (name : List ℕ) → is_name name ≡ true → IsGoodName name
 name_fits name e =
     let p : (nat_lt 0 (length name) ≡ true) × (nat_le (length name) 1024 ≡ true) × (list_all is_name_byte name ≡ true) =
     first_three (nat_lt 0 (length name)) (nat_le (length name) 1024) (list_all is_name_byte name) (not (begins_with_digit name)) (not (begins name (codes ".La"))) (not (ends name (codes ":"))) e in
     let some : 0 < length name = ltb-true 0 (length name) p.0 in
     record {
-      plain = plain_bytes name p.2;
+      plain = In-none is_zero name (λ b k. printed b (prints b (all-In is_name_byte name p.2 b k)));
       some = omega (arith, some);
-      good = global_name_by (nat_le 1 (length name)) (nat_le (length name) 1024) (list_all object_names.is_name_byte name) (le-leb 1 (length name) (omega (arith, some))) p.1 (printing name p.2);
+      good = rw (le-leb 1 (length name) (omega (arith, some)), p.1, In-all object_names.is_name_byte name (λ b k. prints b (all-In is_name_byte name p.2 b k))) refl;
     }
 
 -- NAMES THAT ARE MADE
@@ -136,7 +124,7 @@ glyph_by true false d = omega arith
 glyph_by false false d = omega arith
 
 glyph_zero : (upper : Bool) (d : ℕ) → is_zero (digit_glyph upper d) ≡ false
-glyph_zero upper d = not_zero (digit_glyph upper d) (glyph_by upper (nat_lt d 10) d)
+glyph_zero upper d = ne_eqb (digit_glyph upper d) 0 (λ e. omega (arith, glyph_by upper (nat_lt d 10) d, e))
 
 abbrev IsShort : ℕ → List ℕ → List ℕ → Type 0
 IsShort k acc text = IsPlain text × (length text ≤ k + length acc)

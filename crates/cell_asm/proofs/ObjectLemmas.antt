@@ -2,7 +2,7 @@
 --     same_part, part_itself     the test of parts decides whether they are the same
 --     few lines parts            there are at most four
 --     object_is                  what is made of what is kept is the object
-use Rattle.cell_asm.proofs.Facts.{◌≡◌, ◌≤◌, Bool, true, false, List, [], ◌∷◌, ◌++◌, length, refl, sym, subst, ap, ◌∙◌, ℕ, ◌+◌, map, replicate, append_assoc, ◌||◌, ◌&&◌, not, cond, find, Some, None, replicate-append-replicate, map-append, flat_map-append, filter-append, list_any, option_map_or, unwrap_or, fold, if◌then◌else◌, flat_map, Option, option_map, filter, bytes_of, is_pcrel_lo12, is_upper_label, is_lost, is_lost_mark, has_lost, spot_at, Follows, reference_at, references_of, is_upper_spot, key_lost_by, lost_by, section_kept, Lists, mentioned, Mentions, entry_kept, part_entries, adds_part, parts_of, number_in, section_of, sections, symbols, symbol_keys, label_named, part_number, target_key, entry_of, entries_of, entries_in, entries, object_of, marks_in, is_same_part, choices, is_at, is_in, Part, Text, Rodata, Data, Bss, Laid, Target, TargetNamed as Named, TargetMade as Made, Label, Progress, Reference, Section, Symbol, Entry, Object, Mark, Symbols, map_same, flat_same}
+use Rattle.cell_asm.proofs.Facts.{◌≡◌, ◌≤◌, Bool, true, false, List, [], ◌∷◌, ◌++◌, length, refl, sym, subst, ap, ◌∙◌, ℕ, ◌+◌, map, replicate, append_assoc, ◌||◌, ◌&&◌, not, cond, find, Some, None, replicate-append-replicate, map-append, flat_map-append, filter-append, list_any, option_map_or, unwrap_or, fold, if◌then◌else◌, flat_map, Option, option_map, filter, bytes_of, is_upper_label, is_lost, has_lost, spot_at, Follows, reference_at, references_of, is_upper_spot, key_lost_by, lost_by, section_kept, Lists, mentioned, Mentions, entry_kept, part_entries, adds_part, parts_of, section_of, sections, symbols, symbol_keys, label_named, part_number, target_key, entry_of, entries_in, entries, object_of, marks_in, is_same_part, choices, is_at, is_in, Part, Text, Rodata, Data, Bss, Laid, Target, TargetNamed as Named, TargetMade as Made, Label, Progress, Reference, Section, Symbol, Entry, Object, Mark, Symbols, map_same, flat_same}
 use Rattle.std.proofs.lemmas.Map.Keys.{IsDistinct-push}
 use Rattle.std.proofs.lemmas.Map.Made.{length-le_from_is_member}
 use Rattle.std.specs.Cmp.{IsEquivalence}
@@ -59,15 +59,6 @@ nops_more bs i = rw (← (replicate-append-replicate {A = ℕ} i 1 0x13), flat_m
 
 -- REFERENCES
 
--- the same test of each element
-same_any : {X : Type 0} (f g : X → Bool) (xs : List X) → ((x : X) → f x ≡ g x) → list_any f xs ≡ list_any g xs
-same_any f g [] same = refl
-same_any f g (x ∷ xs) same = ap (λ b. b || list_any f xs) (same x) ∙ ap (λ b. g x || b) (same_any f g xs same)
-
-find_same : {X : Type 0} (p q : X → Bool) (xs : List X) → ((x : X) → p x ≡ q x) → find p xs ≡ find q xs
-find_same p q [] same = refl
-find_same p q (x ∷ xs) same = ap (λ b. cond b (Some x) (find p xs)) (same x) ∙ ap (λ o. cond (q x) (Some x) o) (find_same p q xs same)
-
 -- the line of the first reference that passes is the first line that has one
 module _ (p : Reference → Bool) where
   first_by : (b t : Bool) (l : Laid) (m : Mark) (r : Option Reference) (o : Option Laid) → option_map (λ x. x.line) r ≡ option_map (λ x. x.number) (cond t (Some l) o)
@@ -118,12 +109,7 @@ module _ (kept : Progress) (lines : List Laid) (h : Follows kept lines) where
 
   -- the first line that refers to a label that is none
   pub first_is : option_map (λ r. r.line) (find (lost_by kept) kept.references.items) ≡ option_map (λ l. l.number) (find (has_lost lines) lines)
-  first_is =
-      ap (λ rs. option_map (λ r. r.line) (find (lost_by kept) rs)) h.references
-      ∙ first_of (lost_by kept) lines
-      ∙ ap (option_map (λ l. l.number))
-      (find_same (λ l. list_any (λ m. lost_by kept (reference_at l m)) (marks_in l.line.statement)) (has_lost lines) lines
-      (λ l. same_any (λ m. lost_by kept (reference_at l m)) (is_lost_mark lines) (marks_in l.line.statement) (λ m. ap (λ b. is_pcrel_lo12 m.fix.kind && b) (lost_is l m.fix.target))))
+  first_is = simp (h.references, first_of, lost_is)
 
   sections_are : map (section_kept kept.parts.items kept.bodies) kept.parts.items ≡ sections lines
   sections_are =
@@ -137,12 +123,7 @@ module _ (kept : Progress) (lines : List Laid) (h : Follows kept lines) where
     entries_are : flat_map (part_entries kept s) kept.parts.items ≡ entries lines
     entries_are =
         ap (flat_map (part_entries kept s)) h.parts
-        ∙ flat_same (part_entries kept s) (entries_in lines) (parts_of lines) (λ part k.
-        ap (λ ps. map (entry_kept (number_in ps part) s) (filter (λ r. is_at part r.part) kept.references.items)) h.parts
-        ∙ ap (λ rs. map (entry_kept (part_number lines part) s) (filter (λ r. is_at part r.part) rs)) h.references
-        ∙ kept_of part (entry_kept (part_number lines part) s) lines
-        ∙ flat_same (λ l. map (λ m. entry_kept (part_number lines part) s (reference_at l m)) (marks_in l.line.statement)) (entries_of lines part) (filter (is_in part) lines)
-        (λ l i. map_same (λ m. entry_kept (part_number lines part) s (reference_at l m)) (entry_of lines part l) (marks_in l.line.statement) (λ m j. entry_is part l m)))
+        ∙ flat_same (part_entries kept s) (entries_in lines) (parts_of lines) (λ part k. simp (h.parts, h.references, kept_of, entry_is))
 
   abbrev object : List Section → List Symbol → List Entry → Object
   object ss symbols es = record { sections = ss; symbols = symbols; entries = es }

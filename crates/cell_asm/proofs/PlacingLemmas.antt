@@ -1,5 +1,5 @@
 -- What is known of names, after one more name, and behind one more line.
-use Rattle.cell_asm.proofs.Facts.{◌≡◌, ℕ, Bool, true, false, ◌||◌, List, [], ◌∷◌, ◌++◌, cond, find, map, Some, None, refl, sym, ap, ◌∙◌, append-nil, ◌+◌, add-zero, zero-add, suc, ◌<◌, length, drop, get_or, Bor, Result, Ok, Err, subst, add-one, ◌^◌, arith, append_assoc, ◌⊎◌, inl, inr, drop_more, length-map, map-append, flat_map-append, filter_map-append, filter-append, list_any-append, find-append, sum_by-append, fold-append, or-false, list_any, cons_option, option_or, option_map_or, Option, option_map, is_some, if◌then◌else◌, filter, flat_map, sum_by, fold, max, equals, where_true, holds_name, last, or_else, numbered_from, lines_in, Behind, add_line, with_line, placed_line, placed_texts, object_from, object_unless, has_lost, assembled, Assembles, placed_unless, placed_lines, spot_here, declares, spot_at, spot_among, names_in, grown_in, grown_with, bytes_laid, references_of, is_upper_at, Goes as GoesBehind, Places, failure, body_of, offset_of, twice_of, fault_after, laid_after, Adds, Follows, line_of, adds_part, adds_choice, parts_of, alignment_asked, first_alignment, alignment, bytes_at, contents, global_name, globals, object_of, is_key, makes_label, own_key, made_key, keys_of, label, labels_at, labels, fault_at, is_at, is_in, choice, choices, taken, size_in, size_at, made_in, is_twice, placed, Part, Bss, Statement, StatementGlobal as Global, Laid, Label, AsmKindLabel, KeyNamed as Named, KeyMade as Made, Line, Progress, AsmKind, Stop, StopFault as Fault, StopOutOfMemory as OutOfMemory, Object, AsmFail, AsmFailFault as Faulty, AsmFailOutOfMemory as NoMemory, In, In-append, In-one}
+use Rattle.cell_asm.proofs.Facts.{◌≡◌, ℕ, Bool, true, false, ◌||◌, List, [], ◌∷◌, ◌++◌, cond, find, map, Some, None, refl, sym, ap, ◌∙◌, append-nil, ◌+◌, add-zero, zero-add, suc, ◌<◌, length, drop, get_or, Bor, Result, Ok, Err, subst, add-one, ◌^◌, arith, append_assoc, ◌⊎◌, inl, inr, drop_more, length-map, map-append, flat_map-append, filter_map-append, filter-append, list_any-append, find-append, sum_by-append, fold-append, or-false, list_any, cons_option, option_or, option_map_or, Option, option_map, is_some, if◌then◌else◌, filter, flat_map, sum_by, fold, max, equals, where_true, holds_name, last, or_else, numbered_from, lines_in, Behind, add_line, with_line, placed_line, placed_texts, object_from, object_unless, has_lost, assembled, Assembles, placed_unless, placed_lines, spot_here, declares, spot_at, spot_among, names_in, grown_in, grown_with, bytes_laid, references_of, is_upper_at, Goes as GoesBehind, Places, failure, body_of, offset_of, twice_of, fault_after, laid_after, Adds, Follows, line_of, adds_choice, parts_of, alignment_asked, first_alignment, alignment, bytes_at, contents, global_name, globals, object_of, is_key, makes_label, own_key, made_key, keys_of, label, labels_at, labels, fault_at, is_at, is_in, choice, choices, taken, size_in, size_at, made_in, is_twice, placed, Part, Bss, Statement, StatementGlobal as Global, Laid, Label, AsmKindLabel, KeyNamed as Named, KeyMade as Made, Line, Progress, AsmKind, Stop, StopFault as Fault, StopOutOfMemory as OutOfMemory, Object, AsmFail, AsmFailFault as Faulty, AsmFailOutOfMemory as NoMemory, In, In-append, In-one}
 use Rattle.cell_asm.proofs.ListLemmas.{ok_once}
 use Rattle.cell_asm.proofs.ObjectLemmas.{same_part}
 
@@ -115,11 +115,8 @@ module _ (part : Part) (before : List Laid) (l : Laid) where
 
   sized : (b : Bool) → is_in part l ≡ b → l.offset ≡ size_at l.part before
       → size_in part (before ++ l ∷ []) ≡ (if b then l.offset + taken l.line.statement l.offset else size_in part before)
-  sized true e at =
-      size_more part before l ∙ ap (λ b. size_in part before + (if b then taken l.line.statement l.offset else 0)) e
-      ∙ ap (λ n. n + taken l.line.statement l.offset) (sym (at ∙ stands_at part before l.part e))
-  sized false e at =
-      size_more part before l ∙ ap (λ b. size_in part before + (if b then taken l.line.statement l.offset else 0)) e ∙ add-zero (size_in part before)
+  sized true e at = rw (size_more part before l, e, at, stands_at part before l.part e) refl
+  sized false e at = rw (size_more part before l, e) (add-zero (size_in part before))
 
 bytes_more : (part : Part) (before : List Laid) (l : Laid) (b : Bool) → is_in part l ≡ b
     → contents part (before ++ l ∷ []) ≡ (if b then contents part before ++ bytes_laid part l.offset l.line.statement else contents part before)
@@ -161,15 +158,6 @@ pub after_fault : (fault : ℕ × AsmKind) (n : ℕ) (texts : List (List ℕ)) �
 after_fault fault n [] = refl
 after_fault fault n (text ∷ texts) = after_fault fault (suc n) texts
 
--- one line more
-pub goes_on : (before : List Laid) (n : ℕ) (text : List ℕ) (texts : List (List ℕ)) (l : Laid) → placed_line before n (line_of text) ≡ Ok l → placed_from (Ok before) n (text ∷ texts) ≡ placed_from (Ok (before ++ l ∷ [])) (n + 1) texts
-goes_on before n text texts l e =
-    ap (λ r. placed_from (with_line before n r) (suc n) texts) e ∙ ap (λ m. placed_from (Ok (before ++ l ∷ [])) m texts) (sym (add-one n))
-
--- a line with a fault
-stops : (before : List Laid) (n : ℕ) (text : List ℕ) (texts : List (List ℕ)) (kind : AsmKind) → placed_line before n (line_of text) ≡ Err kind → placed_from (Ok before) n (text ∷ texts) ≡ Err (n, kind)
-stops before n text texts kind e = ap (λ r. placed_from (with_line before n r) (suc n) texts) e ∙ after_fault (n, kind) (suc n) texts
-
 -- what is kept behind some lines, from which the texts that are left come to what all texts come to
 pub record IsPlaced (p : Progress) (n : ℕ) (left : List (List ℕ)) (all : Result (List Laid) (ℕ × AsmKind)) : Type 0 where
   pub lines : List Laid
@@ -180,10 +168,10 @@ module _ (p q : Progress) (n : ℕ) (text : List ℕ) (texts : List (List ℕ)) 
   pub next_placed : (u : Unit {0}) → ((before : List Laid) → Follows p before → GoesBehind q before (Ok u) (placed_line before n (line_of text))) → IsPlaced q (n + 1) texts all
   next_placed u goes =
       let g : GoesBehind q h.lines (Ok u) (placed_line h.lines n (line_of text)) = goes h.lines h.follows in
-      record { lines = h.lines ++ g.0 ∷ []; comes = sym (goes_on h.lines n text texts g.0 g.1) ∙ h.comes; follows = g.2 }
+      record { lines = h.lines ++ g.0 ∷ []; comes = sym (ap (λ r. placed_from (with_line h.lines n r) (suc n) texts) g.1 ∙ ap (λ m. placed_from (Ok (h.lines ++ g.0 ∷ [])) m texts) (sym (add-one n))) ∙ h.comes; follows = g.2 }
 
   pub stopped : (stop : Stop) → ((before : List Laid) → Follows p before → GoesBehind q before (Err stop) (placed_line before n (line_of text))) → Places (Err (failure stop n)) all
-  stopped (Fault kind) goes = sym h.comes ∙ stops h.lines n text texts kind (goes h.lines h.follows)
+  stopped (Fault kind) goes = sym h.comes ∙ ap (λ r. placed_from (with_line h.lines n r) (suc n) texts) (goes h.lines h.follows) ∙ after_fault (n, kind) (suc n) texts
   stopped OutOfMemory goes = tt
 
 -- the texts that are left

@@ -62,14 +62,11 @@ with_operands m word (Ok os) h =
     (worded_read (directive word) (mnemonic word) os (mnemonic_good word))
 with_operands m word (Err k) h = tt
 
-after_le : (text : List ℕ) → length (after_word text) ≤ length text
-after_le text = le_trans (length (after_word text)) (length (drop (prefix_len is_inked text) text)) (length text) (trimmed_le (drop (prefix_len is_inked text) text)) (drop_le (prefix_len is_inked text) text)
-
 statement_read : (text : List ℕ) (m : ℕ) → suc (length text) ≤ m → Yields (IsReadIn m) (statement_in text)
 statement_read [] m l = record { good = tt; names = none_named m }
 statement_read (b ∷ bs) m l =
     with_operands m (first_word (b ∷ bs)) (operands (map spelled (operand_texts (after_word (b ∷ bs)))))
-    (operands_named (after_word (b ∷ bs)) m (omega (arith, (after_le (b ∷ bs)), l)))
+    (operands_named (after_word (b ∷ bs)) m (omega (arith, trimmed_le (drop (prefix_len is_inked (b ∷ bs)) (b ∷ bs)), drop_le (prefix_len is_inked (b ∷ bs)) (b ∷ bs), l)))
 
 -- LINES
 
@@ -103,10 +100,6 @@ line_if code n true l =
     labelled_by (length word) (suc n) (is_name name) name (after_word code) refl (omega (arith, length-take (length word - 1) word)) (words_le code n l)
 line_if code n false l = line_made 0 (suc n) None code (none_named 0) (omega (arith, l))
 
-code_le : (text : List ℕ) → length (code_of text) ≤ length text
-code_le text =
-    le_trans (length (code_of text)) (length (before_first (λ b. b == 35) text)) (length text) (trimmed_le (before_first (λ b. b == 35) text)) (take_le (position_or_len (λ b. b == 35) text) text)
-
 -- a line that is read
 pub read_line : (text : List ℕ) (line : Line) → line_of text ≡ Ok line → IsReadLine (suc (length text)) line
-read_line text line e = yields_ok (IsReadLine (suc (length text))) (line_of text) line (line_if (code_of text) (length text) (has_label (code_of text)) (code_le text)) e
+read_line text line e = yields_ok (IsReadLine (suc (length text))) (line_of text) line (line_if (code_of text) (length text) (has_label (code_of text)) (le_trans _ _ _ (trimmed_le (before_first (λ b. b == 35) text)) (take_le (position_or_len (λ b. b == 35) text) text))) e

@@ -21,12 +21,7 @@ word_stays f g (x ∷ xs) = ap (λ r. fold (joined f) r (map (λ y. ok_or (g y) 
 pub word_decides : {X A B : Type 0} (f : A → B → A) (a b : A) (g : X → Option B) (xs : List X) (i : ℕ) (d : X) → i < length xs → gathered f a (map (λ x. ok_or (g x) Word) (take i xs)) ≡ Ok b
     → g (get_or xs i d) ≡ None → gathered f a (map (λ x. ok_or (g x) Word) xs) ≡ Err Word
 word_decides f a b g xs i d lt before e =
-    ap (λ ys. gathered f a (map (λ x. ok_or (g x) Word) ys)) (sym (take-append-drop (i + 1) xs))
-    ∙ ap (gathered f a) (map-append (λ x. ok_or (g x) Word) (take (i + 1) xs) (drop (i + 1) xs))
-    ∙ fold-append (joined f) (Ok a) (map (λ x. ok_or (g x) Word) (take (i + 1) xs)) (map (λ x. ok_or (g x) Word) (drop (i + 1) xs))
-    ∙ ap (λ r. fold (joined f) r (map (λ x. ok_or (g x) Word) (drop (i + 1) xs)))
-    (gathered_more f a (λ x. ok_or (g x) Word) xs i d lt ∙ ap (λ r. joined f r (ok_or (g (get_or xs i d)) Word)) before ∙ ap (λ o. joined f (Ok b) (ok_or o Word)) e)
-    ∙ word_stays f g (drop (i + 1) xs)
+    rw (← (take-append-drop (i + 1) xs), map-append, fold-append, gathered_more f a (λ x. ok_or (g x) Word) xs i d lt, before, e) (word_stays f g (drop (i + 1) xs))
 
 -- A line, from its parts.
 
@@ -79,12 +74,9 @@ held_step m r d radix = elim (held_is m) [
   ]
 ]
 
--- a decimal digit is a hex digit
-digit_is_hex : (b : ℕ) → is_ascii_digit b ≡ true → is_hex_digit b ≡ true
-digit_is_hex b e = rw e refl
-
+-- decimal digits are hex digits
 pub digits_are_hex : (ds : List ℕ) → list_all is_ascii_digit ds ≡ true → list_all is_hex_digit ds ≡ true
-digits_are_hex ds e = In-all is_hex_digit ds (λ d k. digit_is_hex d (all-In is_ascii_digit ds e d k))
+digits_are_hex ds e = In-all is_hex_digit ds (λ d k. rw (all-In is_ascii_digit ds e d k) refl)
 
 -- A row of a table, found in the table as the code has it.
 

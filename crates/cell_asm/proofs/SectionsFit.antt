@@ -1,6 +1,6 @@
 -- The sections of an assembled source can be written.
 --     sections_fit source lines    each section is as it must be
-use Rattle.cell_asm.proofs.Facts.{◌≡◌, ℕ, zero, suc, ◌+◌, ◌*◌, ◌/◌, ◌%◌, ◌^◌, ◌<◌, ◌≤◌, max, true, false, ◌&&◌, List, [], ◌∷◌, map, length, replicate, slice_get, Some, Ok, refl, sym, ap, subst, ◌∙◌, ◌⊎◌, inl, inr, length-append, arith, Bool, filter, flat_map, fold, nat_le, range_with_len, and_parts, cases_lt, length-replicate, bytes_of, Section, Part, Text, Bss, Statement, StatementZeros as Zeros, StatementAlign as Align, Laid, IsPlain, IsWhole, IsWritableSection, is_in, gap, taken, size_in, parts_of, part_name, is_text, first_alignment, alignment_asked, alignment, padding, bytes_at, contents, fill_of, may_write, section_of, sections, placed_lines, In-numbers, In, all-In, In-filtered, filter-Passes, In-map}
+use Rattle.cell_asm.proofs.Facts.{◌≡◌, ℕ, zero, suc, ◌+◌, ◌*◌, ◌/◌, ◌%◌, ◌^◌, ◌<◌, ◌≤◌, max, true, false, ◌&&◌, List, [], ◌∷◌, map, length, replicate, slice_get, Some, Ok, refl, sym, subst, ◌∙◌, ◌⊎◌, inl, inr, length-append, arith, Bool, filter, flat_map, fold, nat_le, range_with_len, and_parts, cases_lt, length-replicate, bytes_of, Section, Part, Text, Bss, Statement, StatementZeros as Zeros, StatementAlign as Align, Laid, IsPlain, IsWhole, IsWritableSection, is_in, gap, taken, size_in, parts_of, part_name, is_text, first_alignment, alignment_asked, alignment, padding, bytes_at, contents, fill_of, may_write, section_of, sections, placed_lines, In-numbers, In, all-In, In-filtered, filter-Passes, In-map}
 use Rattle.cell_object.specs.Sections.{is_alignment}
 use Rattle.cell_asm.proofs.ListLemmas.{le_of, get_map, flat_length, total_same, sum_is_total}
 use Rattle.cell_asm.proofs.GoodBlocks.{IsUnit, IsGoodStatement}
@@ -28,11 +28,8 @@ at_length part offset _ h = refl
 abbrev InWords : Part → List Laid → Type 0
 InWords part lines = (l : Laid) → In l lines → is_in part l ≡ true → is_text part ≡ true → taken l.line.statement l.offset % 4 ≡ 0
 
-text_words : (source : List ℕ) (lines : List Laid) → placed_lines source ≡ Ok lines → InWords Text lines
-text_words source lines e l k t same = text_fours l (all_stand source lines e l k) t (in_fours source lines e l k t)
-
 in_words : (source : List ℕ) (lines : List Laid) (part : Part) → placed_lines source ≡ Ok lines → InWords part lines
-in_words source lines Text e = text_words source lines e
+in_words source lines Text e = λ l k t same. text_fours l (all_stand source lines e l k) t (in_fours source lines e l k t)
 in_words source lines _ e = λ l k t same. absurd cc
 
 filled_length : (part : Part) (lines : List Laid) → InWords part lines
@@ -49,16 +46,13 @@ whole part lines words = filled_length part lines words
 
 -- ALIGNMENTS
 
-one_unit : IsUnit 1
-one_unit = (0, (omega arith), refl)
-
 first_unit : (part : Part) → IsUnit (first_alignment part)
 first_unit Text = (2, (omega arith), refl)
 first_unit _ = (3, (omega arith), refl)
 
 asked_unit : (s : Statement) → IsGoodStatement s → IsUnit (alignment_asked s)
 asked_unit (Align unit) g = g
-asked_unit _ g = one_unit
+asked_unit _ g = (0, (omega arith), refl)
 
 larger_unit : (a b : ℕ) → IsUnit a → IsUnit b → (a < b) ⊎ (b ≤ a) → IsUnit (max a b)
 larger_unit a b g h (inl l) = subst IsUnit (omega (arith, l)) h

@@ -1,6 +1,6 @@
 -- How many bytes the names of a source's symbols take.
 --     symbols_cost source lines
-use Rattle.cell_asm.proofs.Facts.{◌≡◌, ℕ, suc, ◌+◌, ◌*◌, ◌≤◌, Bool, true, false, cond, not, List, [], ◌∷◌, ◌++◌, map, length, codes, Ok, Some, None, inl, inr, refl, subst, sym, ap, ◌∙◌, zero-add, true≢false, arith, ◌^◌, ◌<◌, replicate, ◌⊎◌, length-append, lit≤, and_parts, map-append, length-map, length-replicate, filter-append, sum_by-cons, Option, if◌then◌else◌, decimal, filter, is_none, sum_by, ◌==◌, IsWhole, is_pcrel_hi20, numbered_from, section_rows, local_count, offset_after, has_entries, content, symbols_part, table, own_names, table_name, names_before_tables, parts_before_tables, parts_before_strings, parts_before_names, onto, pieces, lines_in, placed_lines, globals, local_labels, label_names, statement_names, mentions, other_names, key_name, symbols, parts_of, part_name, section_of, sections, entries, object_of, marks_in, is_same_part, is_at, is_in, placed, is_made, makes_label, may_stand, lays_nothing, taken, size_in, own_key, made_key, keys_of, label, labels_at, labels, is_key, holds_key, Symbol, Mark, Part, Text, Statement, Line, Laid, Label, Key, KeyNamed as Named, KeyMade as Made, Section, Entry, Object, Fill, Prog, Note, Zero, In-one, length-filter_le, In, In-left, filter-In, any-Has, any-In, In-append, In-filtered, In-map, In-numbered, get-In, names_in}
+use Rattle.cell_asm.proofs.Facts.{◌≡◌, ℕ, suc, ◌+◌, ◌*◌, ◌≤◌, Bool, true, false, cond, not, List, [], ◌∷◌, ◌++◌, map, length, codes, Ok, Some, None, inl, inr, refl, subst, sym, ap, ◌∙◌, zero-add, true≢false, arith, ◌^◌, ◌<◌, replicate, ◌⊎◌, length-append, lit≤, and_parts, map-append, length-map, length-replicate, filter-append, sum_by-cons, Option, if◌then◌else◌, decimal, filter, is_none, sum_by, ◌==◌, IsWhole, is_pcrel_hi20, numbered_from, section_rows, local_count, offset_after, has_entries, content, symbols_part, table, own_names, table_name, names_before_tables, parts_before_tables, parts_before_strings, parts_before_names, onto, pieces, lines_in, placed_lines, globals, local_labels, label_names, mentions, other_names, key_name, symbols, parts_of, part_name, section_of, sections, entries, object_of, marks_in, is_same_part, is_at, is_in, placed, is_made, makes_label, may_stand, lays_nothing, taken, size_in, own_key, made_key, keys_of, label, labels_at, labels, is_key, holds_key, Symbol, Mark, Part, Text, Statement, Line, Laid, Label, Key, KeyNamed as Named, KeyMade as Made, Section, Entry, Object, Fill, Prog, Note, Zero, In-one, length-filter_le, In, In-left, filter-In, any-Has, any-In, In-append, In-filtered, In-map, In-numbered, get-In, names_in, nat_le, all-In}
 use Rattle.cell_image.proofs.Headers.{rows_count}
 use Rattle.cell_image.proofs.Places.{even_length}
 use Rattle.cell_image.proofs.Stands.{entry_length}
@@ -13,8 +13,8 @@ use Rattle.cell_object.specs.Strings.{string, string_table}
 use Rattle.cell_asm.specs.Objects as objects
 use Rattle.cell_asm.proofs.EntriesFit.{IsStanding, all_stand, section_fits, few_entries}
 use Rattle.cell_asm.proofs.GoodBlocks.{AreMarks, is_code, hi20_code, content_of, statement_marks, statement_taken, none_laid}
-use Rattle.cell_asm.proofs.ListLemmas.{total, total-append, total-map, total_split, fold_total, total_le, flat_length, flat_most, le_trans, itself}
-use Rattle.cell_asm.proofs.NamesFit.{cost, cost-append, cost_flat, made_short}
+use Rattle.cell_asm.proofs.ListLemmas.{total, total-append, total-map, total_split, fold_total, total_le, flat_length, flat_most, le_of, le_trans, itself}
+use Rattle.cell_asm.proofs.NamesFit.{cost, cost_flat, made_short}
 use Rattle.cell_asm.proofs.ObjectLemmas.{few}
 use Rattle.cell_asm.proofs.PlacingLemmas.{GoesOn, grows_with}
 use Rattle.cell_asm.proofs.ReadLines.{read_line}
@@ -73,9 +73,6 @@ in_text_by : (o : Option Part) (line : Line) (m : Mark) → may_stand o line ≡
 in_text_by None line m t k code = absurd (none_laid line.statement m (and_parts (is_none line.label) (lays_nothing line.statement) t).1 k)
 in_text_by (Some part) line m t k code = ap (is_same_part Text) ((statement_taken part line.statement m t k).coded code)
 
-many : (n t : ℕ) → 1 ≤ n → n ≤ 2 * t → 1 ≤ 2 * t
-many n t h k = omega (arith, h, k)
-
 -- so many labels a line makes, at an entry, in .text alone
 line_makes : (l : Laid) (b : Bool) → makes_label l.line.statement ≡ b → IsStanding l → (if b then 1 else 0) ≤ 2 * (if is_in Text l then taken l.line.statement l.offset else 0)
 line_makes l true e s =
@@ -84,7 +81,7 @@ line_makes l true e s =
     let r : (m : Mark) × In m (marks_in st) × (is_made m.fix.target ≡ true) = any-Has (λ m. is_made m.fix.target) (marks_in st) e in
     let u : (m : Mark) × In m (marks_in st) × (is_pcrel_hi20 m.fix.kind ≡ true) = any-Has (λ m. is_pcrel_hi20 m.fix.kind) (marks_in st) (made_head st r.0 s.good r.1 r.2) in
     let text : is_in Text l ≡ true = in_text_by l.part l.line u.0 s.stands u.1 (sym (marks.stand.0 u.0 u.1).fix.code ∙ hi20_code u.0.fix.kind u.2) in
-    subst (λ c. 1 ≤ 2 * (if c then taken st l.offset else 0)) (sym text) (many (length (marks_in st)) (taken st l.offset) (some_there (marks_in st) r.0 r.1) marks.few)
+    subst (λ c. 1 ≤ 2 * (if c then taken st l.offset else 0)) (sym text) (omega (arith, some_there (marks_in st) r.0 r.1, marks.few))
 line_makes l false e s = omega arith
 
 text_taken : (b : Bool) (l : Laid) (ls : List Laid) → sum_by (λ m. taken m.line.statement m.offset) (cond b (l ∷ ls) ls) ≡ (if b then taken l.line.statement l.offset else 0) + sum_by (λ m. taken m.line.statement m.offset) ls
@@ -109,9 +106,6 @@ module _ (lines : List Laid) where
   abbrev is_own : List ℕ → Bool
   is_own name = holds_key (local_labels lines) (Named name)
 
-  own_there : (x : Label) (name : List ℕ) → In x (labels lines) → x.key ≡ Named name → is_local x ≡ true → is_own name ≡ true
-  own_there x name k e t = any-In (λ y. is_key y.key (Named name)) (local_labels lines) x (filter-In is_local (labels lines) x k t) (subst (λ q. is_key q (Named name) ≡ true) (sym e) (key_itself (Named name)))
-
   own_by : (x : Label) (name : List ℕ) (t p : Bool) → x.key ≡ Named name → (t ≡ true → p ≡ true) → total label_cost (cond t (x ∷ []) []) ≤ cost (cond p (name ∷ []) [])
   own_by x name true true e h = subst (λ q. suc (length (key_name q)) + 0 ≤ suc (length name) + 0) (sym e) (itself (suc (length name) + 0))
   own_by x name true false e h = absurd (true≢false (sym (h refl)))
@@ -121,7 +115,8 @@ module _ (lines : List Laid) where
       → total label_cost (filter is_local (map (label part offset) (own_key o))) ≤ cost (filter is_own (label_names o))
   own_cost part offset None h = omega arith
   own_cost part offset (Some name) h =
-      own_by (label part offset (Named name)) name (is_local (label part offset (Named name))) (is_own name) refl (own_there (label part offset (Named name)) name (h (Named name) (inl refl)) refl)
+      own_by (label part offset (Named name)) name (is_local (label part offset (Named name))) (is_own name) refl
+      (λ t. any-In (λ y. is_key y.key (Named name)) (local_labels lines) (label part offset (Named name)) (filter-In is_local (labels lines) (label part offset (Named name)) (h (Named name) (inl refl)) t) (key_itself (Named name)))
 
   made_by : (part : Part) (offset n : ℕ) (b : Bool) → total label_cost (filter is_local (map (label part offset) (if b then Made n ∷ [] else []))) ≤ 68 * (if b then 1 else 0)
   made_by part offset n true = let d : length (codes ".La" ++ decimal n) ≤ 67 = made_short n in omega (arith, d)
@@ -133,26 +128,14 @@ module _ (lines : List Laid) where
   line_cost (Some part) l h =
       let own : List Key = own_key l.line.label in
       let made : List Key = made_key l.line.statement l.made in
-      omega (
-        arith,
-        (ap (λ xs. total label_cost (filter is_local xs)) (map-append (label part l.offset) own made) ∙ ap (total label_cost) (filter-append is_local (map (label part l.offset) own) (map (label part l.offset) made))
-            ∙ total-append label_cost (filter is_local (map (label part l.offset) own)) (filter is_local (map (label part l.offset) made))),
-        own_cost part l.offset l.line.label (λ k i. h part refl k (In-left own made k i)),
-        made_by part l.offset l.made (makes_label l.line.statement),
-        (ap cost (filter-append is_own (label_names l.line.label) (statement_names l.line.statement)) ∙ cost-append (filter is_own (label_names l.line.label)) (filter is_own (statement_names l.line.statement))),
-      )
+      simp (map-append, filter-append, total-append) (omega (arith, own_cost part l.offset l.line.label (λ k i. h part refl k (In-left own made k i)), made_by part l.offset l.made (makes_label l.line.statement)))
 
   labels_cost : (ls : List Laid) → ((l : Laid) → In l ls → In l lines)
       → total label_cost (filter is_local (labels ls)) ≤ cost (filter is_own (mentions ls)) + 68 * total makes ls
   labels_cost [] h = omega arith
   labels_cost (l ∷ ls) h =
-      omega (
-        arith,
-        (ap (total label_cost) (filter-append is_local (labels_at l.part l.offset (keys_of l)) (labels ls)) ∙ total-append label_cost (filter is_local (labels_at l.part l.offset (keys_of l))) (filter is_local (labels ls))),
-        line_cost l.part l (λ part e k i. in_labels lines l part k (h l (inl refl)) e i),
-        labels_cost ls (λ m k. h m (inr k)),
-        (ap cost (filter-append is_own (names_in l.line) (mentions ls)) ∙ cost-append (filter is_own (names_in l.line)) (filter is_own (mentions ls))),
-      )
+      rw (filter-append is_local (labels_at l.part l.offset (keys_of l)) (labels ls), total-append, filter-append is_own (names_in l.line) (mentions ls), total-append)
+      (omega (arith, line_cost l.part l (λ part e k i. in_labels lines l part k (h l (inl refl)) e i), labels_cost ls (λ m k. h m (inr k))))
 
 -- ALL SYMBOLS
 
@@ -264,8 +247,7 @@ abbrev fixed_names : List (List ℕ)
 fixed_names = codes ".symtab" ∷ codes ".strtab" ∷ codes ".shstrtab" ∷ []
 
 fixed_small : AreSmall 3 12 fixed_names
-fixed_small = small_join 1 2 12 (codes ".symtab" ∷ []) (codes ".strtab" ∷ codes ".shstrtab" ∷ []) (small_one 12 (codes ".symtab") (lit≤ tt))
-    (small_join 1 1 12 (codes ".strtab" ∷ []) (codes ".shstrtab" ∷ []) (small_one 12 (codes ".strtab") (lit≤ tt)) (small_one 12 (codes ".shstrtab") (lit≤ tt)))
+fixed_small = record { count = lit≤ tt; short = λ t k. le_of (length t) 12 (all-In (λ n. nat_le (length n) 12) fixed_names refl t k) }
 
 names_small : (lines : List Laid) → AreSmall 11 12 (names_before_tables (object_of lines) ++ map table_name (relocated (sections lines) (entries lines)))
 names_small lines =
@@ -290,9 +272,6 @@ filled_le : (f : Fill) (bytes : List ℕ) (size : ℕ) → IsWhole f bytes size 
 filled_le Prog bytes size w h = subst (λ n. n ≤ 16777216) (sym w) h
 filled_le Note bytes size w h = subst (λ n. n ≤ 16777216) (sym w) h
 filled_le Zero bytes size w h = omega arith
-
-symbols_short_part : (source : List ℕ) (lines : List Laid) → placed_lines source ≡ Ok lines → length source < 2 ^ 31 → length (symbols_part (object_of lines)) ≤ 54962159640
-symbols_short_part source lines e h = omega (arith, symbols_length (object_of lines), few_symbols source lines e h)
 
 entries_for_few : (es : List Entry) (n : ℕ) → length (entries_for es n) ≤ length es
 unfolding entries_for
@@ -322,7 +301,7 @@ size_fits source lines e h =
     (small_join 4 1 most (parts.contents (sections lines)) (symbols_part o ∷ [])
     (small_map 4 most content (sections lines) (few_sections lines)
     (λ s k. let w : (s.size ≤ 16777216) × IsWhole s.fill s.bytes s.size = section_whole source lines e s k in below (length (content s)) 16777216 (filled_le s.fill s.bytes s.size w.1 w.0) (lit≤ tt)))
-    (small_one most (symbols_part o) (symbols_short_part source lines e h)))
+    (small_one most (symbols_part o) (omega (arith, symbols_length o, few_symbols source lines e h))))
     (small_map 4 most (table (entries lines)) (relocated (sections lines) (entries lines)) (few_tables lines) (λ row k. below (length (table (entries lines) row)) 3221225472 (table_few (entries lines) row (few_entries source lines e)) (lit≤ tt))))
     (small_one most (symbol_strings o) (strings_below (length (symbol_strings o)) (texts_fit source lines e h))))
     (small_one most (section_strings o) (strings_below (length (section_strings o)) (names_fit lines))) in

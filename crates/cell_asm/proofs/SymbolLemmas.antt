@@ -84,11 +84,8 @@ module _ (kept : Progress) (lines : List Laid) (h : Follows kept lines) where
   symbol_is key bind None = refl
   symbol_is key bind (Some l) = ap (λ ps. symbol key bind (Inside (number_in ps l.part)) l.offset) h.parts
 
-  other_is : (name : List ℕ) → other_in kept name ≡ global_symbol lines name
-  other_is name = ap (symbol_in kept (Named name) Global) (h.spots name) ∙ symbol_is (Named name) Global (label_named lines name)
-
   symbols_are : map (local_in kept) (local_labels lines) ++ map (other_in kept) (other_names lines) ≡ symbols lines
-  symbols_are = rw (map_same (local_in kept) (local_symbol lines) (local_labels lines) (λ l k. symbol_is l.key Local (Some l)), map_same (other_in kept) (global_symbol lines) (other_names lines) (λ name k. other_is name)) refl
+  symbols_are = rw (map_same (local_in kept) (local_symbol lines) (local_labels lines) (λ l k. symbol_is l.key Local (Some l)), map_same (other_in kept) (global_symbol lines) (other_names lines) (λ name k. ap (symbol_in kept (Named name) Global) (h.spots name) ∙ symbol_is (Named name) Global (label_named lines name))) refl
 
   -- the symbols that are mentioned are those of the lines
   pub all_symbols : (s : Symbols) → Mentions s kept (fold (mentioned kept) [] kept.mentions.items) → Lists s (symbol_keys lines) (symbols lines)
