@@ -1,26 +1,13 @@
 -- The lines of a source that is assembled.
---     read_lines source o      the object is that of its lines, of which none refers to a label that is none
-use Rattle.std.proofs.Common.{◌≡◌, ℕ, List, Result, Ok, Err, Some, None, refl, ◌≤◌, ◌<◌, ◌^◌, [], length, sym, subst, arith, ◌+◌, true, false, slice_index_or}
-use Rattle.std.proofs.lemmas.Bool.{and_parts}
-use Rattle.std.specs.Prelude.{Option, find, IfOk, All, is_none}
+use Rattle.cell_asm.proofs.Facts.{◌≡◌, ℕ, List, Result, Ok, Err, Some, None, refl, ◌≤◌, ◌<◌, ◌^◌, [], length, sym, subst, arith, ◌+◌, true, false, slice_index_or, and_parts, Option, find, IfOk, All, is_none, IsWhole, IsRuled, image, IsSoundObject, IsWritable, has_lost, object_unless, object_from, placed_lines, assembled, Assembles, line_of, AreInside, HasRoom, fault_after, laid_after, offset_of, twice_of, object_of, largest, marks_in, taken, is_long, may_stand, lays_nothing, Object, AsmKind, Laid, Fill, Prog, Note, Zero, Part, Line, AsmFail, Progress, In-All}
 use Rattle.std.specs.declared.result.Result.{}
 use Rattle.cell_elf.proofs.LoadableCounts.{reads_passed}
 use Rattle.cell_elf.proofs.Soundness.{object_sound}
 use Rattle.cell_image.proofs.RoundTrip.{read_again}
-use Rattle.cell_image.proofs.Ruled.{IsWhole, IsRuled}
-use Rattle.cell_object.specs.Image.{image}
-use Rattle.cell_object.specs.Sound.{IsSoundObject}
-use Rattle.cell_object.specs.Writable.{IsWritable}
-use Rattle.cell_asm.specs.Assembled.{has_lost, object_unless, object_from, placed_lines, assembled, Assembles}
-use Rattle.cell_asm.specs.Lines.{line_of}
-use Rattle.cell_asm.specs.Progress.{AreInside, HasRoom, fault_after, laid_after, offset_of, twice_of}
-use Rattle.cell_asm.specs.Objects.{object_of}
-use Rattle.cell_asm.specs.Places.{marks_in, taken, is_long, may_stand, lays_nothing}
-use Rattle.cell_asm.specs.Types.{Object, AsmKind, Laid, Fill, Prog, Note, Zero, Part, Bss, Line, AsmFail, Progress}
-use Rattle.cell_asm.proofs.EntriesFit.{not_past, no_fault}
+use Rattle.cell_asm.proofs.ListLemmas.{ok_once}
+use Rattle.cell_asm.proofs.EntriesFit.{not_past, largest_most, no_fault}
 use Rattle.cell_asm.proofs.GoodBlocks.{statement_marks, none_laid}
 use Rattle.cell_asm.proofs.ReadLines.{read_line}
-use Rattle.cell_num.proofs.Elements.{In-All}
 use Rattle.cell_asm.proofs.SectionsFit.{sections_fit}
 use Rattle.cell_asm.proofs.SizesFit.{few_symbols, headers_fit, locals_fit, texts_fit, names_fit, size_fits}
 use Rattle.cell_asm.proofs.SymbolsFit.{symbols_fit}
@@ -32,19 +19,13 @@ pub record IsRead (source : List ℕ) (o : Object) : Type 0 where
   pub kept : find (has_lost lines) lines ≡ None
   pub made : o ≡ object_of lines
 
-same_object : (a b : Object) (r : Result Object (ℕ × AsmKind)) → r ≡ Ok a → r ≡ Ok b → b ≡ a
-same_object a b r e f = cc
-
 by_lost : (source : List ℕ) (o : Object) (lines : List Laid) (lost : Option Laid) → placed_lines source ≡ Ok lines → find (has_lost lines) lines ≡ lost → object_unless lines lost ≡ Ok o → IsRead source o
-by_lost source o lines None read kept e = record { lines = lines; read = read; kept = kept; made = same_object (object_of lines) o (Ok (object_of lines)) refl e }
+by_lost source o lines None read kept e = record { lines = lines; read = read; kept = kept; made = ok_once o (object_of lines) (Ok (object_of lines)) e refl }
 by_lost source o lines (Some l) read kept e = absurd cc
 
 by_lines : (source : List ℕ) (o : Object) (r : Result (List Laid) (ℕ × AsmKind)) → placed_lines source ≡ r → object_from r ≡ Ok o → IsRead source o
 by_lines source o (Ok lines) read e = by_lost source o lines (find (has_lost lines) lines) read refl e
 by_lines source o (Err fault) read e = absurd cc
-
-pub read_lines : (source : List ℕ) (o : Object) → assembled source ≡ Ok o → IsRead source o
-read_lines source o e = by_lines source o (placed_lines source) refl e
 
 -- What a source is assembled to can be written: it keeps the rules, so that it is read again, and what is
 -- read is sound.
@@ -84,7 +65,7 @@ writable object r =
 
 pub assembled_fits : (source : List ℕ) (o : Object) → assembled source ≡ Ok o → length source < 2 ^ 31 → IsWritable o
 assembled_fits source o e h =
-    let r : IsRead source o = read_lines source o e in
+    let r : IsRead source o = by_lines source o (placed_lines source) refl e in
     subst IsWritable (sym r.made) (writable (object_of r.lines) (lines_ruled source r.lines r.read r.kept h))
 
 -- The offsets of the entries to come are numbers of 32 bits.
@@ -96,18 +77,13 @@ inside text line e = λ offset.
     In-All (λ m. m.at ≤ taken line.statement offset) (marks_in line.statement)
     (λ m k. omega (arith, ((statement_marks line.statement offset (read_line text line e).good).stand.0 m k).inside))
 
-not_long : (part : Part) (n : ℕ) → is_long (Some part) n ≡ false → n ≤ 16777216
-not_long Bss n e = not_past 16777216 n e
-not_long _ n e = let h : n ≤ 1048576 = not_past 1048576 n e in omega (arith, h)
-
-small : (at taken offset : ℕ) → at ≤ taken → offset + taken ≤ 16777216 → offset + at < 2 ^ 32
-small at taken offset h k = omega (arith, h, k)
-
 room_by : (part : Option Part) (offset : ℕ) (line : Line) → may_stand part line ≡ true → is_long part (offset + taken line.statement offset) ≡ false → AreInside line.statement
     → All (λ m. offset + m.at < 2 ^ 32) (marks_in line.statement)
 room_by None offset line s l g = In-All (λ m. offset + m.at < 2 ^ 32) (marks_in line.statement) (λ m k. absurd (none_laid line.statement m (and_parts (is_none line.label) (lays_nothing line.statement) s).1 k))
 room_by (Some part) offset line s l g =
-    λ k d lt. small (slice_index_or (marks_in line.statement) k d).at (taken line.statement offset) offset (g offset k d lt) (not_long part (offset + taken line.statement offset) l)
+    λ k d lt.
+    let at : (slice_index_or (marks_in line.statement) k d).at ≤ taken line.statement offset = g offset k d lt in
+    omega (arith, at, not_past (largest part) (offset + taken line.statement offset) l, largest_most part)
 
 pub placed_room : (p : Progress) (n : ℕ) (line : Line) → fault_after p line ≡ None → AreInside line.statement → HasRoom (laid_after p n line)
 placed_room p n line e g =

@@ -3,22 +3,7 @@
 --     IsGoodBlock content b            instructions, or numbers
 --     IsGoodStatement s                a statement has such bytes
 --     piece_sound                      bytes stay sound with a good piece more
-use Rattle.std.proofs.Common.{◌≡◌, ◌≤◌, ◌+◌, ◌*◌, ◌^◌, ◌%◌, ◌/◌, ℕ, zero, suc, Bool, true, false, List, [], ◌∷◌, ◌++◌, length, ◌⊎◌, inl, inr, pos, Some, None, refl, sym, subst, ap, ◌∙◌, length-append, arith, ◌&&◌, ◌||◌, ◌==◌, not, map, true≢false}
-use Rattle.std.proofs.lemmas.Bool.{or_right}
-use Rattle.std.proofs.Math.Bool.{and-false}
-use Rattle.std.specs.Int.{w64}
-use Rattle.std.specs.List.{list_any}
-use Rattle.std.specs.Prelude.{Option, FitsSigned, nat_lt}
-use Rattle.cell_num.specs.Bits.{bytes_of}
-use Rattle.cell_num.specs.Kinds.{width_of, is_instruction, is_stacking, is_pcrel_lo12, is_pcrel_hi20}
-use Rattle.cell_object.specs.Relocations.{is_shared, is_stack, is_clash}
-use Rattle.cell_object.specs.Sound.{is_known_kind}
-use Rattle.cell_asm.specs.Blocks.{marks_at, marks_of, appended, empty}
-use Rattle.cell_asm.specs.Objects.{part_number, symbol_number, target_key, entry_of, entries_of}
-use Rattle.cell_asm.specs.Places.{marks_in, is_made, taken, takes, lays_nothing}
-use Rattle.cell_asm.specs.Types.{RelKind, PcrelHi20, PcrelLo12I, PcrelLo12S, Mark, Block, Content, Code, Narrow, Wide, Fix, Piece, Statement, StatementZeros as Zeros, StatementAlign as Align, Bytes, Entry, Part, Text, Rodata, Data, Bss, Laid}
-use Rattle.cell_num.proofs.Elements.{In, In-append, In-map}
-use Rattle.cell_num.proofs.Ranges.{In-one}
+use Rattle.cell_asm.proofs.Facts.{◌≡◌, ◌≤◌, ◌+◌, ◌*◌, ◌^◌, ◌%◌, ◌/◌, ℕ, zero, suc, Bool, true, false, List, [], ◌∷◌, ◌++◌, length, ◌⊎◌, inl, inr, pos, Some, None, refl, sym, subst, ap, ◌∙◌, length-append, arith, ◌||◌, map, true≢false, or_right, and-false, w64, list_any, Option, FitsSigned, bytes_of, width_of, is_instruction, is_stacking, is_pcrel_lo12, is_pcrel_hi20, is_shared, is_clash, is_known_kind, marks_at, marks_of, appended, empty, entry_of, entries_of, marks_in, is_made, taken, takes, lays_nothing, RelKind, PcrelHi20, PcrelLo12I, PcrelLo12S, Mark, Block, Content, Code, Narrow, Wide, Fix, Piece, Statement, StatementZeros as Zeros, StatementAlign as Align, Bytes, Entry, Part, Text, Rodata, Data, Bss, Laid, In, In-append, In-map, In-one}
 use Rattle.cell_asm.proofs.ListLemmas.{Pairwise, pairwise_one, pairwise_join, itself, le_trans, least, not_less, same_test}
 
 abbrev pub is_code : Content → Bool
@@ -143,20 +128,14 @@ one_most : (at : ℕ) (o : Option Fix) → length (marks_at at o) ≤ 1
 one_most at None = omega arith
 one_most at (Some f) = omega arith
 
-two_more : (a c d e n w m : ℕ) → a ≤ 2 * n → c ≤ 1 → d ≤ 1 → e ≡ a + (c + d) → 1 ≤ w → m ≡ n + w → e ≤ 2 * m
-two_more a c d e n w m x y z q l is = omega arith
-
 pub piece_sound : (content : Content) (b : Block) (p : Piece) → IsSound content b → IsGoodPiece content p → IsSound content (appended b p)
 piece_sound content b p h g =
     let n : ℕ = length b.bytes in
     let size : length (appended b p).bytes ≡ n + p.width = length-append b.bytes (bytes_of p.width p.value) ∙ ap (λ k. n + k) (bytes_count p.width p.value) in
-    let one : List Mark = marks_at n p.fix in
-    let two : List Mark = marks_at n p.second in
     record {
       marks_are = record {
         stand = subst (λ k. AreWithin content 0 k (appended b p).marks) (sym size) (join content 0 n (n + p.width) b.marks (marks_of n p) (least n) (more n p.width) h.marks_are.stand (g.stands n h.whole));
-        few = two_more (length b.marks) (length one) (length two) (length (appended b p).marks) n p.width (length (appended b p).bytes)
-            h.marks_are.few (one_most n p.fix) (one_most n p.second) (length-append b.marks (marks_of n p) ∙ ap (λ k. length b.marks + k) (length-append one two)) g.low size;
+        few = omega (arith, h.marks_are.few, one_most n p.fix, one_most n p.second, length-append b.marks (marks_of n p), length-append (marks_at n p.fix) (marks_at n p.second), g.low, size);
       };
       whole = λ wide. omega (arith, (h.whole wide), (g.in_fours wide), size);
     }
@@ -211,57 +190,30 @@ none_laid _ m e k = k
 pub record IsFrom (lines : List Laid) (part : Part) (l : Laid) (e : Entry) : Type 0 where
   pub m : Mark
   pub there : In m (marks_in l.line.statement)
-  pub section_is : e.section ≡ part_number lines part
-  pub kind_is : e.kind ≡ m.fix.kind
-  pub symbol_is : e.symbol ≡ symbol_number lines (target_key l m.fix.target)
-  pub addend_is : e.addend ≡ m.fix.addend
-  pub good : IsGoodFix (content_of l.line.statement) m.fix
-  pub fours : (content_of l.line.statement ≡ Narrow → ⊥) → e.offset % 4 ≡ l.offset % 4
+  pub is : e ≡ entry_of lines part l m
+  pub within : IsWithin (content_of l.line.statement) 0 (taken l.line.statement l.offset) m
   pub low : l.offset ≤ e.offset
   pub high : e.offset + width_of e.kind ≤ l.offset + taken l.line.statement l.offset
-
-inside_base : (base at w size offset v : ℕ) → at + w ≤ size → offset ≡ base + at → v ≡ w → offset + v ≤ base + size
-inside_base base at w size offset v h e f = omega (arith, h, e, f)
 
 pub line_origin : (lines : List Laid) (part : Part) (l : Laid) (e : Entry) → IsGoodStatement l.line.statement → In e (entries_of lines part l) → IsFrom lines part l e
 line_origin lines part l e g k =
     let r : (m : Mark) × In m (marks_in l.line.statement) × (e ≡ entry_of lines part l m) = In-map (entry_of lines part l) (marks_in l.line.statement) e k in
     let a : IsWithin (content_of l.line.statement) 0 (taken l.line.statement l.offset) r.0 = (statement_marks l.line.statement l.offset g).stand.0 r.0 r.1 in
     let at : e.offset ≡ l.offset + r.0.at = ap (λ x. x.offset) r.2 in
-    record {
-      m = r.0;
-      there = r.1;
-      section_is = ap (λ x. x.section) r.2;
-      kind_is = ap (λ x. x.kind) r.2;
-      symbol_is = ap (λ x. x.symbol) r.2;
-      addend_is = ap (λ x. x.addend) r.2;
-      good = a.fix;
-      fours = λ wide. omega (arith, (a.fours wide), at);
-      low = omega (arith, at);
-      high = inside_base l.offset r.0.at (width_of r.0.fix.kind) (taken l.line.statement l.offset) e.offset (width_of e.kind) a.inside at (ap (λ x. width_of x.kind) r.2);
-    }
+    record { m = r.0; there = r.1; is = r.2; within = a; low = omega (arith, at); high = omega (arith, a.inside, at, ap (λ x. width_of x.kind) r.2) }
 
 -- APART
 
 abbrev pub Apart : List Entry → Type 0
 Apart es = Pairwise (λ e f. is_clash f e ≡ false) es
 
-no_clash : (a b c : Bool) → a ≡ false → (a && b && c) ≡ false
-no_clash a b c e = rw e refl
-
 -- an entry behind another
 pub behind : (e f : Entry) (mid : ℕ) → e.offset + width_of e.kind ≤ mid → mid ≤ f.offset → is_clash f e ≡ false
-behind e f mid h k =
-    no_clash (nat_lt f.offset (e.offset + width_of e.kind)) (nat_lt e.offset (f.offset + width_of f.kind)) (not (is_stack f e))
-    (not_less f.offset (e.offset + width_of e.kind) (omega (arith, h, k)))
-
-stacked_free : (a b c d e : Bool) → b ≡ true → c ≡ true → d ≡ true → e ≡ true → (a && not (b && c && d && e)) ≡ false
-stacked_free a b c d e p q r s = rw (p, q, r, s) (and-false a)
+behind e f mid h k = rw (not_less f.offset (e.offset + width_of e.kind) (omega (arith, h, k))) refl
 
 -- two entries that add to one field
 together : (e f : Entry) → f.offset ≡ e.offset → width_of f.kind ≡ width_of e.kind → is_stacking f.kind ≡ true → is_stacking e.kind ≡ true → is_clash f e ≡ false
-together e f at wide a b =
-    stacked_free (is_shared f e) (f.offset == e.offset) (width_of f.kind == width_of e.kind) (is_stacking f.kind) (is_stacking e.kind) (same_test f.offset e.offset at) (same_test (width_of f.kind) (width_of e.kind) wide) a b
+together e f at wide a b = rw (same_test f.offset e.offset at, same_test (width_of f.kind) (width_of e.kind) wide, a, b) (and-false (is_shared f e))
 
 module _ (lines : List Laid) (part : Part) (l : Laid) where
   never_clash : (m n : Mark) → AreApart m n → is_clash (entry_of lines part l n) (entry_of lines part l m) ≡ false

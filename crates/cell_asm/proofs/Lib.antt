@@ -1,3 +1,4 @@
+pub mod Facts
 pub mod ListLemmas
 pub mod ReadingLemmas
 pub mod ObjectLemmas

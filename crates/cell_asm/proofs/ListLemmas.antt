@@ -4,23 +4,7 @@
 --     Pairwise R xs           each element stands so to each behind it
 --     AreApart t xs           no element passes the test of one before it
 --     adds t xs x             the element behind the others, unless one of them passes its test
-use Rattle.std.proofs.Common.{◌≡◌, refl, sym, subst, ◌⊎◌, inl, inr, ℕ, zero, suc, Bool, true, false, ◌||◌, cond, List, [], ◌∷◌, ◌++◌, ap, ◌∙◌, map, true≢false, Some, None, slice_get, ◌+◌, ◌*◌, ◌≤◌, not, length, take, drop, zero-add, arith, ◌<◌}
-use Rattle.std.proofs.lemmas.Bool.{or_left, or_right}
-use Rattle.std.proofs.lemmas.Bool.Decides.{nat_tests}
-use Rattle.std.proofs.lemmas.List.{length-take, length-drop}
-use Rattle.std.proofs.lemmas.List.Concat.{length-flat_map}
-use Rattle.std.proofs.lemmas.List.Folds.{list_any-append}
-use Rattle.std.proofs.lemmas.List.Sums.{sum_by-cons, prefix_len-drop_yes, prefix_len-drop_no, prefix_len-drop_all, suffix_len-take_yes, suffix_len-take_no, suffix_len-le-length, prefix_len-le-length}
-use Rattle.std.specs.List.{list_any, position_or_len}
-use Rattle.std.proofs.lemmas.Option.{slice_get-map}
-use Rattle.std.specs.Prelude.{option_map, filter, flat_map, if◌then◌else◌, fold, sum_by, IfSome, nat_lt, nat_le, ◌==◌, position, Option, is_some}
-use Rattle.cell_num.specs.Lists.{or_else, where_true}
-use Rattle.cell_num.proofs.Elements.{In, In-append, get-In, none-In}
-use Rattle.cell_num.proofs.Ranges.{In-one}
-use Rattle.cell_asm.specs.Numberings.{has_key}
-use Rattle.cell_asm.specs.Objects.{number_from}
-use Rattle.cell_asm.specs.Places.{is_key}
-use Rattle.cell_asm.specs.Types.{Key}
+use Rattle.cell_asm.proofs.Facts.{Result, Ok, ◌≡◌, refl, sym, subst, ◌⊎◌, inl, inr, ℕ, zero, suc, Bool, true, false, ◌||◌, cond, List, [], ◌∷◌, ◌++◌, ap, ◌∙◌, map, Some, None, slice_get, ◌+◌, ◌*◌, ◌≤◌, not, length, take, drop, zero-add, arith, ◌<◌, or_left, or_right, nat_tests, length-take, length-drop, length-flat_map, list_any-append, sum_by-cons, prefix_len-drop_yes, prefix_len-drop_no, prefix_len-drop_all, suffix_len-take_yes, suffix_len-take_no, suffix_len-le-length, prefix_len-le-length, list_any, position_or_len, slice_get-map, option_map, filter, flat_map, if◌then◌else◌, fold, sum_by, IfSome, nat_lt, nat_le, ◌==◌, position, Option, is_some, or_else, where_true, In, In-append, get-In, none-In, In-one, has_key, number_from, is_key, Key}
 
 -- ORDERS AND TESTS
 
@@ -45,14 +29,11 @@ same_test m n e = grind (arith, nat_tests)
 pub same_of : (m n : ℕ) → (m == n) ≡ true → m ≡ n
 same_of m n e = grind (arith, nat_tests)
 
-pub not_false : (b : Bool) → not b ≡ false → b ≡ true
-not_false true e = refl
-not_false false e = absurd (true≢false e)
+-- the value that there is
+pub ok_once : {A E : Type 0} (a b : A) (r : Result A E) → r ≡ Ok a → r ≡ Ok b → a ≡ b
+ok_once a b r e f = cc
 
 -- WHAT STANDS AT A PLACE
-
-next : (k n j : ℕ) → k ≡ n + j → suc k ≡ suc n + j
-next k n j e = omega (arith, e)
 
 module _ {X : Type 0} where
   -- an element of the first list, or one of the second
@@ -61,7 +42,7 @@ module _ {X : Type 0} where
 
   split_next : (y : X) (xs ys : List X) (k : ℕ) (x : X) → IsSplit xs ys k x → IsSplit (y ∷ xs) ys (suc k) x
   split_next y xs ys k x (inl e) = inl e
-  split_next y xs ys k x (inr r) = inr (r.0, next k (length xs) r.0 r.1, r.2)
+  split_next y xs ys k x (inr r) = inr (r.0, (omega (arith, r.1)), r.2)
 
   pub get_split : (xs ys : List X) (k : ℕ) (x : X) → slice_get (xs ++ ys) k ≡ Some x → IsSplit xs ys k x
   get_split [] ys k x e = inr (k, (omega arith), e)
@@ -90,23 +71,14 @@ abbrev pub total : {X : Type 0} → (X → ℕ) → List X → ℕ
 total f [] = 0
 total f (x ∷ xs) = f x + total f xs
 
-behind : (a b c d : ℕ) → b ≡ c + d → a + b ≡ (a + c) + d
-behind a b c d e = omega (arith, e)
-
-both_le : (a b c d : ℕ) → a ≤ b → c ≤ d → a + c ≤ b + d
-both_le a b c d h k = omega (arith, h, k)
-
-times_more : (a t c n : ℕ) → a ≤ c → t ≤ c * n → a + t ≤ c * suc n
-times_more a t c n h k = omega (arith, h, k)
-
 module _ {X : Type 0} where
   pub total-append : (f : X → ℕ) (xs ys : List X) → total f (xs ++ ys) ≡ total f xs + total f ys
   total-append f [] ys = sym (zero-add (total f ys))
-  total-append f (x ∷ xs) ys = behind (f x) (total f (xs ++ ys)) (total f xs) (total f ys) (total-append f xs ys)
+  total-append f (x ∷ xs) ys = omega (arith, total-append f xs ys)
 
   pub total_le : (f g : X → ℕ) (xs : List X) → ((x : X) → In x xs → f x ≤ g x) → total f xs ≤ total g xs
   total_le f g [] h = omega arith
-  total_le f g (x ∷ xs) h = both_le (f x) (g x) (total f xs) (total g xs) (h x (inl refl)) (total_le f g xs (λ y k. h y (inr k)))
+  total_le f g (x ∷ xs) h = omega (arith, h x (inl refl), total_le f g xs (λ y k. h y (inr k)))
 
   pub total_same : (f g : X → ℕ) (xs : List X) → ((x : X) → In x xs → f x ≡ g x) → total f xs ≡ total g xs
   total_same f g [] h = refl
@@ -114,7 +86,7 @@ module _ {X : Type 0} where
 
   pub total_times : (f : X → ℕ) (c : ℕ) (xs : List X) → ((x : X) → In x xs → f x ≤ c) → total f xs ≤ c * length xs
   total_times f c [] h = omega arith
-  total_times f c (x ∷ xs) h = times_more (f x) (total f xs) c (length xs) (h x (inl refl)) (total_times f c xs (λ y k. h y (inr k)))
+  total_times f c (x ∷ xs) h = omega (arith, h x (inl refl), total_times f c xs (λ y k. h y (inr k)))
 
   pub sum_is_total : (f : X → ℕ) (xs : List X) → sum_by f xs ≡ total f xs
   sum_is_total f [] = refl

@@ -1,29 +1,14 @@
 -- What is read, where it is read.
 --     Yields P r        P holds of the value, where there is one
 --     Finds P o         the same of an option
-use Rattle.std.proofs.Common.{◌≡◌, Bool, true, false, Result, Ok, Err, Some, None, refl, subst, ℕ, zero, suc, ◌+◌, ◌/◌, ◌%◌, ◌<◌, ◌≤◌, not, ◌&&◌, ◌==◌, List, [], ◌∷◌, ◌++◌, length, codes, decimal, nat_le, nat_lt, ◌⊎◌, inl, inr, arith, ◌-◌, cond, map, take, drop, sym, ap, ◌∙◌, length-append, take-append-drop, append_assoc, append-nil}
-use Rattle.std.proofs.lemmas.Bool.{ltb-true, le-leb, ne_eqb, and_parts, and_from, or_from}
-use Rattle.std.proofs.lemmas.List.Concat.{flat_map-append}
-use Rattle.std.proofs.lemmas.Bool.Decides.{nat_tests}
+use Rattle.cell_asm.proofs.Facts.{◌≡◌, Bool, true, false, Result, Ok, Err, Some, None, refl, subst, ℕ, zero, suc, ◌+◌, ◌/◌, ◌%◌, ◌<◌, ◌≤◌, not, ◌&&◌, ◌==◌, List, [], ◌∷◌, ◌++◌, length, codes, decimal, nat_le, nat_lt, ◌⊎◌, inl, inr, arith, ◌-◌, cond, map, take, drop, sym, ap, ◌∙◌, length-append, take-append-drop, append_assoc, append-nil, ltb-true, le-leb, ne_eqb, or_from, flat_map-append, nat_tests, list_any, list_all, position_or_len, prefix_len, suffix_len, after_last, slice_split, onto_first, Option, option_map, option_and_then, if◌then◌else◌, ok_or, neg_ℤ, flat_map, fold, where_true, or_else, is_global_name, IsPlain, joined, with_value, is_blank, trimmed, operand_texts, spelled, operands as operands_of, is_name, is_name_byte, begins_with_digit, ends, begins, number, key_name, is_sign, less, with_rest, expression, modifier, is_open, front, inside, modified, immediate, operand, AsmKind, Key, KeyNamed as Named, KeyMade as Made, Expression, ExpressionName as Name, Sum, Difference, Whole, Immediate, Number, ImmediatePart as Part, Operand, OperandValue as Value, OperandMemory as Memory, In, In-all, In-none, all-In, In-append, flat_map-In}
 use Rattle.std.specs.Fmt.{digits, digits_onto, digit_glyph}
-use Rattle.std.specs.List.{list_any, list_all, position_or_len, prefix_len, suffix_len, after_last, slice_split, onto_first}
-use Rattle.std.specs.Prelude.{Option, option_map, option_and_then, if◌then◌else◌, ok_or, neg_ℤ, flat_map, fold}
-use Rattle.cell_num.specs.Lists.{where_true, or_else}
 use Rattle.cell_object.specs.Bytes.{is_zero}
-use Rattle.cell_object.specs.Symbols.{is_global_name}
 use Rattle.cell_object.specs.Symbols as object_names
-use Rattle.cell_object.specs.Writable.{IsPlain}
-use Rattle.cell_asm.specs.Faults.{joined, with_value}
-use Rattle.cell_asm.specs.Lines.{is_blank, trimmed, operand_texts, spelled, operands as operands_of}
-use Rattle.cell_asm.specs.Names.{is_name, is_name_byte, is_letter, begins_with_digit, ends, begins, number}
 use Rattle.cell_asm.specs.Names as names
-use Rattle.cell_asm.specs.Objects.{key_name}
-use Rattle.cell_asm.specs.Operands.{is_sign, less, with_rest, expression, modifier, is_open, front, inside, modified, immediate, operand}
 use Rattle.cell_asm.specs.Operands as operands
-use Rattle.cell_asm.specs.Types.{AsmKind, Key, KeyNamed as Named, KeyMade as Made, Expression, ExpressionName as Name, Sum, Difference, Whole, Immediate, Number, ImmediatePart as Part, Operand, OperandValue as Value, OperandMemory as Memory}
 use Rattle.cell_asm.specs.declared.kind.AsmKind.TheVariants as faults
-use Rattle.cell_num.proofs.Elements.{In, In-append, flat_map-In}
-use Rattle.cell_asm.proofs.ListLemmas.{take_le, drop_le, total, total-append, total_le, total-map, le_trans}
+use Rattle.cell_asm.proofs.ListLemmas.{ok_once, take_le, drop_le, total, total-append, total_le, total-map, le_trans}
 
 abbrev pub Any : {A : Type 0} → A → Type 0
 Any a = Unit {0}
@@ -61,11 +46,8 @@ pub yields_weaker : {A : Type 0} (P Q : A → Type 0) (r : Result A AsmKind) →
 yields_weaker P Q (Ok a) go h = go a h
 yields_weaker P Q (Err k) go h = tt
 
-same_value : {A : Type 0} (a b : A) (r : Result A AsmKind) → r ≡ Ok a → r ≡ Ok b → a ≡ b
-same_value a b r e f = cc
-
 pub yields_ok : {A : Type 0} (P : A → Type 0) (r : Result A AsmKind) (x : A) → Yields P r → r ≡ Ok x → P x
-yields_ok P (Ok a) x h e = subst P (same_value a x (Ok a) refl e) h
+yields_ok P (Ok a) x h e = subst P (ok_once a x (Ok a) refl e) h
 yields_ok P (Err k) x h e = absurd cc
 
 abbrev pub Finds : {A : Type 0} → (A → Type 0) → Option A → Type 0
@@ -104,27 +86,12 @@ finds_both P R Q f (Some x) (Some y) go h k = go x y h k
 
 -- NAMES OF A SOURCE
 
-not_zero : (b : ℕ) → 36 ≤ b → is_zero b ≡ false
-not_zero b h = ne_eqb b 0 (λ e. omega (arith, h, e))
-
 -- a byte of a name prints
 prints : (b : ℕ) → is_name_byte b ≡ true → object_names.is_name_byte b ≡ true
 prints b e = grind (arith, nat_tests)
 
 printed : (b : ℕ) → object_names.is_name_byte b ≡ true → is_zero b ≡ false
 printed b e = grind (arith, nat_tests)
-
-plain_bytes : (name : List ℕ) → list_all is_name_byte name ≡ true → IsPlain name
-plain_bytes [] e = refl
-plain_bytes (b ∷ bs) e =
-    let p : (is_name_byte b ≡ true) × (list_all is_name_byte bs ≡ true) = and_parts (is_name_byte b) (list_all is_name_byte bs) e in
-    or_from (is_zero b) (list_any is_zero bs) (printed b (prints b p.0)) (plain_bytes bs p.1)
-
-printing : (name : List ℕ) → list_all is_name_byte name ≡ true → list_all object_names.is_name_byte name ≡ true
-printing [] e = refl
-printing (b ∷ bs) e =
-    let p : (is_name_byte b ≡ true) × (list_all is_name_byte bs ≡ true) = and_parts (is_name_byte b) (list_all is_name_byte bs) e in
-    and_from (object_names.is_name_byte b) (list_all object_names.is_name_byte bs) (prints b p.0) (printing bs p.1)
 
 first_three : (a b c d e f : Bool) → (a && b && c && d && e && f) ≡ true → (a ≡ true) × (b ≡ true) × (c ≡ true)
 first_three true true true d e f h = (refl, refl, refl)
@@ -138,18 +105,15 @@ pub record IsGoodName (name : List ℕ) : Type 0 where
   pub some : 1 ≤ length name
   pub good : is_global_name name ≡ true
 
-global_name_by : (a b c : Bool) → a ≡ true → b ≡ true → c ≡ true → (a && b && c) ≡ true
-global_name_by a b c e f g = rw (e, f, g) refl
-
 pub name_fits : (name : List ℕ) → is_name name ≡ true → IsGoodName name
 name_fits name e =
     let p : (nat_lt 0 (length name) ≡ true) × (nat_le (length name) 1024 ≡ true) × (list_all is_name_byte name ≡ true) =
     first_three (nat_lt 0 (length name)) (nat_le (length name) 1024) (list_all is_name_byte name) (not (begins_with_digit name)) (not (begins name (codes ".La"))) (not (ends name (codes ":"))) e in
     let some : 0 < length name = ltb-true 0 (length name) p.0 in
     record {
-      plain = plain_bytes name p.2;
+      plain = In-none is_zero name (λ b k. printed b (prints b (all-In is_name_byte name p.2 b k)));
       some = omega (arith, some);
-      good = global_name_by (nat_le 1 (length name)) (nat_le (length name) 1024) (list_all object_names.is_name_byte name) (le-leb 1 (length name) (omega (arith, some))) p.1 (printing name p.2);
+      good = rw (le-leb 1 (length name) (omega (arith, some)), p.1, In-all object_names.is_name_byte name (λ b k. prints b (all-In is_name_byte name p.2 b k))) refl;
     }
 
 -- NAMES THAT ARE MADE
@@ -160,7 +124,7 @@ glyph_by true false d = omega arith
 glyph_by false false d = omega arith
 
 glyph_zero : (upper : Bool) (d : ℕ) → is_zero (digit_glyph upper d) ≡ false
-glyph_zero upper d = not_zero (digit_glyph upper d) (glyph_by upper (nat_lt d 10) d)
+glyph_zero upper d = ne_eqb (digit_glyph upper d) 0 (λ e. omega (arith, glyph_by upper (nat_lt d 10) d, e))
 
 abbrev IsShort : ℕ → List ℕ → List ℕ → Type 0
 IsShort k acc text = IsPlain text × (length text ≤ k + length acc)
@@ -267,23 +231,20 @@ operand_names (Memory i base) = immediate_names i
 abbrev NamesExpression : ℕ → Expression → Type 0
 NamesExpression m e = IsNamed m (expression_names e)
 
-one_within : (a r n : ℕ) → a + r ≡ n → suc a ≤ suc n
-one_within a r n e = omega (arith, e)
-
 two_named : (m : ℕ) (a b : List ℕ) → is_name a ≡ true → is_name b ≡ true → length a + suc (length b) ≡ m → IsNamed (suc m) (a ∷ b ∷ [])
 two_named m a b h k e = record { named = more_names a (b ∷ []) h (more_names b [] k no_names); few = omega (arith, e) }
 
 less_named : (m : ℕ) (a t : List ℕ) → is_name a ≡ true → length a + suc (length t) ≡ m → Finds (NamesExpression (suc m)) (less a t)
 less_named m a t h e =
     finds_else (NamesExpression (suc m)) (option_map (λ n. Sum a (neg_ℤ n)) (number t)) (where_true (is_name t) (Difference a t))
-    (finds_map Any (NamesExpression (suc m)) (λ n. Sum a (neg_ℤ n)) (number t) (λ n u. one_named (suc m) a h (one_within (length a) (suc (length t)) m e)) (finds_any (number t)))
+    (finds_map Any (NamesExpression (suc m)) (λ n. Sum a (neg_ℤ n)) (number t) (λ n u. one_named (suc m) a h (omega (arith, e))) (finds_any (number t)))
     (finds_where (NamesExpression (suc m)) (is_name t) (Difference a t) (λ k. two_named m a t h k e))
 
 rest_named : (m : ℕ) (a r : List ℕ) → is_name a ≡ true → length a + length r ≡ m → Finds (NamesExpression (suc m)) (with_rest a r)
-rest_named m a [] h e = one_named (suc m) a h (one_within (length a) 0 m e)
+rest_named m a [] h e = one_named (suc m) a h (omega (arith, e))
 rest_named m a (sign ∷ t) h e =
     finds_if (NamesExpression (suc m)) (sign == 43) (option_map (λ n. Sum a n) (number t)) (less a t)
-    (λ b. finds_map Any (NamesExpression (suc m)) (λ n. Sum a n) (number t) (λ n u. one_named (suc m) a h (one_within (length a) (suc (length t)) m e)) (finds_any (number t)))
+    (λ b. finds_map Any (NamesExpression (suc m)) (λ n. Sum a n) (number t) (λ n u. one_named (suc m) a h (omega (arith, e))) (finds_any (number t)))
     (less_named m a t h e)
 
 pub split_length : (n : ℕ) (text : List ℕ) → length (take n text) + length (drop n text) ≡ length text

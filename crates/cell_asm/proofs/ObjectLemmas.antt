@@ -2,25 +2,11 @@
 --     same_part, part_itself     the test of parts decides whether they are the same
 --     few lines parts            there are at most four
 --     object_is                  what is made of what is kept is the object
-use Rattle.std.proofs.Common.{◌≡◌, ◌≤◌, Bool, true, false, List, [], ◌∷◌, ◌++◌, length, refl, sym, subst, ap, ◌∙◌, true≢false, ℕ, zero, suc, ◌+◌, ◌<◌, map, replicate, append_assoc, add-one, ◌||◌, ◌&&◌, not, cond, find, Some, None, get_or, take}
-use Rattle.std.proofs.lemmas.List.{take_more, map-append}
-use Rattle.std.proofs.lemmas.List.Concat.{flat_map-append}
-use Rattle.std.proofs.lemmas.List.Elements.{filter-append}
+use Rattle.cell_asm.proofs.Facts.{◌≡◌, ◌≤◌, Bool, true, false, List, [], ◌∷◌, ◌++◌, length, refl, sym, subst, ap, ◌∙◌, ℕ, ◌+◌, map, replicate, append_assoc, ◌||◌, ◌&&◌, not, cond, find, Some, None, replicate-append-replicate, map-append, flat_map-append, filter-append, list_any, option_map_or, unwrap_or, fold, if◌then◌else◌, flat_map, Option, option_map, filter, bytes_of, is_upper_label, is_lost, has_lost, spot_at, Follows, reference_at, references_of, is_upper_spot, key_lost_by, lost_by, section_kept, Lists, mentioned, Mentions, entry_kept, part_entries, adds_part, parts_of, section_of, sections, symbols, symbol_keys, label_named, part_number, target_key, entry_of, entries_in, entries, object_of, marks_in, is_same_part, choices, is_at, is_in, Part, Text, Rodata, Data, Bss, Laid, Target, TargetNamed as Named, TargetMade as Made, Label, Progress, Reference, Section, Symbol, Entry, Object, Mark, Symbols, map_same, flat_same}
 use Rattle.std.proofs.lemmas.Map.Keys.{IsDistinct-push}
 use Rattle.std.proofs.lemmas.Map.Made.{length-le_from_is_member}
 use Rattle.std.specs.Cmp.{IsEquivalence}
-use Rattle.std.specs.List.{list_any, IsDistinct}
-use Rattle.std.specs.Option.{option_map_or, unwrap_or}
-use Rattle.std.specs.Prelude.{fold, if◌then◌else◌, flat_map, Option, option_map, filter}
-use Rattle.cell_num.specs.Bits.{bytes_of}
-use Rattle.cell_num.specs.Kinds.{is_pcrel_lo12}
-use Rattle.cell_asm.specs.Assembled.{is_upper_label, is_lost, is_lost_mark, has_lost}
-use Rattle.cell_asm.specs.Progress.{spot_at, Follows, reference_at, references_of, is_upper_spot, key_lost_by, lost_by}
-use Rattle.cell_asm.specs.Numberings.{section_kept, Lists, mentioned, Mentions, entry_kept, part_entries}
-use Rattle.cell_asm.specs.Objects.{adds_part, parts_of, number_in, section_of, sections, symbols, symbol_keys, label_named, part_number, target_key, entry_of, entries_of, entries_in, entries, object_of}
-use Rattle.cell_asm.specs.Places.{marks_in, is_same_part, choices, is_at, is_in}
-use Rattle.cell_asm.specs.Types.{Part, Text, Rodata, Data, Bss, Laid, Target, TargetNamed as Named, TargetMade as Made, Label, Progress, Reference, Section, Symbol, Entry, Object, Mark, Symbols}
-use Rattle.cell_num.proofs.Elements.{map_same, flat_same}
+use Rattle.std.specs.List.{IsDistinct}
 use Rattle.cell_asm.proofs.SymbolLemmas.{all_symbols}
 
 pub same_part : (p q : Part) → is_same_part p q ≡ true → p ≡ q
@@ -34,16 +20,15 @@ pub part_itself : (p : Part) → is_same_part p p ≡ true
 part_itself Text = refl
 part_itself _ = refl
 
-turned : (p q : Part) (b : Bool) → is_same_part p q ≡ b → b ≡ is_same_part q p
-turned p q true e = sym (ap (λ x. is_same_part x p) (sym (same_part p q e)) ∙ part_itself p)
-turned p q false e = by_test (is_same_part q p) refl
-  where
-    by_test : (b : Bool) → is_same_part q p ≡ b → false ≡ b
-    by_test true t = absurd (true≢false (sym (part_itself p) ∙ ap (is_same_part p) (sym (same_part q p t)) ∙ e))
-    by_test false t = refl
+turned : (p q : Part) → is_same_part p q ≡ is_same_part q p
+turned Text Text = refl
+turned Rodata Rodata = refl
+turned Data Data = refl
+turned Bss Bss = refl
+turned _ _ = refl
 
 laws : IsEquivalence is_same_part
-laws = record { refl = part_itself; symm = λ p q. turned p q (is_same_part p q) refl; congr = λ p q r e. ap (λ x. is_same_part x r) (same_part p q e) }
+laws = record { refl = part_itself; symm = turned; congr = λ p q r e. ap (λ x. is_same_part x r) (same_part p q e) }
 
 added : (parts : List Part) (p : Part) (b : Bool) → list_any (is_same_part p) parts ≡ b → IsDistinct is_same_part parts → IsDistinct is_same_part (if b then parts else parts ++ p ∷ [])
 added parts p true e d = d
@@ -66,32 +51,13 @@ few lines parts e = subst (λ ps. length ps ≤ 4) (sym e) (length-le_from_is_me
 
 -- BYTES
 
-same_suc : {X : Type 0} (x : X) (i : ℕ) → replicate (suc i) x ≡ replicate i x ++ x ∷ []
-same_suc x zero = refl
-same_suc x (suc i) = ap (λ xs. x ∷ xs) (same_suc x i)
-
-same_again : {X : Type 0} (x : X) (i : ℕ) → replicate (i + 1) x ≡ replicate i x ++ x ∷ []
-same_again x i = ap (λ k. replicate k x) (add-one i) ∙ same_suc x i
-
 pub zeros_more : (bs : List ℕ) (i : ℕ) → bs ++ replicate (i + 1) 0 ≡ (bs ++ replicate i 0) ++ 0 ∷ []
-zeros_more bs i = ap (λ xs. bs ++ xs) (same_again 0 i) ∙ sym (append_assoc bs (replicate i 0) (0 ∷ []))
+zeros_more bs i = ap (λ xs. bs ++ xs) (sym (replicate-append-replicate i 1 0)) ∙ sym (append_assoc bs (replicate i 0) (0 ∷ []))
 
 pub nops_more : (bs : List ℕ) (i : ℕ) → bs ++ flat_map (λ word. bytes_of 4 word) (replicate (i + 1) 0x13) ≡ (bs ++ flat_map (λ word. bytes_of 4 word) (replicate i 0x13)) ++ bytes_of 4 0x13
-nops_more bs i =
-    ap (λ xs. bs ++ flat_map (λ word. bytes_of 4 word) xs) (same_again 0x13 i)
-    ∙ ap (λ ys. bs ++ ys) (flat_map-append (λ word. bytes_of 4 word) (replicate i 0x13) (0x13 ∷ []))
-    ∙ sym (append_assoc bs (flat_map (λ word. bytes_of 4 word) (replicate i 0x13)) (bytes_of 4 0x13))
+nops_more bs i = rw (← (replicate-append-replicate {A = ℕ} i 1 0x13), flat_map-append, append_assoc) refl
 
 -- REFERENCES
-
--- the same test of each element
-same_any : {X : Type 0} (f g : X → Bool) (xs : List X) → ((x : X) → f x ≡ g x) → list_any f xs ≡ list_any g xs
-same_any f g [] same = refl
-same_any f g (x ∷ xs) same = ap (λ b. b || list_any f xs) (same x) ∙ ap (λ b. g x || b) (same_any f g xs same)
-
-find_same : {X : Type 0} (p q : X → Bool) (xs : List X) → ((x : X) → p x ≡ q x) → find p xs ≡ find q xs
-find_same p q [] same = refl
-find_same p q (x ∷ xs) same = ap (λ b. cond b (Some x) (find p xs)) (same x) ∙ ap (λ o. cond (q x) (Some x) o) (find_same p q xs same)
 
 -- the line of the first reference that passes is the first line that has one
 module _ (p : Reference → Bool) where
@@ -117,12 +83,8 @@ module _ (part : Part) (e : Reference → Entry) where
   kept_in : (l : Laid) (ms : List Mark) (b : Bool) → is_in part l ≡ b → map e (filter (λ r. is_at part r.part) (map (reference_at l) ms)) ≡ cond b (map (λ m. e (reference_at l m)) ms) []
   kept_in l [] true h = refl
   kept_in l [] false h = refl
-  kept_in l (m ∷ ms) true h =
-      ap (λ b. map e (cond b (reference_at l m ∷ filter (λ r. is_at part r.part) (map (reference_at l) ms)) (filter (λ r. is_at part r.part) (map (reference_at l) ms)))) h
-      ∙ ap (λ es. e (reference_at l m) ∷ es) (kept_in l ms true h)
-  kept_in l (m ∷ ms) false h =
-      ap (λ b. map e (cond b (reference_at l m ∷ filter (λ r. is_at part r.part) (map (reference_at l) ms)) (filter (λ r. is_at part r.part) (map (reference_at l) ms)))) h
-      ∙ kept_in l ms false h
+  kept_in l (m ∷ ms) true h = simp (h, kept_in l ms true h)
+  kept_in l (m ∷ ms) false h = simp (h, kept_in l ms false h)
 
   joined : (b : Bool) (l : Laid) (ls : List Laid) → cond b (map (λ m. e (reference_at l m)) (marks_in l.line.statement)) [] ++ flat_map (λ x. map (λ m. e (reference_at x m)) (marks_in x.line.statement)) ls
       ≡ flat_map (λ x. map (λ m. e (reference_at x m)) (marks_in x.line.statement)) (cond b (l ∷ ls) ls)
@@ -132,18 +94,9 @@ module _ (part : Part) (e : Reference → Entry) where
   pub kept_of : (lines : List Laid) → map e (filter (λ r. is_at part r.part) (flat_map references_of lines))
       ≡ flat_map (λ l. map (λ m. e (reference_at l m)) (marks_in l.line.statement)) (filter (is_in part) lines)
   kept_of [] = refl
-  kept_of (l ∷ ls) =
-      ap (map e) (filter-append (λ r. is_at part r.part) (references_of l) (flat_map references_of ls))
-      ∙ map-append e (filter (λ r. is_at part r.part) (references_of l)) (filter (λ r. is_at part r.part) (flat_map references_of ls))
-      ∙ ap (λ es. es ++ map e (filter (λ r. is_at part r.part) (flat_map references_of ls))) (kept_in l (marks_in l.line.statement) (is_in part l) refl)
-      ∙ ap (λ es. cond (is_in part l) (map (λ m. e (reference_at l m)) (marks_in l.line.statement)) [] ++ es) (kept_of ls)
-      ∙ joined (is_in part l) l (filter (is_in part) ls)
+  kept_of (l ∷ ls) = rw (filter-append, map-append, kept_in l (marks_in l.line.statement) (is_in part l) refl, kept_of ls) (joined (is_in part l) l (filter (is_in part) ls))
 
 -- THE OBJECT, BY WHAT IS KEPT
-
--- one section more
-pub section_more : (f : Part → Section) (parts : List Part) (i : ℕ) (d : Part) → i < length parts → map f (take (i + 1) parts) ≡ map f (take i parts) ++ f (get_or parts i d) ∷ []
-section_more f parts i d lt = ap (map f) (take_more parts i d lt) ∙ map-append f (take i parts) (get_or parts i d ∷ [])
 
 module _ (kept : Progress) (lines : List Laid) (h : Follows kept lines) where
   upper_is : (o : Option Label) → is_upper_spot kept (option_map spot_at o) ≡ option_map_or (is_upper_label lines) o false
@@ -156,12 +109,7 @@ module _ (kept : Progress) (lines : List Laid) (h : Follows kept lines) where
 
   -- the first line that refers to a label that is none
   pub first_is : option_map (λ r. r.line) (find (lost_by kept) kept.references.items) ≡ option_map (λ l. l.number) (find (has_lost lines) lines)
-  first_is =
-      ap (λ rs. option_map (λ r. r.line) (find (lost_by kept) rs)) h.references
-      ∙ first_of (lost_by kept) lines
-      ∙ ap (option_map (λ l. l.number))
-      (find_same (λ l. list_any (λ m. lost_by kept (reference_at l m)) (marks_in l.line.statement)) (has_lost lines) lines
-      (λ l. same_any (λ m. lost_by kept (reference_at l m)) (is_lost_mark lines) (marks_in l.line.statement) (λ m. ap (λ b. is_pcrel_lo12 m.fix.kind && b) (lost_is l m.fix.target))))
+  first_is = simp (h.references, first_of, lost_is)
 
   sections_are : map (section_kept kept.parts.items kept.bodies) kept.parts.items ≡ sections lines
   sections_are =
@@ -175,12 +123,7 @@ module _ (kept : Progress) (lines : List Laid) (h : Follows kept lines) where
     entries_are : flat_map (part_entries kept s) kept.parts.items ≡ entries lines
     entries_are =
         ap (flat_map (part_entries kept s)) h.parts
-        ∙ flat_same (part_entries kept s) (entries_in lines) (parts_of lines) (λ part k.
-        ap (λ ps. map (entry_kept (number_in ps part) s) (filter (λ r. is_at part r.part) kept.references.items)) h.parts
-        ∙ ap (λ rs. map (entry_kept (part_number lines part) s) (filter (λ r. is_at part r.part) rs)) h.references
-        ∙ kept_of part (entry_kept (part_number lines part) s) lines
-        ∙ flat_same (λ l. map (λ m. entry_kept (part_number lines part) s (reference_at l m)) (marks_in l.line.statement)) (entries_of lines part) (filter (is_in part) lines)
-        (λ l i. map_same (λ m. entry_kept (part_number lines part) s (reference_at l m)) (entry_of lines part l) (marks_in l.line.statement) (λ m j. entry_is part l m)))
+        ∙ flat_same (part_entries kept s) (entries_in lines) (parts_of lines) (λ part k. simp (h.parts, h.references, kept_of, entry_is))
 
   abbrev object : List Section → List Symbol → List Entry → Object
   object ss symbols es = record { sections = ss; symbols = symbols; entries = es }
@@ -189,6 +132,4 @@ module _ (kept : Progress) (lines : List Laid) (h : Follows kept lines) where
       → ss ≡ map (section_kept kept.parts.items kept.bodies) kept.parts.items → list ≡ s.list.items → es ≡ flat_map (part_entries kept s) kept.parts.items → object ss list es ≡ object_of lines
   object_is s ss list es m sectioned listed entered =
       let made = all_symbols kept lines h s m in
-      ap (λ x. object x list es) (sectioned ∙ sections_are)
-      ∙ ap (λ x. object (sections lines) x es) (listed ∙ made.list)
-      ∙ ap (object (sections lines) (symbols lines)) (entered ∙ entries_are s made)
+      rw (sectioned, sections_are, listed, made.list, entered, entries_are s made) refl

@@ -1,24 +1,6 @@
 -- What is known of names, after one more name, and behind one more line.
-use Rattle.std.proofs.Common.{◌≡◌, ℕ, Bool, true, false, ◌||◌, List, [], ◌∷◌, ◌++◌, cond, find, map, Some, None, refl, sym, ap, ◌∙◌, append-nil, ◌+◌, add-zero, zero-add, suc, ◌<◌, length, drop, get_or, Bor, Result, Ok, Err, subst, add-one, ◌≤◌, ◌^◌, arith, append_assoc, ◌⊎◌, inl, inr}
-use Rattle.std.proofs.lemmas.List.{drop_more, length-map, map-append}
-use Rattle.std.proofs.lemmas.List.Concat.{flat_map-append}
-use Rattle.std.proofs.lemmas.List.Elements.{filter_map-append, filter-append}
-use Rattle.std.proofs.lemmas.List.Folds.{list_any-append, find-append}
-use Rattle.std.proofs.lemmas.List.Sums.{sum_by-append, fold-append}
-use Rattle.std.proofs.Math.Bool.{or-false}
-use Rattle.std.specs.List.{list_any, cons_option}
-use Rattle.std.specs.Option.{option_or, option_map_or}
-use Rattle.std.specs.Prelude.{Option, option_map, is_some, if◌then◌else◌, filter, flat_map, sum_by, fold, max}
-use Rattle.cell_num.specs.Lists.{equals, where_true, holds_name, last, or_else, numbered_from}
-use Rattle.cell_text.specs.Text.{lines_in, Behind}
-use Rattle.cell_asm.specs.Assembled.{add_line, with_line, placed_line, placed_texts, object_from, object_unless, has_lost, assembled, Assembles, placed_unless, placed_lines}
-use Rattle.cell_asm.specs.Progress.{spot_here, declares, spot_at, spot_among, names_in, grown_in, grown_with, bytes_laid, references_of, is_upper_at, Goes as GoesBehind, Places, failure, body_of, offset_of, twice_of, fault_after, laid_after, Adds, Follows}
-use Rattle.cell_asm.specs.Lines.{line_of}
-use Rattle.cell_asm.specs.Objects.{adds_part, adds_choice, parts_of, alignment_asked, first_alignment, alignment, bytes_at, contents, global_name, globals, object_of}
-use Rattle.cell_asm.specs.Places.{is_key, holds_key, makes_label, own_key, made_key, keys_of, label, labels_at, labels, fault_at, is_at, is_in, choice, choices, taken, size_in, size_at, made_in, is_twice, placed}
-use Rattle.cell_asm.specs.Types.{Part, Bss, Statement, StatementGlobal as Global, Laid, Label, AsmKindLabel, KeyNamed as Named, KeyMade as Made, Line, Progress, AsmKind, Stop, StopFault as Fault, StopOutOfMemory as OutOfMemory, Object, AsmFail, AsmFailFault as Faulty, AsmFailOutOfMemory as NoMemory}
-use Rattle.cell_num.proofs.Elements.{In, In-append}
-use Rattle.cell_num.proofs.Ranges.{In-one}
+use Rattle.cell_asm.proofs.Facts.{◌≡◌, ℕ, Bool, true, false, ◌||◌, List, [], ◌∷◌, ◌++◌, cond, find, map, Some, None, refl, sym, ap, ◌∙◌, append-nil, ◌+◌, add-zero, zero-add, suc, ◌<◌, length, drop, get_or, Bor, Result, Ok, Err, subst, add-one, ◌^◌, arith, append_assoc, ◌⊎◌, inl, inr, drop_more, length-map, map-append, flat_map-append, filter_map-append, filter-append, list_any-append, find-append, sum_by-append, fold-append, or-false, list_any, cons_option, option_or, option_map_or, Option, option_map, is_some, if◌then◌else◌, filter, flat_map, sum_by, fold, max, equals, where_true, holds_name, last, or_else, numbered_from, lines_in, Behind, add_line, with_line, placed_line, placed_texts, object_from, object_unless, has_lost, assembled, Assembles, placed_unless, placed_lines, spot_here, declares, spot_at, spot_among, names_in, grown_in, grown_with, bytes_laid, references_of, is_upper_at, Goes as GoesBehind, Places, failure, body_of, offset_of, twice_of, fault_after, laid_after, Adds, Follows, line_of, adds_choice, parts_of, alignment_asked, first_alignment, alignment, bytes_at, contents, global_name, globals, object_of, is_key, makes_label, own_key, made_key, keys_of, label, labels_at, labels, fault_at, is_at, is_in, choice, choices, taken, size_in, size_at, made_in, is_twice, placed, Part, Bss, Statement, StatementGlobal as Global, Laid, Label, AsmKindLabel, KeyNamed as Named, KeyMade as Made, Line, Progress, AsmKind, Stop, StopFault as Fault, StopOutOfMemory as OutOfMemory, Object, AsmFail, AsmFailFault as Faulty, AsmFailOutOfMemory as NoMemory, In, In-append, In-one}
+use Rattle.cell_asm.proofs.ListLemmas.{ok_once}
 use Rattle.cell_asm.proofs.ObjectLemmas.{same_part}
 
 -- ONE MORE LINE
@@ -49,22 +31,14 @@ pub labels_push : (lines : List Laid) (l : Laid) → labels (lines ++ l ∷ []) 
 labels_push lines l = flat_more (λ m. labels_at m.part m.offset (keys_of m)) lines l
 
 spot_more : (before : List Laid) (l : Laid) (q : List ℕ) → spot_among (labels (before ++ l ∷ [])) q ≡ or_else (spot_among (labels before) q) (spot_here l.part l.offset l.line.label q)
-spot_more before l q =
-    let new : List Label = labels_at l.part l.offset (keys_of l) in
-    ap (λ ls. spot_among ls q) (labels_push before l)
-    ∙ ap (option_map spot_at) (find-append (λ m. is_key m.key (Named q)) (labels before) new)
-    ∙ mapped_or (find (λ m. is_key m.key (Named q)) (labels before)) (find (λ m. is_key m.key (Named q)) new)
-    ∙ ap (or_else (spot_among (labels before) q)) (here_is l.part l.offset l.made l.line.label l.line.statement q)
+spot_more before l q = simp (labels_push before l, find-append, mapped_or, here_is l.part l.offset l.made l.line.label l.line.statement q)
 
 declared : (q : List ℕ) (s : Statement) → list_any (λ other. equals other q) (cons_option (global_name s) []) ≡ declares q s
 declared q (Global name) = or-false (equals name q)
 declared q _ = refl
 
 global_more : (before : List Laid) (l : Laid) (q : List ℕ) → holds_name (globals (before ++ l ∷ [])) q ≡ (holds_name (globals before) q || declares q l.line.statement)
-global_more before l q =
-    ap (λ names. holds_name names q) (filter_map-append (λ m. global_name m.line.statement) before (l ∷ []))
-    ∙ list_any-append (λ other. equals other q) (globals before) (cons_option (global_name l.line.statement) [])
-    ∙ ap (λ b. holds_name (globals before) q || b) (declared q l.line.statement)
+global_more before l q = simp (filter_map-append, list_any-append, declared q l.line.statement)
 
 -- whether a label has the name
 found_is : (p : Label → Bool) (ls : List Label) → is_some (option_map spot_at (find p ls)) ≡ list_any p ls
@@ -74,9 +48,6 @@ found_is p (l ∷ ls) = go (p l) (found_is p ls)
     go : (b : Bool) → is_some (option_map spot_at (find p ls)) ≡ list_any p ls → is_some (option_map spot_at (cond b (Some l) (find p ls))) ≡ (b || list_any p ls)
     go true e = refl
     go false e = e
-
-pub taken_is : (ls : List Label) (q : List ℕ) → is_some (spot_among ls q) ≡ holds_key ls (Named q)
-taken_is ls q = found_is (λ l. is_key l.key (Named q)) ls
 
 -- One line more behind those that are in their places.
 
@@ -89,7 +60,7 @@ offset_is p before h = ap (λ o. option_map_or (λ part. (body_of p.bodies part)
 
 twice_is : (p : Progress) (before : List Laid) (name : Option (List ℕ)) → Follows p before → twice_of p name ≡ is_twice before name
 twice_is p before None h = refl
-twice_is p before (Some name) h = ap is_some (h.spots name) ∙ taken_is (labels before) name
+twice_is p before (Some name) h = ap is_some (h.spots name) ∙ found_is (λ l. is_key l.key (Named name)) (labels before)
 
 -- what is wrong with the next line
 pub fault_is : (p : Progress) (before : List Laid) (line : Line) → Follows p before → fault_after p line ≡ fault_at before line
@@ -108,25 +79,21 @@ last_more xs None = ap last (append-nil xs)
 last_more xs (Some x) = last_push xs x
 
 chosen_more : (before : List Laid) (l : Laid) → last (choices (before ++ l ∷ [])) ≡ or_else (choice l.line.statement) (last (choices before))
-chosen_more before l =
-    ap last (filter_map-append (λ m. choice m.line.statement) before (l ∷ [])) ∙ last_more (choices before) (choice l.line.statement)
+chosen_more before l = simp (filter_map-append, last_more (choices before) (choice l.line.statement))
 
 one_size : (part : Part) (l : Laid) (b : Bool) → sum_by (λ m. taken m.line.statement m.offset) (cond b (l ∷ []) []) ≡ (if b then taken l.line.statement l.offset else 0)
 one_size part l true = zero-add (taken l.line.statement l.offset)
 one_size part l false = refl
 
 pub size_more : (part : Part) (before : List Laid) (l : Laid) → size_in part (before ++ l ∷ []) ≡ size_in part before + (if is_in part l then taken l.line.statement l.offset else 0)
-size_more part before l =
-    ap (sum_by (λ m. taken m.line.statement m.offset)) (filter-append (is_in part) before (l ∷ []))
-    ∙ sum_by-append (λ m. taken m.line.statement m.offset) (filter (is_in part) before) (filter (is_in part) (l ∷ []))
-    ∙ ap (λ n. size_in part before + n) (one_size part l (is_in part l))
+size_more part before l = simp (filter-append, sum_by-append, one_size part l (is_in part l))
 
 pub made_more : (before : List Laid) (l : Laid) → made_in (before ++ l ∷ []) ≡ made_in before + (if makes_label l.line.statement then 1 else 0)
 made_more before l =
     sum_by-append (λ m. cond (makes_label m.line.statement) 1 0) before (l ∷ []) ∙ ap (λ n. made_in before + n) (zero-add (cond (makes_label l.line.statement) 1 0))
 
 -- where a line stands in a section, its offset is the section's size
-stands_at : (part : Part) (before : List Laid) (o : Option Part) → is_at part o ≡ true → size_at o before ≡ size_in part before
+pub stands_at : (part : Part) (before : List Laid) (o : Option Part) → is_at part o ≡ true → size_at o before ≡ size_in part before
 stands_at part before None e = absurd cc
 stands_at part before (Some other) e = ap (λ p. size_in p before) (sym (same_part part other e))
 
@@ -138,34 +105,24 @@ any_more : {X : Type 0} (p : X → Bool) (xs : List X) (x : X) → list_any p (x
 any_more p xs x = list_any-append p xs (x ∷ []) ∙ ap (λ b. list_any p xs || b) (or-false (p x))
 
 parts_more : (before : List Laid) (l : Laid) → parts_of (before ++ l ∷ []) ≡ adds_choice (parts_of before) l.line.statement
-parts_more before l =
-    ap (fold adds_part []) (filter_map-append (λ m. choice m.line.statement) before (l ∷ []))
-    ∙ fold-append adds_part [] (choices before) (choices (l ∷ []))
+parts_more before l = simp (filter_map-append, fold-append)
 
 -- the alignment, the size and the bytes of a section
 module _ (part : Part) (before : List Laid) (l : Laid) where
   aligned : (b : Bool) → is_in part l ≡ b → alignment part (before ++ l ∷ []) ≡ (if b then max (alignment part before) (alignment_asked l.line.statement) else alignment part before)
-  aligned true e =
-      ap (λ ls. fold max (first_alignment part) (map (λ m. alignment_asked m.line.statement) ls)) (filter_more (is_in part) before l true e)
-      ∙ ap (fold max (first_alignment part)) (map-append (λ m. alignment_asked m.line.statement) (filter (is_in part) before) (l ∷ []))
-      ∙ fold-append max (first_alignment part) (map (λ m. alignment_asked m.line.statement) (filter (is_in part) before)) (alignment_asked l.line.statement ∷ [])
+  aligned true e = simp (filter_more (is_in part) before l true e, map-append, fold-append)
   aligned false e = ap (λ ls. fold max (first_alignment part) (map (λ m. alignment_asked m.line.statement) ls)) (filter_more (is_in part) before l false e)
 
   sized : (b : Bool) → is_in part l ≡ b → l.offset ≡ size_at l.part before
       → size_in part (before ++ l ∷ []) ≡ (if b then l.offset + taken l.line.statement l.offset else size_in part before)
-  sized true e at =
-      size_more part before l ∙ ap (λ b. size_in part before + (if b then taken l.line.statement l.offset else 0)) e
-      ∙ ap (λ n. n + taken l.line.statement l.offset) (sym (at ∙ stands_at part before l.part e))
-  sized false e at =
-      size_more part before l ∙ ap (λ b. size_in part before + (if b then taken l.line.statement l.offset else 0)) e ∙ add-zero (size_in part before)
+  sized true e at = rw (size_more part before l, e, at, stands_at part before l.part e) refl
+  sized false e at = rw (size_more part before l, e) (add-zero (size_in part before))
 
 bytes_more : (part : Part) (before : List Laid) (l : Laid) (b : Bool) → is_in part l ≡ b
     → contents part (before ++ l ∷ []) ≡ (if b then contents part before ++ bytes_laid part l.offset l.line.statement else contents part before)
 bytes_more Bss before l true e = refl
 bytes_more Bss before l false e = refl
-bytes_more part before l true e =
-    ap (flat_map (λ m. bytes_at part m.offset m.line.statement)) (filter_more (is_in part) before l true e)
-    ∙ flat_more (λ m. bytes_at part m.offset m.line.statement) (filter (is_in part) before) l
+bytes_more part before l true e = simp (filter_more (is_in part) before l true e, flat_more)
 bytes_more part before l false e = ap (flat_map (λ m. bytes_at part m.offset m.line.statement)) (filter_more (is_in part) before l false e)
 
 triple : (a b m n : ℕ) (xs ys : List ℕ) → a ≡ b → m ≡ n → xs ≡ ys → ◌≡◌ {A = ℕ × ℕ × List ℕ} (a, m, xs) (b, n, ys)
@@ -201,15 +158,6 @@ pub after_fault : (fault : ℕ × AsmKind) (n : ℕ) (texts : List (List ℕ)) �
 after_fault fault n [] = refl
 after_fault fault n (text ∷ texts) = after_fault fault (suc n) texts
 
--- one line more
-pub goes_on : (before : List Laid) (n : ℕ) (text : List ℕ) (texts : List (List ℕ)) (l : Laid) → placed_line before n (line_of text) ≡ Ok l → placed_from (Ok before) n (text ∷ texts) ≡ placed_from (Ok (before ++ l ∷ [])) (n + 1) texts
-goes_on before n text texts l e =
-    ap (λ r. placed_from (with_line before n r) (suc n) texts) e ∙ ap (λ m. placed_from (Ok (before ++ l ∷ [])) m texts) (sym (add-one n))
-
--- a line with a fault
-stops : (before : List Laid) (n : ℕ) (text : List ℕ) (texts : List (List ℕ)) (kind : AsmKind) → placed_line before n (line_of text) ≡ Err kind → placed_from (Ok before) n (text ∷ texts) ≡ Err (n, kind)
-stops before n text texts kind e = ap (λ r. placed_from (with_line before n r) (suc n) texts) e ∙ after_fault (n, kind) (suc n) texts
-
 -- what is kept behind some lines, from which the texts that are left come to what all texts come to
 pub record IsPlaced (p : Progress) (n : ℕ) (left : List (List ℕ)) (all : Result (List Laid) (ℕ × AsmKind)) : Type 0 where
   pub lines : List Laid
@@ -220,27 +168,20 @@ module _ (p q : Progress) (n : ℕ) (text : List ℕ) (texts : List (List ℕ)) 
   pub next_placed : (u : Unit {0}) → ((before : List Laid) → Follows p before → GoesBehind q before (Ok u) (placed_line before n (line_of text))) → IsPlaced q (n + 1) texts all
   next_placed u goes =
       let g : GoesBehind q h.lines (Ok u) (placed_line h.lines n (line_of text)) = goes h.lines h.follows in
-      record { lines = h.lines ++ g.0 ∷ []; comes = sym (goes_on h.lines n text texts g.0 g.1) ∙ h.comes; follows = g.2 }
+      record { lines = h.lines ++ g.0 ∷ []; comes = sym (ap (λ r. placed_from (with_line h.lines n r) (suc n) texts) g.1 ∙ ap (λ m. placed_from (Ok (h.lines ++ g.0 ∷ [])) m texts) (sym (add-one n))) ∙ h.comes; follows = g.2 }
 
   pub stopped : (stop : Stop) → ((before : List Laid) → Follows p before → GoesBehind q before (Err stop) (placed_line before n (line_of text))) → Places (Err (failure stop n)) all
-  stopped (Fault kind) goes = sym h.comes ∙ stops h.lines n text texts kind (goes h.lines h.follows)
+  stopped (Fault kind) goes = sym h.comes ∙ ap (λ r. placed_from (with_line h.lines n r) (suc n) texts) (goes h.lines h.follows) ∙ after_fault (n, kind) (suc n) texts
   stopped OutOfMemory goes = tt
 
 -- the texts that are left
 pub dropped : (texts : List (Bor (List ℕ))) (i : ℕ) (d : Bor (List ℕ)) → i < length texts → map (λ text. text.now) (drop i texts) ≡ (get_or texts i d).now ∷ map (λ text. text.now) (drop (i + 1) texts)
 dropped texts i d lt = ap (map (λ text. text.now)) (drop_more texts i d lt)
 
-behind_last : (n m : ℕ) → m ≡ n → n < suc m
-behind_last n m e = omega arith
-
-last_line : (size n rest : ℕ) → n + rest ≤ size → size < 2 ^ 31 → suc n < 2 ^ 32
-last_line size n rest h small = omega arith
-
 -- there are no more line feeds than bytes
 pub few_lines : (size : ℕ) (texts : List (Bor (List ℕ))) → Behind size (map (λ text. text.now) texts) → size < 2 ^ 31 → length texts < 2 ^ 32
 few_lines size [] h small = omega arith
-few_lines size (text ∷ texts) h small =
-    last_line size (length texts) _ (h (length texts) (behind_last (length texts) _ (length-map texts (λ t. t.now)))) small
+few_lines size (text ∷ texts) h small = omega (arith, h (length texts) (omega (arith, length-map texts (λ t. t.now))), small)
 
 -- the source has the fault at which its lines stop
 pub stops_all : (fail : AsmFail) (texts : List (List ℕ)) (source : List ℕ) → texts ≡ lines_in source → Places (Err fail) (placed_texts texts) → Assembles (Err fail) (assembled source)
@@ -278,9 +219,6 @@ GoesOn P =
 not_both : (fault : ℕ × AsmKind) (lines : List Laid) (r : Result (List Laid) (ℕ × AsmKind)) → r ≡ Err fault → r ≡ Ok lines → {P : Type 0} → P
 not_both fault lines r e f = absurd cc
 
-same_lines : (a b : List Laid) (r : Result (List Laid) (ℕ × AsmKind)) → r ≡ Ok a → r ≡ Ok b → a ≡ b
-same_lines a b r e f = cc
-
 module _ (P : List (List ℕ) → List Laid → Type 0) (goes : GoesOn P) where
   -- what follows the line
   abbrev Rest : List (List ℕ) → List Laid → ℕ → List ℕ → List (List ℕ) → List Laid → Type 0
@@ -297,7 +235,7 @@ module _ (P : List (List ℕ) → List Laid → Type 0) (goes : GoesOn P) where
   by_line done before n text texts lines (Err k) p rest read e = not_both (n, k) lines _ (after_fault (n, k) (suc n) texts) e
 
   from : (done : List (List ℕ)) (before : List Laid) (n : ℕ) (texts : List (List ℕ)) (lines : List Laid) → P done before → placed_from (Ok before) n texts ≡ Ok lines → P (done ++ texts) lines
-  from done before n [] lines p e = subst (λ ts. P ts lines) (sym (append-nil done)) (subst (P done) (same_lines before lines (Ok before) refl e) p)
+  from done before n [] lines p e = subst (λ ts. P ts lines) (sym (append-nil done)) (subst (P done) (ok_once before lines (Ok before) refl e) p)
   from done before n (text ∷ texts) lines p e =
       by_line done before n text texts lines (line_of text) p
       (λ l q h. subst (λ ts. P ts lines) (append_assoc done (text ∷ []) texts) (from (done ++ text ∷ []) (before ++ l ∷ []) (suc n) texts lines q h)) refl e

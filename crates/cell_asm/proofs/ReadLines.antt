@@ -1,20 +1,8 @@
 -- A line that is read: its statement is good, and its names take no more bytes than its text and one.
 --     read_line text line
-use Rattle.std.proofs.Common.{◌≡◌, ◌≤◌, ◌+◌, ◌-◌, ◌^◌, ℕ, suc, Bool, true, false, List, [], ◌∷◌, ◌++◌, map, take, drop, length, Result, Ok, Err, Some, None, refl, arith}
-use Rattle.std.specs.Prelude.{Option, ◌==◌, if◌then◌else◌, nat_le}
-use Rattle.std.specs.List.{position_or_len, prefix_len, before_first}
-use Rattle.std.proofs.lemmas.List.{length-take}
-use Rattle.cell_num.specs.Lists.{where_true}
-use Rattle.cell_asm.specs.Types.{AsmKind, Directive, ExpressionName as Name, Whole, ImmediatePart as Part, Operand, OperandValue as Value, Statement, StatementChoose as Choose, StatementGlobal as Global, StatementZeros as Zeros, StatementAlign as Align, Line}
+use Rattle.cell_asm.proofs.Facts.{◌≡◌, ◌≤◌, ◌+◌, ◌-◌, ◌^◌, ℕ, suc, Bool, true, false, List, [], ◌∷◌, ◌++◌, map, take, drop, length, Result, Ok, Err, Some, None, refl, arith, Option, ◌==◌, if◌then◌else◌, nat_le, position_or_len, prefix_len, before_first, length-take, where_true, AsmKind, Directive, ExpressionName as Name, Whole, ImmediatePart as Part, Operand, OperandValue as Value, Statement, StatementChoose as Choose, StatementGlobal as Global, StatementZeros as Zeros, StatementAlign as Align, Line, with_value, is_name, label_names, statement_names, names_in, name, Row, directive, mnemonic, count, unit_of, unit, none, one, directed, worded, statement, is_inked, read_with, statement_in, spelled, operand_texts, first_word, after_word, has_label, label_name, labelled, line_of, code_of, operands}
 use Rattle.cell_asm.specs.declared.kind.AsmKind.TheVariants as faults
 use Rattle.cell_asm.specs.declared.mnemonic.Directive.TheVariants as directives
-use Rattle.cell_asm.specs.Faults.{with_value}
-use Rattle.cell_asm.specs.Names.{is_name}
-use Rattle.cell_asm.specs.Objects.{label_names, statement_names}
-use Rattle.cell_asm.specs.Wanted.{name}
-use Rattle.cell_asm.specs.Mnemonics.{Row, directive, mnemonic}
-use Rattle.cell_asm.specs.Statements.{count, unit_of, unit, none, one, directed, worded, statement}
-use Rattle.cell_asm.specs.Lines.{is_inked, read_with, statement_in, spelled, operand_texts, first_word, after_word, has_label, label_name, labelled, line_of, code_of, operands}
 use Rattle.cell_asm.proofs.ListLemmas.{take_le, drop_le, le_trans, itself, le_of}
 use Rattle.cell_asm.proofs.NamesFit.{Any, Yields, Finds, yields_value, yields_any, yields_ok, yields_weaker, IsNamed, none_named, one_named, join_named, more_named, IsPart, split_length, trimmed_le, all_names, NamesAll, operands_named, name_fits}
 use Rattle.cell_asm.proofs.GoodBlocks.{IsUnit, IsGoodStatement}
@@ -59,13 +47,10 @@ worded_read (Some d) i os h = directed_read d os
 worded_read None None os h = tt
 worded_read None (Some i) os h = instruction_good i os h
 
-abbrev pub line_names : Line → List (List ℕ)
-line_names line = label_names line.label ++ statement_names line.statement
-
 -- a line that is read, whose names take so many bytes
 pub record IsReadLine (m : ℕ) (line : Line) : Type 0 where
   pub good : IsGoodStatement line.statement
-  pub names : IsNamed m (line_names line)
+  pub names : IsNamed m (names_in line)
 
 -- the same of a statement
 abbrev IsReadIn : ℕ → Statement → Type 0
@@ -77,14 +62,11 @@ with_operands m word (Ok os) h =
     (worded_read (directive word) (mnemonic word) os (mnemonic_good word))
 with_operands m word (Err k) h = tt
 
-after_le : (text : List ℕ) → length (after_word text) ≤ length text
-after_le text = le_trans (length (after_word text)) (length (drop (prefix_len is_inked text) text)) (length text) (trimmed_le (drop (prefix_len is_inked text) text)) (drop_le (prefix_len is_inked text) text)
-
 statement_read : (text : List ℕ) (m : ℕ) → suc (length text) ≤ m → Yields (IsReadIn m) (statement_in text)
 statement_read [] m l = record { good = tt; names = none_named m }
 statement_read (b ∷ bs) m l =
     with_operands m (first_word (b ∷ bs)) (operands (map spelled (operand_texts (after_word (b ∷ bs)))))
-    (operands_named (after_word (b ∷ bs)) m (omega (arith, (after_le (b ∷ bs)), l)))
+    (operands_named (after_word (b ∷ bs)) m (omega (arith, trimmed_le (drop (prefix_len is_inked (b ∷ bs)) (b ∷ bs)), drop_le (prefix_len is_inked (b ∷ bs)) (b ∷ bs), l)))
 
 -- LINES
 
@@ -118,10 +100,6 @@ line_if code n true l =
     labelled_by (length word) (suc n) (is_name name) name (after_word code) refl (omega (arith, length-take (length word - 1) word)) (words_le code n l)
 line_if code n false l = line_made 0 (suc n) None code (none_named 0) (omega (arith, l))
 
-code_le : (text : List ℕ) → length (code_of text) ≤ length text
-code_le text =
-    le_trans (length (code_of text)) (length (before_first (λ b. b == 35) text)) (length text) (trimmed_le (before_first (λ b. b == 35) text)) (take_le (position_or_len (λ b. b == 35) text) text)
-
 -- a line that is read
 pub read_line : (text : List ℕ) (line : Line) → line_of text ≡ Ok line → IsReadLine (suc (length text)) line
-read_line text line e = yields_ok (IsReadLine (suc (length text))) (line_of text) line (line_if (code_of text) (length text) (has_label (code_of text)) (code_le text)) e
+read_line text line e = yields_ok (IsReadLine (suc (length text))) (line_of text) line (line_if (code_of text) (length text) (has_label (code_of text)) (le_trans _ _ _ (trimmed_le (before_first (λ b. b == 35) text)) (take_le (position_or_len (λ b. b == 35) text) text))) e

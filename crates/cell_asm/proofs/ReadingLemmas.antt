@@ -1,28 +1,12 @@
 -- Values that are read one after the other, and the earliest of their faults.
-use Rattle.std.proofs.Common.{◌≡◌, ℕ, ◌<◌, ◌+◌, Bool, true, false, List, [], ◌∷◌, ◌++◌, map, length, get_or, take, Result, Ok, Err, Some, None, refl, sym, ap, ◌∙◌, arith, Bor, ◌==◌, ◌⊎◌, inl, inr, ◌*◌, ◌%◌, ◌≤◌, cond, ◌-◌, drop}
-use Rattle.std.proofs.lemmas.Bool.Decides.{nat_tests}
-use Rattle.std.proofs.lemmas.List.{take_more, map-append, take_all, take-append-drop}
-use Rattle.std.proofs.lemmas.List.Sums.{fold-append}
-use Rattle.std.specs.Char.{digit_value, is_ascii_digit}
-use Rattle.std.specs.List.{slice_split, list_all}
-use Rattle.std.specs.Prelude.{if◌then◌else◌, Option, ok_or, nat_lt, find, option_map, bytes_eq, fold}
-use Rattle.std.specs.Str.Parse.{digits_value, digits_value_after}
-use Rattle.cell_asm.specs.Faults.{joined, gathered}
-use Rattle.cell_asm.specs.Instructions.{put, miscounted, filled}
-use Rattle.cell_asm.specs.Lines.{spelled, trimmed, operand_texts, statement_in, read_with, first_word, after_word, operands}
-use Rattle.cell_asm.specs.Mnemonics.{row_of}
-use Rattle.cell_asm.specs.Names.{held, is_hex_digit}
-use Rattle.cell_asm.specs.Statements.{statement}
-use Rattle.cell_asm.specs.Types.{AsmKind, AsmKindWord as Word, Operand, Slot, Fields}
+use Rattle.cell_asm.proofs.Facts.{◌≡◌, ℕ, ◌<◌, ◌+◌, Bool, true, false, List, [], ◌∷◌, map, length, get_or, take, Result, Ok, Err, Some, None, refl, sym, ap, ◌∙◌, arith, Bor, ◌==◌, ◌⊎◌, inl, inr, ◌*◌, ◌%◌, ◌≤◌, cond, ◌-◌, drop, nat_tests, map_more, map-append, take_all, take-append-drop, fold-append, is_ascii_digit, slice_split, list_all, if◌then◌else◌, Option, ok_or, nat_lt, find, option_map, bytes_eq, fold, joined, gathered, put, miscounted, filled, spelled, trimmed, operand_texts, statement_in, read_with, first_word, after_word, operands, row_of, held, is_hex_digit, statement, AsmKind, AsmKindWord as Word, Operand, Slot, Fields, In-all, all-In}
 use Rattle.cell_asm.proofs.ListLemmas.{not_less}
 
 -- what is gathered with one value more
 pub gathered_more : {X A B : Type 0} (f : A → B → A) (a : A) (g : X → Result B AsmKind) (xs : List X) (i : ℕ) (d : X) → i < length xs
     → gathered f a (map g (take (i + 1) xs)) ≡ joined f (gathered f a (map g (take i xs))) (g (get_or xs i d))
 gathered_more f a g xs i d lt =
-    ap (λ ys. gathered f a (map g ys)) (take_more xs i d lt)
-    ∙ ap (gathered f a) (map-append g (take i xs) (get_or xs i d ∷ []))
-    ∙ fold-append (joined f) (Ok a) (map g (take i xs)) (g (get_or xs i d) ∷ [])
+    ap (gathered f a) (map_more g xs i d lt) ∙ fold-append (joined f) (Ok a) (map g (take i xs)) (g (get_or xs i d) ∷ [])
 
 word_still : {A B : Type 0} (f : A → B → A) (o : Option B) → joined f (Err Word) (ok_or o Word) ≡ Err Word
 word_still f None = refl
@@ -37,12 +21,7 @@ word_stays f g (x ∷ xs) = ap (λ r. fold (joined f) r (map (λ y. ok_or (g y) 
 pub word_decides : {X A B : Type 0} (f : A → B → A) (a b : A) (g : X → Option B) (xs : List X) (i : ℕ) (d : X) → i < length xs → gathered f a (map (λ x. ok_or (g x) Word) (take i xs)) ≡ Ok b
     → g (get_or xs i d) ≡ None → gathered f a (map (λ x. ok_or (g x) Word) xs) ≡ Err Word
 word_decides f a b g xs i d lt before e =
-    ap (λ ys. gathered f a (map (λ x. ok_or (g x) Word) ys)) (sym (take-append-drop (i + 1) xs))
-    ∙ ap (gathered f a) (map-append (λ x. ok_or (g x) Word) (take (i + 1) xs) (drop (i + 1) xs))
-    ∙ fold-append (joined f) (Ok a) (map (λ x. ok_or (g x) Word) (take (i + 1) xs)) (map (λ x. ok_or (g x) Word) (drop (i + 1) xs))
-    ∙ ap (λ r. fold (joined f) r (map (λ x. ok_or (g x) Word) (drop (i + 1) xs)))
-    (gathered_more f a (λ x. ok_or (g x) Word) xs i d lt ∙ ap (λ r. joined f r (ok_or (g (get_or xs i d)) Word)) before ∙ ap (λ o. joined f (Ok b) (ok_or o Word)) e)
-    ∙ word_stays f g (drop (i + 1) xs)
+    rw (← (take-append-drop (i + 1) xs), map-append, fold-append, gathered_more f a (λ x. ok_or (g x) Word) xs i d lt, before, e) (word_stays f g (drop (i + 1) xs))
 
 -- A line, from its parts.
 
@@ -61,14 +40,6 @@ statement_filled [] e = absurd cc
 statement_filled (b ∷ bs) e = refl
 
 -- Numbers of 2^64 and more, held by their remainder by 4.
-
-after_push : (radix n : ℕ) (ds : List ℕ) (c : ℕ) → digits_value_after radix n (ds ++ (c ∷ [])) ≡ digits_value_after radix n ds * radix + digit_value c
-after_push radix n [] c = refl
-after_push radix n (d ∷ ds) c = after_push radix (n * radix + digit_value d) ds c
-
--- one more digit
-pub digits_more : (radix : ℕ) (ds : List ℕ) (i d : ℕ) → i < length ds → digits_value radix (take (i + 1) ds) ≡ digits_value radix (take i ds) * radix + digit_value (get_or ds i d)
-digits_more radix ds i d lt = ap (digits_value radix) (take_more ds i d lt) ∙ after_push radix 0 (take i ds) (get_or ds i d)
 
 -- a number is held as it is, or by its remainder
 held_as : (b : Bool) (n : ℕ) → nat_lt n 0x10000000000000000 ≡ b → ((n < 0x10000000000000000) × ((if b then n else 0x10000000000000000 + n % 4) ≡ n)) ⊎ ((0x10000000000000000 ≤ n) × ((if b then n else 0x10000000000000000 + n % 4) ≡ 0x10000000000000000 + n % 4))
@@ -103,13 +74,9 @@ held_step m r d radix = elim (held_is m) [
   ]
 ]
 
--- a decimal digit is a hex digit
-digit_is_hex : (b : ℕ) → is_ascii_digit b ≡ true → is_hex_digit b ≡ true
-digit_is_hex b e = rw e refl
-
+-- decimal digits are hex digits
 pub digits_are_hex : (ds : List ℕ) → list_all is_ascii_digit ds ≡ true → list_all is_hex_digit ds ≡ true
-digits_are_hex [] e = refl
-digits_are_hex (d ∷ ds) e = grind (arith, digit_is_hex d, digits_are_hex ds)
+digits_are_hex ds e = In-all is_hex_digit ds (λ d k. rw (all-In is_ascii_digit ds e d k) refl)
 
 -- A row of a table, found in the table as the code has it.
 

@@ -1,10 +1,6 @@
 -- Sources, computed by the definitions.
-use Rattle.std.proofs.Common.{◌≡◌, refl, ℕ, ℤ, pos, List, [], ◌∷◌, true, false, length, Result, Ok, Err}
-use Rattle.std.specs.Prelude.{codes}
-use Rattle.std.specs.List.{join_with_byte}
-use Rattle.cell_asm.specs.Types.{RelKind, Abs64, CallPlt, PcrelHi20, PcrelLo12I, Hi20, Add32, Sub32, Object, Section, Symbol, Entry, Local, BindGlobal as Global, NoType, Undef, Inside, Prog, Zero, AsmKind}
+use Rattle.cell_asm.proofs.Facts.{◌≡◌, refl, ℕ, ℤ, pos, List, [], ◌∷◌, true, false, length, Result, Ok, Err, codes, join_with_byte, RelKind, Abs64, CallPlt, PcrelHi20, PcrelLo12I, Hi20, Add32, Sub32, Object, Section, Symbol, Entry, Local, BindGlobal as Global, NoType, Undef, Inside, Prog, Zero, AsmKind, assembled}
 use Rattle.cell_asm.specs.declared.kind.AsmKind.TheVariants as faults
-use Rattle.cell_asm.specs.Assembled.{assembled}
 
 abbrev lines : List (List ℕ) → List ℕ
 lines texts = join_with_byte 10 texts

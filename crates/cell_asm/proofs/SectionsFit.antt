@@ -1,20 +1,7 @@
 -- The sections of an assembled source can be written.
 --     sections_fit source lines    each section is as it must be
-use Rattle.std.proofs.Common.{◌≡◌, ℕ, zero, suc, ◌+◌, ◌*◌, ◌/◌, ◌%◌, ◌^◌, ◌<◌, ◌≤◌, max, true, false, ◌&&◌, List, [], ◌∷◌, map, length, replicate, slice_get, Some, Ok, refl, sym, ap, subst, ◌∙◌, ◌⊎◌, inl, inr, length-append, arith, lit≤}
-use Rattle.std.specs.Prelude.{Bool, filter, flat_map, fold, nat_le}
-use Rattle.std.specs.List.{range_with_len}
-use Rattle.std.proofs.lemmas.Bool.{and_parts, cases_lt}
-use Rattle.std.proofs.lemmas.List.{length-replicate}
-use Rattle.cell_num.specs.Bits.{bytes_of}
+use Rattle.cell_asm.proofs.Facts.{◌≡◌, ℕ, zero, suc, ◌+◌, ◌*◌, ◌/◌, ◌%◌, ◌^◌, ◌<◌, ◌≤◌, max, true, false, ◌&&◌, List, [], ◌∷◌, map, length, replicate, slice_get, Some, Ok, refl, sym, subst, ◌∙◌, ◌⊎◌, inl, inr, length-append, arith, Bool, filter, flat_map, fold, nat_le, range_with_len, and_parts, cases_lt, length-replicate, bytes_of, Section, Part, Text, Bss, Statement, StatementZeros as Zeros, StatementAlign as Align, Laid, IsPlain, IsWhole, IsWritableSection, is_in, gap, taken, size_in, parts_of, part_name, is_text, first_alignment, alignment_asked, alignment, padding, bytes_at, contents, fill_of, may_write, section_of, sections, placed_lines, In-numbers, In, all-In, In-filtered, filter-Passes, In-map}
 use Rattle.cell_object.specs.Sections.{is_alignment}
-use Rattle.cell_asm.specs.Types.{Section, Part, Text, Bss, Statement, StatementZeros as Zeros, StatementAlign as Align, Laid}
-use Rattle.cell_object.specs.Writable.{IsPlain}
-use Rattle.cell_image.proofs.Ruled.{IsWhole, IsWritableSection}
-use Rattle.cell_asm.specs.Places.{is_in, gap, taken, size_in}
-use Rattle.cell_asm.specs.Objects.{parts_of, part_name, is_text, first_alignment, alignment_asked, alignment, padding, bytes_at, contents, fill_of, may_write, section_of, sections}
-use Rattle.cell_asm.specs.Assembled.{placed_lines}
-use Rattle.cell_num.proofs.Ranges.{In-numbers}
-use Rattle.cell_num.proofs.Elements.{In, all-In, In-filtered, filter-Passes, In-map}
 use Rattle.cell_asm.proofs.ListLemmas.{le_of, get_map, flat_length, total_same, sum_is_total}
 use Rattle.cell_asm.proofs.GoodBlocks.{IsUnit, IsGoodStatement}
 use Rattle.cell_asm.proofs.EntriesFit.{IsStanding, all_stand, text_fours, in_fours, section_small}
@@ -24,10 +11,7 @@ use Rattle.cell_asm.proofs.WritableEntries.{part_numbered}
 
 nops_count : (m : ℕ) → length (flat_map (λ word. bytes_of 4 word) (replicate m 0x13)) ≡ 4 * m
 nops_count zero = refl
-nops_count (suc m) =
-    length-append (bytes_of 4 0x13) (flat_map (λ word. bytes_of 4 word) (replicate m 0x13))
-    ∙ ap (λ n. 4 + n) (nops_count m)
-    ∙ (omega arith)
+nops_count (suc m) = omega (arith, length-append (bytes_of 4 0x13) (flat_map (λ word. bytes_of 4 word) (replicate m 0x13)), nops_count m)
 
 padding_length : (part : Part) (n : ℕ) → (is_text part ≡ true → n % 4 ≡ 0) → length (padding part n) ≡ n
 padding_length Text n h = nops_count (n / 4) ∙ (omega (arith, h refl))
@@ -44,11 +28,8 @@ at_length part offset _ h = refl
 abbrev InWords : Part → List Laid → Type 0
 InWords part lines = (l : Laid) → In l lines → is_in part l ≡ true → is_text part ≡ true → taken l.line.statement l.offset % 4 ≡ 0
 
-text_words : (source : List ℕ) (lines : List Laid) → placed_lines source ≡ Ok lines → InWords Text lines
-text_words source lines e l k t same = text_fours l (all_stand source lines e l k) t (in_fours source lines e l k t)
-
 in_words : (source : List ℕ) (lines : List Laid) (part : Part) → placed_lines source ≡ Ok lines → InWords part lines
-in_words source lines Text e = text_words source lines e
+in_words source lines Text e = λ l k t same. text_fours l (all_stand source lines e l k) t (in_fours source lines e l k t)
 in_words source lines _ e = λ l k t same. absurd cc
 
 filled_length : (part : Part) (lines : List Laid) → InWords part lines
@@ -65,25 +46,13 @@ whole part lines words = filled_length part lines words
 
 -- ALIGNMENTS
 
-at_start : 0 ≤ 12
-at_start = lit≤ tt
-
-second_power : 2 ≤ 12
-second_power = lit≤ tt
-
-third_power : 3 ≤ 12
-third_power = lit≤ tt
-
-one_unit : IsUnit 1
-one_unit = (0, at_start, refl)
-
 first_unit : (part : Part) → IsUnit (first_alignment part)
-first_unit Text = (2, second_power, refl)
-first_unit _ = (3, third_power, refl)
+first_unit Text = (2, (omega arith), refl)
+first_unit _ = (3, (omega arith), refl)
 
 asked_unit : (s : Statement) → IsGoodStatement s → IsUnit (alignment_asked s)
 asked_unit (Align unit) g = g
-asked_unit _ g = one_unit
+asked_unit _ g = (0, (omega arith), refl)
 
 larger_unit : (a b : ℕ) → IsUnit a → IsUnit b → (a < b) ⊎ (b ≤ a) → IsUnit (max a b)
 larger_unit a b g h (inl l) = subst IsUnit (omega (arith, l)) h

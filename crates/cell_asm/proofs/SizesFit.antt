@@ -1,40 +1,23 @@
 -- How many bytes the names of a source's symbols take.
 --     symbols_cost source lines
-use Rattle.std.proofs.Common.{◌≡◌, ℕ, suc, ◌+◌, ◌*◌, ◌≤◌, Bool, true, false, cond, not, List, [], ◌∷◌, ◌++◌, map, length, codes, Ok, Some, None, inl, inr, refl, subst, sym, ap, ◌∙◌, zero-add, true≢false, arith, ◌^◌, ◌<◌, replicate, ◌⊎◌, length-append, lit≤}
-use Rattle.std.proofs.lemmas.Bool.{and_parts}
-use Rattle.std.proofs.lemmas.List.{map-append, length-map, length-replicate}
-use Rattle.std.proofs.lemmas.List.Elements.{filter-append}
-use Rattle.std.proofs.lemmas.List.Sums.{sum_by-cons}
-use Rattle.std.specs.Prelude.{slice_get, Option, if◌then◌else◌, decimal, filter, flat_map, is_none, sum_by, ◌==◌}
-use Rattle.cell_image.proofs.Ruled.{IsWhole}
+use Rattle.cell_asm.proofs.Facts.{◌≡◌, ℕ, suc, ◌+◌, ◌*◌, ◌≤◌, Bool, true, false, cond, not, List, [], ◌∷◌, ◌++◌, map, length, codes, Ok, Some, None, inl, inr, refl, subst, sym, ap, ◌∙◌, zero-add, true≢false, arith, ◌^◌, ◌<◌, replicate, ◌⊎◌, length-append, lit≤, and_parts, map-append, length-map, length-replicate, filter-append, sum_by-cons, Option, if◌then◌else◌, decimal, filter, is_none, sum_by, ◌==◌, IsWhole, is_pcrel_hi20, numbered_from, section_rows, local_count, offset_after, has_entries, content, symbols_part, table, own_names, table_name, names_before_tables, parts_before_tables, parts_before_strings, parts_before_names, onto, pieces, lines_in, placed_lines, globals, local_labels, label_names, mentions, other_names, key_name, symbols, parts_of, part_name, section_of, sections, entries, object_of, marks_in, is_same_part, is_at, is_in, placed, is_made, makes_label, may_stand, lays_nothing, taken, size_in, own_key, made_key, keys_of, label, labels_at, labels, is_key, holds_key, Symbol, Mark, Part, Text, Statement, Line, Laid, Label, Key, KeyNamed as Named, KeyMade as Made, Section, Entry, Object, Fill, Prog, Note, Zero, In-one, length-filter_le, In, In-left, filter-In, any-Has, any-In, In-append, In-filtered, In-map, In-numbered, get-In, names_in, nat_le, all-In}
 use Rattle.cell_image.proofs.Headers.{rows_count}
 use Rattle.cell_image.proofs.Places.{even_length}
 use Rattle.cell_image.proofs.Stands.{entry_length}
 use Rattle.cell_image.proofs.Symbols.{symbols_length}
 use Rattle.cell_image.proofs.Tables.{numbered_length}
-use Rattle.cell_num.specs.Kinds.{is_pcrel_hi20}
-use Rattle.cell_num.specs.Lists.{numbered_from}
-use Rattle.cell_object.specs.Image.{section_rows, local_count}
-use Rattle.cell_object.specs.ImageParts.{padded, offset_after, entries_for, has_entries, relocated, content, filled, symbols_part, symbol_strings, table, own_names, table_name, names_before_tables, section_strings, parts_before_tables, parts_before_strings, parts_before_names}
+use Rattle.cell_object.specs.ImageParts.{padded, entries_for, relocated, filled, symbol_strings, section_strings}
 use Rattle.cell_object.specs.ImageParts as parts
 use Rattle.cell_object.specs.Rows.{entry_bytes}
 use Rattle.cell_object.specs.Strings.{string, string_table}
-use Rattle.cell_text.specs.Text.{onto, pieces, lines_in}
-use Rattle.cell_asm.specs.Assembled.{placed_lines}
-use Rattle.cell_asm.specs.Objects.{globals, local_labels, label_names, statement_names, mentions, other_names, key_name, local_symbol, global_symbol, symbols, parts_of, part_name, section_of, sections, entries, object_of}
 use Rattle.cell_asm.specs.Objects as objects
-use Rattle.cell_asm.specs.Places.{marks_in, is_same_part, is_at, is_in, placed, is_made, makes_label, may_stand, lays_nothing, taken, size_in, own_key, made_key, keys_of, label, labels_at, labels, is_key, holds_key}
-use Rattle.cell_asm.specs.Types.{Symbol, Mark, Part, Text, Statement, Line, Laid, Label, Key, KeyNamed as Named, KeyMade as Made, Section, Entry, Object, Fill, Prog, Note, Zero}
 use Rattle.cell_asm.proofs.EntriesFit.{IsStanding, all_stand, section_fits, few_entries}
-use Rattle.cell_asm.proofs.GoodBlocks.{is_code, hi20_code, content_of, statement_marks, statement_taken, none_laid}
-use Rattle.cell_num.proofs.Ranges.{In-one}
-use Rattle.cell_num.proofs.Sublists.{length-filter_le}
-use Rattle.cell_num.proofs.Elements.{In, In-left, filter-In, any-Has, any-In, In-append, In-filtered, In-map, In-numbered, get-In}
-use Rattle.cell_asm.proofs.ListLemmas.{total, total-append, total-map, total_split, fold_total, total_le, flat_length, flat_most, le_trans}
-use Rattle.cell_asm.proofs.NamesFit.{cost, cost-append, cost_flat, made_short}
+use Rattle.cell_asm.proofs.GoodBlocks.{AreMarks, is_code, hi20_code, content_of, statement_marks, statement_taken, none_laid}
+use Rattle.cell_asm.proofs.ListLemmas.{total, total-append, total-map, total_split, fold_total, total_le, flat_length, flat_most, le_of, le_trans, itself}
+use Rattle.cell_asm.proofs.NamesFit.{cost, cost_flat, made_short}
 use Rattle.cell_asm.proofs.ObjectLemmas.{few}
 use Rattle.cell_asm.proofs.PlacingLemmas.{GoesOn, grows_with}
-use Rattle.cell_asm.proofs.ReadLines.{line_names, read_line}
+use Rattle.cell_asm.proofs.ReadLines.{read_line}
 use Rattle.cell_asm.proofs.SectionsFit.{section_whole}
 use Rattle.cell_asm.proofs.SymbolPlaces.{names_apart, key_itself}
 use Rattle.cell_asm.proofs.SymbolsFit.{locals_count}
@@ -65,11 +48,8 @@ lines_room source = pieces_room _ source
 
 -- NAMES
 
-names_by : (a b c d : ℕ) → a ≡ b → b ≤ c → c ≤ d + 1 → a ≤ d + 1
-names_by a b c d p h k = omega (arith, p, h, k)
-
 abbrev names_cost : Laid → ℕ
-names_cost l = cost (line_names l.line)
+names_cost l = cost (names_in l.line)
 
 goes : GoesOn (λ done ls. total names_cost ls ≤ total room done)
 goes done before n text line h e f =
@@ -78,18 +58,12 @@ goes done before n text line h e f =
 -- the names that the lines mention take no more bytes than the source and one
 pub mentions_cost : (source : List ℕ) (lines : List Laid) → placed_lines source ≡ Ok lines → cost (mentions lines) ≤ length source + 1
 mentions_cost source lines e =
-    names_by (cost (mentions lines)) (total names_cost lines) (total room (lines_in source)) (length source) (cost_flat (λ l. line_names l.line) lines)
-    (grows_with (λ done ls. total names_cost ls ≤ total room done) goes (lines_in source) lines (omega arith) e) (lines_room source)
+    omega (arith, cost_flat (λ l. names_in l.line) lines, grows_with (λ done ls. total names_cost ls ≤ total room done) goes (lines_in source) lines (omega arith) e, lines_room source)
 
 -- LABELS THAT ARE MADE
 
 abbrev makes : Laid → ℕ
 makes l = if makes_label l.line.statement then 1 else 0
-
--- a label is made at an entry, in .text alone
-record IsMaking (l : Laid) : Type 0 where
-  in_text : is_in Text l ≡ true
-  entered : 1 ≤ length (marks_in l.line.statement)
 
 some_there : (marks : List Mark) (m : Mark) → In m marks → 1 ≤ length marks
 some_there [] m k = absurd k
@@ -99,39 +73,25 @@ in_text_by : (o : Option Part) (line : Line) (m : Mark) → may_stand o line ≡
 in_text_by None line m t k code = absurd (none_laid line.statement m (and_parts (is_none line.label) (lays_nothing line.statement) t).1 k)
 in_text_by (Some part) line m t k code = ap (is_same_part Text) ((statement_taken part line.statement m t k).coded code)
 
-making : (l : Laid) → IsStanding l → makes_label l.line.statement ≡ true → IsMaking l
-making l s t =
-    let st : Statement = l.line.statement in
-    let r : (m : Mark) × In m (marks_in st) × (is_made m.fix.target ≡ true) = any-Has (λ m. is_made m.fix.target) (marks_in st) t in
-    let u : (m : Mark) × In m (marks_in st) × (is_pcrel_hi20 m.fix.kind ≡ true) = any-Has (λ m. is_pcrel_hi20 m.fix.kind) (marks_in st) (made_head st r.0 s.good r.1 r.2) in
-    record {
-      in_text = in_text_by l.part l.line u.0 s.stands u.1 (sym ((statement_marks st l.offset s.good).stand.0 u.0 u.1).fix.code ∙ hi20_code u.0.fix.kind u.2);
-      entered = some_there (marks_in st) r.0 r.1;
-    }
-
-many : (m n t : ℕ) → 1 ≤ n → n ≤ 2 * t → 1 ≤ 2 * t
-many m n t h k = omega (arith, h, k)
-
--- so many labels a line makes in .text
+-- so many labels a line makes, at an entry, in .text alone
 line_makes : (l : Laid) (b : Bool) → makes_label l.line.statement ≡ b → IsStanding l → (if b then 1 else 0) ≤ 2 * (if is_in Text l then taken l.line.statement l.offset else 0)
 line_makes l true e s =
-    let m : IsMaking l = making l s e in
-    subst (λ c. 1 ≤ 2 * (if c then taken l.line.statement l.offset else 0)) (sym m.in_text)
-    (many 1 (length (marks_in l.line.statement)) (taken l.line.statement l.offset) m.entered (statement_marks l.line.statement l.offset s.good).few)
+    let st : Statement = l.line.statement in
+    let marks : AreMarks (content_of st) (taken st l.offset) (marks_in st) = statement_marks st l.offset s.good in
+    let r : (m : Mark) × In m (marks_in st) × (is_made m.fix.target ≡ true) = any-Has (λ m. is_made m.fix.target) (marks_in st) e in
+    let u : (m : Mark) × In m (marks_in st) × (is_pcrel_hi20 m.fix.kind ≡ true) = any-Has (λ m. is_pcrel_hi20 m.fix.kind) (marks_in st) (made_head st r.0 s.good r.1 r.2) in
+    let text : is_in Text l ≡ true = in_text_by l.part l.line u.0 s.stands u.1 (sym (marks.stand.0 u.0 u.1).fix.code ∙ hi20_code u.0.fix.kind u.2) in
+    subst (λ c. 1 ≤ 2 * (if c then taken st l.offset else 0)) (sym text) (omega (arith, some_there (marks_in st) r.0 r.1, marks.few))
 line_makes l false e s = omega arith
 
 text_taken : (b : Bool) (l : Laid) (ls : List Laid) → sum_by (λ m. taken m.line.statement m.offset) (cond b (l ∷ ls) ls) ≡ (if b then taken l.line.statement l.offset else 0) + sum_by (λ m. taken m.line.statement m.offset) ls
 text_taken true l ls = sum_by-cons (λ m. taken m.line.statement m.offset) l ls
 text_taken false l ls = sym (zero-add (sum_by (λ m. taken m.line.statement m.offset) ls))
 
-makes_more : (a b c d e : ℕ) → a ≤ 2 * b → c ≤ 2 * d → e ≡ b + d → a + c ≤ 2 * e
-makes_more a b c d e h k is = omega (arith, h, k, is)
-
 makes_few : (ls : List Laid) → ((l : Laid) → In l ls → IsStanding l) → total makes ls ≤ 2 * size_in Text ls
 makes_few [] h = omega arith
 makes_few (l ∷ ls) h =
-    makes_more (makes l) (if is_in Text l then taken l.line.statement l.offset else 0) (total makes ls) (size_in Text ls) (size_in Text (l ∷ ls))
-    (line_makes l (makes_label l.line.statement) refl (h l (inl refl))) (makes_few ls (λ m k. h m (inr k))) (text_taken (is_in Text l) l (filter (is_in Text) ls))
+    omega (arith, line_makes l (makes_label l.line.statement) refl (h l (inl refl)), makes_few ls (λ m k. h m (inr k)), text_taken (is_in Text l) l (filter (is_in Text) ls))
 
 -- LOCAL LABELS
 
@@ -146,14 +106,8 @@ module _ (lines : List Laid) where
   abbrev is_own : List ℕ → Bool
   is_own name = holds_key (local_labels lines) (Named name)
 
-  own_there : (x : Label) (name : List ℕ) → In x (labels lines) → x.key ≡ Named name → is_local x ≡ true → is_own name ≡ true
-  own_there x name k e t = any-In (λ y. is_key y.key (Named name)) (local_labels lines) x (filter-In is_local (labels lines) x k t) (subst (λ q. is_key q (Named name) ≡ true) (sym e) (key_itself (Named name)))
-
   own_by : (x : Label) (name : List ℕ) (t p : Bool) → x.key ≡ Named name → (t ≡ true → p ≡ true) → total label_cost (cond t (x ∷ []) []) ≤ cost (cond p (name ∷ []) [])
   own_by x name true true e h = subst (λ q. suc (length (key_name q)) + 0 ≤ suc (length name) + 0) (sym e) (itself (suc (length name) + 0))
-    where
-      itself : (n : ℕ) → n ≤ n
-      itself n = omega arith
   own_by x name true false e h = absurd (true≢false (sym (h refl)))
   own_by x name false p e h = omega arith
 
@@ -161,40 +115,27 @@ module _ (lines : List Laid) where
       → total label_cost (filter is_local (map (label part offset) (own_key o))) ≤ cost (filter is_own (label_names o))
   own_cost part offset None h = omega arith
   own_cost part offset (Some name) h =
-      own_by (label part offset (Named name)) name (is_local (label part offset (Named name))) (is_own name) refl (own_there (label part offset (Named name)) name (h (Named name) (inl refl)) refl)
+      own_by (label part offset (Named name)) name (is_local (label part offset (Named name))) (is_own name) refl
+      (λ t. any-In (λ y. is_key y.key (Named name)) (local_labels lines) (label part offset (Named name)) (filter-In is_local (labels lines) (label part offset (Named name)) (h (Named name) (inl refl)) t) (key_itself (Named name)))
 
   made_by : (part : Part) (offset n : ℕ) (b : Bool) → total label_cost (filter is_local (map (label part offset) (if b then Made n ∷ [] else []))) ≤ 68 * (if b then 1 else 0)
   made_by part offset n true = let d : length (codes ".La" ++ decimal n) ≤ 67 = made_short n in omega (arith, d)
   made_by part offset n false = omega arith
 
-  both_cost : (a b c d e f g : ℕ) → a ≡ b + c → b ≤ d → c ≤ 68 * e → f ≡ d + g → a ≤ f + 68 * e
-  both_cost a b c d e f g p h k q = omega (arith, p, h, k, q)
-
   line_cost : (o : Option Part) (l : Laid) → ((part : Part) → o ≡ Some part → (k : Key) → In k (keys_of l) → In (label part l.offset k) (labels lines))
-      → total label_cost (filter is_local (labels_at o l.offset (keys_of l))) ≤ cost (filter is_own (line_names l.line)) + 68 * makes l
+      → total label_cost (filter is_local (labels_at o l.offset (keys_of l))) ≤ cost (filter is_own (names_in l.line)) + 68 * makes l
   line_cost None l h = omega arith
   line_cost (Some part) l h =
       let own : List Key = own_key l.line.label in
       let made : List Key = made_key l.line.statement l.made in
-      both_cost (total label_cost (filter is_local (map (label part l.offset) (own ++ made)))) (total label_cost (filter is_local (map (label part l.offset) own))) (total label_cost (filter is_local (map (label part l.offset) made)))
-      (cost (filter is_own (label_names l.line.label))) (makes l) (cost (filter is_own (line_names l.line))) (cost (filter is_own (statement_names l.line.statement)))
-      (ap (λ xs. total label_cost (filter is_local xs)) (map-append (label part l.offset) own made) ∙ ap (total label_cost) (filter-append is_local (map (label part l.offset) own) (map (label part l.offset) made))
-      ∙ total-append label_cost (filter is_local (map (label part l.offset) own)) (filter is_local (map (label part l.offset) made)))
-      (own_cost part l.offset l.line.label (λ k i. h part refl k (In-left own made k i))) (made_by part l.offset l.made (makes_label l.line.statement))
-      (ap cost (filter-append is_own (label_names l.line.label) (statement_names l.line.statement)) ∙ cost-append (filter is_own (label_names l.line.label)) (filter is_own (statement_names l.line.statement)))
-
-  more_cost : (a b c d e f g h m : ℕ) → a ≡ b + c → b ≤ d + 68 * e → c ≤ f + 68 * g → h ≡ d + f → a ≤ h + 68 * (e + g)
-  more_cost a b c d e f g h m p q r s = omega (arith, p, q, r, s)
+      simp (map-append, filter-append, total-append) (omega (arith, own_cost part l.offset l.line.label (λ k i. h part refl k (In-left own made k i)), made_by part l.offset l.made (makes_label l.line.statement)))
 
   labels_cost : (ls : List Laid) → ((l : Laid) → In l ls → In l lines)
       → total label_cost (filter is_local (labels ls)) ≤ cost (filter is_own (mentions ls)) + 68 * total makes ls
   labels_cost [] h = omega arith
   labels_cost (l ∷ ls) h =
-      more_cost (total label_cost (filter is_local (labels (l ∷ ls)))) (total label_cost (filter is_local (labels_at l.part l.offset (keys_of l)))) (total label_cost (filter is_local (labels ls)))
-      (cost (filter is_own (line_names l.line))) (makes l) (cost (filter is_own (mentions ls))) (total makes ls) (cost (filter is_own (mentions (l ∷ ls)))) 0
-      (ap (total label_cost) (filter-append is_local (labels_at l.part l.offset (keys_of l)) (labels ls)) ∙ total-append label_cost (filter is_local (labels_at l.part l.offset (keys_of l))) (filter is_local (labels ls)))
-      (line_cost l.part l (λ part e k i. in_labels lines l part k (h l (inl refl)) e i)) (labels_cost ls (λ m k. h m (inr k)))
-      (ap cost (filter-append is_own (line_names l.line) (mentions ls)) ∙ cost-append (filter is_own (line_names l.line)) (filter is_own (mentions ls)))
+      rw (filter-append is_local (labels_at l.part l.offset (keys_of l)) (labels ls), total-append, filter-append is_own (names_in l.line) (mentions ls), total-append)
+      (omega (arith, line_cost l.part l (λ part e k i. in_labels lines l part k (h l (inl refl)) e i), labels_cost ls (λ m k. h m (inr k))))
 
 -- ALL SYMBOLS
 
@@ -202,21 +143,21 @@ abbrev pub symbol_cost : Symbol → ℕ
 symbol_cost s = suc (length s.name)
 
 symbols_total : (lines : List Laid) → total symbol_cost (symbols lines) ≡ total label_cost (local_labels lines) + cost (other_names lines)
-symbols_total lines =
-    total-append symbol_cost (map (local_symbol lines) (local_labels lines)) (map (global_symbol lines) (other_names lines))
-    ∙ ap (λ n. n + total symbol_cost (map (global_symbol lines) (other_names lines))) (total-map symbol_cost (local_symbol lines) (local_labels lines))
-    ∙ ap (λ n. total label_cost (local_labels lines) + n) (total-map symbol_cost (global_symbol lines) (other_names lines))
-
-all_cost : (a b c d e f g s m n : ℕ) → a ≡ b + c → b ≤ d + 68 * e → c ≤ 0 + f → d + f ≡ g → g ≤ s + 1 → e ≤ 2 * n → n ≤ 1048576 → a ≤ s + 142606337
-all_cost a b c d e f g s m n p q r t u v w = omega (arith, p, q, r, t, u, v, w)
+symbols_total lines = simp (total-append, total-map)
 
 -- the names of the symbols take no more bytes than the source and what labels that are made take
 pub symbols_cost : (source : List ℕ) (lines : List Laid) → placed_lines source ≡ Ok lines → total symbol_cost (symbols lines) ≤ length source + 142606337
 symbols_cost source lines e =
-    all_cost (total symbol_cost (symbols lines)) (total label_cost (local_labels lines)) (cost (other_names lines)) (cost (filter (is_own lines) (mentions lines))) (total makes lines) (cost (filter (λ n. not (is_own lines n)) (mentions lines)))
-    (cost (mentions lines)) (length source) 0 (size_in Text lines) (symbols_total lines) (labels_cost lines lines (λ l k. k))
-    (fold_total names_apart (λ n. suc (length n)) [] (filter (λ n. not (is_own lines n)) (mentions lines))) (total_split (λ n. suc (length n)) (is_own lines) (mentions lines))
-    (mentions_cost source lines e) (makes_few lines (all_stand source lines e)) (section_fits source lines Text e)
+    omega (
+      arith,
+      symbols_total lines,
+      labels_cost lines lines (λ l k. k),
+      fold_total names_apart (λ n. suc (length n)) [] (filter (λ n. not (is_own lines n)) (mentions lines)),
+      total_split (λ n. suc (length n)) (is_own lines) (mentions lines),
+      mentions_cost source lines e,
+      makes_few lines (all_stand source lines e),
+      section_fits source lines Text e,
+    )
 
 -- The tables of an assembled source's image aren't too large, and there aren't too many headers.
 --     headers_fit, locals_fit, texts_fit, names_fit, size_fits
@@ -232,18 +173,11 @@ few_tables lines =
     le_trans _ _ _ (length-filter_le (λ row. has_entries (entries lines) row.0) (numbered_from 1 (sections lines)))
     (subst (λ n. n ≤ 4) (sym (numbered_length 1 (sections lines))) (few_sections lines))
 
-rows_few : (n s t : ℕ) → n ≡ s + 4 + t → s ≤ 4 → t ≤ 4 → n < 65280
-rows_few n s t e h k = omega (arith, e, h, k)
-
 pub headers_fit : (lines : List Laid) → length (section_rows (object_of lines)) < 65280
-headers_fit lines =
-    rows_few (length (section_rows (object_of lines))) (length (sections lines)) (length (relocated (sections lines) (entries lines))) (rows_count (object_of lines)) (few_sections lines) (few_tables lines)
+headers_fit lines = omega (arith, rows_count (object_of lines), few_sections lines, few_tables lines)
 
 symbols_number : (lines : List Laid) → length (symbols lines) ≡ length (local_labels lines) + length (other_names lines)
-symbols_number lines =
-    length-append (map (local_symbol lines) (local_labels lines)) (map (global_symbol lines) (other_names lines))
-    ∙ ap (λ n. n + length (map (global_symbol lines) (other_names lines))) (length-map (local_labels lines) (local_symbol lines))
-    ∙ ap (λ n. length (local_labels lines) + n) (length-map (other_names lines) (global_symbol lines))
+symbols_number lines = simp (length-append, length-map)
 
 count_le : (ss : List Symbol) → length ss ≤ total symbol_cost ss
 count_le [] = omega arith
@@ -280,27 +214,15 @@ small_one m t h = record { count = omega arith; short = λ x k. subst (λ v. len
 small_map : {X : Type 0} (n m : ℕ) (f : X → List ℕ) (xs : List X) → length xs ≤ n → ((x : X) → In x xs → length (f x) ≤ m) → AreSmall n m (map f xs)
 small_map n m f xs c h = record { count = subst (λ k. k ≤ n) (sym (length-map xs f)) c; short = λ t i. let r = In-map f xs t i in subst (λ v. length v ≤ m) (sym r.2) (h r.0 r.1) }
 
-table_by_names : (t n k : ℕ) → t ≤ k * n → suc t ≤ 1 + k * n
-table_by_names t n k h = omega (arith, h)
-
 table_le : (n m : ℕ) (names : List (List ℕ)) → AreSmall n m names → length (string_table names) ≤ 1 + (m + 1) * length names
 unfolding string_table
-table_le n m names h =
-    table_by_names (length (flat_map string names)) (length names) (m + 1) (flat_most string (m + 1) names (λ t k. string_le m t (h.short t k)))
-
--- a name and the zero behind it
-string_cost : (name : List ℕ) → length (string name) ≤ suc (length name)
-string_cost name = omega (arith, string_le (length name) name (omega arith))
-
-texts_by : (t u v k s : ℕ) → t ≡ u → u ≤ v → v ≡ k → k ≤ s + 142606337 → s < 2 ^ 31 → suc t < 2 ^ 32
-texts_by t u v k s e h f l m = omega (arith, e, h, f, l, m)
+table_le n m names h = omega (arith, flat_most string (m + 1) names (λ t k. string_le m t (h.short t k)))
 
 pub texts_fit : (source : List ℕ) (lines : List Laid) → placed_lines source ≡ Ok lines → length source < 2 ^ 31 → length (symbol_strings (object_of lines)) < 2 ^ 32
 unfolding symbol_strings string_table
 texts_fit source lines e h =
     let names : List (List ℕ) = map (λ s. s.name) (symbols lines) in
-    texts_by (length (flat_map string names)) (total (λ n. length (string n)) names) (total (λ n. suc (length n)) names) (total symbol_cost (symbols lines)) (length source)
-    (flat_length string names) (total_le (λ n. length (string n)) (λ n. suc (length n)) names (λ n k. string_cost n)) (total-map (λ n. suc (length n)) (λ (s : Symbol). s.name) (symbols lines)) (symbols_cost source lines e) h
+    omega (arith, flat_length string names, total_le (λ n. length (string n)) (λ n. suc (length n)) names (λ n k. (omega (arith, string_le (length n) n (omega arith)))), total-map (λ n. suc (length n)) (λ (s : Symbol). s.name) (symbols lines), symbols_cost source lines e, h)
 
 -- THE NAMES OF SECTIONS
 
@@ -313,12 +235,9 @@ section_short lines s k =
     let r : (part : Part) × In part (parts_of lines) × (s ≡ section_of lines part) = In-map (section_of lines) (parts_of lines) s k in
     subst (λ t. length t.name ≤ 7) (sym r.2) (part_short r.0)
 
-numbered_In : {X : Type 0} (i : ℕ) (xs : List X) (row : ℕ × X) → In row (numbered_from i xs) → In row.1 xs
-numbered_In i xs row k = let r : (n : ℕ) × (slice_get xs n ≡ Some row.1) × (row.0 ≡ i + n) = In-numbered xs i row k in get-In xs r.0 row.1 r.1
-
 relocated_In : (ss : List Section) (es : List Entry) (row : ℕ × Section) → In row (relocated ss es) → In row.1 ss
 unfolding relocated
-relocated_In ss es row k = numbered_In 1 ss row (In-filtered (λ r. has_entries es r.0) (numbered_from 1 ss) row k)
+relocated_In ss es row k = let r = In-numbered ss 1 row (In-filtered (λ r. has_entries es r.0) (numbered_from 1 ss) row k) in get-In ss r.0 row.1 r.1
 
 table_short : (lines : List Laid) (row : ℕ × Section) → In row (relocated (sections lines) (entries lines)) → length (table_name row) ≤ 12
 table_short lines row k =
@@ -328,8 +247,7 @@ abbrev fixed_names : List (List ℕ)
 fixed_names = codes ".symtab" ∷ codes ".strtab" ∷ codes ".shstrtab" ∷ []
 
 fixed_small : AreSmall 3 12 fixed_names
-fixed_small = small_join 1 2 12 (codes ".symtab" ∷ []) (codes ".strtab" ∷ codes ".shstrtab" ∷ []) (small_one 12 (codes ".symtab") (lit≤ tt))
-    (small_join 1 1 12 (codes ".strtab" ∷ []) (codes ".shstrtab" ∷ []) (small_one 12 (codes ".strtab") (lit≤ tt)) (small_one 12 (codes ".shstrtab") (lit≤ tt)))
+fixed_small = record { count = lit≤ tt; short = λ t k. le_of (length t) 12 (all-In (λ n. nat_le (length n) 12) fixed_names refl t k) }
 
 names_small : (lines : List Laid) → AreSmall 11 12 (names_before_tables (object_of lines) ++ map table_name (relocated (sections lines) (entries lines)))
 names_small lines =
@@ -345,35 +263,22 @@ names_fit lines =
 
 -- THE WHOLE FILE
 
-padded_by : (a n z p : ℕ) → p ≡ n + z → z ≤ 8 → n ≤ a → p ≤ a + 8
-padded_by a n z p e h k = omega (arith, e, h, k)
-
 padded_le : (m : ℕ) (part : List ℕ) → length part ≤ m → length (padded part) ≤ m + 8
 unfolding padded
 padded_le m part h =
-    padded_by m (length part) (parts.padding (length part)) (length (part ++ replicate (parts.padding (length part)) 0))
-    (length-append part (replicate (parts.padding (length part)) 0) ∙ ap (λ n. length part + n) (length-replicate (parts.padding (length part)) 0)) (omega arith) h
+    omega (arith, length-append part (replicate (parts.padding (length part)) 0), length-replicate {A = ℕ} (parts.padding (length part)) 0, h)
 
 filled_le : (f : Fill) (bytes : List ℕ) (size : ℕ) → IsWhole f bytes size → size ≤ 16777216 → length (filled f bytes) ≤ 16777216
 filled_le Prog bytes size w h = subst (λ n. n ≤ 16777216) (sym w) h
 filled_le Note bytes size w h = subst (λ n. n ≤ 16777216) (sym w) h
 filled_le Zero bytes size w h = omega arith
 
-symbols_by : (a c : ℕ) → a ≡ 24 + 24 * c → c ≤ 2290089984 → a ≤ 54962159640
-symbols_by a c e h = omega (arith, e, h)
-
-symbols_short_part : (source : List ℕ) (lines : List Laid) → placed_lines source ≡ Ok lines → length source < 2 ^ 31 → length (symbols_part (object_of lines)) ≤ 54962159640
-symbols_short_part source lines e h = symbols_by (length (symbols_part (object_of lines))) (length (symbols lines)) (symbols_length (object_of lines)) (few_symbols source lines e h)
-
 entries_for_few : (es : List Entry) (n : ℕ) → length (entries_for es n) ≤ length es
 unfolding entries_for
 entries_for_few es n = length-filter_le (λ e. e.section == n) es
 
-table_by : (a b c : ℕ) → a ≡ 24 * b → b ≤ c → c ≤ 134217728 → a ≤ 3221225472
-table_by a b c e h k = omega (arith, e, h, k)
-
 table_few : (es : List Entry) (row : ℕ × Section) → length es ≤ 134217728 → length (table es row) ≤ 3221225472
-table_few es row h = table_by (length (table es row)) (length (entries_for es row.0)) (length es) (even_length entry_bytes 24 entry_length (entries_for es row.0)) (entries_for_few es row.0) h
+table_few es row h = omega (arith, even_length entry_bytes 24 entry_length (entries_for es row.0), entries_for_few es row.0, h)
 
 -- the largest part is that of the symbols
 abbrev most : ℕ
@@ -384,9 +289,6 @@ below n m h k = omega (arith, h, k)
 
 strings_below : (n : ℕ) → n < 2 ^ 32 → n ≤ most
 strings_below n h = omega (arith, h)
-
-all_below : (n l : ℕ) → n ≤ (most + 8) * l → l ≤ 11 → 64 + n < 2 ^ 64
-all_below n l h m = omega (arith, h, m)
 
 pub size_fits : (source : List ℕ) (lines : List Laid) → placed_lines source ≡ Ok lines → length source < 2 ^ 31 → offset_after (parts.parts (object_of lines)) < 2 ^ 64
 size_fits source lines e h =
@@ -399,8 +301,8 @@ size_fits source lines e h =
     (small_join 4 1 most (parts.contents (sections lines)) (symbols_part o ∷ [])
     (small_map 4 most content (sections lines) (few_sections lines)
     (λ s k. let w : (s.size ≤ 16777216) × IsWhole s.fill s.bytes s.size = section_whole source lines e s k in below (length (content s)) 16777216 (filled_le s.fill s.bytes s.size w.1 w.0) (lit≤ tt)))
-    (small_one most (symbols_part o) (symbols_short_part source lines e h)))
+    (small_one most (symbols_part o) (omega (arith, symbols_length o, few_symbols source lines e h))))
     (small_map 4 most (table (entries lines)) (relocated (sections lines) (entries lines)) (few_tables lines) (λ row k. below (length (table (entries lines) row)) 3221225472 (table_few (entries lines) row (few_entries source lines e)) (lit≤ tt))))
     (small_one most (symbol_strings o) (strings_below (length (symbol_strings o)) (texts_fit source lines e h))))
     (small_one most (section_strings o) (strings_below (length (section_strings o)) (names_fit lines))) in
-    all_below (length (flat_map padded (parts.parts o))) (length (parts.parts o)) (flat_most padded (most + 8) (parts.parts o) (λ p k. padded_le most p (small.short p k))) small.count
+    omega (arith, flat_most padded (most + 8) (parts.parts o) (λ p k. padded_le most p (small.short p k)), small.count)

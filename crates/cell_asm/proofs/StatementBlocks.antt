@@ -1,30 +1,11 @@
 -- The bytes of instructions and of numbers in lists, and the entries for them, from their operands.
 --     mnemonic_good text                            the row that is found is a good one
 --     instruction_good row os, numbers_good w os    good bytes, with names of the operands
-use Rattle.std.proofs.Common.{Result, ◌≡◌, ◌≤◌, ◌<◌, ◌+◌, ◌%◌, ◌^◌, ℕ, Bool, true, false, ◌||◌, not, List, [], ◌∷◌, ◌++◌, length, ℤ, pos, negsuc, Ok, Err, Some, None, inl, inr, refl, sym, subst, ap, ◌∙◌, true≢false, append-nil, cond, arith}
-use Rattle.std.specs.Prelude.{Option, if◌then◌else◌, nat_le, int_le, FitsSigned, ◌&&◌, flat_map, find, option_map, bytes_eq}
-use Rattle.std.specs.List.{list_any, list_all}
-use Rattle.std.specs.Option.{option_map_or}
-use Rattle.std.specs.Int.{w64}
-use Rattle.std.proofs.lemmas.Bool.{and_parts, or_from}
-use Rattle.std.proofs.Math.Bool.{or-false}
-use Rattle.std.proofs.lemmas.Bool.Decides.{nat_tests}
-use Rattle.std.proofs.lemmas.List.Concat.{flat_map-append}
-use Rattle.cell_asm.specs.Types.{RelKind, PcrelHi20, PcrelLo12I, PcrelLo12S, Op, AsmKind, Then, Expression, ExpressionName as Name, Sum, Difference, Modifier, Whole, Hi, Lo, PcrelHi, PcrelLo, Immediate, Number, ImmediatePart as Part, Operand, OperandValue as Value, OperandMemory as Memory, Form, Address, Slot, Rd, Rs1, Rs2, Fields, Width, Byte, Half, WidthWord as Word, Quad, Content, Code, Mark, Block, Piece, Fix, TargetMade as Made, Field, Statement, Bytes}
-use Rattle.cell_num.specs.Kinds.{width_of, is_instruction, is_pcrel_lo12, is_pcrel_hi20}
-use Rattle.cell_object.specs.Sound.{is_known_kind}
+use Rattle.cell_asm.proofs.Facts.{Result, ◌≡◌, ◌≤◌, ◌<◌, ◌+◌, ◌%◌, ◌^◌, ℕ, Bool, true, false, ◌||◌, not, List, [], ◌∷◌, ◌++◌, length, ℤ, pos, negsuc, Ok, Err, Some, None, inl, inr, refl, sym, subst, ap, ◌∙◌, true≢false, append-nil, cond, arith, Option, if◌then◌else◌, nat_le, int_le, FitsSigned, ◌&&◌, flat_map, find, option_map, bytes_eq, list_any, list_all, option_map_or, w64, and_parts, or_from, or-false, nat_tests, flat_map-append, RelKind, PcrelHi20, PcrelLo12I, PcrelLo12S, Op, AsmKind, Then, Expression, ExpressionName as Name, Sum, Difference, Modifier, Whole, Hi, Lo, PcrelHi, PcrelLo, Immediate, Number, ImmediatePart as Part, Operand, OperandValue as Value, OperandMemory as Memory, Form, Address, Slot, Rd, Rs1, Rs2, Fields, Width, Byte, Half, WidthWord as Word, Quad, Content, Code, Mark, Block, Piece, Fix, TargetMade as Made, Field, Statement, Bytes, width_of, is_instruction, is_pcrel_lo12, is_pcrel_hi20, is_known_kind, with_value, marks_at, appended, empty, is_made, target_names, statement_names, is_bare, fix, within, entry, fitting, kind_of, plain, under, field, value, Row, row_of, mnemonics, mnemonic, unfilled, put, miscounted, filled, made_fix, block, instruction, layout_of, stored, datum, numbers, In, all-In, any-Has}
 use Rattle.cell_asm.specs.declared.kind.AsmKind.TheVariants as faults
 use Rattle.cell_asm.specs.declared.mnemonic.Slot.TheVariants as slots
-use Rattle.cell_asm.specs.Faults.{with_value}
-use Rattle.cell_asm.specs.Blocks.{marks_at, appended, empty}
-use Rattle.cell_asm.specs.Places.{is_made}
-use Rattle.cell_asm.specs.Objects.{target_names, statement_names}
-use Rattle.cell_asm.specs.Wanted.{register, is_bare, fix, within, entry, fitting, kind_of, plain, under, field, value, memory}
-use Rattle.cell_asm.specs.Mnemonics.{Row, row_of, mnemonics, mnemonic}
-use Rattle.cell_asm.specs.Instructions.{unfilled, put, miscounted, filled, made_fix, block, instruction}
-use Rattle.cell_asm.specs.Statements.{layout_of, stored, datum, numbers}
+use Rattle.cell_asm.specs.Wanted.{register, memory}
 use Rattle.cell_asm.specs.Statements as statements
-use Rattle.cell_num.proofs.Elements.{In, all-In, any-Has}
 use Rattle.cell_asm.proofs.ListLemmas.{itself, le_of}
 use Rattle.cell_asm.proofs.NamesFit.{Any, Yields, yields_value, yields_joined, yields_any, yields_weaker, yields_gathered, Finds, IsNamed, none_named, IsPart, part_in, expression_names, immediate_names, operand_names, all_names}
 use Rattle.cell_asm.proofs.GoodBlocks.{is_code, any_upper, lo12_code, hi20_code, IsGoodFix, AreStacking, InFours, IsWithin, AreWithin, IsSound, IsGoodStatement, IsGoodPiece, one_there, both_there, piece_sound, empty_sound}
@@ -317,11 +298,7 @@ mark_names at None = refl
 mark_names at (Some f) = append-nil (target_names f.target)
 
 piece_names : (b : Block) (p : Piece) → names_of (appended b p).marks ≡ names_of b.marks ++ (fix_names p.fix ++ fix_names p.second)
-piece_names b p =
-    let n : ℕ = length b.bytes in
-    flat_map-append (λ x. target_names x.fix.target) b.marks (marks_at n p.fix ++ marks_at n p.second)
-    ∙ ap (λ ns. names_of b.marks ++ ns)
-    (flat_map-append (λ x. target_names x.fix.target) (marks_at n p.fix) (marks_at n p.second) ∙ ap (λ ns. ns ++ names_of (marks_at n p.second)) (mark_names n p.fix) ∙ ap (λ ns. fix_names p.fix ++ ns) (mark_names n p.second))
+piece_names b p = simp (flat_map-append, mark_names)
 
 module _ (w : Width) where
   abbrev bytes : ℕ

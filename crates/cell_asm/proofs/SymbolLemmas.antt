@@ -1,23 +1,7 @@
 -- The symbols of an object, and their numbers.
 --     added            a map from keys, after one more key
 --     all_symbols      the symbols that are made are those of the lines
-use Rattle.std.proofs.Common.{◌≡◌, ℕ, ◌==◌, Bool, true, false, cond, List, Some, None, refl, ap, sym, ◌∙◌, arith, ◌||◌, not, [], ◌∷◌, ◌++◌, map, subst, ◌+◌, length, is_some, append_assoc}
-use Rattle.std.proofs.lemmas.Bool.Decides.{nat_tests}
-use Rattle.std.proofs.lemmas.List.{length_push, map-append}
-use Rattle.std.proofs.lemmas.List.Folds.{list_any-append}
-use Rattle.std.specs.BTreeMap.{get}
-use Rattle.std.specs.List.{list_any}
-use Rattle.std.specs.Option.{option_map_or}
-use Rattle.std.specs.Ordering.{nat_cmp, is_eq}
-use Rattle.std.specs.Prelude.{Option, option_map, if◌then◌else◌, filter, fold}
-use Rattle.cell_num.specs.Lists.{equals, or_else, where_true, holds_name}
-use Rattle.cell_asm.specs.Progress.{known, spot_at, Follows}
-use Rattle.cell_asm.specs.Numberings.{is_global_in, locals_in, number_of, has_key, keys_with, mentioned, home_in, symbol_in, other_in, local_in, Lists, Mentions}
-use Rattle.cell_asm.specs.Objects.{is_global, globals, local_labels, adds_name, other_names, mentions, home_at, label_named, number_in, number_from, symbol, global_symbol, local_symbol, symbols, symbol_keys, key_name}
-use Rattle.cell_asm.specs.Places.{is_key, labels, holds_key}
-use Rattle.cell_asm.specs.Types.{Key, KeyNamed as Named, KeyMade as Made, Numbering, Symbol, Local, Inside, Laid, Label, Spot, Progress, Symbols, Bind, BindGlobal as Global, NoType, Home}
-use Rattle.cell_num.proofs.Elements.{map_same, fold_same}
-use Rattle.cell_num.proofs.Sublists.{filter_same}
+use Rattle.cell_asm.proofs.Facts.{◌≡◌, ℕ, ◌==◌, Bool, true, false, cond, List, Some, None, refl, ap, sym, ◌∙◌, arith, ◌||◌, not, [], ◌∷◌, ◌++◌, map, subst, ◌+◌, length, is_some, append_assoc, nat_tests, length_push, map-append, list_any-append, get, list_any, option_map_or, nat_cmp, is_eq, Option, option_map, if◌then◌else◌, filter, fold, equals, or_else, where_true, holds_name, known, spot_at, Follows, is_global_in, locals_in, number_of, has_key, keys_with, mentioned, home_in, symbol_in, other_in, local_in, Lists, Mentions, is_global, globals, local_labels, adds_name, other_names, mentions, home_at, label_named, number_in, number_from, symbol, global_symbol, local_symbol, symbols, symbol_keys, key_name, is_key, labels, holds_key, Key, KeyNamed as Named, KeyMade as Made, Numbering, Symbol, Local, Inside, Laid, Label, Spot, Progress, Symbols, Bind, BindGlobal as Global, NoType, Home, map_same, fold_same, filter_same}
 use Rattle.cell_asm.proofs.ListLemmas.{number_more, numbered_if}
 
 pub or_none : {X : Type 0} (o : Option X) → or_else o None ≡ o
@@ -70,10 +54,7 @@ any_map p f (x ∷ xs) = ap (λ b. p (f x) || b) (any_map p f xs)
 
 key_there : (locals : List Label) (names : List (List ℕ)) (name : List ℕ)
     → has_key (map (λ l. l.key) locals ++ map (λ n. Named n) names) (Named name) ≡ (holds_key locals (Named name) || holds_name names name)
-key_there locals names name =
-    list_any-append (λ k. is_key k (Named name)) (map (λ l. l.key) locals) (map (λ n. Named n) names)
-    ∙ ap (λ b. b || list_any (λ k. is_key k (Named name)) (map (λ n. Named n) names)) (any_map (λ k. is_key k (Named name)) (λ l. l.key) locals)
-    ∙ ap (λ b. holds_key locals (Named name) || b) (any_map (λ k. is_key k (Named name)) (λ n. Named n) names)
+key_there locals names name = simp (list_any-append, any_map)
 
 by_test : {X : Type 0} (a b : Bool) (old new : X) → (if (a || b) then old else new) ≡ (if not a then (if b then old else new) else old)
 by_test true b old new = refl
@@ -90,10 +71,7 @@ fold_filter f p b (x ∷ xs) = filter_step f (λ c y. if p y then f c y else c) 
 
 module _ (kept : Progress) (lines : List Laid) (h : Follows kept lines) where
   mentioned_is : (names : List (List ℕ)) (name : List ℕ) → mentioned kept names name ≡ (if not (holds_key (local_labels lines) (Named name)) then adds_name names name else names)
-  mentioned_is names name =
-      ap (λ (ls : List Label). if has_key (map (λ l. l.key) ls ++ map (λ n. Named n) names) (Named name) then names else names ++ name ∷ []) (locals_are kept lines h)
-      ∙ ap (λ b. if b then names else names ++ name ∷ []) (key_there (local_labels lines) names name)
-      ∙ by_test (holds_key (local_labels lines) (Named name)) (holds_name names name) names (names ++ name ∷ [])
+  mentioned_is names name = rw (locals_are kept lines h, key_there (local_labels lines) names name) (by_test (holds_key (local_labels lines) (Named name)) (holds_name names name) names (names ++ name ∷ []))
 
   others_are : fold (mentioned kept) [] kept.mentions.items ≡ other_names lines
   others_are =
@@ -106,20 +84,12 @@ module _ (kept : Progress) (lines : List Laid) (h : Follows kept lines) where
   symbol_is key bind None = refl
   symbol_is key bind (Some l) = ap (λ ps. symbol key bind (Inside (number_in ps l.part)) l.offset) h.parts
 
-  other_is : (name : List ℕ) → other_in kept name ≡ global_symbol lines name
-  other_is name = ap (symbol_in kept (Named name) Global) (h.spots name) ∙ symbol_is (Named name) Global (label_named lines name)
-
   symbols_are : map (local_in kept) (local_labels lines) ++ map (other_in kept) (other_names lines) ≡ symbols lines
-  symbols_are =
-      ap (λ ss. ss ++ map (other_in kept) (other_names lines)) (map_same (local_in kept) (local_symbol lines) (local_labels lines) (λ l k. symbol_is l.key Local (Some l)))
-      ∙ ap (λ ss. map (local_symbol lines) (local_labels lines) ++ ss) (map_same (other_in kept) (global_symbol lines) (other_names lines) (λ name k. other_is name))
+  symbols_are = rw (map_same (local_in kept) (local_symbol lines) (local_labels lines) (λ l k. symbol_is l.key Local (Some l)), map_same (other_in kept) (global_symbol lines) (other_names lines) (λ name k. ap (symbol_in kept (Named name) Global) (h.spots name) ∙ symbol_is (Named name) Global (label_named lines name))) refl
 
   -- the symbols that are mentioned are those of the lines
   pub all_symbols : (s : Symbols) → Mentions s kept (fold (mentioned kept) [] kept.mentions.items) → Lists s (symbol_keys lines) (symbols lines)
-  all_symbols s m =
-      subst (λ ss. Lists s (symbol_keys lines) ss) symbols_are
-      (subst (λ (ls : List Label). Lists s (map (λ l. l.key) ls ++ map (λ name. Named name) (other_names lines)) (map (local_in kept) ls ++ map (other_in kept) (other_names lines))) (locals_are kept lines h)
-      (subst (λ ns. Mentions s kept ns) others_are m))
+  all_symbols s m = rw (others_are, locals_are kept lines h, symbols_are) at m
 
 -- The list of symbols, symbol by symbol.
 
@@ -132,11 +102,7 @@ pub lists_by : (old new : Symbols) (keys : List Key) (list : List Symbol) (kept 
     → n ≡ length old.list.items + 1 → ((q : Key) → number_of new.numbers q ≡ or_else (number_of old.numbers q) (where_true (is_key k q) n))
     → Lists new (keys ++ k ∷ []) (list ++ symbol_in kept k bind spot ∷ [])
 lists_by old new keys list kept k bind spot name home value n h items named homed valued number numbers = record {
-  list = items
-      ∙ ap (λ m. old.list.items ++ made m bind home value ∷ []) named
-      ∙ ap (λ o. old.list.items ++ made (key_name k) bind o value ∷ []) homed
-      ∙ ap (λ v. old.list.items ++ made (key_name k) bind (home_in kept.parts.items spot) v ∷ []) valued
-      ∙ ap (λ ss. ss ++ symbol_in kept k bind spot ∷ []) h.list;
+  list = cc;
   count = length_push keys k ∙ ap (λ n. n + 1) h.count ∙ sym (length_push list (symbol_in kept k bind spot));
   numbers = λ q.
       numbers q
@@ -163,10 +129,5 @@ pub mention_new : (old new : Symbols) (kept : Progress) (names : List (List ℕ)
     → Mentions new kept (mentioned kept names name)
 mention_new old new kept names name n spot e is at h more =
     let locals = locals_in kept kept.labels.items in
-    let before = map (local_in kept) locals ++ map (other_in kept) names in
     let found : has_key (keys_with kept names) (Named name) ≡ false = there old _ _ (Named name) h ∙ e in
-    subst (λ ns. Mentions new kept ns) (sym (ap (λ b. if b then names else names ++ name ∷ []) found))
-    (subst (λ ks. Lists new ks (map (local_in kept) locals ++ map (other_in kept) (names ++ name ∷ []))) (sym (push_map (map (λ l. l.key) locals) (λ m. Named m) names name))
-    (subst (λ ss. Lists new (keys_with kept names ++ Named name ∷ []) ss) (sym (push_map (map (local_in kept) locals) (other_in kept) names name))
-    (subst (λ o. Lists new (keys_with kept names ++ Named name ∷ []) (before ++ symbol_in kept (Named name) Global o ∷ [])) at
-    (subst (λ m. Lists new (keys_with kept names ++ Named m ∷ []) (before ++ symbol_in kept (Named m) Global spot ∷ [])) is more))))
+    rw (found, push_map (map (λ l. l.key) locals) (λ m. Named m) names name, push_map (map (local_in kept) locals) (other_in kept) names name, ← at, ← is) more

@@ -1,25 +1,11 @@
 -- No two labels have the same key.
 --     labels_once source lines      two labels of the lines with the same key are one
-use Rattle.std.proofs.Common.{◌≡◌, ℕ, ◌+◌, ◌≤◌, ◌==◌, Bool, true, false, cond, List, [], ◌∷◌, ◌++◌, ◌⊎◌, inl, inr, Ok, Some, None, refl, sym, ap, subst, ◌∙◌, zero-add, true≢false, arith, zero, suc, ◌-◌, ◌<◌, ◌||◌, not, map, length, slice_get}
-use Rattle.std.proofs.lemmas.Bool.{and_right}
-use Rattle.std.proofs.lemmas.Bool.Decides.{nat_tests}
-use Rattle.std.proofs.lemmas.List.{length-map}
-use Rattle.std.proofs.lemmas.Option.{slice_get_within}
-use Rattle.std.proofs.lemmas.Slice.Eq.{bytes_eq-Decides}
-use Rattle.std.specs.List.{list_any}
-use Rattle.std.specs.Option.{option_map_or, unwrap_or}
-use Rattle.std.specs.Prelude.{Option, if◌then◌else◌, is_some, filter, find, fold}
-use Rattle.std.specs.Str.{bytes_eq}
-use Rattle.cell_num.specs.Lists.{equals}
-use Rattle.cell_object.specs.Relocations.{is_unusable_symbol, is_unusable}
-use Rattle.cell_text.specs.Text.{lines_in}
-use Rattle.cell_asm.specs.Assembled.{placed_lines}
-use Rattle.cell_asm.specs.Objects.{part_number, is_global, globals, local_labels, mentions, adds_name, other_names, label_named, home_at, local_symbol, global_symbol, symbols, symbol_keys, number_from, symbol_number}
-use Rattle.cell_asm.specs.Places.{makes_label, made_in, placed, own_key, made_key, keys_of, label, labels_at, labels, is_twice, is_key, holds_key}
-use Rattle.cell_asm.specs.Types.{Part, Line, Laid, Label, Key, KeyNamed as Named, KeyMade as Made, Symbol, Inside}
+use Rattle.cell_asm.proofs.Facts.{◌≡◌, ℕ, ◌+◌, ◌≤◌, ◌==◌, Bool, true, false, List, [], ◌∷◌, ◌++◌, ◌⊎◌, inl, inr, Ok, Some, None, refl, sym, ap, subst, ◌∙◌, zero-add, true≢false, arith, zero, suc, ◌-◌, ◌||◌, not, map, length, slice_get, and_right, slice_get_within, bytes_eq-Decides, list_any, option_map_or, unwrap_or, Option, if◌then◌else◌, is_some, filter, find, fold, bytes_eq, equals, is_unusable_symbol, is_unusable, lines_in, placed_lines, part_number, is_global, globals, local_labels, mentions, adds_name, other_names, label_named, home_at, local_symbol, global_symbol, symbols, symbol_keys, number_from, symbol_number, makes_label, made_in, placed, own_key, keys_of, label, labels_at, labels, is_twice, is_key, holds_key, Part, Laid, Label, Key, KeyNamed as Named, KeyMade as Made, Symbol, Inside, In-one, In, In-map, any-In, In-left, In-right, In-filtered, filter-In, found-In, find_there, any-Has, map-In, none-In, ne_eqb, or_from, list_any-append, ◌<◌}
+use Rattle.cell_num.specs.Lists.{each_pair}
+use Rattle.cell_num.proofs.Elements.{pairs-In}
+use Rattle.cell_num.proofs.Sublists.{pairs-append}
 use Rattle.cell_asm.proofs.EntriesFit.{allowed}
-use Rattle.cell_num.proofs.Elements.{get-In, In, In-append, In-map, any-In, In-left, In-right, In-filtered, filter-In, found-In, find_there, any-Has, map-In}
-use Rattle.cell_asm.proofs.ListLemmas.{next_place, numbered_if, fold_there, same_of, IsSplit, get_split, get_map, get_mapped}
+use Rattle.cell_asm.proofs.ListLemmas.{next_place, numbered_if, fold_there, same_of, same_test, get_map, get_mapped}
 use Rattle.cell_asm.proofs.PlacingLemmas.{Goes, grows, made_more, labels_push}
 
 -- KEYS
@@ -34,9 +20,6 @@ same_name a b e = (bytes_eq-Decides a b).0 e
 pub name_itself : (a : List ℕ) → bytes_eq a a ≡ true
 name_itself a = (bytes_eq-Decides a a).1 refl
 
-number_itself : (n : ℕ) → (n == n) ≡ true
-number_itself n = grind (arith, nat_tests)
-
 pub same_key : (k q : Key) → is_key k q ≡ true → k ≡ q
 same_key (Named a) (Named b) e = ap Named (same_name a b e)
 same_key (Named a) (Made n) e = absurd cc
@@ -45,38 +28,7 @@ same_key (Made m) (Made n) e = ap Made (same_of m n e)
 
 pub key_itself : (k : Key) → is_key k k ≡ true
 key_itself (Named a) = name_itself a
-key_itself (Made n) = number_itself n
-
--- a key of a line: that of its own label, or of the one that is made
-pub record IsOwn (line : Line) (k : Key) : Type 0 where
-  pub name : List ℕ
-  pub labelled : line.label ≡ Some name
-  pub named : k ≡ Named name
-
-pub record IsMade (line : Line) (number : ℕ) (k : Key) : Type 0 where
-  pub makes : makes_label line.statement ≡ true
-  pub made : k ≡ Made number
-
-own_by : (o : Option (List ℕ)) (k : Key) → In k (own_key o) → (name : List ℕ) × (o ≡ Some name) × (k ≡ Named name)
-own_by None k h = absurd h
-own_by (Some name) k (inl e) = (name, refl, e)
-own_by (Some name) k (inr h) = absurd h
-
-made_by : (b : Bool) (n : ℕ) (k : Key) → In k (if b then Made n ∷ [] else []) → (b ≡ true) × (k ≡ Made n)
-made_by true n k (inl e) = (refl, e)
-made_by true n k (inr h) = absurd h
-made_by false n k h = absurd h
-
-pub key_of_line : (l : Laid) (k : Key) → In k (keys_of l) → IsOwn l.line k ⊎ IsMade l.line l.made k
-key_of_line l k h = go (In-append (own_key l.line.label) (made_key l.line.statement l.made) k h)
-  where
-    go : In k (own_key l.line.label) ⊎ In k (made_key l.line.statement l.made) → IsOwn l.line k ⊎ IsMade l.line l.made k
-    go (inl i) =
-        let r : (name : List ℕ) × (l.line.label ≡ Some name) × (k ≡ Named name) = own_by l.line.label k i in
-        inl (record { name = r.0; labelled = r.1; named = r.2 })
-    go (inr i) =
-        let r : (makes_label l.line.statement ≡ true) × (k ≡ Made l.made) = made_by (makes_label l.line.statement) l.made k i in
-        inr (record { makes = r.0; made = r.1 })
+key_itself (Made n) = same_test n n refl
 
 -- a label of a line is there where the line stands
 pub record IsAt (o : Option Part) (offset : ℕ) (keys : List Key) (a : Label) : Type 0 where
@@ -90,86 +42,63 @@ label_at (Some part) offset keys a h =
     let r : (k : Key) × In k keys × (a ≡ label part offset k) = In-map (label part offset) keys a h in
     record { chosen = ap Some (sym (ap (λ l. l.part) r.2)); placed_at = ap (λ l. l.offset) r.2; key_in = subst (λ k. In k keys) (sym (ap (λ l. l.key) r.2)) r.1 }
 
-same_part_of : (o : Option Part) (p q : Part) → o ≡ Some p → o ≡ Some q → p ≡ q
-same_part_of o p q e f = cc
-
-same_label : (a b : Label) → a.key ≡ b.key → a.part ≡ b.part → a.offset ≡ b.offset → a ≡ b
-same_label a b k p o = ap (λ x. label a.part a.offset x) k ∙ ap (λ x. label x a.offset b.key) p ∙ ap (λ x. label b.part x b.key) o
-
-one_place : (o : Option Part) (offset : ℕ) (keys : List Key) (a b : Label) → IsAt o offset keys a → IsAt o offset keys b → a.key ≡ b.key → a ≡ b
-one_place o offset keys a b h k e = same_label a b e (same_part_of o a.part b.part h.chosen k.chosen) (h.placed_at ∙ sym k.placed_at)
-
 -- LINE BY LINE
 
+abbrev keys_apart : Label → Label → Bool
+keys_apart a b = not (is_key a.key b.key)
+
+-- no two labels have one key, and those that are made have no numbers but those up to how many they are
 record AreOnce (lines : List Laid) : Type 0 where
-  once : (a b : Label) → In a (labels lines) → In b (labels lines) → a.key ≡ b.key → a ≡ b
-  made : (a : Label) → In a (labels lines) → (n : ℕ) → a.key ≡ Made n → n ≤ made_in lines
+  once : each_pair keys_apart (labels lines) ≡ true
+  made : (n : ℕ) → made_in lines < n → holds_key (labels lines) (Made n) ≡ false
 
-cases : (before : List Laid) (new : Laid) (a : Label) → In a (labels (before ++ new ∷ [])) → In a (labels before) ⊎ IsAt new.part new.offset (keys_of new) a
-cases before new a h = go (In-append (labels before) (labels_at new.part new.offset (keys_of new)) a (subst (λ ls. In a ls) (labels_push before new) h))
-  where
-    go : In a (labels before) ⊎ In a (labels_at new.part new.offset (keys_of new)) → In a (labels before) ⊎ IsAt new.part new.offset (keys_of new) a
-    go (inl i) = inl i
-    go (inr i) = inr (label_at new.part new.offset (keys_of new) a i)
+-- so it is of the labels of a line
+line_once : (o : Option Part) (offset n : ℕ) (own : Option (List ℕ)) (b : Bool) → each_pair keys_apart (labels_at o offset (own_key own ++ (if b then Made n ∷ [] else []))) ≡ true
+line_once None offset n own b = refl
+line_once (Some part) offset n None true = refl
+line_once (Some part) offset n None false = refl
+line_once (Some part) offset n (Some name) true = refl
+line_once (Some part) offset n (Some name) false = refl
 
-twice_named : (before : List Laid) (o : Option (List ℕ)) (name : List ℕ) (a : Label) → o ≡ Some name → is_twice before o ≡ false → In a (labels before) → a.key ≡ Named name → ⊥
-twice_named before o name a e f i k =
-    true≢false (sym (any-In (λ l. is_key l.key (Named name)) (labels before) a i (ap (λ q. is_key q (Named name)) k ∙ key_itself (Named name))) ∙ ap (is_twice before) (sym e) ∙ f)
+line_makes : (o : Option Part) (offset n m : ℕ) (own : Option (List ℕ)) (b : Bool) → (b ≡ true → (n == m) ≡ false) → holds_key (labels_at o offset (own_key own ++ (if b then Made n ∷ [] else []))) (Made m) ≡ false
+line_makes None offset n m own b h = refl
+line_makes (Some part) offset n m None true h = ap (λ c. c || false) (h refl)
+line_makes (Some part) offset n m None false h = refl
+line_makes (Some part) offset n m (Some name) true h = ap (λ c. c || false) (h refl)
+line_makes (Some part) offset n m (Some name) false h = refl
 
--- a new label is none of those before
-not_again : (before : List Laid) (new : Laid) (a b : Label) → AreOnce before → is_twice before new.line.label ≡ false → new.made ≡ made_in before + 1
-    → In a (labels before) → IsAt new.part new.offset (keys_of new) b → a.key ≡ b.key → ⊥
-not_again before new a b h twice number i k e = go (key_of_line new b.key k.key_in)
-  where
-    go : IsOwn new.line b.key ⊎ IsMade new.line new.made b.key → ⊥
-    go (inl own) = twice_named before new.line.label own.name a own.labelled twice i (e ∙ own.named)
-    go (inr m) = omega (arith, (h.made a i new.made (e ∙ m.made)), number)
-
-same_numbers : (m n : ℕ) (k : Key) → k ≡ Made m → k ≡ Made n → m ≡ n
-same_numbers m n k e f = cc
-
-pub not_both : (a : List ℕ) (n : ℕ) (k : Key) → k ≡ Named a → k ≡ Made n → ⊥
-not_both a n k e f = absurd cc
-
-grown_once : (before : List Laid) (new : Laid) → AreOnce before → is_twice before new.line.label ≡ false → new.made ≡ made_in before + 1
-    → (a b : Label) → In a (labels (before ++ new ∷ [])) → In b (labels (before ++ new ∷ [])) → a.key ≡ b.key → a ≡ b
-grown_once before new h twice number a b i j e = go (cases before new a i) (cases before new b j)
-  where
-    go : In a (labels before) ⊎ IsAt new.part new.offset (keys_of new) a → In b (labels before) ⊎ IsAt new.part new.offset (keys_of new) b → a ≡ b
-    go (inl p) (inl q) = h.once a b p q e
-    go (inl p) (inr q) = absurd (not_again before new a b h twice number p q e)
-    go (inr p) (inl q) = absurd (not_again before new b a h twice number q p (sym e))
-    go (inr p) (inr q) = one_place new.part new.offset (keys_of new) a b p q e
-
-grown_made : (before : List Laid) (new : Laid) → AreOnce before → new.made ≡ made_in before + 1 → (a : Label) → In a (labels (before ++ new ∷ [])) → (n : ℕ) → a.key ≡ Made n
-    → n ≤ made_in (before ++ new ∷ [])
-grown_made before new h number a i n e = subst (λ m. n ≤ m) (sym (made_more before new)) (go (cases before new a i))
-  where
-    more : (m k w : ℕ) → m ≤ k → m ≤ k + w
-    more m k w p = omega arith
-
-    next : (b : Bool) → b ≡ true → n ≡ made_in before + 1 → n ≤ made_in before + cond b 1 0
-    next true p q = omega arith
-    next false p q = absurd (true≢false (sym p))
-
-    own : IsOwn new.line a.key ⊎ IsMade new.line new.made a.key → n ≤ made_in before + cond (makes_label new.line.statement) 1 0
-    own (inl o) = absurd (not_both o.name n a.key o.named e)
-    own (inr m) = next (makes_label new.line.statement) m.makes (same_numbers n new.made a.key e m.made ∙ number)
-
-    go : In a (labels before) ⊎ IsAt new.part new.offset (keys_of new) a → n ≤ made_in before + cond (makes_label new.line.statement) 1 0
-    go (inl p) = more n (made_in before) (cond (makes_label new.line.statement) 1 0) (h.made a p n e)
-    go (inr p) = own (key_of_line new a.key p.key_in)
+-- the keys of a new line are none of those before
+fresh : (before : List Laid) (own : Option (List ℕ)) (b : Bool) (n : ℕ) → is_twice before own ≡ false → holds_key (labels before) (Made n) ≡ false → (k : Key) → In k (own_key own ++ (if b then Made n ∷ [] else []))
+    → holds_key (labels before) k ≡ false
+fresh before None true n twice next k i = ap (holds_key (labels before)) (In-one k (Made n) i) ∙ next
+fresh before None false n twice next k i = absurd i
+fresh before (Some name) b n twice next k (inl e) = ap (holds_key (labels before)) e ∙ twice
+fresh before (Some name) true n twice next k (inr i) = ap (holds_key (labels before)) (In-one k (Made n) i) ∙ next
+fresh before (Some name) false n twice next k (inr i) = absurd i
 
 goes : Goes AreOnce
 goes before n text line h e f =
+    let new : Laid = placed before n line in
+    let b : Bool = makes_label line.statement in
     let twice : is_twice before line.label ≡ false = (allowed before line f).new in
+    let next : holds_key (labels before) (Made new.made) ≡ false = h.made new.made (omega arith) in
     record {
-      once = grown_once before (placed before n line) h twice refl;
-      made = grown_made before (placed before n line) h refl;
+      once = ap (each_pair keys_apart) (labels_push before new)
+          ∙ pairs-append keys_apart (labels before) (labels_at new.part new.offset (keys_of new)) h.once (line_once new.part new.offset new.made line.label b)
+          (λ x y i j. ap not (none-In (λ l. is_key l.key y.key) (labels before) (fresh before line.label b new.made twice next y.key (label_at new.part new.offset (keys_of new) y j).key_in) x i));
+      made = λ m less.
+          rw (labels_push before new, list_any-append)
+          (or_from _ _ (h.made m (omega (arith, made_more before new, less)))
+          (line_makes new.part new.offset new.made m line.label b (λ t. ne_eqb new.made m (λ same. omega (arith, made_more before new ∙ ap (λ c. made_in before + (if c then 1 else 0)) t, less, same)))));
     }
 
 pub labels_once : (source : List ℕ) (lines : List Laid) → placed_lines source ≡ Ok lines → (a b : Label) → In a (labels lines) → In b (labels lines) → a.key ≡ b.key → a ≡ b
-labels_once source lines e = (grows AreOnce goes (lines_in source) lines (record { once = λ a b i. absurd i; made = λ a i. absurd i }) e).once
+labels_once source lines e a b i j same = go (pairs-In keys_apart (labels lines) (grows AreOnce goes (lines_in source) lines (record { once = refl; made = λ n less. refl }) e).once a b i j)
+  where
+    go : (a ≡ b) ⊎ ((keys_apart a b ≡ true) ⊎ (keys_apart b a ≡ true)) → a ≡ b
+    go (inl is) = is
+    go (inr (inl t)) = absurd (true≢false (sym t ∙ ap not (ap (λ k. is_key k b.key) same ∙ key_itself b.key)))
+    go (inr (inr t)) = absurd (true≢false (sym t ∙ ap not (ap (is_key b.key) same ∙ key_itself b.key)))
 
 -- The symbols at the numbers of keys.
 --     number_small, number_usable     an entry may name the symbol that a key has
@@ -178,15 +107,19 @@ labels_once source lines e = (grows AreOnce goes (lines_in source) lines (record
 
 -- THE SYMBOL AT A PLACE
 
-get_first : {X : Type 0} (xs ys : List X) (i : ℕ) (x : X) → slice_get xs i ≡ Some x → slice_get (xs ++ ys) i ≡ Some x
-get_first [] ys i x e = absurd cc
-get_first (y ∷ xs) ys zero x e = e
-get_first (y ∷ xs) ys (suc i) x e = get_first xs ys i x e
+-- an element at a place of two lists that are mapped, and what other maps make of the same
+module _ {A B X Y : Type 0} (f : A → X) (g : B → X) (h : A → Y) (k : B → Y) where
+  abbrev IsBoth : List A → List B → ℕ → X → Type 0
+  IsBoth xs ys i x = ((a : A) × In a xs × (x ≡ f a) × (slice_get (map h xs ++ map k ys) i ≡ Some (h a))) ⊎ ((b : B) × (x ≡ g b) × (slice_get (map h xs ++ map k ys) i ≡ Some (k b)))
 
-get_behind : {X : Type 0} (xs ys : List X) (i n : ℕ) → n ≡ length xs + i → slice_get (xs ++ ys) n ≡ slice_get ys i
-get_behind [] ys i n e = let same : n ≡ i = omega arith in ap (slice_get ys) same
-get_behind (x ∷ xs) ys i zero e = absurd (omega arith)
-get_behind (x ∷ xs) ys i (suc n) e = get_behind xs ys i n (omega arith)
+  next_both : (a : A) (xs : List A) (ys : List B) (i : ℕ) (x : X) → IsBoth xs ys i x → IsBoth (a ∷ xs) ys (suc i) x
+  next_both a xs ys i x (inl r) = inl (r.0, inr r.1, r.2, r.3)
+  next_both a xs ys i x (inr r) = inr r
+
+  get_both : (xs : List A) (ys : List B) (i : ℕ) (x : X) → slice_get (map f xs ++ map g ys) i ≡ Some x → IsBoth xs ys i x
+  get_both [] ys i x e = let r : (b : B) × (slice_get ys i ≡ Some b) × (x ≡ g b) = get_map g ys i x e in inr (r.0, r.2, get_mapped k ys i r.0 r.1)
+  get_both (a ∷ xs) ys zero x e = inl (a, inl refl, cc, refl)
+  get_both (a ∷ xs) ys (suc i) x e = next_both a xs ys i x (get_both xs ys i x e)
 
 -- the symbol at a place, of a label that no directive makes GLOBAL, or of another name
 record IsSymbolAt (lines : List Laid) (i : ℕ) (key : Key) : Type 0 where
@@ -196,27 +129,11 @@ record IsSymbolAt (lines : List Laid) (i : ℕ) (key : Key) : Type 0 where
   comes : ((l : Label) × In l (local_labels lines) × (key ≡ l.key) × (s ≡ local_symbol lines l)) ⊎ ((name : List ℕ) × (key ≡ Named name) × (s ≡ global_symbol lines name))
 
 symbol_at : (lines : List Laid) (i : ℕ) (x : Key) → slice_get (symbol_keys lines) i ≡ Some x → IsSymbolAt lines i x
-symbol_at lines i x e = go (get_split (map (λ (l : Label). l.key) (local_labels lines)) (map (λ n. Named n) (other_names lines)) i x e)
+symbol_at lines i x e = go (get_both (λ (l : Label). l.key) (λ n. Named n) (local_symbol lines) (global_symbol lines) (local_labels lines) (other_names lines) i x e)
   where
-    go : IsSplit (map (λ (l : Label). l.key) (local_labels lines)) (map (λ n. Named n) (other_names lines)) i x → IsSymbolAt lines i x
-    go (inl h) =
-        let r : (l : Label) × (slice_get (local_labels lines) i ≡ Some l) × (x ≡ l.key) = get_map (λ (l : Label). l.key) (local_labels lines) i x h in
-        record {
-          s = local_symbol lines r.0;
-          there = get_first (map (local_symbol lines) (local_labels lines)) (map (global_symbol lines) (other_names lines)) i (local_symbol lines r.0) (get_mapped (local_symbol lines) (local_labels lines) i r.0 r.1);
-          usable = refl;
-          comes = inl (r.0, get-In (local_labels lines) i r.0 r.1, r.2, refl);
-        }
-    go (inr h) =
-        let r : (name : List ℕ) × (slice_get (other_names lines) h.0 ≡ Some name) × (x ≡ Named name) = get_map (λ n. Named n) (other_names lines) h.0 x h.2 in
-        record {
-          s = global_symbol lines r.0;
-          there = get_behind (map (local_symbol lines) (local_labels lines)) (map (global_symbol lines) (other_names lines)) h.0 i
-              (h.1 ∙ ap (λ n. n + h.0) (length-map (local_labels lines) (λ (l : Label). l.key) ∙ sym (length-map (local_labels lines) (local_symbol lines))))
-              ∙ get_mapped (global_symbol lines) (other_names lines) h.0 r.0 r.1;
-          usable = refl;
-          comes = inr (r.0, r.2, refl);
-        }
+    go : IsBoth (λ (l : Label). l.key) (λ n. Named n) (local_symbol lines) (global_symbol lines) (local_labels lines) (other_names lines) i x → IsSymbolAt lines i x
+    go (inl r) = record { s = local_symbol lines r.0; there = r.3; usable = refl; comes = inl (r.0, r.1, r.2, refl) }
+    go (inr r) = record { s = global_symbol lines r.0; there = r.2; usable = refl; comes = inr (r.0, r.1, refl) }
 
 -- THE NUMBER OF A KEY
 
@@ -260,11 +177,8 @@ none_is (Some n) e = absurd (true≢false e)
 symbol_none : (lines : List Laid) (key : Key) → has_symbol lines key ≡ false → symbol_number lines key ≡ 0
 symbol_none lines key h = none_is (number_from 1 (symbol_keys lines) key) (numbered_if 1 (symbol_keys lines) key ∙ h)
 
-below_all : (i n : ℕ) → i < n → i + 1 ≤ n
-below_all i n h = omega (arith, h)
-
 small_by : (lines : List Laid) (key : Key) (b : Bool) → has_symbol lines key ≡ b → symbol_number lines key ≤ length (symbols lines)
-small_by lines key true h = let s = symbol_there lines key h in subst (λ n. n ≤ length (symbols lines)) (sym s.number) (below_all s.i (length (symbols lines)) (slice_get_within (symbols lines) s.i s.at.s s.at.there))
+small_by lines key true h = let s = symbol_there lines key h in subst (λ n. n ≤ length (symbols lines)) (sym s.number) (omega (arith, slice_get_within (symbols lines) s.i s.at.s s.at.there))
 small_by lines key false h = subst (λ n. n ≤ length (symbols lines)) (sym (symbol_none lines key h)) (omega arith)
 
 pub number_small : (lines : List Laid) (key : Key) → symbol_number lines key ≤ length (symbols lines)
@@ -276,9 +190,7 @@ one_less i = omega arith
 usable_by : (lines : List Laid) (key : Key) (b : Bool) → has_symbol lines key ≡ b → is_unusable (symbols lines) (symbol_number lines key) ≡ false
 usable_by lines key true h =
     let s = symbol_there lines key h in
-    ap (is_unusable (symbols lines)) s.number
-    ∙ and_right (not (s.i + 1 == 0)) (is_unusable_symbol (slice_get (symbols lines) ((s.i + 1) - 1)))
-    (ap (λ j. is_unusable_symbol (slice_get (symbols lines) j)) (one_less s.i) ∙ ap is_unusable_symbol s.at.there ∙ s.at.usable)
+    rw (s.number, one_less s.i, s.at.there) (and_right (not (s.i + 1 == 0)) (is_unusable_symbol (Some s.at.s)) s.at.usable)
 usable_by lines key false h = ap (is_unusable (symbols lines)) (symbol_none lines key h)
 
 pub number_usable : (lines : List Laid) (key : Key) → is_unusable (symbols lines) (symbol_number lines key) ≡ false

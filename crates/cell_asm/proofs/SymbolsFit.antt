@@ -1,37 +1,16 @@
--- Each line stands in a section that is chosen, and its bytes are within it.
-use Rattle.std.proofs.Common.{◌≡◌, ℕ, ◌+◌, ◌≤◌, List, [], ◌∷◌, ◌++◌, inl, inr, Ok, Some, None, refl, sym, subst, ◌∙◌, arith, true, Bool, false, ◌⊎◌, ap, suc, ◌^◌, ◌<◌, not, ◌&&◌, ◌||◌, map, length, take, slice_get, append-nil, true≢false}
-use Rattle.std.proofs.lemmas.Bool.{or_from}
+-- Each line stands in a section that is chosen.
+use Rattle.cell_asm.proofs.Facts.{◌≡◌, ℕ, ◌+◌, ◌≤◌, List, [], ◌∷◌, ◌++◌, inl, inr, Ok, Some, None, refl, sym, subst, ◌∙◌, arith, true, Bool, false, ◌⊎◌, ap, suc, ◌^◌, ◌<◌, not, ◌&&◌, ◌||◌, map, length, take, slice_get, append-nil, true≢false, or_from, length-map, take-map, filter_map-append, filter-append, list_any-append, slice_get_within, list_any, option_map_or, Option, filter, bytes_eq, IsWithin, IsWritableHome, IsWritableSymbol, last, equals, local_count, defines, IsPlain, lines_in, placed_lines, is_name, parts_of, key_name, label_names, mentions, statement_names, part_number, section_of, sections, globals, local_labels, other_names, label_named, home_at, local_symbol, global_symbol, symbols, object_of, is_same_part, is_at, is_in, choice, choices, size_in, placed, keys_of, labels_at, labels, holds_key, is_key, Part, Laid, Key, KeyNamed as Named, Label, Symbol, In, In-map, In-none, filter_all, filter_none, In-left, In-flat_map, In-filtered, filter-In, found-In, get-In, names_in, makes_label, own_key, KeyMade as Made, In-one, if◌then◌else◌}
 use Rattle.std.proofs.Math.Seq.{take-append-add}
-use Rattle.std.proofs.lemmas.List.{length-map, take-map}
-use Rattle.std.proofs.lemmas.List.Elements.{filter_map-append, filter-append}
-use Rattle.std.proofs.lemmas.List.Folds.{list_any-append}
-use Rattle.std.proofs.lemmas.Option.{slice_get_within}
-use Rattle.std.specs.List.{list_any}
-use Rattle.std.specs.Option.{option_map_or}
-use Rattle.std.specs.Prelude.{Option, filter}
-use Rattle.std.specs.Str.{bytes_eq}
-use Rattle.cell_image.proofs.Ruled.{IsWithin, IsWritableHome, IsWritableSymbol}
-use Rattle.cell_num.specs.Lists.{last, equals}
-use Rattle.cell_object.specs.Image.{local_count}
 use Rattle.cell_object.specs.Parts.{is_global, is_local}
-use Rattle.cell_object.specs.Symbols.{is_global_name, defines}
-use Rattle.cell_object.specs.Writable.{IsPlain}
 use Rattle.cell_object.specs.declared.object.Bind.TheVariants as binds
-use Rattle.cell_text.specs.Text.{lines_in}
-use Rattle.cell_asm.specs.Assembled.{placed_lines}
-use Rattle.cell_asm.specs.Names.{is_name}
-use Rattle.cell_asm.specs.Objects.{parts_of, key_name, label_names, mentions, statement_names, part_number, number_in, section_of, sections, globals, local_labels, other_names, label_named, home_at, local_symbol, global_symbol, symbols, object_of}
 use Rattle.cell_asm.specs.Objects as objects
-use Rattle.cell_asm.specs.Places.{is_same_part, is_at, is_in, choice, choices, taken, size_in, placed, keys_of, labels_at, labels, holds_key, is_key}
-use Rattle.cell_asm.specs.Types.{Part, Laid, Key, KeyNamed as Named, Label, Symbol}
-use Rattle.cell_asm.proofs.EntriesFit.{section_small, stacked, stack_inside}
-use Rattle.cell_num.proofs.Elements.{In, In-left, In-flat_map, In-filtered, filter-In, found-In, get-In}
-use Rattle.cell_asm.proofs.ListLemmas.{fold_there, get_split, get_map, get_mapped, AreApart, fold_apart, fold_In, before_fails}
+use Rattle.cell_asm.proofs.EntriesFit.{section_small, stacked}
+use Rattle.cell_asm.proofs.ListLemmas.{fold_there, get_split, get_map, get_mapped, fold_apart, fold_In, before_fails}
 use Rattle.cell_asm.proofs.NamesFit.{key_fits, AreNames, IsGoodName, name_fits}
 use Rattle.cell_asm.proofs.ObjectLemmas.{part_itself, same_part}
 use Rattle.cell_asm.proofs.PlacingLemmas.{Goes, grows, pushed, each_line}
-use Rattle.cell_asm.proofs.ReadLines.{line_names, read_line}
-use Rattle.cell_asm.proofs.SymbolPlaces.{names_apart, IsOwn, IsMade, key_of_line, IsAt, label_at, not_both}
+use Rattle.cell_asm.proofs.ReadLines.{read_line}
+use Rattle.cell_asm.proofs.SymbolPlaces.{names_apart, IsAt, label_at}
 use Rattle.cell_asm.proofs.WritableEntries.{part_numbered}
 
 abbrev AllChosen : List Laid → Type 0
@@ -53,32 +32,18 @@ goes before n text line h e f =
     pushed (λ l. (part : Part) → l.part ≡ Some part → In part (choices (before ++ new ∷ []))) before new
     (λ l i part at. still_chosen before new part (h l i part at)) (λ part at. still_chosen before new part (last_In (choices before) part at))
 
-all_chosen : (source : List ℕ) (lines : List Laid) → placed_lines source ≡ Ok lines → AllChosen lines
-all_chosen source lines e = grows AllChosen goes (lines_in source) lines (λ l k. absurd k) e
-
--- the bytes of a line are within its section
-line_inside : (source : List ℕ) (lines : List Laid) (l : Laid) (part : Part) → placed_lines source ≡ Ok lines → In l lines → l.part ≡ Some part → l.offset + taken l.line.statement l.offset ≤ size_in part lines
-line_inside source lines l part e k at =
-    omega (arith, stack_inside 0 (filter (is_in part) lines) (stacked source lines part e) l (filter-In (is_in part) lines l k (ap (is_at part) at ∙ part_itself part)))
-
--- The sections that a source chooses.
---     part_there lines part    a section that a line chooses stands among them
-
-pub part_there : (lines : List Laid) (part : Part) → In part (choices lines) → list_any (is_same_part part) (parts_of lines) ≡ true
-part_there lines part k = fold_there is_same_part part_itself [] (choices lines) part k
-
 -- The names that lines mention, and the labels that they define.
 --     all_named source lines        each mentioned name is a name
 --     labels_fit source lines       each label stands in a section that is chosen, within it, and has a fit name
 
 -- MENTIONS
 
-lines_named : (source : List ℕ) (lines : List Laid) → placed_lines source ≡ Ok lines → (l : Laid) → In l lines → AreNames (line_names l.line)
-lines_named = each_line (λ l. AreNames (line_names l.line)) (λ before n text line e f. (read_line text line e).names.named)
+lines_named : (source : List ℕ) (lines : List Laid) → placed_lines source ≡ Ok lines → (l : Laid) → In l lines → AreNames (names_in l.line)
+lines_named = each_line (λ l. AreNames (names_in l.line)) (λ before n text line e f. (read_line text line e).names.named)
 
 pub all_named : (source : List ℕ) (lines : List Laid) → placed_lines source ≡ Ok lines → AreNames (mentions lines)
 all_named source lines e n k =
-    let r : (l : Laid) × In l lines × In n (line_names l.line) = In-flat_map (λ l. line_names l.line) lines n k in
+    let r : (l : Laid) × In l lines × In n (names_in l.line) = In-flat_map (λ l. names_in l.line) lines n k in
     lines_named source lines e r.0 r.1 n r.2
 
 -- LABELS
@@ -89,25 +54,23 @@ pub record IsFitLabel (lines : List Laid) (l : Label) : Type 0 where
   pub name : IsPlain (key_name l.key)
 
 -- the name of a key is the label of its line
-named_once : (a b : List ℕ) (k : Key) → k ≡ Named a → k ≡ Named b → a ≡ b
-named_once a b k e f = cc
-
-key_named : (l : Laid) (key : Key) (name : List ℕ) → In key (keys_of l) → key ≡ Named name → In name (line_names l.line)
-key_named l key name k e = go (key_of_line l key k)
+key_named : (l : Laid) (key : Key) (name : List ℕ) → In key (keys_of l) → key ≡ Named name → In name (names_in l.line)
+key_named l key name k e = In-left (label_names l.line.label) (statement_names l.line.statement) name (go l.line.label (makes_label l.line.statement) k)
   where
-    go : IsOwn l.line key ⊎ IsMade l.line l.made key → In name (line_names l.line)
-    go (inl own) =
-        let same : name ≡ own.name = named_once name own.name key e own.named in
-        In-left (label_names l.line.label) (statement_names l.line.statement) name (subst (λ o. In name (label_names o)) (sym own.labelled) (inl same))
-    go (inr made) = absurd (not_both name l.made key e made.made)
+    made_named : key ≡ Made l.made → ⊥
+    made_named is = absurd cc
 
-within : (a b t n : ℕ) → a ≡ b → b + t ≤ n → a ≤ n
-within a b t n e h = omega (arith, e, h)
+    go : (o : Option (List ℕ)) (b : Bool) → In key (own_key o ++ (if b then Made l.made ∷ [] else [])) → In name (label_names o)
+    go None true i = made_named (In-one key (Made l.made) i)
+    go None false i = i
+    go (Some own) b (inl is) = inl cc
+    go (Some own) true (inr i) = absurd (made_named (In-one key (Made l.made) i))
+    go (Some own) false (inr i) = absurd i
 
 label_fits : (source : List ℕ) (lines : List Laid) (l : Laid) (m : Label) → placed_lines source ≡ Ok lines → In l lines → l.part ≡ Some m.part → m.offset ≡ l.offset → In m.key (keys_of l) → IsFitLabel lines m
 label_fits source lines l m e k part offset key = record {
-  chosen = part_there lines m.part (all_chosen source lines e l k m.part part);
-  inside = within m.offset l.offset (taken l.line.statement l.offset) (size_in m.part lines) offset (line_inside source lines l m.part e k part);
+  chosen = fold_there is_same_part part_itself [] (choices lines) m.part (grows AllChosen goes (lines_in source) lines (λ x i. absurd i) e l k m.part part);
+  inside = omega (arith, offset, (stacked source lines m.part e).inside l (filter-In (is_in m.part) lines l k (ap (is_at m.part) part ∙ part_itself m.part)));
   name = key_fits m.key (λ name is. lines_named source lines e l k name (key_named l m.key name key is));
 }
 
@@ -123,21 +86,11 @@ labels_fit source lines e m k =
 
 -- HOW MANY ARE LOCAL
 
-locals_pass : (lines : List Laid) (ls : List Label) → filter (λ s. is_local s.bind) (map (local_symbol lines) ls) ≡ map (local_symbol lines) ls
-locals_pass lines [] = refl
-locals_pass lines (l ∷ ls) = ap (λ ss. local_symbol lines l ∷ ss) (locals_pass lines ls)
-
-globals_fail : (lines : List Laid) (names : List (List ℕ)) → filter (λ s. is_local s.bind) (map (global_symbol lines) names) ≡ []
-globals_fail lines [] = refl
-globals_fail lines (name ∷ names) = globals_fail lines names
-
 pub locals_count : (lines : List Laid) → local_count (object_of lines) ≡ length (local_labels lines)
 locals_count lines =
-    ap length (filter-append (λ s. is_local s.bind) (map (local_symbol lines) (local_labels lines)) (map (global_symbol lines) (other_names lines))
-    ∙ ap (λ ss. ss ++ filter (λ s. is_local s.bind) (map (global_symbol lines) (other_names lines))) (locals_pass lines (local_labels lines))
-    ∙ ap (λ ss. map (local_symbol lines) (local_labels lines) ++ ss) (globals_fail lines (other_names lines))
-    ∙ append-nil (map (local_symbol lines) (local_labels lines)))
-    ∙ length-map (local_labels lines) (local_symbol lines)
+    let own = filter_all (λ s. is_local s.bind) (map (local_symbol lines) (local_labels lines)) (λ s k. ap (λ t. is_local t.bind) (In-map (local_symbol lines) (local_labels lines) s k).2) in
+    let none = filter_none (λ s. is_local s.bind) (map (global_symbol lines) (other_names lines)) (λ s k. ap (λ t. is_local t.bind) (In-map (global_symbol lines) (other_names lines) s k).2) in
+    simp (filter-append, own, none, append-nil, length-map)
 
 -- WHERE A SYMBOL IS
 
@@ -171,16 +124,13 @@ none_64 = omega arith
 
 -- LOCAL SYMBOLS
 
-not_last : {P : Type 0} (k n m : ℕ) → k < n → m ≡ n → m ≤ k → P
-not_last k n m h e l = absurd (omega (arith, h, e, l))
-
 local_fits : (source : List ℕ) (lines : List Laid) (k : ℕ) (l : Label) → placed_lines source ≡ Ok lines → slice_get (local_labels lines) k ≡ Some l → IsWritableSymbol (object_of lines) k (local_symbol lines l)
 local_fits source lines k l e h =
     let fit : IsFitLabel lines l = labels_fit source lines e l (In-filtered (λ m. not (objects.is_global (globals lines) m.key)) (labels lines) l (get-In (local_labels lines) k l h)) in
     record {
       name = fit.name;
       first = λ less. refl;
-      last = λ more. not_last k (length (local_labels lines)) (local_count (object_of lines)) (slice_get_within (local_labels lines) k l h) (locals_count lines) more;
+      last = λ more. absurd (omega (arith, slice_get_within (local_labels lines) k l h, locals_count lines, more));
       sort = refl;
       filed = λ is. absurd (true≢false (sym is));
       home = label_within lines l.part l.offset fit.chosen fit.inside;
@@ -190,9 +140,6 @@ local_fits source lines k l e h =
     }
 
 -- GLOBAL SYMBOLS
-
-others_apart : (lines : List Laid) → AreApart names_apart (other_names lines)
-others_apart lines = fold_apart names_apart [] (filter (λ name. not (holds_key (local_labels lines) (Named name))) (mentions lines)) tt
 
 pub others_named : (source : List ℕ) (lines : List Laid) → placed_lines source ≡ Ok lines → AreNames (other_names lines)
 others_named source lines e name k = go (fold_In names_apart [] (filter (λ n. not (holds_key (local_labels lines) (Named n))) (mentions lines)) name k)
@@ -205,32 +152,15 @@ others_named source lines e name k = go (fold_In names_apart [] (filter (λ n. n
 abbrev is_defined_as : List ℕ → Symbol → Bool
 is_defined_as name s = is_global s.bind && bytes_eq s.name name
 
-locals_define : (lines : List Laid) (ls : List Label) (name : List ℕ) → list_any (is_defined_as name) (map (local_symbol lines) ls) ≡ false
-locals_define lines [] name = refl
-locals_define lines (l ∷ ls) name = locals_define lines ls name
-
 globals_define : (lines : List Laid) (names : List (List ℕ)) (name : List ℕ) → ((n : List ℕ) → In n names → equals n name ≡ false) → list_any (is_defined_as name) (map (global_symbol lines) names) ≡ false
 globals_define lines [] name h = refl
 globals_define lines (n ∷ names) name h = or_from (equals n name) (list_any (is_defined_as name) (map (global_symbol lines) names)) (h n (inl refl)) (globals_define lines names name (λ m k. h m (inr k)))
 
-symbols_before : (lines : List Laid) (k j : ℕ) → k ≡ length (map (local_symbol lines) (local_labels lines)) + j
-    → take k (symbols lines) ≡ map (local_symbol lines) (local_labels lines) ++ map (global_symbol lines) (take j (other_names lines))
-symbols_before lines k j e =
-    ap (λ n. take n (symbols lines)) e
-    ∙ take-append-add (map (local_symbol lines) (local_labels lines)) (map (global_symbol lines) (other_names lines)) j
-    ∙ ap (λ ss. map (local_symbol lines) (local_labels lines) ++ ss) (take-map (global_symbol lines) j (other_names lines))
-
 not_defined : (lines : List Laid) (k j : ℕ) (name : List ℕ) → k ≡ length (map (local_symbol lines) (local_labels lines)) + j → slice_get (other_names lines) j ≡ Some name
     → defines (take k (symbols lines)) name ≡ false
 not_defined lines k j name e h =
-    ap (list_any (is_defined_as name)) (symbols_before lines k j e)
-    ∙ list_any-append (is_defined_as name) (map (local_symbol lines) (local_labels lines)) (map (global_symbol lines) (take j (other_names lines)))
-    ∙ or_from (list_any (is_defined_as name) (map (local_symbol lines) (local_labels lines))) (list_any (is_defined_as name) (map (global_symbol lines) (take j (other_names lines))))
-    (locals_define lines (local_labels lines) name)
-    (globals_define lines (take j (other_names lines)) name (λ n i. before_fails names_apart (other_names lines) j name n (others_apart lines) h i))
-
-good_and_new : (good taken : Bool) → good ≡ true → taken ≡ false → (true && (not good || taken)) ≡ false
-good_and_new good taken e f = rw (e, f) refl
+    rw (e, take-append-add, take-map, list_any-append)
+    (or_from _ _ (In-none (is_defined_as name) (map (local_symbol lines) (local_labels lines)) (λ s i. ap (is_defined_as name) (In-map (local_symbol lines) (local_labels lines) s i).2)) (globals_define lines (take j (other_names lines)) name (λ n i. before_fails names_apart (other_names lines) j name n (fold_apart names_apart [] (filter (λ m. not (holds_key (local_labels lines) (Named m))) (mentions lines)) tt) h i)))
 
 home_by : (source : List ℕ) (lines : List Laid) (o : Option Label) → placed_lines source ≡ Ok lines → ((l : Label) → o ≡ Some l → In l (labels lines))
     → IsWritableHome (sections lines) binds.Global (option_map_or (λ l. l.offset) o 0) (home_at lines o)
@@ -243,9 +173,6 @@ value_by : (source : List ℕ) (lines : List Laid) (o : Option Label) → placed
 value_by source lines None e h = none_64
 value_by source lines (Some l) e h = offset_fits source lines l e (labels_fit source lines e l (h l refl))
 
-not_first : {P : Type 0} (k j n m p : ℕ) → k ≡ n + j → n ≡ p → m ≡ p → k < m → P
-not_first k j n m p e f g l = absurd (omega (arith, e, f, g, l))
-
 global_fits : (source : List ℕ) (lines : List Laid) (k j : ℕ) (name : List ℕ) → placed_lines source ≡ Ok lines → k ≡ length (map (local_symbol lines) (local_labels lines)) + j
     → slice_get (other_names lines) j ≡ Some name → IsWritableSymbol (object_of lines) k (global_symbol lines name)
 global_fits source lines k j name e place h =
@@ -253,13 +180,12 @@ global_fits source lines k j name e place h =
     let known : (l : Label) → label_named lines name ≡ Some l → In l (labels lines) = λ l is. (found-In (λ m. is_key m.key (Named name)) (labels lines) l is).0 in
     record {
       name = good.plain;
-      first = λ less.
-          not_first k j (length (map (local_symbol lines) (local_labels lines))) (local_count (object_of lines)) (length (local_labels lines)) place (length-map (local_labels lines) (local_symbol lines)) (locals_count lines) less;
+      first = λ less. absurd (omega (arith, place, length-map (local_labels lines) (local_symbol lines), locals_count lines, less));
       last = λ more. refl;
       sort = refl;
       filed = λ is. absurd (true≢false (sym is));
       home = home_by source lines (label_named lines name) e known;
-      named = good_and_new (is_global_name name) (defines (take k (symbols lines)) name) good.good (not_defined lines k j name place h);
+      named = rw (good.good, not_defined lines k j name place h) refl;
       value = value_by source lines (label_named lines name) e known;
       size = none_64;
     }

@@ -2,31 +2,13 @@
 --     part_numbered        the n-th section that is chosen has the number n + 1
 --     entries_of_part      its entries are those with its number
 --     entries_grouped      all entries are those of the first section, of the second, and so on
-use Rattle.std.proofs.Common.{◌≡◌, ℕ, zero, suc, ◌+◌, ◌<◌, ◌==◌, Bool, true, false, ◌||◌, not, cond, List, [], ◌∷◌, ◌++◌, inl, map, length, slice_get, Ok, Some, None, refl, sym, ap, ◌∙◌, append-nil, one-add, true≢false, arith, ◌-◌, pos, ◌&&◌, subst, int_eq, ◌%◌, ◌^◌, ◌≤◌, take}
-use Rattle.std.proofs.lemmas.Bool.{and_parts, and_from}
-use Rattle.std.proofs.Math.Bool.{and-false}
-use Rattle.std.proofs.lemmas.Bool.Decides.{nat_tests}
-use Rattle.std.proofs.lemmas.List.Elements.{filter-append}
-use Rattle.std.proofs.lemmas.Option.{slice_get_within}
-use Rattle.std.specs.Int.{w64}
-use Rattle.std.specs.List.{list_any, position_or_len}
-use Rattle.std.specs.Option.{option_map_or}
-use Rattle.std.specs.Prelude.{nat_lt, filter, flat_map, Option, if◌then◌else◌, find, FitsSigned}
-use Rattle.cell_image.proofs.Ruled.{IsStorable, IsWritableEntry}
-use Rattle.cell_num.specs.Kinds.{is_instruction, is_pcrel_lo12, is_pcrel_hi20}
-use Rattle.cell_num.specs.Lists.{numbered_from}
+use Rattle.cell_asm.proofs.Facts.{◌≡◌, ℕ, zero, suc, ◌+◌, ◌<◌, ◌==◌, Bool, true, false, ◌||◌, not, cond, List, [], ◌∷◌, ◌++◌, inl, map, length, slice_get, Ok, Some, None, refl, sym, ap, ◌∙◌, append-nil, one-add, true≢false, arith, pos, ◌&&◌, subst, int_eq, ◌%◌, ◌^◌, ◌≤◌, take, and_parts, and_from, not-false, lt-ltb, ne_eqb, and-false, nat_tests, filter-append, slice_get_within, list_any, position_or_len, option_map_or, filter, flat_map, Option, find, IsStorable, IsWritableEntry, is_instruction, is_pcrel_lo12, is_pcrel_hi20, numbered_from, is_unpaired, is_unusable, placed_lines, has_upper, is_upper_label, is_lost, is_lost_mark, has_lost, parts_of, part_number, section_of, sections, entries_in, entries, label_named, entries_of, target_names, statement_names, label_names, mentions, symbols, symbol_number, target_key, entry_of, fill_of, is_text, object_of, marks_in, is_same_part, is_in, choices, may_stand, is_made, own_key, made_key, keys_of, label, labels_at, labels, is_key, Entry, Part, Laid, Inside, Text, Target, Mark, Statement, Bytes, Label, Key, KeyNamed as Named, KeyMade as Made, Section, Zero, Bss, In, map-In, In-right, filter-In, flat_map-In, unfound-In, found-In, any-Has, any-In, none-In, In-flat_map, get-In, filter_all, filter_none, In-none, is_clash}
 use Rattle.cell_object.specs.ImageParts.{entries_for}
-use Rattle.cell_object.specs.Relocations.{is_label, is_label_symbol, has_label, is_unpaired, is_unusable}
-use Rattle.cell_object.specs.Sound.{is_known_kind}
-use Rattle.cell_asm.specs.Assembled.{placed_lines, has_upper, is_upper_label, is_lost, is_lost_mark, has_lost}
-use Rattle.cell_asm.specs.Objects.{parts_of, part_number, section_of, sections, entries_in, entries, label_named, entries_of, target_names, statement_names, label_names, mentions, symbols, symbol_number, target_key, entry_of, fill_of, is_text, object_of}
-use Rattle.cell_asm.specs.Places.{marks_in, is_same_part, is_in, choices, may_stand, is_made, makes_label, own_key, made_key, keys_of, label, labels_at, labels, is_key}
-use Rattle.cell_asm.specs.Types.{Entry, Part, Laid, Inside, Text, Target, Mark, Statement, Bytes, Label, Key, KeyNamed as Named, KeyMade as Made, Section, Zero, Bss}
+use Rattle.cell_object.specs.Relocations.{has_label}
 use Rattle.cell_asm.specs.declared.statement.Target.TheVariants as targets
-use Rattle.cell_asm.proofs.EntriesFit.{entry_origin, IsStanding, all_stand, at_part, Origin, in_fours, line_room, largest_most, entry_high, entries_apart, apart_take}
+use Rattle.cell_asm.proofs.EntriesFit.{entry_origin, IsStanding, all_stand, at_part, Origin, in_fours, line_room, largest_most, entry_high, entries_apart}
 use Rattle.cell_asm.proofs.GoodBlocks.{is_code, lo12_code, any_upper, IsGoodStatement, content_of, statement_taken, IsTaken}
-use Rattle.cell_num.proofs.Elements.{In, map-In, In-right, filter-In, flat_map-In, unfound-In, found-In, any-Has, any-In, none-In, In-flat_map, get-In, filter_all, filter_none}
-use Rattle.cell_asm.proofs.ListLemmas.{AreApart, fold_apart, get_map, not_false, same_of, same_test}
+use Rattle.cell_asm.proofs.ListLemmas.{AreApart, fold_apart, get_map, same_of, same_test, before_fails}
 use Rattle.cell_asm.proofs.ObjectLemmas.{same_part, part_itself}
 use Rattle.cell_asm.proofs.SymbolPlaces.{same_key, labels_once, has_symbol, mentioned_there, made_there, one_less, label_symbol, number_small, number_usable}
 
@@ -39,37 +21,14 @@ same_some a b e = cc
 place_is : (parts : List Part) (n : ℕ) (q : Part) → AreApart is_same_part parts → slice_get parts n ≡ Some q → position_or_len (is_same_part q) parts ≡ n
 place_is [] n q d e = absurd cc
 place_is (p ∷ parts) zero q d e = ap (λ b. cond (not b) (1 + position_or_len (is_same_part q) parts) 0) (ap (is_same_part q) (same_some p q e) ∙ part_itself q)
-place_is (p ∷ parts) (suc n) q d e =
-    ap (λ b. cond (not b) (1 + position_or_len (is_same_part q) parts) 0) (d.0 q (get-In parts n q e))
-    ∙ one-add (position_or_len (is_same_part q) parts)
-    ∙ ap suc (place_is parts n q d.1 e)
-
-below_test : (m n : ℕ) → m < n → nat_lt m n ≡ true
-below_test m n h = grind (arith, nat_tests)
-
-number_by : (parts : List Part) (n m : ℕ) (q : Part) → m ≡ n → n < length parts → option_map_or (λ i. i + 1) (cond (nat_lt m (length parts)) (Some m) None) 0 ≡ n + 1
-number_by parts n m q e h =
-    ap (λ k. option_map_or (λ i. i + 1) (cond (nat_lt k (length parts)) (Some k) None) 0) e
-    ∙ ap (λ b. option_map_or (λ i. i + 1) (cond b (Some n) None) 0) (below_test n (length parts) h)
+place_is (p ∷ parts) (suc n) q d e = rw (d.0 q (get-In parts n q e), one-add) (ap suc (place_is parts n q d.1 e))
 
 pub part_numbered : (lines : List Laid) (n : ℕ) (part : Part) → slice_get (parts_of lines) n ≡ Some part → part_number lines part ≡ n + 1
 part_numbered lines n part e =
     let parts = parts_of lines in
-    number_by parts n (position_or_len (is_same_part part) parts) part (place_is parts n part (fold_apart is_same_part [] (choices lines) tt) e) (slice_get_within parts n part e)
+    rw (place_is parts n part (fold_apart is_same_part [] (choices lines) tt) e, lt-ltb n (length parts) (slice_get_within parts n part e)) refl
 
 -- THE ENTRIES WITH A NUMBER
-
-other_number : (m n k : ℕ) → m ≡ k → n < k → (m == n) ≡ false
-other_number m n k h l = grind (arith, nat_tests)
-
-smaller_number : (m n k : ℕ) → m ≡ k → k < n → (m == n) ≡ false
-smaller_number m n k h l = grind (arith, nat_tests)
-
-after_none : (test : Entry → Bool) (es fs gs : List Entry) → filter test es ≡ [] → filter test fs ≡ gs → filter test (es ++ fs) ≡ gs
-after_none test es fs gs e f = filter-append test es fs ∙ ap (λ xs. xs ++ filter test fs) e ∙ f
-
-all_first : (test : Entry → Bool) (es fs : List Entry) → filter test es ≡ es → filter test fs ≡ [] → filter test (es ++ fs) ≡ es
-all_first test es fs e f = filter-append test es fs ∙ ap (λ xs. xs ++ filter test fs) e ∙ ap (λ xs. es ++ xs) f ∙ append-nil es
 
 same_plus : (k : ℕ) → k ≡ k + 0
 same_plus k = omega arith
@@ -90,22 +49,15 @@ module _ {A : Type 0} (g : A → List Entry) (number : A → ℕ) (own : (a : A)
   none_below : (xs : List A) (k m : ℕ) → Rises k xs → m < k → filter (λ e. e.section == m) (flat_map g xs) ≡ []
   none_below [] k m r l = refl
   none_below (a ∷ xs) k m r l =
-      filter-append (λ e. e.section == m) (g a) (flat_map g xs)
-      ∙ ap (λ es. es ++ filter (λ e. e.section == m) (flat_map g xs)) (filter_none (λ e. e.section == m) (g a) (λ e i. other_number e.section m k (own a e i ∙ r.0) l))
-      ∙ none_below xs (suc k) m r.1 (omega (arith, l))
+      rw (filter-append, filter_none (λ e. e.section == m) (g a) (λ e i. ne_eqb e.section m (λ same. omega (arith, own a e i ∙ r.0, same, l)))) (none_below xs (suc k) m r.1 (omega (arith, l)))
 
   -- the entries with the n-th number are those of the n-th
   with_number : (xs : List A) (k n : ℕ) (a : A) → Rises k xs → slice_get xs n ≡ Some a → filter (λ e. e.section == k + n) (flat_map g xs) ≡ g a
   with_number [] k n a r h = absurd cc
   with_number (b ∷ xs) k zero a r h =
-      all_first (λ e. e.section == k + 0) (g b) (flat_map g xs)
-      (filter_all (λ e. e.section == k + 0) (g b) (λ e i. same_test e.section (k + 0) (own b e i ∙ r.0 ∙ same_plus k)))
-      (none_below xs (suc k) (k + 0) r.1 (omega arith))
-      ∙ ap g (same_some b a h)
+      rw (filter-append, filter_all (λ e. e.section == k + 0) (g b) (λ e i. same_test e.section (k + 0) (own b e i ∙ r.0 ∙ same_plus k)), none_below xs (suc k) (k + 0) r.1 (omega arith), append-nil) (ap g (same_some b a h))
   with_number (b ∷ xs) k (suc n) a r h =
-      after_none (λ e. e.section == k + suc n) (g b) (flat_map g xs) (g a)
-      (filter_none (λ e. e.section == k + suc n) (g b) (λ e i. smaller_number e.section (k + suc n) k (own b e i ∙ r.0) (omega arith)))
-      (ap (λ m. filter (λ e. e.section == m) (flat_map g xs)) (moved k n) ∙ with_number xs (suc k) n a r.1 h)
+      rw (filter-append, filter_none (λ e. e.section == k + suc n) (g b) (λ e i. ne_eqb e.section (k + suc n) (λ same. omega (arith, own b e i ∙ r.0, same))), moved k n) (with_number xs (suc k) n a r.1 h)
 
   rises : (xs : List A) (k : ℕ) → ((n : ℕ) (a : A) → slice_get xs n ≡ Some a → number a ≡ k + n) → Rises k xs
   rises [] k h = tt
@@ -114,22 +66,18 @@ module _ {A : Type 0} (g : A → List Entry) (number : A → ℕ) (own : (a : A)
   in_order : {S : Type 0} (s : A → S) (f : ℕ → List Entry) (xs : List A) (k : ℕ) → ((n : ℕ) (a : A) → slice_get xs n ≡ Some a → f (k + n) ≡ g a)
       → flat_map (λ row. f row.0) (numbered_from k (map s xs)) ≡ flat_map g xs
   in_order s f [] k h = refl
-  in_order s f (a ∷ xs) k h =
-      ap (λ es. es ++ flat_map (λ row. f row.0) (numbered_from (suc k) (map s xs))) (ap f (same_plus k) ∙ h 0 a refl)
-      ∙ ap (λ es. g a ++ es) (in_order s f xs (suc k) (λ n b e. ap f (sym (moved k n)) ∙ h (suc n) b e))
+  in_order s f (a ∷ xs) k h = rw (ap f (same_plus k) ∙ h 0 a refl, in_order s f xs (suc k) (λ n b e. ap f (sym (moved k n)) ∙ h (suc n) b e)) refl
 
 module _ (source : List ℕ) (lines : List Laid) (read : placed_lines source ≡ Ok lines) where
   own_section : (part : Part) (e : Entry) → In e (entries_in lines part) → e.section ≡ part_number lines part
-  own_section part e k = (entry_origin source lines read part e k).comes.section_is
+  own_section part e k = ap (λ x. x.section) (entry_origin source lines read part e k).comes.is
 
   parts_rise : Rises (entries_in lines) (part_number lines) own_section 1 (parts_of lines)
   parts_rise = rises (entries_in lines) (part_number lines) own_section (parts_of lines) 1 (λ n part e. (omega (arith, part_numbered lines n part e)))
 
   pub entries_of_part : (n : ℕ) (part : Part) → slice_get (parts_of lines) n ≡ Some part → entries_for (entries lines) (n + 1) ≡ entries_in lines part
   unfolding entries_for
-  entries_of_part n part e =
-      ap (λ m. filter (λ x. x.section == m) (entries lines)) (one_more n)
-      ∙ with_number (entries_in lines) (part_number lines) own_section (parts_of lines) 1 n part parts_rise e
+  entries_of_part n part e = rw (one_more n) (with_number (entries_in lines) (part_number lines) own_section (parts_of lines) 1 n part parts_rise e)
 
   pub entries_grouped : entries lines ≡ flat_map (λ row. entries_for (entries lines) row.0) (numbered_from 1 (sections lines))
   entries_grouped =
@@ -178,9 +126,6 @@ record IsUpperAt (lines : List Laid) (key : Key) : Type 0 where
 not_zero : (i : ℕ) → not (i + 1 == 0) ≡ true
 not_zero i = grind (arith, nat_tests)
 
-second_false : (a b : Bool) → (a && b) ≡ false → a ≡ true → b ≡ false
-second_false a b e t = sym (ap (λ x. x && b) t) ∙ e
-
 passing : (p : Label → Bool) (o : Option Label) → option_map_or p o false ≡ true → (l : Label) × (o ≡ Some l) × (p l ≡ true)
 passing p None e = absurd (true≢false (sym e))
 passing p (Some l) e = (l, refl, e)
@@ -188,10 +133,6 @@ passing p (Some l) e = (l, refl, e)
 -- the keys of lines are those of labels
 pub in_labels : (lines : List Laid) (l : Laid) (part : Part) (k : Key) → In l lines → l.part ≡ Some part → In k (keys_of l) → In (label part l.offset k) (labels lines)
 in_labels lines l part k i p h = flat_map-In (λ m. labels_at m.part m.offset (keys_of m)) lines l (label part l.offset k) i (subst (λ o. In (label part l.offset k) (labels_at o l.offset (keys_of l))) (sym p) (map-In (label part l.offset) (keys_of l) k h))
-
-made_in_keys : (b : Bool) (n : ℕ) → b ≡ true → In (Made n) (if b then Made n ∷ [] else [])
-made_in_keys true n e = inl refl
-made_in_keys false n e = absurd (true≢false (sym e))
 
 -- the name of an entry is mentioned
 mentions_target : (lines : List Laid) (l : Laid) (m : Mark) (name : List ℕ) → In l lines → In m (marks_in l.line.statement) → m.fix.target ≡ targets.Named name → In name (mentions lines)
@@ -211,9 +152,6 @@ made_head _ m g k e = absurd k
 pub line_taken : (part : Part) (l : Laid) (m : Mark) → IsStanding l → is_in part l ≡ true → In m (marks_in l.line.statement) → IsTaken part (content_of l.line.statement)
 line_taken part l m s e k = statement_taken part l.line.statement m (subst (λ o. may_stand o l.line ≡ true) (at_part part l.part e) s.stands) k
 
-neither : (a b : Bool) → a ≡ true → b ≡ true → (true && (not a || not b)) ≡ false
-neither a b e f = rw (e, f) refl
-
 module _ (source : List ℕ) (lines : List Laid) (read : placed_lines source ≡ Ok lines) (kept : find (has_lost lines) lines ≡ None) where
   -- the label that is made at the line itself
   made_upper : (l : Laid) (m : Mark) → In l lines → is_in Text l ≡ true → In m (marks_in l.line.statement) → is_made m.fix.target ≡ true → IsUpperAt lines (Made l.made)
@@ -222,7 +160,7 @@ module _ (source : List ℕ) (lines : List Laid) (read : placed_lines source ≡
       record {
         l = label Text l.offset (Made l.made);
         there = in_labels lines l Text (Made l.made) i (at_part Text l.part t)
-            (In-right (own_key l.line.label) (made_key l.line.statement l.made) (Made l.made) (made_in_keys (makes_label l.line.statement) l.made (any-In (λ x. is_made x.fix.target) (marks_in l.line.statement) m j e)));
+            (In-right (own_key l.line.label) (made_key l.line.statement l.made) (Made l.made) (rw (any-In (λ x. is_made x.fix.target) (marks_in l.line.statement) m j e) (inl refl)));
         key_is = refl;
         in_text = refl;
         upper = line_upper lines Text l i t s (made_head l.line.statement m s.good j e);
@@ -231,7 +169,7 @@ module _ (source : List ℕ) (lines : List Laid) (read : placed_lines source ≡
   -- the label with a name that isn't lost
   named_upper : (name : List ℕ) → is_lost lines (targets.Named name) ≡ false → IsUpperAt lines (Named name)
   named_upper name e =
-      let r : (l : Label) × (label_named lines name ≡ Some l) × (is_upper_label lines l ≡ true) = passing (is_upper_label lines) (label_named lines name) (not_false _ e) in
+      let r : (l : Label) × (label_named lines name ≡ Some l) × (is_upper_label lines l ≡ true) = passing (is_upper_label lines) (label_named lines name) (not-false _ e) in
       let is : In r.0 (labels lines) × (is_key r.0.key (Named name) ≡ true) = found-In (λ l. is_key l.key (Named name)) (labels lines) r.0 r.1 in
       let text : (is_same_part Text r.0.part ≡ true) × (list_any (λ l. is_in Text l && l.offset == r.0.offset && has_upper l) lines ≡ true) =
       and_parts (is_same_part Text r.0.part) (list_any (λ l. is_in Text l && l.offset == r.0.offset && has_upper l) lines) r.2 in
@@ -249,8 +187,7 @@ module _ (source : List ℕ) (lines : List Laid) (read : placed_lines source ≡
   -- the entry of the kind PCREL_LO12 isn't lost
   not_lost : (l : Laid) (m : Mark) → In l lines → In m (marks_in l.line.statement) → is_pcrel_lo12 m.fix.kind ≡ true → is_lost lines m.fix.target ≡ false
   not_lost l m i j low =
-      second_false (is_pcrel_lo12 m.fix.kind) (is_lost lines m.fix.target)
-      (none-In (is_lost_mark lines) (marks_in l.line.statement) (unfound-In (has_lost lines) lines kept l i) m j) low
+      sym (ap (λ x. x && is_lost lines m.fix.target) low) ∙ none-In (is_lost_mark lines) (marks_in l.line.statement) (unfound-In (has_lost lines) lines kept l i) m j
 
   -- what the entry names has its label, and its symbol
   record IsNamed (key : Key) : Type 0 where
@@ -269,35 +206,28 @@ module _ (source : List ℕ) (lines : List Laid) (read : placed_lines source ≡
       let u = n.label_is in
       let s = label_symbol lines u.l key (labels_once source lines read) u.there u.key_is n.symbol_there in
       let home : s.s.home ≡ Inside (part_number lines Text) = s.home_is ∙ ap (λ q. Inside (part_number lines q)) u.in_text in
-      ap (has_label section (entries_in lines Text) (symbols lines)) s.numbered
-      ∙ and_from (not (s.i + 1 == 0)) (is_label_symbol section (entries_in lines Text) (slice_get (symbols lines) ((s.i + 1) - 1))) (not_zero s.i)
-      (ap (λ j. is_label_symbol section (entries_in lines Text) (slice_get (symbols lines) j)) (one_less s.i)
-      ∙ ap (is_label_symbol section (entries_in lines Text)) s.symbol_is
-      ∙ ap (λ h. is_label section (entries_in lines Text) h s.s.value) home
-      ∙ and_from (part_number lines Text == section) (list_any (λ e. is_pcrel_hi20 e.kind && e.offset == s.s.value) (entries_in lines Text)) (same_test (part_number lines Text) section (sym at))
-      (any-In (λ e. is_pcrel_hi20 e.kind && e.offset == s.s.value) (entries_in lines Text) u.upper.e u.upper.there
-      (and_from (is_pcrel_hi20 u.upper.e.kind) (u.upper.e.offset == s.s.value) u.upper.upper (same_test u.upper.e.offset s.s.value (u.upper.stands ∙ sym s.value_is)))))
+      rw (s.numbered, one_less s.i, s.symbol_is, home)
+      (and_from _ _ (not_zero s.i) (and_from _ _ (same_test (part_number lines Text) section (sym at))
+      (any-In (λ e. is_pcrel_hi20 e.kind && e.offset == s.s.value) (entries_in lines Text) u.upper.e u.upper.there (and_from _ _ u.upper.upper (same_test u.upper.e.offset s.s.value (u.upper.stands ∙ sym s.value_is))))))
 
   text_label : (part : Part) (e : Entry) (o : Origin source lines read part e) → is_pcrel_lo12 o.comes.m.fix.kind ≡ true → has_label e.section (entries_in lines part) (symbols lines) e.symbol ≡ true
   text_label part e o low =
       let c = o.comes in
       let s = all_stand source lines read o.l o.in_lines in
-      let code : is_code (content_of o.l.line.statement) ≡ true = sym c.good.code ∙ lo12_code c.m.fix.kind low in
+      let code : is_code (content_of o.l.line.statement) ≡ true = sym c.within.fix.code ∙ lo12_code c.m.fix.kind low in
       let text : part ≡ Text = (line_taken part o.l c.m s o.in_part c.there).coded code in
       let in_text : is_in Text o.l ≡ true = subst (λ q. is_in q o.l ≡ true) text o.in_part in
       let named : IsNamed (target_key o.l c.m.fix.target) = target_named o.l c.m c.m.fix.target o.in_lines in_text c.there refl (not_lost o.l c.m o.in_lines c.there low) in
       subst (λ q. has_label e.section (entries_in lines q) (symbols lines) e.symbol ≡ true) (sym text)
-      (ap (has_label e.section (entries_in lines Text) (symbols lines)) c.symbol_is
-      ∙ symbol_upper (target_key o.l c.m.fix.target) e.section (c.section_is ∙ ap (part_number lines) text) named)
+      (ap (λ x. has_label x.section (entries_in lines Text) (symbols lines) x.symbol) c.is
+      ∙ symbol_upper (target_key o.l c.m.fix.target) (part_number lines part) (ap (part_number lines) text) named)
 
   by_kind : (part : Part) (e : Entry) (b : Bool) → is_pcrel_lo12 e.kind ≡ b → In e (entries_in lines part) → is_unpaired (symbols lines) (entries_in lines part) e.section e.kind e.addend e.symbol ≡ false
   by_kind part e false h k = ap (λ b. b && (not (int_eq e.addend (pos 0)) || not (has_label e.section (entries_in lines part) (symbols lines) e.symbol))) h
   by_kind part e true h k =
       let o : Origin source lines read part e = entry_origin source lines read part e k in
-      let low : is_pcrel_lo12 o.comes.m.fix.kind ≡ true = ap is_pcrel_lo12 (sym o.comes.kind_is) ∙ h in
-      ap (λ b. b && (not (int_eq e.addend (pos 0)) || not (has_label e.section (entries_in lines part) (symbols lines) e.symbol))) h
-      ∙ neither (int_eq e.addend (pos 0)) (has_label e.section (entries_in lines part) (symbols lines) e.symbol)
-      (ap (λ z. int_eq z (pos 0)) (o.comes.addend_is ∙ o.comes.good.plain low)) (text_label part e o low)
+      let low : is_pcrel_lo12 o.comes.m.fix.kind ≡ true = ap (λ x. is_pcrel_lo12 x.kind) (sym o.comes.is) ∙ h in
+      rw (h, ap (λ x. int_eq x.addend (pos 0)) o.comes.is ∙ ap (λ z. int_eq z (pos 0)) (o.comes.within.fix.plain low), text_label part e o low) refl
 
   pub entry_paired : (part : Part) (e : Entry) → In e (entries_in lines part) → is_unpaired (symbols lines) (entries_in lines part) e.section e.kind e.addend e.symbol ≡ false
   entry_paired part e k = by_kind part e (is_pcrel_lo12 e.kind) refl k
@@ -311,26 +241,15 @@ zero_fill : (part : Part) → fill_of part ≡ Zero → part ≡ Bss
 zero_fill Bss e = refl
 zero_fill _ e = absurd cc
 
-code_there : (a x f : Bool) → x ≡ true → f ≡ true → (a && (not x || not f)) ≡ false
-code_there a x f e h = rw (e, h) (and-false a)
-
-no_code : (a b : Bool) → a ≡ false → (a && b) ≡ false
-no_code a b e = rw e refl
-
 module _ (source : List ℕ) (lines : List Laid) (read : placed_lines source ≡ Ok lines) where
   stands : (part : Part) (e : Entry) (o : Origin source lines read part e) → IsStanding o.l
   stands part e o = all_stand source lines read o.l o.in_lines
 
-  offset_small : (part : Part) (e : Entry) → Origin source lines read part e → e.offset < 2 ^ 32
-  offset_small part e o = omega (arith, o.comes.high, line_room part o.l (stands part e o) o.in_part, largest_most part)
-
   storable : (part : Part) (e : Entry) → length (symbols lines) < 2 ^ 32 → Origin source lines read part e → IsStorable e
-  storable part e few o = record {
-    kind = ap is_known_kind o.comes.kind_is ∙ o.comes.good.known;
-    offset = offset_small part e o;
-    symbol = subst (λ n. n < 2 ^ 32) (sym o.comes.symbol_is) (omega (arith, (number_small lines (target_key o.l o.comes.m.fix.target)), few));
-    addend = subst (FitsSigned w64) (sym o.comes.addend_is) o.comes.good.addend;
-  }
+  storable part e few o =
+      let n : symbol_number lines (target_key o.l o.comes.m.fix.target) ≤ length (symbols lines) = number_small lines (target_key o.l o.comes.m.fix.target) in
+      subst IsStorable (sym o.comes.is)
+      (record { kind = o.comes.within.fix.known; offset = subst (λ x. x.offset < 2 ^ 32) o.comes.is (omega (arith, o.comes.high, line_room part o.l (stands part e o) o.in_part, largest_most part)); symbol = omega (arith, n, few); addend = o.comes.within.fix.addend })
 
   pub entry_storable : length (symbols lines) < 2 ^ 32 → (k : ℕ) (e : Entry) → slice_get (entries lines) k ≡ Some e → IsStorable e
   entry_storable few k e g =
@@ -341,15 +260,17 @@ module _ (source : List ℕ) (lines : List Laid) (read : placed_lines source ≡
   taken_in part e o = line_taken part o.l o.comes.m (stands part e o) o.in_part o.comes.there
 
   in_code : (part : Part) (e : Entry) (o : Origin source lines read part e) → is_instruction e.kind ≡ true → part ≡ Text
-  in_code part e o i = (taken_in part e o).coded (sym o.comes.good.code ∙ ap is_instruction (sym o.comes.kind_is) ∙ i)
+  in_code part e o i = (taken_in part e o).coded (sym o.comes.within.fix.code ∙ ap (λ x. is_instruction x.kind) (sym o.comes.is) ∙ i)
 
   at_four : (part : Part) (e : Entry) (o : Origin source lines read part e) → part ≡ Text → e.offset % 4 ≡ 0
-  at_four part e o text = o.comes.fours ((taken_in part e o).wide text) ∙ in_fours source lines read o.l o.in_lines (subst (λ q. is_in q o.l ≡ true) text o.in_part)
+  at_four part e o text =
+      let f : o.comes.m.at % 4 ≡ 0 = o.comes.within.fours ((taken_in part e o).wide text) in
+      let l : o.l.offset % 4 ≡ 0 = in_fours source lines read o.l o.in_lines (subst (λ q. is_in q o.l ≡ true) text o.in_part) in
+      omega (arith, f, l, ap (λ x. x.offset) o.comes.is)
 
   coded : (part : Part) (e : Entry) (o : Origin source lines read part e) (b : Bool) → is_instruction e.kind ≡ b → (is_instruction e.kind && (not (is_text part) || not (e.offset % 4 == 0))) ≡ false
-  coded part e o true i =
-      code_there (is_instruction e.kind) (is_text part) (e.offset % 4 == 0) (ap is_text (in_code part e o i)) (same_test (e.offset % 4) 0 (at_four part e o (in_code part e o i)))
-  coded part e o false i = no_code (is_instruction e.kind) (not (is_text part) || not (e.offset % 4 == 0)) i
+  coded part e o true i = rw (ap is_text (in_code part e o i), same_test (e.offset % 4) 0 (at_four part e o (in_code part e o i))) (and-false (is_instruction e.kind))
+  coded part e o false i = rw i refl
 
   module _ (kept : find (has_lost lines) lines ≡ None) where
     in_part : (part : Part) (k : ℕ) (e : Entry) → slice_get (entries_in lines part) k ≡ Some e → IsWritableEntry (object_of lines) (section_of lines part) (take k (entries_in lines part)) (entries_in lines part) e
@@ -358,11 +279,11 @@ module _ (source : List ℕ) (lines : List Laid) (read : placed_lines source ≡
         let o : Origin source lines read part e = entry_origin source lines read part e i in
         record {
           filled = λ z. (taken_in part e o).filled (zero_fill part z);
-          symbol = subst (λ n. n ≤ length (symbols lines)) (sym o.comes.symbol_is) (number_small lines (target_key o.l o.comes.m.fix.target));
-          usable = ap (is_unusable (symbols lines)) o.comes.symbol_is ∙ number_usable lines (target_key o.l o.comes.m.fix.target);
+          symbol = subst (λ x. x.symbol ≤ length (symbols lines)) (sym o.comes.is) (number_small lines (target_key o.l o.comes.m.fix.target));
+          usable = ap (λ x. is_unusable (symbols lines) x.symbol) o.comes.is ∙ number_usable lines (target_key o.l o.comes.m.fix.target);
           inside = entry_high source lines read part e i;
           code = coded part e o (is_instruction e.kind) refl;
-          apart = apart_take (entries_in lines part) k e (entries_apart source lines read part) g;
+          apart = In-none (is_clash e) (take k (entries_in lines part)) (λ x j. before_fails is_clash (entries_in lines part) k e x (entries_apart source lines read part) g j);
           paired = entry_paired source lines read kept part e i;
         }
 

@@ -1,8 +1,6 @@
 -- The bytes of pieces, one behind the other, and where in them their entries stand.
 --     appended b p      one piece more
-use Rattle.std.specs.Prelude.{ℕ, List, [], ◌∷◌, ◌++◌, length, Option, Some, None}
-use Rattle.cell_num.specs.Bits.{bytes_of}
-use Rattle.cell_asm.specs.Types.{Fix, Piece, Mark, Block, Draft}
+use Rattle.cell_asm.specs.Types.{ℕ, List, [], ◌∷◌, ◌++◌, length, Option, Some, None, bytes_of, Fix, Piece, Mark, Block, Draft}
 
 -- an entry at a place
 abbrev pub marks_at : ℕ → Option Fix → List Mark

@@ -13,3 +13,4 @@ pub mod Objects
 pub mod Progress
 pub mod Numberings
 pub mod Assembled
+pub mod Words

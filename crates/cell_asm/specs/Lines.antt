@@ -1,9 +1,6 @@
 -- A line of a source.
 --     line_of text      its label and its statement, or the earliest fault of their words and operands
-use Rattle.std.specs.Prelude.{ℕ, ◌==◌, ◌-◌, Bool, ◌||◌, not, List, [], ◌∷◌, ◌++◌, map, take, drop, length, codes, Option, Some, None, ok_or, if◌then◌else◌, Result, Ok, Err}
-use Rattle.std.specs.List.{before_first, prefix_len, suffix_len, take_while, slice_split}
-use Rattle.cell_num.specs.Lists.{where_true}
-use Rattle.cell_asm.specs.Types.{AsmKind, AsmKindWord as Word, Operand, Statement, Nothing, Line}
+use Rattle.cell_asm.specs.Types.{ℕ, ◌==◌, ◌-◌, Bool, ◌||◌, not, List, [], ◌∷◌, ◌++◌, map, take, drop, length, codes, Option, Some, None, ok_or, if◌then◌else◌, Result, Ok, Err, before_first, prefix_len, suffix_len, take_while, slice_split, where_true, AsmKind, AsmKindWord as Word, Operand, Statement, Nothing, Line}
 use Rattle.cell_asm.specs.Faults.{with_value, gathered}
 use Rattle.cell_asm.specs.Names.{is_name, ends}
 use Rattle.cell_asm.specs.Operands.{operand}

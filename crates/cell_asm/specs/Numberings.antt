@@ -2,12 +2,7 @@
 --     section_kept parts bodies part       a section
 --     Mentions symbols kept names          the symbols are those of the LOCAL labels, and then of these names
 --     part_entries kept symbols part       the entries of a section
-use Rattle.std.specs.Prelude.{◌≡◌, ℕ, Bool, List, [], ◌∷◌, ◌++◌, map, length, Option, Some, None, is_some, if◌then◌else◌, false, not, filter}
-use Rattle.std.specs.BTreeMap.{get}
-use Rattle.std.specs.List.{list_any}
-use Rattle.std.specs.Option.{option_map_or, unwrap_or}
-use Rattle.std.specs.Ordering.{nat_cmp}
-use Rattle.cell_asm.specs.Types.{Section, Symbol, Bind, Local, BindGlobal as Global, Home, Undef, Inside, Entry, Part, Bodies, Reference, Key, KeyNamed as Named, KeyMade as Made, Label, Numbering, Spot, Known, Progress, Symbols}
+use Rattle.cell_asm.specs.Types.{◌≡◌, ℕ, Bool, List, [], ◌∷◌, ◌++◌, map, length, Option, Some, None, is_some, if◌then◌else◌, false, not, filter, get, list_any, option_map_or, unwrap_or, nat_cmp, Section, Symbol, Bind, Local, BindGlobal as Global, Home, Undef, Inside, Entry, Part, Bodies, Reference, Key, KeyNamed as Named, KeyMade as Made, Label, Numbering, Spot, Known, Progress, Symbols}
 use Rattle.cell_asm.specs.Places.{is_key, is_at}
 use Rattle.cell_asm.specs.Objects.{number_in, number_from, section_of, symbol}
 use Rattle.cell_asm.specs.Progress.{known, spot_at, body_of}

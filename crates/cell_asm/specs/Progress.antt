@@ -1,16 +1,9 @@
 -- What is kept while lines are put in their places.
 --     known names q              what is kept for the name
 --     Follows progress lines     what is kept is what the lines so far come to
-use Rattle.std.specs.Prelude.{◌≡◌, ℕ, ◌+◌, ◌<◌, ◌≤◌, ◌^◌, max, ◌==◌, Bool, false, not, ◌&&◌, ◌||◌, List, ◌++◌, ◌∷◌, [], map, All, Option, Some, None, option_map, is_some, find, flat_map, if◌then◌else◌, Result, Ok, Err}
-use Rattle.std.specs.BTreeMap.{get_by}
+use Rattle.cell_asm.specs.Types.{◌≡◌, ℕ, ◌+◌, ◌<◌, ◌≤◌, ◌^◌, max, ◌==◌, Bool, false, not, ◌&&◌, ◌||◌, List, ◌++◌, ◌∷◌, [], map, All, Option, Some, None, option_map, is_some, find, flat_map, if◌then◌else◌, Result, Ok, Err, get_by, list_any, option_map_or, nat_cmp, is_pcrel_lo12, equals, where_true, holds_name, last, or_else, Part, Text, Rodata, Data, Bss, Statement, StatementGlobal as Global, Line, Laid, Label, Key, KeyNamed as Named, KeyMade as Made, Mark, Spot, Known, Body, Bodies, Reference, AsmKind, Progress, AsmFail, AsmFailFault as Fault, AsmFailOutOfMemory as OutOfMemory, Stop, StopFault as Stopped, StopOutOfMemory as NoMemory}
 use Rattle.std.specs.BTreeSet.{contains}
 use Rattle.std.specs.Cmp.Lexicographic.{slice_cmp}
-use Rattle.std.specs.List.{list_any}
-use Rattle.std.specs.Option.{option_map_or}
-use Rattle.std.specs.Ordering.{nat_cmp}
-use Rattle.cell_num.specs.Kinds.{is_pcrel_lo12}
-use Rattle.cell_num.specs.Lists.{equals, where_true, holds_name, last, or_else}
-use Rattle.cell_asm.specs.Types.{Part, Text, Rodata, Data, Bss, Statement, StatementGlobal as Global, Line, Laid, Label, Key, KeyNamed as Named, KeyMade as Made, Mark, Spot, Known, Body, Bodies, Reference, AsmKind, Progress, AsmFail, AsmFailFault as Fault, AsmFailOutOfMemory as OutOfMemory, Stop, StopFault as Stopped, StopOutOfMemory as NoMemory}
 use Rattle.cell_asm.specs.Places.{marks_in, is_key, keys_of, labels_at, labels, choices, choice, size_in, made_in, is_in, taken, makes_label, fault_by, is_same_part}
 use Rattle.cell_asm.specs.Objects.{adds_choice, parts_of, alignment_asked, alignment, bytes_at, contents, globals, target_key, label_names, statement_names, mentions}
 use Rattle.cell_asm.specs.Assembled.{has_upper}

@@ -1,4 +1,13 @@
 -- The types that the definitions speak of, each under one name here.
+pub use Rattle.cell_num.specs.Bits.{bytes_of, modulo_2}
+pub use Rattle.cell_num.specs.Kinds.{is_pcrel_hi20, is_pcrel_lo12}
+pub use Rattle.cell_num.specs.Lists.{equals, holds_name, last, numbered_from, or_else, where_true}
+pub use Rattle.cell_text.specs.Text.{is_filled, lines_in}
+pub use Rattle.std.specs.BTreeMap.{get, get_by}
+pub use Rattle.std.specs.List.{after_last, before_first, before_last, cons_option, ends_with, list_all, list_any, position_or_len, prefix_len, slice_split, starts_with, suffix_len, take_while}
+pub use Rattle.std.specs.Option.{option_map_or, unwrap_or}
+pub use Rattle.std.specs.Ordering.{nat_cmp}
+pub use Rattle.std.specs.Prelude.{All, Bool, Err, List, None, Ok, Option, Result, Some, [], bytes_eq, codes, count_by, decimal, drop, false, filter, filter_map, find, flat_map, fold, if◌then◌else◌, int_le, is_none, is_some, length, map, max, nat_eq, nat_le, nat_lt, neg_ℤ, negsuc, not, ok_or, option_and_then, option_map, pos, position, replicate, suc, sum_by, take, true, ℕ, ℤ, ◌%◌, ◌&&◌, ◌*◌, ◌++◌, ◌+◌, ◌-◌, ◌/◌, ◌<◌, ◌==◌, ◌^◌, ◌||◌, ◌∷◌, ◌≡◌, ◌≤◌}
 pub use Rattle.cell_asm.specs.declared.statement.Block.{Block}
 pub use Rattle.cell_asm.specs.declared.statement.Draft.{Draft}
 pub use Rattle.cell_asm.specs.declared.statement.Mark.{Mark}

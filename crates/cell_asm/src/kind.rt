@@ -1,9 +1,6 @@
 //! Why a source is no object.
 
-ghost use Rattle.std.specs.Prelude.{◌≡◌, ◌<◌};
-ghost use Rattle.cell_asm.specs.declared.kind.AsmFail.TheVariants.{OutOfMemory};
-ghost use Rattle.cell_asm.specs.declared.kind.Stop.TheVariants.{OutOfMemory as NoMemory};
-ghost use Rattle.cell_asm.specs.Faults.{Gives, rank as rank_of, earlier as earlier_of, both as both_of};
+ghost use Rattle.cell_asm.specs.Words.{◌≡◌, ◌<◌, AsmFailOutOfMemory as OutOfMemory, StopOutOfMemory as NoMemory, Gives, rank as rank_of, earlier as earlier_of, both as both_of};
 
 use std::alloc::{AllocError, AllocFailed};
 
@@ -21,10 +18,10 @@ pub enum AsmKind {
     Section,
     /// A name is defined twice.
     Twice,
-    /// `%pcrel_lo` of a name that is no label of an instruction with `%pcrel_hi`.
-    Label,
     /// `.bss` is above 16 MiB, or another section above 1 MiB.
     Long,
+    /// `%pcrel_lo` of a name that is no label of an instruction with `%pcrel_hi`.
+    Label,
 }
 
 /// Why a source was not assembled.
@@ -71,15 +68,7 @@ fn rank(kind: AsmKind) -> u8
     ensures rank { result ≡ rank_of kind }
     ensures small { result < 7 }
 {
-    match kind {
-        AsmKind::Word => 0,
-        AsmKind::Operand => 1,
-        AsmKind::Range => 2,
-        AsmKind::Section => 3,
-        AsmKind::Twice => 4,
-        AsmKind::Long => 5,
-        AsmKind::Label => 6,
-    }
+    kind as u8
 }
 
 /// The fault that is answered of two on one line.

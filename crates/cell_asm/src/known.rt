@@ -1,8 +1,6 @@
 //! What is known by names.
 
-ghost use Rattle.std.specs.Prelude.{◌≡◌, ℕ, List, None, OnOk};
-ghost use Rattle.cell_num.specs.Lists.{equals, or_else, where_true};
-ghost use Rattle.cell_asm.specs.Progress.{known};
+ghost use Rattle.cell_asm.specs.Words.{◌≡◌, ℕ, List, None, OnOk, equals, or_else, where_true, known};
 
 use std::alloc::{AllocError, Global};
 use std::collections::BTreeMap;

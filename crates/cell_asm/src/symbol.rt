@@ -1,14 +1,7 @@
 //! The symbols of an object.
 
-ghost use Rattle.std.specs.Prelude.{◌≡◌, ◌==◌, ℕ, List, None, OnOk, ◌≤◌, ◌+◌, [], ◌∷◌, ◌++◌, fold, length, not, IfOk};
-ghost use Rattle.std.specs.Option.{option_map_or};
-ghost use Rattle.cell_num.specs.Lists.{or_else, where_true};
-ghost use Rattle.cell_asm.specs.Places.{is_key};
-ghost use Rattle.cell_asm.specs.Numberings.{number_of, number_kept, Lists, Locals, mentioned, Mentions, home_in, symbol_in, is_global_in};
-ghost use Rattle.cell_asm.specs.Objects.{key_name as name_of};
-ghost use Rattle.cell_asm.specs.declared.statement.Key.{Key as KeyValue};
+ghost use Rattle.cell_asm.specs.Words.{◌≡◌, ◌==◌, ℕ, List, None, OnOk, ◌≤◌, ◌+◌, [], ◌∷◌, ◌++◌, fold, length, not, IfOk, option_map_or, or_else, where_true, is_key, number_of, number_kept, Lists, Locals, mentioned, Mentions, home_in, symbol_in, is_global_in, key_name as name_of, Key as KeyValue, Symbol as SymbolValue};
 ghost use Rattle.cell_asm.specs.declared.statement.Key.TheVariants as keys;
-ghost use Rattle.cell_object.specs.declared.object.Symbol.{Symbol as SymbolValue};
 
 use crate::known::Known;
 use crate::place::Progress;
@@ -82,7 +75,11 @@ pub fn make_symbols<'a>(alloc: Global, kept: &Progress<'a>) -> Result<Symbols<'a
     requires { length kept.now.parts.items ≤ 4 }
     ensures { IfOk result (λ s. Mentions s kept.now (fold (mentioned kept.now) [] kept.now.mentions.items)) }
 {
-    let mut symbols = Symbols::new(alloc);
+    let mut symbols = Symbols {
+        alloc,
+        list: Vec::new(alloc),
+        numbers: Numbering::new(alloc),
+    };
     symbols.add_labels(kept)?;
     symbols.add_mentions(kept)?;
     Ok(symbols)
@@ -114,16 +111,6 @@ fn key_name(alloc: Global, key: &Key<'_>) -> Result<Bytes, AllocError>
 }
 
 impl<'a> Symbols<'a> {
-    fn new(alloc: Global) -> Symbols<'a>
-        ensures { Lists result [] [] }
-    {
-        Symbols {
-            alloc,
-            list: Vec::new(alloc),
-            numbers: Numbering::new(alloc),
-        }
-    }
-
     /// The number of a symbol, from 1.
     pub fn number(&self, key: &Key<'a>) -> u32
         ensures { result ≡ number_kept self.now key.now }
@@ -230,8 +217,5 @@ fn home(kept: &Progress<'_>, spot: Option<Spot>) -> Home
 fn value(spot: Option<Spot>) -> u64
     ensures { result ≡ option_map_or (λ s. s.offset) spot 0 }
 {
-    match spot {
-        Some(spot) => u64::from(spot.offset),
-        None => 0,
-    }
+    spot.map_or(0, |spot| u64::from(spot.offset))
 }

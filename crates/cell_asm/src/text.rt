@@ -1,6 +1,6 @@
 //! A piece of the source.
 
-ghost use Rattle.std.specs.Prelude.{◌≡◌};
+ghost use Rattle.cell_asm.specs.Words.{◌≡◌};
 
 use std::marker::Model;
 

@@ -1,7 +1,4 @@
-use Rattle.std.proofs.Common.{◌<◌, map, take, length, ap, sym, ◌∙◌, arith}
-use Rattle.cell_asm.specs.Blocks.{appended, empty}
-use Rattle.cell_asm.specs.Faults.{joined, gathered}
-use Rattle.cell_asm.specs.Statements.{datum}
+use Rattle.cell_asm.proofs.Facts.{◌<◌, map, take, length, ap, sym, ◌∙◌, arith, appended, empty, joined, gathered, datum}
 use Rattle.cell_asm.proofs.ReadingLemmas.{gathered_more}
 use Rattle.cell_asm.proofs.directive.numbers.Goals as goal
 

@@ -1,7 +1,4 @@
-use Rattle.std.proofs.Common.{◌≡◌, map, take}
-use Rattle.cell_asm.specs.Blocks.{appended, empty, drafted}
-use Rattle.cell_asm.specs.Faults.{gathered, with_value}
-use Rattle.cell_asm.specs.Statements.{datum}
+use Rattle.cell_asm.proofs.Facts.{◌≡◌, map, take, appended, empty, drafted, gathered, with_value, datum}
 use Rattle.cell_asm.proofs.directive.numbers.Given as goal
 
 -- the operands so far

@@ -1,6 +1,4 @@
-use Rattle.std.proofs.Common.{◌≡◌, take}
-use Rattle.std.specs.Prelude.{flat_map}
-use Rattle.cell_asm.specs.Numberings.{part_entries}
+use Rattle.cell_asm.proofs.Facts.{◌≡◌, take, flat_map, part_entries}
 use Rattle.cell_asm.proofs.entry.entries.Given as goal
 
 -- the entries of the sections so far

@@ -1,6 +1,4 @@
-use Rattle.std.proofs.Common.{◌≡◌, drop}
-use Rattle.std.specs.Prelude.{find}
-use Rattle.cell_asm.specs.Progress.{lost_by}
+use Rattle.cell_asm.proofs.Facts.{◌≡◌, drop, find, lost_by}
 use Rattle.cell_asm.proofs.entry.first_lost.Given as goal
 
 -- none so far, so the first is among those that are left

@@ -1,6 +1,4 @@
-use Rattle.std.proofs.Common.{◌≡◌, ◌++◌, map, take, filter}
-use Rattle.cell_asm.specs.Places.{is_at}
-use Rattle.cell_asm.specs.Numberings.{entry_kept}
+use Rattle.cell_asm.proofs.Facts.{◌≡◌, ◌++◌, map, take, filter, is_at, entry_kept}
 use Rattle.cell_asm.proofs.entry.put_entries.Given as goal
 
 -- the entries so far

@@ -1,7 +1,4 @@
-use Rattle.std.proofs.Common.{◌∙◌, ap, arith}
-use Rattle.std.proofs.lemmas.Bool.Decides.{nat_tests}
-use Rattle.cell_asm.specs.Types.{Rd}
-use Rattle.cell_asm.specs.Instructions.{filled}
+use Rattle.cell_asm.proofs.Facts.{◌∙◌, ap, arith, nat_tests, Rd, filled}
 use Rattle.cell_asm.proofs.ReadingLemmas.{rest, first_filled, too_many, too_few}
 use Rattle.cell_asm.proofs.instruction.+fill.Goals as goal
 use Rattle.cell_asm.proofs.instruction.+fill.Goals.{in_default-via-then-slots-lt1+else-operands-lt1, in_default-via-else-slots-lt1+then-this-lt1}

@@ -1,4 +1,4 @@
-use Rattle.std.proofs.Common.{length}
+use Rattle.cell_asm.proofs.Facts.{length}
 use Rattle.cell_asm.proofs.instruction.+fill.Given as goal
 
 abbrev pub decreases-fill : goal.decreases-fill

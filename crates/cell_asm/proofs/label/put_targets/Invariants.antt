@@ -1,6 +1,4 @@
-use Rattle.std.proofs.Common.{◌≡◌, ◌++◌, take}
-use Rattle.std.specs.Prelude.{flat_map}
-use Rattle.cell_asm.specs.Objects.{target_names}
+use Rattle.cell_asm.proofs.Facts.{◌≡◌, ◌++◌, take, flat_map, target_names}
 use Rattle.cell_asm.proofs.label.put_targets.Given as goal
 
 -- the names so far

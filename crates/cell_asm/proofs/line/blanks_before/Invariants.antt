@@ -1,6 +1,4 @@
-use Rattle.std.proofs.Common.{◌≡◌, ◌+◌, drop}
-use Rattle.std.specs.List.{prefix_len}
-use Rattle.cell_asm.specs.Lines.{is_blank}
+use Rattle.cell_asm.proofs.Facts.{◌≡◌, ◌+◌, drop, prefix_len, is_blank}
 use Rattle.cell_asm.proofs.line.blanks_before.Given as goal
 
 -- the bytes so far pass

@@ -1,5 +1,4 @@
-use Rattle.std.proofs.Common.{◌≡◌, ◌+◌, drop, not, ◌==◌}
-use Rattle.std.specs.List.{prefix_len}
+use Rattle.cell_asm.proofs.Facts.{◌≡◌, ◌+◌, drop, not, ◌==◌, prefix_len}
 use Rattle.cell_asm.proofs.line.comment_start.Given as goal
 
 -- the bytes so far pass

@@ -1,6 +1,4 @@
-use Rattle.std.proofs.Common.{◌≡◌, ◌+◌, take}
-use Rattle.std.specs.List.{suffix_len}
-use Rattle.cell_asm.specs.Lines.{is_blank}
+use Rattle.cell_asm.proofs.Facts.{◌≡◌, ◌+◌, take, suffix_len, is_blank}
 use Rattle.cell_asm.proofs.line.end_of_ink.Given as goal
 
 -- the bytes since then pass

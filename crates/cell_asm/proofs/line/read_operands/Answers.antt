@@ -1,6 +1,4 @@
-use Rattle.std.proofs.Common.{ap, sym, subst, ◌∙◌, map, Bor, List, ℕ}
-use Rattle.cell_asm.specs.Faults.{Gives}
-use Rattle.cell_asm.specs.Lines.{spelled, trimmed, operands}
+use Rattle.cell_asm.proofs.Facts.{ap, sym, subst, ◌∙◌, map, Bor, List, ℕ, Gives, spelled, trimmed, operands}
 use Rattle.cell_asm.proofs.ReadingLemmas.{parts_spelled}
 use Rattle.cell_asm.proofs.line.read_operands.Goals as goal
 

@@ -1,9 +1,4 @@
-use Rattle.std.proofs.Common.{ℕ, List, Bor, ◌<◌, [], ◌∷◌, ◌++◌, length, get_or, Ok, ap, sym, ◌∙◌, arith}
-use Rattle.std.specs.Prelude.{ok_or}
-use Rattle.cell_asm.specs.Types.{AsmKindWord as Word, Operand}
-use Rattle.cell_asm.specs.Faults.{joined}
-use Rattle.cell_asm.specs.Lines.{spelled, trimmed}
-use Rattle.cell_asm.specs.Operands.{operand}
+use Rattle.cell_asm.proofs.Facts.{ℕ, List, Bor, ◌<◌, [], ◌∷◌, ◌++◌, length, get_or, Ok, ap, sym, ◌∙◌, arith, ok_or, AsmKindWord as Word, Operand, joined, spelled, trimmed, operand}
 use Rattle.cell_asm.proofs.ReadingLemmas.{gathered_more, word_decides}
 use Rattle.cell_asm.proofs.line.read_parts.Goals as goal
 

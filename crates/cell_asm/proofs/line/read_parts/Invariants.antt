@@ -1,5 +1,4 @@
-use Rattle.std.proofs.Common.{◌≡◌, map, take, Ok}
-use Rattle.cell_asm.specs.Lines.{spelled, trimmed, operands}
+use Rattle.cell_asm.proofs.Facts.{◌≡◌, map, take, Ok, spelled, trimmed, operands}
 use Rattle.cell_asm.proofs.line.read_parts.Given as goal
 
 -- the parts so far are spelled well

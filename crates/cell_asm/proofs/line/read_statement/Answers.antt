@@ -1,7 +1,4 @@
-use Rattle.std.proofs.Common.{map, ap, sym, subst, ◌∙◌}
-use Rattle.cell_asm.specs.Faults.{Gives}
-use Rattle.cell_asm.specs.Lines.{spelled, operand_texts, read_with, first_word, operands}
-use Rattle.cell_asm.specs.Statements.{statement}
+use Rattle.cell_asm.proofs.Facts.{map, ap, sym, subst, ◌∙◌, Gives, spelled, operand_texts, read_with, first_word, operands, statement}
 use Rattle.cell_asm.proofs.ReadingLemmas.{statement_filled}
 use Rattle.cell_asm.proofs.line.read_statement.Goals as goal
 

@@ -1,6 +1,4 @@
-use Rattle.std.proofs.Common.{◌≡◌, ◌+◌, drop}
-use Rattle.std.specs.List.{prefix_len}
-use Rattle.cell_asm.specs.Lines.{is_inked}
+use Rattle.cell_asm.proofs.Facts.{◌≡◌, ◌+◌, drop, prefix_len, is_inked}
 use Rattle.cell_asm.proofs.line.word_end.Given as goal
 
 -- the bytes so far pass

@@ -1,7 +1,4 @@
-use Rattle.std.proofs.Common.{◌∙◌, ap, Bor, List, ℕ}
-use Rattle.std.specs.Prelude.{find, bytes_eq, option_map}
-use Rattle.cell_asm.specs.Mnemonics.{said}
-use Rattle.cell_asm.specs.Types.{Mnemonic}
+use Rattle.cell_asm.proofs.Facts.{◌∙◌, ap, Bor, List, ℕ, find, bytes_eq, option_map, said, Mnemonic}
 use Rattle.cell_asm.proofs.ReadingLemmas.{row_found, map_twice}
 use Rattle.cell_asm.proofs.mnemonic.mnemonic_in.Goals as goal
 

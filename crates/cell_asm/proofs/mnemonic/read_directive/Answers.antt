@@ -1,4 +1,4 @@
-use Rattle.std.proofs.Common.{refl, ◌∙◌}
+use Rattle.cell_asm.proofs.Facts.{refl, ◌∙◌}
 use Rattle.cell_asm.proofs.mnemonic.read_directive.Goals as goal
 
 pub returns : goal.returns

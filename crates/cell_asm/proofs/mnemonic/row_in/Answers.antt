@@ -1,4 +1,4 @@
-use Rattle.std.proofs.Common.{◌∙◌, Bor, List, ℕ}
+use Rattle.cell_asm.proofs.Facts.{◌∙◌, Bor, List, ℕ}
 use Rattle.cell_asm.proofs.ReadingLemmas.{row_found}
 use Rattle.cell_asm.proofs.mnemonic.row_in.Goals as goal
 

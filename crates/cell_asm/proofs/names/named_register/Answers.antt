@@ -1,6 +1,4 @@
-use Rattle.std.proofs.Common.{refl, ◌∙◌, subst, sym, ◌<◌}
-use Rattle.std.specs.Prelude.{IfSome, bytes_eq}
-use Rattle.cell_asm.specs.Names.{register_names}
+use Rattle.cell_asm.proofs.Facts.{refl, ◌∙◌, subst, sym, ◌<◌, IfSome, bytes_eq, register_names}
 use Rattle.cell_asm.proofs.ListLemmas.{position-below}
 use Rattle.cell_asm.proofs.names.named_register.Goals as goal
 

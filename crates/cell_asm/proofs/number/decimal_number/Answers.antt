@@ -1,6 +1,4 @@
-use Rattle.std.proofs.Common.{◌≡◌, true, arith}
-use Rattle.std.specs.List.{list_all}
-use Rattle.std.specs.Char.{is_ascii_digit}
+use Rattle.cell_asm.proofs.Facts.{◌≡◌, true, arith, list_all, is_ascii_digit}
 use Rattle.cell_asm.proofs.ReadingLemmas.{digits_are_hex}
 use Rattle.cell_asm.proofs.number.decimal_number.Goals as goal
 

@@ -1,6 +1,4 @@
-use Rattle.std.proofs.Common.{◌≡◌, ◌<◌, ◌^◌, ◌+◌, take}
-use Rattle.std.specs.Str.Parse.{digits_value}
-use Rattle.cell_asm.specs.Names.{held}
+use Rattle.cell_asm.proofs.Facts.{◌≡◌, ◌<◌, ◌^◌, ◌+◌, take, digits_value, held}
 use Rattle.cell_asm.proofs.number.value.Given as goal
 
 -- what is held of the number of the digits so far

@@ -1,6 +1,4 @@
-use Rattle.std.proofs.Common.{◌≡◌, ◌+◌, take, not}
-use Rattle.std.specs.List.{suffix_len}
-use Rattle.cell_asm.specs.Operands.{is_open}
+use Rattle.cell_asm.proofs.Facts.{◌≡◌, ◌+◌, take, not, suffix_len, is_open}
 use Rattle.cell_asm.proofs.operand.after_open.Given as goal
 
 -- the bytes since then pass

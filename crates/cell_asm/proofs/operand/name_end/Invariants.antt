@@ -1,6 +1,4 @@
-use Rattle.std.proofs.Common.{◌≡◌, ◌+◌, drop, not}
-use Rattle.std.specs.List.{prefix_len}
-use Rattle.cell_asm.specs.Operands.{is_sign}
+use Rattle.cell_asm.proofs.Facts.{◌≡◌, ◌+◌, drop, not, prefix_len, is_sign}
 use Rattle.cell_asm.proofs.operand.name_end.Given as goal
 
 -- the bytes so far pass

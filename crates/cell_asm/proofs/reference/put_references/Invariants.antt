@@ -1,6 +1,4 @@
-use Rattle.std.proofs.Common.{◌≡◌, ◌++◌, map, take}
-use Rattle.cell_asm.specs.Places.{marks_in}
-use Rattle.cell_asm.specs.Progress.{reference_at}
+use Rattle.cell_asm.proofs.Facts.{◌≡◌, ◌++◌, map, take, marks_in, reference_at}
 use Rattle.cell_asm.proofs.reference.put_references.Given as goal
 
 -- the references so far

@@ -1,6 +1,4 @@
-use Rattle.std.proofs.Common.{◌≡◌, ◌++◌, replicate}
-use Rattle.std.specs.Prelude.{flat_map}
-use Rattle.cell_num.specs.Bits.{bytes_of}
+use Rattle.cell_asm.proofs.Facts.{◌≡◌, ◌++◌, replicate, flat_map, bytes_of}
 use Rattle.cell_asm.proofs.section.put_nops.Given as goal
 
 -- the bytes so far

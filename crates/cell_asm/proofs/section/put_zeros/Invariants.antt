@@ -1,4 +1,4 @@
-use Rattle.std.proofs.Common.{◌≡◌, ◌++◌, replicate}
+use Rattle.cell_asm.proofs.Facts.{◌≡◌, ◌++◌, replicate}
 use Rattle.cell_asm.proofs.section.put_zeros.Given as goal
 
 -- the bytes so far

@@ -1,6 +1,4 @@
-use Rattle.std.proofs.Common.{◌<◌, ◌++◌, ◌∷◌, [], map, take, length, ap, sym, ◌∙◌, arith}
-use Rattle.cell_asm.specs.Numberings.{section_kept}
-use Rattle.cell_asm.proofs.ObjectLemmas.{section_more}
+use Rattle.cell_asm.proofs.Facts.{◌<◌, ◌++◌, ◌∷◌, [], map, take, length, ap, sym, ◌∙◌, arith, map_more, section_kept}
 use Rattle.cell_asm.proofs.section.sections.Goals as goal
 
 pub loop-part-preserved : goal.loop-part-preserved
@@ -12,4 +10,4 @@ loop-part-preserved c =
     c.in_ok-push.ensures.items
     ∙ ap (λ ss. ss ++ c.in_ok-section.section ∷ []) c.loop-part.invariant
     ∙ ap (λ s. map kept (take i parts) ++ s ∷ []) c.in_ok-section.ensures
-    ∙ sym (section_more kept parts i _ within)
+    ∙ sym (map_more kept parts i _ within)

@@ -1,5 +1,4 @@
-use Rattle.std.proofs.Common.{◌≡◌, map, take}
-use Rattle.cell_asm.specs.Numberings.{section_kept}
+use Rattle.cell_asm.proofs.Facts.{◌≡◌, map, take, section_kept}
 use Rattle.cell_asm.proofs.section.sections.Given as goal
 
 -- the sections so far

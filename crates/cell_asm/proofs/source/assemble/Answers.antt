@@ -1,6 +1,4 @@
-use Rattle.std.proofs.Common.{List, ℕ, Bor, Ok, ◌≡◌, map, refl, sym, ap, ◌∙◌}
-use Rattle.cell_asm.specs.Assembled.{placed_texts}
-use Rattle.cell_text.specs.Text.{lines_in}
+use Rattle.cell_asm.proofs.Facts.{List, ℕ, Bor, Ok, ◌≡◌, map, refl, sym, ap, ◌∙◌, placed_texts, lines_in}
 use Rattle.cell_asm.proofs.ObjectLemmas.{few}
 use Rattle.cell_asm.proofs.PlacingLemmas.{goes_all}
 use Rattle.cell_asm.proofs.AssembledFits.{writable_all}

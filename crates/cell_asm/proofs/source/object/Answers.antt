@@ -1,6 +1,4 @@
-use Rattle.std.proofs.Common.{◌≡◌, None, map, find, sym, ap, ◌∙◌, rules}
-use Rattle.cell_asm.specs.Assembled.{has_lost}
-use Rattle.cell_asm.specs.Numberings.{section_kept}
+use Rattle.cell_asm.proofs.Facts.{◌≡◌, None, map, find, sym, ap, ◌∙◌, rules, has_lost, section_kept}
 use Rattle.cell_asm.proofs.ObjectLemmas.{first_is, object_is}
 use Rattle.cell_asm.proofs.PlacingLemmas.{lost_answer, whole_answer}
 use Rattle.cell_asm.proofs.source.object.Goals as goal

@@ -1,7 +1,5 @@
-use Rattle.std.proofs.Common.{◌≡◌, ℕ, List, None, sym, ap, ◌∙◌, rules, bytes_eq}
+use Rattle.cell_asm.proofs.Facts.{◌≡◌, ℕ, List, None, sym, ap, ◌∙◌, rules, bytes_eq, bytes_eq-Decides, known}
 use Rattle.std.proofs.lemmas.Map.Text.{btree_map_updates_str}
-use Rattle.std.proofs.lemmas.Slice.Eq.{bytes_eq-Decides}
-use Rattle.cell_asm.specs.Progress.{known}
 use Rattle.cell_asm.proofs.SymbolLemmas.{taken}
 use Rattle.cell_asm.proofs.known.Known.add.Goals as goal
 

@@ -1,7 +1,4 @@
-use Rattle.std.proofs.Common.{◌≡◌, Ok, None, refl, sym, ap, subst, ◌∙◌, rules}
-use Rattle.cell_asm.specs.Places.{size_at}
-use Rattle.cell_asm.specs.Progress.{HasRoom}
-use Rattle.cell_asm.specs.Assembled.{placed_unless}
+use Rattle.cell_asm.proofs.Facts.{◌≡◌, Ok, None, refl, sym, ap, subst, ◌∙◌, rules, size_at, HasRoom, placed_unless}
 use Rattle.cell_asm.proofs.AssembledFits.{placed_room}
 use Rattle.cell_asm.proofs.PlacingLemmas.{fault_is, laid_is, follows_more}
 use Rattle.cell_asm.proofs.place.Progress.place.Goals as goal

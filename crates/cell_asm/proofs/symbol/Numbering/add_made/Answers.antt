@@ -1,6 +1,4 @@
-use Rattle.std.proofs.Common.{◌≡◌, ◌==◌, cond, Some, None, sym, ap, ◌∙◌, rules}
-use Rattle.cell_asm.specs.Types.{KeyMade as Made}
-use Rattle.cell_asm.specs.Numberings.{number_of}
+use Rattle.cell_asm.proofs.Facts.{◌≡◌, ◌==◌, cond, Some, None, sym, ap, ◌∙◌, rules, KeyMade as Made, number_of}
 use Rattle.cell_asm.proofs.SymbolLemmas.{taken, same_test}
 use Rattle.cell_asm.proofs.ListLemmas.{same_of}
 use Rattle.cell_asm.proofs.symbol.Numbering.add_made.Goals as goal

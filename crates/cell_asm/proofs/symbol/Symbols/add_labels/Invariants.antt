@@ -1,5 +1,4 @@
-use Rattle.std.proofs.Common.{take}
-use Rattle.cell_asm.specs.Numberings.{Locals}
+use Rattle.cell_asm.proofs.Facts.{take, Locals}
 use Rattle.cell_asm.proofs.symbol.Symbols.add_labels.Given as goal
 
 -- the symbols of the labels so far

@@ -1,7 +1,4 @@
-use Rattle.std.proofs.Common.{◌++◌, map, is_some, not, sym, ap, ◌∙◌}
-use Rattle.cell_asm.specs.Types.{KeyNamed as Named}
-use Rattle.cell_asm.specs.Progress.{known}
-use Rattle.cell_asm.specs.Numberings.{number_of, keys_with, local_in, locals_in, other_in}
+use Rattle.cell_asm.proofs.Facts.{◌++◌, map, is_some, not, sym, ap, ◌∙◌, KeyNamed as Named, known, number_of, keys_with, local_in, locals_in, other_in}
 use Rattle.cell_asm.proofs.SymbolLemmas.{mention_known, mention_new}
 use Rattle.cell_asm.proofs.symbol.Symbols.add_mention.Goals as goal
 

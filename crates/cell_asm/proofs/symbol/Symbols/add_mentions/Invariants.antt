@@ -1,6 +1,4 @@
-use Rattle.std.proofs.Common.{[], take}
-use Rattle.std.specs.Prelude.{fold}
-use Rattle.cell_asm.specs.Numberings.{mentioned, Mentions}
+use Rattle.cell_asm.proofs.Facts.{[], take, fold, mentioned, Mentions}
 use Rattle.cell_asm.proofs.symbol.Symbols.add_mentions.Given as goal
 
 -- the names so far
