@@ -1,5 +1,6 @@
 -- The lines of a source that is assembled.
-use Rattle.cell_asm.proofs.Facts.{◌≡◌, ℕ, List, Result, Ok, Err, Some, None, refl, ◌≤◌, ◌<◌, ◌^◌, [], length, sym, subst, arith, ◌+◌, true, false, slice_index_or, and_parts, Option, find, IfOk, All, is_none, IsWhole, IsRuled, image, IsSoundObject, IsWritable, has_lost, object_unless, object_from, placed_lines, assembled, Assembles, line_of, AreInside, HasRoom, fault_after, laid_after, offset_of, twice_of, object_of, largest, marks_in, taken, is_long, may_stand, lays_nothing, Object, AsmKind, Laid, Fill, Prog, Note, Zero, Part, Line, AsmFail, Progress, In-All}
+use Rattle.std.specs.Prelude.{◌≡◌, ◌≤◌, ◌<◌, ◌^◌, ◌+◌}
+use Rattle.cell_asm.proofs.Facts.{ℕ, List, Result, Ok, Err, Some, None, refl, [], length, sym, subst, arith, true, false, slice_index_or, and_parts, Option, find, IfOk, All, is_none, IsWhole, IsRuled, image, IsSoundObject, IsWritable, has_lost, object_unless, object_from, placed_lines, assembled, Assembles, line_of, AreInside, HasRoom, fault_after, laid_after, offset_of, twice_of, object_of, largest, marks_in, taken, is_long, may_stand, lays_nothing, Object, AsmKind, Laid, Fill, Prog, Note, Zero, Part, Line, AsmFail, Progress, In-All}
 use Rattle.std.specs.declared.result.Result.{}
 use Rattle.cell_elf.proofs.LoadableCounts.{reads_passed}
 use Rattle.cell_elf.proofs.Soundness.{object_sound}

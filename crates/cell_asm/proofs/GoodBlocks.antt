@@ -3,7 +3,8 @@
 --     IsGoodBlock content b            instructions, or numbers
 --     IsGoodStatement s                a statement has such bytes
 --     piece_sound                      bytes stay sound with a good piece more
-use Rattle.cell_asm.proofs.Facts.{◌≡◌, ◌≤◌, ◌+◌, ◌*◌, ◌^◌, ◌%◌, ◌/◌, ℕ, zero, suc, Bool, true, false, List, [], ◌∷◌, ◌++◌, length, ◌⊎◌, inl, inr, pos, Some, None, refl, sym, subst, ap, ◌∙◌, length-append, arith, ◌||◌, map, true≢false, or_right, and-false, w64, list_any, Option, FitsSigned, bytes_of, width_of, is_instruction, is_stacking, is_pcrel_lo12, is_pcrel_hi20, is_shared, is_clash, is_known_kind, marks_at, marks_of, appended, empty, entry_of, entries_of, marks_in, is_made, taken, takes, lays_nothing, RelKind, PcrelHi20, PcrelLo12I, PcrelLo12S, Mark, Block, Content, Code, Narrow, Wide, Fix, Piece, Statement, StatementZeros as Zeros, StatementAlign as Align, Bytes, Entry, Part, Text, Rodata, Data, Bss, Laid, In, In-append, In-map, In-one}
+use Rattle.std.specs.Prelude.{◌≡◌, ◌≤◌, ◌+◌, ◌*◌, ◌^◌, ◌%◌, ◌/◌, ◌∷◌, ◌++◌, ◌⊎◌, ◌||◌}
+use Rattle.cell_asm.proofs.Facts.{ℕ, zero, suc, Bool, true, false, List, [], length, inl, inr, pos, Some, None, refl, sym, subst, ap, ◌∙◌, length-append, arith, map, true≢false, or_right, and-false, w64, list_any, Option, FitsSigned, bytes_of, width_of, is_instruction, is_stacking, is_pcrel_lo12, is_pcrel_hi20, is_shared, is_clash, is_known_kind, marks_at, marks_of, appended, empty, entry_of, entries_of, marks_in, is_made, taken, takes, lays_nothing, RelKind, PcrelHi20, PcrelLo12I, PcrelLo12S, Mark, Block, Content, Code, Narrow, Wide, Fix, Piece, Statement, StatementZeros as Zeros, StatementAlign as Align, Bytes, Entry, Part, Text, Rodata, Data, Bss, Laid, In, In-append, In-map, In-one}
 use Rattle.cell_asm.proofs.ListLemmas.{Pairwise, pairwise_one, pairwise_join, itself, le_trans, least, not_less, same_test}
 
 abbrev pub is_code : Content → Bool

@@ -1,5 +1,6 @@
 -- What is known of names, after one more name, and behind one more line.
-use Rattle.cell_asm.proofs.Facts.{◌≡◌, ℕ, Bool, true, false, ◌||◌, List, [], ◌∷◌, ◌++◌, cond, find, map, Some, None, refl, sym, ap, ◌∙◌, append-nil, ◌+◌, add-zero, zero-add, suc, ◌<◌, length, drop, get_or, Bor, Result, Ok, Err, subst, add-one, ◌^◌, arith, append_assoc, ◌⊎◌, inl, inr, drop_more, length-map, map-append, flat_map-append, filter_map-append, filter-append, list_any-append, find-append, sum_by-append, fold-append, or-false, list_any, cons_option, option_or, option_map_or, Option, option_map, is_some, if◌then◌else◌, filter, flat_map, sum_by, fold, max, equals, where_true, holds_name, last, or_else, numbered_from, lines_in, Behind, add_line, with_line, placed_line, placed_texts, object_from, object_unless, has_lost, assembled, Assembles, placed_unless, placed_lines, spot_here, declares, spot_at, spot_among, names_in, grown_in, grown_with, bytes_laid, references_of, is_upper_at, Goes as GoesBehind, Places, failure, body_of, offset_of, twice_of, fault_after, laid_after, Adds, Follows, line_of, adds_choice, parts_of, alignment_asked, first_alignment, alignment, bytes_at, contents, global_name, globals, object_of, is_key, makes_label, own_key, made_key, keys_of, label, labels_at, labels, fault_at, is_at, is_in, choice, choices, taken, size_in, size_at, made_in, is_twice, placed, Part, Bss, Statement, StatementGlobal as Global, Laid, Label, AsmKindLabel, KeyNamed as Named, KeyMade as Made, Line, Progress, AsmKind, Stop, StopFault as Fault, StopOutOfMemory as OutOfMemory, Object, AsmFail, AsmFailFault as Faulty, AsmFailOutOfMemory as NoMemory, In, In-append, In-one}
+use Rattle.std.specs.Prelude.{◌≡◌, ◌||◌, ◌∷◌, ◌++◌, ◌+◌, ◌<◌, ◌^◌, ◌⊎◌, if◌then◌else◌}
+use Rattle.cell_asm.proofs.Facts.{ℕ, Bool, true, false, List, [], cond, find, map, Some, None, refl, sym, ap, ◌∙◌, append-nil, add-zero, zero-add, suc, length, drop, get_or, Bor, Result, Ok, Err, subst, add-one, arith, append_assoc, inl, inr, drop_more, length-map, map-append, flat_map-append, filter_map-append, filter-append, list_any-append, find-append, sum_by-append, fold-append, or-false, list_any, cons_option, option_or, option_map_or, Option, option_map, is_some, filter, flat_map, sum_by, fold, max, equals, where_true, holds_name, last, or_else, numbered_from, lines_in, Behind, add_line, with_line, placed_line, placed_texts, object_from, object_unless, has_lost, assembled, Assembles, placed_unless, placed_lines, spot_here, declares, spot_at, spot_among, names_in, grown_in, grown_with, bytes_laid, references_of, is_upper_at, Goes as GoesBehind, Places, failure, body_of, offset_of, twice_of, fault_after, laid_after, Adds, Follows, line_of, adds_choice, parts_of, alignment_asked, first_alignment, alignment, bytes_at, contents, global_name, globals, object_of, is_key, makes_label, own_key, made_key, keys_of, label, labels_at, labels, fault_at, is_at, is_in, choice, choices, taken, size_in, size_at, made_in, is_twice, placed, Part, Bss, Statement, StatementGlobal as Global, Laid, Label, AsmKindLabel, KeyNamed as Named, KeyMade as Made, Line, Progress, AsmKind, Stop, StopFault as Fault, StopOutOfMemory as OutOfMemory, Object, AsmFail, AsmFailFault as Faulty, AsmFailOutOfMemory as NoMemory, In, In-append, In-one}
 use Rattle.cell_asm.proofs.ListLemmas.{ok_once}
 use Rattle.cell_asm.proofs.ObjectLemmas.{same_part}
 

@@ -1,6 +1,7 @@
 -- A line that is read: its statement is good, and its names take no more bytes than its text and one.
 --     read_line text line
-use Rattle.cell_asm.proofs.Facts.{◌≡◌, ◌≤◌, ◌+◌, ◌-◌, ◌^◌, ℕ, suc, Bool, true, false, List, [], ◌∷◌, ◌++◌, map, take, drop, length, Result, Ok, Err, Some, None, refl, arith, Option, ◌==◌, if◌then◌else◌, nat_le, position_or_len, prefix_len, before_first, length-take, where_true, AsmKind, Directive, ExpressionName as Name, Whole, ImmediatePart as Part, Operand, OperandValue as Value, Statement, StatementChoose as Choose, StatementGlobal as Global, StatementZeros as Zeros, StatementAlign as Align, Line, with_value, is_name, label_names, statement_names, names_in, name, Row, directive, mnemonic, count, unit_of, unit, none, one, directed, worded, statement, is_inked, read_with, statement_in, spelled, operand_texts, first_word, after_word, has_label, label_name, labelled, line_of, code_of, operands}
+use Rattle.std.specs.Prelude.{◌≡◌, ◌≤◌, ◌+◌, ◌-◌, ◌^◌, ◌∷◌, ◌++◌, ◌==◌, if◌then◌else◌}
+use Rattle.cell_asm.proofs.Facts.{ℕ, suc, Bool, true, false, List, [], map, take, drop, length, Result, Ok, Err, Some, None, refl, arith, Option, nat_le, position_or_len, prefix_len, before_first, length-take, where_true, AsmKind, Directive, ExpressionName as Name, Whole, ImmediatePart as Part, Operand, OperandValue as Value, Statement, StatementChoose as Choose, StatementGlobal as Global, StatementZeros as Zeros, StatementAlign as Align, Line, with_value, is_name, label_names, statement_names, names_in, name, Row, directive, mnemonic, count, unit_of, unit, none, one, directed, worded, statement, is_inked, read_with, statement_in, spelled, operand_texts, first_word, after_word, has_label, label_name, labelled, line_of, code_of, operands}
 use Rattle.cell_asm.specs.declared.kind.AsmKind.TheVariants as faults
 use Rattle.cell_asm.specs.declared.mnemonic.Directive.TheVariants as directives
 use Rattle.cell_asm.proofs.ListLemmas.{take_le, drop_le, le_trans, itself, le_of}

@@ -1,5 +1,6 @@
 -- Sources, computed by the definitions.
-use Rattle.cell_asm.proofs.Facts.{◌≡◌, refl, ℕ, ℤ, pos, List, [], ◌∷◌, true, false, length, Result, Ok, Err, codes, join_with_byte, RelKind, Abs64, CallPlt, PcrelHi20, PcrelLo12I, Hi20, Add32, Sub32, Object, Section, Symbol, Entry, Local, BindGlobal as Global, NoType, Undef, Inside, Prog, Zero, AsmKind, assembled}
+use Rattle.std.specs.Prelude.{◌≡◌, ◌∷◌}
+use Rattle.cell_asm.proofs.Facts.{refl, ℕ, ℤ, pos, List, [], true, false, length, Result, Ok, Err, codes, join_with_byte, RelKind, Abs64, CallPlt, PcrelHi20, PcrelLo12I, Hi20, Add32, Sub32, Object, Section, Symbol, Entry, Local, BindGlobal as Global, NoType, Undef, Inside, Prog, Zero, AsmKind, assembled}
 use Rattle.cell_asm.specs.declared.kind.AsmKind.TheVariants as faults
 
 abbrev lines : List (List ℕ) → List ℕ

@@ -1,6 +1,7 @@
 -- How many bytes the names of a source's symbols take.
 --     symbols_cost source lines
-use Rattle.cell_asm.proofs.Facts.{◌≡◌, ℕ, suc, ◌+◌, ◌*◌, ◌≤◌, Bool, true, false, cond, not, List, [], ◌∷◌, ◌++◌, map, length, codes, Ok, Some, None, inl, inr, refl, subst, sym, ap, ◌∙◌, zero-add, true≢false, arith, ◌^◌, ◌<◌, replicate, ◌⊎◌, length-append, lit≤, and_parts, map-append, length-map, length-replicate, filter-append, sum_by-cons, Option, if◌then◌else◌, decimal, filter, is_none, sum_by, ◌==◌, IsWhole, is_pcrel_hi20, numbered_from, section_rows, local_count, offset_after, has_entries, content, symbols_part, table, own_names, table_name, names_before_tables, parts_before_tables, parts_before_strings, parts_before_names, onto, pieces, lines_in, placed_lines, globals, local_labels, label_names, mentions, other_names, key_name, symbols, parts_of, part_name, section_of, sections, entries, object_of, marks_in, is_same_part, is_at, is_in, placed, is_made, makes_label, may_stand, lays_nothing, taken, size_in, own_key, made_key, keys_of, label, labels_at, labels, is_key, holds_key, Symbol, Mark, Part, Text, Statement, Line, Laid, Label, Key, KeyNamed as Named, KeyMade as Made, Section, Entry, Object, Fill, Prog, Note, Zero, In-one, length-filter_le, In, In-left, filter-In, any-Has, any-In, In-append, In-filtered, In-map, In-numbered, get-In, names_in, nat_le, all-In}
+use Rattle.std.specs.Prelude.{◌≡◌, ◌+◌, ◌*◌, ◌≤◌, ◌∷◌, ◌++◌, ◌^◌, ◌<◌, ◌⊎◌, if◌then◌else◌, ◌==◌}
+use Rattle.cell_asm.proofs.Facts.{ℕ, suc, Bool, true, false, cond, not, List, [], map, length, codes, Ok, Some, None, inl, inr, refl, subst, sym, ap, ◌∙◌, zero-add, true≢false, arith, replicate, length-append, lit≤, and_parts, map-append, length-map, length-replicate, filter-append, sum_by-cons, Option, decimal, filter, is_none, sum_by, IsWhole, is_pcrel_hi20, numbered_from, section_rows, local_count, offset_after, has_entries, content, symbols_part, table, own_names, table_name, names_before_tables, parts_before_tables, parts_before_strings, parts_before_names, onto, pieces, lines_in, placed_lines, globals, local_labels, label_names, mentions, other_names, key_name, symbols, parts_of, part_name, section_of, sections, entries, object_of, marks_in, is_same_part, is_at, is_in, placed, is_made, makes_label, may_stand, lays_nothing, taken, size_in, own_key, made_key, keys_of, label, labels_at, labels, is_key, holds_key, Symbol, Mark, Part, Text, Statement, Line, Laid, Label, Key, KeyNamed as Named, KeyMade as Made, Section, Entry, Object, Fill, Prog, Note, Zero, In-one, length-filter_le, In, In-left, filter-In, any-Has, any-In, In-append, In-filtered, In-map, In-numbered, get-In, names_in, nat_le, all-In}
 use Rattle.cell_image.proofs.Headers.{rows_count}
 use Rattle.cell_image.proofs.Places.{even_length}
 use Rattle.cell_image.proofs.Stands.{entry_length}

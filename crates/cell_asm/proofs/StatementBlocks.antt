@@ -1,7 +1,8 @@
 -- The bytes of instructions and of numbers in lists, and the entries for them, from their operands.
 --     mnemonic_good text                            the row that is found is a good one
 --     instruction_good row os, numbers_good w os    good bytes, with names of the operands
-use Rattle.cell_asm.proofs.Facts.{Result, ◌≡◌, ◌≤◌, ◌<◌, ◌+◌, ◌%◌, ◌^◌, ℕ, Bool, true, false, ◌||◌, not, List, [], ◌∷◌, ◌++◌, length, ℤ, pos, negsuc, Ok, Err, Some, None, inl, inr, refl, sym, subst, ap, ◌∙◌, true≢false, append-nil, cond, arith, Option, if◌then◌else◌, nat_le, int_le, FitsSigned, ◌&&◌, flat_map, find, option_map, bytes_eq, list_any, list_all, option_map_or, w64, and_parts, or_from, or-false, nat_tests, flat_map-append, RelKind, PcrelHi20, PcrelLo12I, PcrelLo12S, Op, AsmKind, Then, Expression, ExpressionName as Name, Sum, Difference, Modifier, Whole, Hi, Lo, PcrelHi, PcrelLo, Immediate, Number, ImmediatePart as Part, Operand, OperandValue as Value, OperandMemory as Memory, Form, Address, Slot, Rd, Rs1, Rs2, Fields, Width, Byte, Half, WidthWord as Word, Quad, Content, Code, Mark, Block, Piece, Fix, TargetMade as Made, Field, Statement, Bytes, width_of, is_instruction, is_pcrel_lo12, is_pcrel_hi20, is_known_kind, with_value, marks_at, appended, empty, is_made, target_names, statement_names, is_bare, fix, within, entry, fitting, kind_of, plain, under, field, value, Row, row_of, mnemonics, mnemonic, unfilled, put, miscounted, filled, made_fix, block, instruction, layout_of, stored, datum, numbers, In, all-In, any-Has}
+use Rattle.std.specs.Prelude.{◌≡◌, ◌≤◌, ◌<◌, ◌+◌, ◌%◌, ◌^◌, ◌||◌, ◌∷◌, ◌++◌, if◌then◌else◌, ◌&&◌}
+use Rattle.cell_asm.proofs.Facts.{Result, ℕ, Bool, true, false, not, List, [], length, ℤ, pos, negsuc, Ok, Err, Some, None, inl, inr, refl, sym, subst, ap, ◌∙◌, true≢false, append-nil, cond, arith, Option, nat_le, int_le, FitsSigned, flat_map, find, option_map, bytes_eq, list_any, list_all, option_map_or, w64, and_parts, or_from, or-false, nat_tests, flat_map-append, RelKind, PcrelHi20, PcrelLo12I, PcrelLo12S, Op, AsmKind, Then, Expression, ExpressionName as Name, Sum, Difference, Modifier, Whole, Hi, Lo, PcrelHi, PcrelLo, Immediate, Number, ImmediatePart as Part, Operand, OperandValue as Value, OperandMemory as Memory, Form, Address, Slot, Rd, Rs1, Rs2, Fields, Width, Byte, Half, WidthWord as Word, Quad, Content, Code, Mark, Block, Piece, Fix, TargetMade as Made, Field, Statement, Bytes, width_of, is_instruction, is_pcrel_lo12, is_pcrel_hi20, is_known_kind, with_value, marks_at, appended, empty, is_made, target_names, statement_names, is_bare, fix, within, entry, fitting, kind_of, plain, under, field, value, Row, row_of, mnemonics, mnemonic, unfilled, put, miscounted, filled, made_fix, block, instruction, layout_of, stored, datum, numbers, In, all-In, any-Has}
 use Rattle.cell_asm.specs.declared.kind.AsmKind.TheVariants as faults
 use Rattle.cell_asm.specs.declared.mnemonic.Slot.TheVariants as slots
 use Rattle.cell_asm.specs.Wanted.{register, memory}

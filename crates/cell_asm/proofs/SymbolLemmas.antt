@@ -1,7 +1,8 @@
 -- The symbols of an object, and their numbers.
 --     added            a map from keys, after one more key
 --     all_symbols      the symbols that are made are those of the lines
-use Rattle.cell_asm.proofs.Facts.{◌≡◌, ℕ, ◌==◌, Bool, true, false, cond, List, Some, None, refl, ap, sym, ◌∙◌, arith, ◌||◌, not, [], ◌∷◌, ◌++◌, map, subst, ◌+◌, length, is_some, append_assoc, nat_tests, length_push, map-append, list_any-append, get, list_any, option_map_or, nat_cmp, is_eq, Option, option_map, if◌then◌else◌, filter, fold, equals, or_else, where_true, holds_name, known, spot_at, Follows, is_global_in, locals_in, number_of, has_key, keys_with, mentioned, home_in, symbol_in, other_in, local_in, Lists, Mentions, is_global, globals, local_labels, adds_name, other_names, mentions, home_at, label_named, number_in, number_from, symbol, global_symbol, local_symbol, symbols, symbol_keys, key_name, is_key, labels, holds_key, Key, KeyNamed as Named, KeyMade as Made, Numbering, Symbol, Local, Inside, Laid, Label, Spot, Progress, Symbols, Bind, BindGlobal as Global, NoType, Home, map_same, fold_same, filter_same}
+use Rattle.std.specs.Prelude.{◌≡◌, ◌==◌, ◌||◌, ◌∷◌, ◌++◌, ◌+◌, if◌then◌else◌}
+use Rattle.cell_asm.proofs.Facts.{ℕ, Bool, true, false, cond, List, Some, None, refl, ap, sym, ◌∙◌, arith, not, [], map, subst, length, is_some, append_assoc, nat_tests, length_push, map-append, list_any-append, get, list_any, option_map_or, nat_cmp, is_eq, Option, option_map, filter, fold, equals, or_else, where_true, holds_name, known, spot_at, Follows, is_global_in, locals_in, number_of, has_key, keys_with, mentioned, home_in, symbol_in, other_in, local_in, Lists, Mentions, is_global, globals, local_labels, adds_name, other_names, mentions, home_at, label_named, number_in, number_from, symbol, global_symbol, local_symbol, symbols, symbol_keys, key_name, is_key, labels, holds_key, Key, KeyNamed as Named, KeyMade as Made, Numbering, Symbol, Local, Inside, Laid, Label, Spot, Progress, Symbols, Bind, BindGlobal as Global, NoType, Home, map_same, fold_same, filter_same}
 use Rattle.cell_asm.proofs.ListLemmas.{number_more, numbered_if}
 
 pub or_none : {X : Type 0} (o : Option X) → or_else o None ≡ o

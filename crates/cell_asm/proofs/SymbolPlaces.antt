@@ -1,6 +1,7 @@
 -- No two labels have the same key.
 --     labels_once source lines      two labels of the lines with the same key are one
-use Rattle.cell_asm.proofs.Facts.{◌≡◌, ℕ, ◌+◌, ◌≤◌, ◌==◌, Bool, true, false, List, [], ◌∷◌, ◌++◌, ◌⊎◌, inl, inr, Ok, Some, None, refl, sym, ap, subst, ◌∙◌, zero-add, true≢false, arith, zero, suc, ◌-◌, ◌||◌, not, map, length, slice_get, and_right, slice_get_within, bytes_eq-Decides, list_any, option_map_or, unwrap_or, Option, if◌then◌else◌, is_some, filter, find, fold, bytes_eq, equals, is_unusable_symbol, is_unusable, lines_in, placed_lines, part_number, is_global, globals, local_labels, mentions, adds_name, other_names, label_named, home_at, local_symbol, global_symbol, symbols, symbol_keys, number_from, symbol_number, makes_label, made_in, placed, own_key, keys_of, label, labels_at, labels, is_twice, is_key, holds_key, Part, Laid, Label, Key, KeyNamed as Named, KeyMade as Made, Symbol, Inside, In-one, In, In-map, any-In, In-left, In-right, In-filtered, filter-In, found-In, find_there, any-Has, map-In, none-In, ne_eqb, or_from, list_any-append, ◌<◌}
+use Rattle.std.specs.Prelude.{◌≡◌, ◌+◌, ◌≤◌, ◌==◌, ◌∷◌, ◌++◌, ◌⊎◌, ◌-◌, ◌||◌, if◌then◌else◌, ◌<◌}
+use Rattle.cell_asm.proofs.Facts.{ℕ, Bool, true, false, List, [], inl, inr, Ok, Some, None, refl, sym, ap, subst, ◌∙◌, zero-add, true≢false, arith, zero, suc, not, map, length, slice_get, and_right, slice_get_within, bytes_eq-Decides, list_any, option_map_or, unwrap_or, Option, is_some, filter, find, fold, bytes_eq, equals, is_unusable_symbol, is_unusable, lines_in, placed_lines, part_number, is_global, globals, local_labels, mentions, adds_name, other_names, label_named, home_at, local_symbol, global_symbol, symbols, symbol_keys, number_from, symbol_number, makes_label, made_in, placed, own_key, keys_of, label, labels_at, labels, is_twice, is_key, holds_key, Part, Laid, Label, Key, KeyNamed as Named, KeyMade as Made, Symbol, Inside, In-one, In, In-map, any-In, In-left, In-right, In-filtered, filter-In, found-In, find_there, any-Has, map-In, none-In, ne_eqb, or_from, list_any-append}
 use Rattle.cell_num.specs.Lists.{each_pair}
 use Rattle.cell_num.proofs.Elements.{pairs-In}
 use Rattle.cell_num.proofs.Sublists.{pairs-append}

@@ -1,5 +1,6 @@
 -- Each line stands in a section that is chosen.
-use Rattle.cell_asm.proofs.Facts.{◌≡◌, ℕ, ◌+◌, ◌≤◌, List, [], ◌∷◌, ◌++◌, inl, inr, Ok, Some, None, refl, sym, subst, ◌∙◌, arith, true, Bool, false, ◌⊎◌, ap, suc, ◌^◌, ◌<◌, not, ◌&&◌, ◌||◌, map, length, take, slice_get, append-nil, true≢false, or_from, length-map, take-map, filter_map-append, filter-append, list_any-append, slice_get_within, list_any, option_map_or, Option, filter, bytes_eq, IsWithin, IsWritableHome, IsWritableSymbol, last, equals, local_count, defines, IsPlain, lines_in, placed_lines, is_name, parts_of, key_name, label_names, mentions, statement_names, part_number, section_of, sections, globals, local_labels, other_names, label_named, home_at, local_symbol, global_symbol, symbols, object_of, is_same_part, is_at, is_in, choice, choices, size_in, placed, keys_of, labels_at, labels, holds_key, is_key, Part, Laid, Key, KeyNamed as Named, Label, Symbol, In, In-map, In-none, filter_all, filter_none, In-left, In-flat_map, In-filtered, filter-In, found-In, get-In, names_in, makes_label, own_key, KeyMade as Made, In-one, if◌then◌else◌}
+use Rattle.std.specs.Prelude.{◌≡◌, ◌+◌, ◌≤◌, ◌∷◌, ◌++◌, ◌⊎◌, ◌^◌, ◌<◌, ◌&&◌, ◌||◌, if◌then◌else◌}
+use Rattle.cell_asm.proofs.Facts.{ℕ, List, [], inl, inr, Ok, Some, None, refl, sym, subst, ◌∙◌, arith, true, Bool, false, ap, suc, not, map, length, take, slice_get, append-nil, true≢false, or_from, length-map, take-map, filter_map-append, filter-append, list_any-append, slice_get_within, list_any, option_map_or, Option, filter, bytes_eq, IsWithin, IsWritableHome, IsWritableSymbol, last, equals, local_count, defines, IsPlain, lines_in, placed_lines, is_name, parts_of, key_name, label_names, mentions, statement_names, part_number, section_of, sections, globals, local_labels, other_names, label_named, home_at, local_symbol, global_symbol, symbols, object_of, is_same_part, is_at, is_in, choice, choices, size_in, placed, keys_of, labels_at, labels, holds_key, is_key, Part, Laid, Key, KeyNamed as Named, Label, Symbol, In, In-map, In-none, filter_all, filter_none, In-left, In-flat_map, In-filtered, filter-In, found-In, get-In, names_in, makes_label, own_key, KeyMade as Made, In-one}
 use Rattle.std.proofs.Math.Seq.{take-append-add}
 use Rattle.cell_object.specs.Parts.{is_global, is_local}
 use Rattle.cell_object.specs.declared.object.Bind.TheVariants as binds

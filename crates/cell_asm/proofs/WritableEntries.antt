@@ -2,7 +2,8 @@
 --     part_numbered        the n-th section that is chosen has the number n + 1
 --     entries_of_part      its entries are those with its number
 --     entries_grouped      all entries are those of the first section, of the second, and so on
-use Rattle.cell_asm.proofs.Facts.{◌≡◌, ℕ, zero, suc, ◌+◌, ◌<◌, ◌==◌, Bool, true, false, ◌||◌, not, cond, List, [], ◌∷◌, ◌++◌, inl, map, length, slice_get, Ok, Some, None, refl, sym, ap, ◌∙◌, append-nil, one-add, true≢false, arith, pos, ◌&&◌, subst, int_eq, ◌%◌, ◌^◌, ◌≤◌, take, and_parts, and_from, not-false, lt-ltb, ne_eqb, and-false, nat_tests, filter-append, slice_get_within, list_any, position_or_len, option_map_or, filter, flat_map, Option, find, IsStorable, IsWritableEntry, is_instruction, is_pcrel_lo12, is_pcrel_hi20, numbered_from, is_unpaired, is_unusable, placed_lines, has_upper, is_upper_label, is_lost, is_lost_mark, has_lost, parts_of, part_number, section_of, sections, entries_in, entries, label_named, entries_of, target_names, statement_names, label_names, mentions, symbols, symbol_number, target_key, entry_of, fill_of, is_text, object_of, marks_in, is_same_part, is_in, choices, may_stand, is_made, own_key, made_key, keys_of, label, labels_at, labels, is_key, Entry, Part, Laid, Inside, Text, Target, Mark, Statement, Bytes, Label, Key, KeyNamed as Named, KeyMade as Made, Section, Zero, Bss, In, map-In, In-right, filter-In, flat_map-In, unfound-In, found-In, any-Has, any-In, none-In, In-flat_map, get-In, filter_all, filter_none, In-none, is_clash}
+use Rattle.std.specs.Prelude.{◌≡◌, ◌+◌, ◌<◌, ◌==◌, ◌||◌, ◌∷◌, ◌++◌, ◌&&◌, ◌%◌, ◌^◌, ◌≤◌}
+use Rattle.cell_asm.proofs.Facts.{ℕ, zero, suc, Bool, true, false, not, cond, List, [], inl, map, length, slice_get, Ok, Some, None, refl, sym, ap, ◌∙◌, append-nil, one-add, true≢false, arith, pos, subst, int_eq, take, and_parts, and_from, not-false, lt-ltb, ne_eqb, and-false, nat_tests, filter-append, slice_get_within, list_any, position_or_len, option_map_or, filter, flat_map, Option, find, IsStorable, IsWritableEntry, is_instruction, is_pcrel_lo12, is_pcrel_hi20, numbered_from, is_unpaired, is_unusable, placed_lines, has_upper, is_upper_label, is_lost, is_lost_mark, has_lost, parts_of, part_number, section_of, sections, entries_in, entries, label_named, entries_of, target_names, statement_names, label_names, mentions, symbols, symbol_number, target_key, entry_of, fill_of, is_text, object_of, marks_in, is_same_part, is_in, choices, may_stand, is_made, own_key, made_key, keys_of, label, labels_at, labels, is_key, Entry, Part, Laid, Inside, Text, Target, Mark, Statement, Bytes, Label, Key, KeyNamed as Named, KeyMade as Made, Section, Zero, Bss, In, map-In, In-right, filter-In, flat_map-In, unfound-In, found-In, any-Has, any-In, none-In, In-flat_map, get-In, filter_all, filter_none, In-none, is_clash}
 use Rattle.cell_object.specs.ImageParts.{entries_for}
 use Rattle.cell_object.specs.Relocations.{has_label}
 use Rattle.cell_asm.specs.declared.statement.Target.TheVariants as targets

@@ -1,6 +1,7 @@
 -- What a source is assembled to.
 --     assembled source      its object, or the number of a line and what is wrong with it
-use Rattle.cell_asm.specs.Types.{◌≡◌, ℕ, ◌==◌, Bool, false, not, ◌&&◌, List, [], ◌∷◌, ◌++◌, Option, Some, None, Result, Ok, Err, find, fold, list_any, option_map_or, numbered_from, is_pcrel_lo12, is_pcrel_hi20, lines_in, Object, AsmKind, AsmFail, AsmFailFault as Fault, AsmFailOutOfMemory as OutOfMemory, Text, Target, TargetNamed as Named, TargetMade as Made, Mark, Line, Laid, Label}
+use Rattle.std.specs.Prelude.{◌≡◌, ◌==◌, ◌&&◌, ◌∷◌, ◌++◌}
+use Rattle.cell_asm.specs.Types.{ℕ, Bool, false, not, List, [], Option, Some, None, Result, Ok, Err, find, fold, list_any, option_map_or, numbered_from, is_pcrel_lo12, is_pcrel_hi20, lines_in, Object, AsmKind, AsmFail, AsmFailFault as Fault, AsmFailOutOfMemory as OutOfMemory, Text, Target, TargetNamed as Named, TargetMade as Made, Mark, Line, Laid, Label}
 use Rattle.cell_asm.specs.declared.kind.AsmKind.TheVariants as kinds
 use Rattle.cell_asm.specs.Lines.{line_of}
 use Rattle.cell_asm.specs.Places.{marks_in, is_in, is_same_part, placed, fault_at}

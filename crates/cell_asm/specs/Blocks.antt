@@ -1,6 +1,7 @@
 -- The bytes of pieces, one behind the other, and where in them their entries stand.
 --     appended b p      one piece more
-use Rattle.cell_asm.specs.Types.{ℕ, List, [], ◌∷◌, ◌++◌, length, Option, Some, None, bytes_of, Fix, Piece, Mark, Block, Draft}
+use Rattle.std.specs.Prelude.{◌∷◌, ◌++◌}
+use Rattle.cell_asm.specs.Types.{ℕ, List, [], length, Option, Some, None, bytes_of, Fix, Piece, Mark, Block, Draft}
 
 -- an entry at a place
 abbrev pub marks_at : ℕ → Option Fix → List Mark

@@ -2,7 +2,8 @@
 --     earlier j k           the earlier of two faults
 --     both a b              the two values, or the earlier fault
 --     gathered f a xs       what f makes of a and all values, one after the other; or the earliest fault
-use Rattle.cell_asm.specs.Types.{ℕ, nat_le, List, fold, if◌then◌else◌, Result, Ok, Err, ◌≡◌, AsmKind, AsmKindWord as Word, AsmKindOperand as Operand, Range, AsmKindSection as Section, Twice, AsmKindLabel as Label, Long, Stop, StopFault as Fault, StopOutOfMemory as OutOfMemory}
+use Rattle.std.specs.Prelude.{if◌then◌else◌, ◌≡◌}
+use Rattle.cell_asm.specs.Types.{ℕ, nat_le, List, fold, Result, Ok, Err, AsmKind, AsmKindWord as Word, AsmKindOperand as Operand, Range, AsmKindSection as Section, Twice, AsmKindLabel as Label, Long, Stop, StopFault as Fault, StopOutOfMemory as OutOfMemory}
 
 -- the place in that order; Label, which no line is tested for before all lines are read, stands last
 abbrev pub rank : AsmKind → ℕ

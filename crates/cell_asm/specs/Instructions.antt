@@ -1,8 +1,8 @@
 -- The bytes of an instruction from its operands, and the entries for them.
 --     instruction row operands      its block, or the earliest fault of the operands
 -- An operand that lacks, or one too many, is a fault of the kind Operand; each operand that has a slot is read.
-use Rattle.cell_asm.specs.Types.{ℕ, Bool, List, [], ◌∷◌, Option, Some, None, ℤ, pos, Result, Ok, Err, Op, PcrelLo12I, AsmKind, Then, Fixed, Operand, Slot, Rd, Rs1, Rs2, SlotValue as Value, SlotMemory as Memory, Fields, TargetMade as Made, Block, Piece, Fix}
-use Rattle.std.specs.Prelude.{unwrap_or}
+use Rattle.cell_asm.specs.Types.{ℕ, Bool, List, [], Option, Some, None, ℤ, pos, Result, Ok, Err, Op, PcrelLo12I, AsmKind, Then, Fixed, Operand, Slot, Rd, Rs1, Rs2, SlotValue as Value, SlotMemory as Memory, Fields, TargetMade as Made, Block, Piece, Fix}
+use Rattle.std.specs.Prelude.{unwrap_or, ◌∷◌}
 use Rattle.std.specs.Bool.{then_some}
 use Rattle.cell_isa.specs.Instruction.{encode}
 use Rattle.cell_asm.specs.declared.kind.AsmKind.TheVariants as faults

@@ -13,4 +13,3 @@ pub mod Objects
 pub mod Progress
 pub mod Numberings
 pub mod Assembled
-pub mod Words

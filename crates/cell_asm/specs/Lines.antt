@@ -1,6 +1,7 @@
 -- A line of a source.
 --     line_of text      its label and its statement, or the earliest fault of their words and operands
-use Rattle.cell_asm.specs.Types.{ℕ, ◌==◌, ◌-◌, Bool, ◌||◌, not, List, [], ◌∷◌, ◌++◌, map, take, drop, length, codes, Option, Some, None, ok_or, if◌then◌else◌, Result, Ok, Err, before_first, prefix_len, suffix_len, take_while, slice_split, where_true, AsmKind, AsmKindWord as Word, Operand, Statement, Nothing, Line}
+use Rattle.std.specs.Prelude.{◌==◌, ◌-◌, ◌||◌, ◌∷◌, ◌++◌, if◌then◌else◌}
+use Rattle.cell_asm.specs.Types.{ℕ, Bool, not, List, [], map, take, drop, length, codes, Option, Some, None, ok_or, Result, Ok, Err, before_first, prefix_len, suffix_len, take_while, slice_split, where_true, AsmKind, AsmKindWord as Word, Operand, Statement, Nothing, Line}
 use Rattle.cell_asm.specs.Faults.{with_value, gathered}
 use Rattle.cell_asm.specs.Names.{is_name, ends}
 use Rattle.cell_asm.specs.Operands.{operand}

@@ -1,6 +1,7 @@
 -- Numbers as a source spells them.
 --     number text       the number that the text spells: decimal, with a minus or without; or `0x` and lower-case hex
-use Rattle.cell_asm.specs.Types.{ℕ, ◌+◌, ◌%◌, ◌^◌, nat_lt, nat_le, nat_eq, Bool, ◌&&◌, ◌||◌, not, List, drop, codes, Option, option_map, if◌then◌else◌, ℤ, pos, neg_ℤ, false, ◌==◌, [], ◌∷◌, length, None, position, bytes_eq, list_all, starts_with, ends_with, where_true, or_else, is_filled}
+use Rattle.std.specs.Prelude.{◌+◌, ◌%◌, ◌^◌, ◌&&◌, ◌||◌, if◌then◌else◌, ◌==◌, ◌∷◌}
+use Rattle.cell_asm.specs.Types.{ℕ, nat_lt, nat_le, nat_eq, Bool, not, List, drop, codes, Option, option_map, ℤ, pos, neg_ℤ, false, [], length, None, position, bytes_eq, list_all, starts_with, ends_with, where_true, or_else, is_filled}
 use Rattle.std.specs.Char.{is_ascii_digit}
 use Rattle.std.specs.Str.Parse.{digits_value}
 use Rattle.cell_text.specs.Number.{is_canonical, has_leading_zero, number_in}

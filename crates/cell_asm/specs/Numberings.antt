@@ -2,7 +2,8 @@
 --     section_kept parts bodies part       a section
 --     Mentions symbols kept names          the symbols are those of the LOCAL labels, and then of these names
 --     part_entries kept symbols part       the entries of a section
-use Rattle.cell_asm.specs.Types.{◌≡◌, ℕ, Bool, List, [], ◌∷◌, ◌++◌, map, length, Option, Some, None, is_some, if◌then◌else◌, false, not, filter, get, list_any, option_map_or, unwrap_or, nat_cmp, Section, Symbol, Bind, Local, BindGlobal as Global, Home, Undef, Inside, Entry, Part, Bodies, Reference, Key, KeyNamed as Named, KeyMade as Made, Label, Numbering, Spot, Known, Progress, Symbols}
+use Rattle.std.specs.Prelude.{◌≡◌, ◌∷◌, ◌++◌, if◌then◌else◌}
+use Rattle.cell_asm.specs.Types.{ℕ, Bool, List, [], map, length, Option, Some, None, is_some, false, not, filter, get, list_any, option_map_or, unwrap_or, nat_cmp, Section, Symbol, Bind, Local, BindGlobal as Global, Home, Undef, Inside, Entry, Part, Bodies, Reference, Key, KeyNamed as Named, KeyMade as Made, Label, Numbering, Spot, Known, Progress, Symbols}
 use Rattle.cell_asm.specs.Places.{is_key, is_at}
 use Rattle.cell_asm.specs.Objects.{number_in, number_from, section_of, symbol}
 use Rattle.cell_asm.specs.Progress.{known, spot_at, body_of}

@@ -1,5 +1,6 @@
 -- The object of the lines in their places: sections, symbols and entries.
-use Rattle.cell_asm.specs.Types.{ℕ, suc, ◌+◌, ◌/◌, max, Bool, true, false, not, List, [], ◌∷◌, ◌++◌, map, codes, decimal, Option, Some, None, if◌then◌else◌, filter, filter_map, flat_map, find, position, fold, replicate, list_any, cons_option, option_map_or, unwrap_or, holds_name, bytes_of, Object, Section, Symbol, Entry, Fill, Prog, Zero, Bind, Local, NoType, Home, Undef, Inside, Part, Text, Rodata, Data, Bss, Target, Mark, Statement, StatementGlobal as Global, StatementZeros as Zeros, StatementAlign as Align, Bytes, Laid, Key, KeyNamed as Named, KeyMade as Made, Label}
+use Rattle.std.specs.Prelude.{◌+◌, ◌/◌, ◌∷◌, ◌++◌, if◌then◌else◌}
+use Rattle.cell_asm.specs.Types.{ℕ, suc, max, Bool, true, false, not, List, [], map, codes, decimal, Option, Some, None, filter, filter_map, flat_map, find, position, fold, replicate, list_any, cons_option, option_map_or, unwrap_or, holds_name, bytes_of, Object, Section, Symbol, Entry, Fill, Prog, Zero, Bind, Local, NoType, Home, Undef, Inside, Part, Text, Rodata, Data, Bss, Target, Mark, Statement, StatementGlobal as Global, StatementZeros as Zeros, StatementAlign as Align, Bytes, Laid, Key, KeyNamed as Named, KeyMade as Made, Label}
 use Rattle.cell_object.specs.declared.object.Bind.TheVariants as binds
 use Rattle.cell_asm.specs.declared.statement.Target.TheVariants as targets
 use Rattle.cell_asm.specs.Places.{marks_in, is_same_part, is_in, is_key, holds_key, choice, choices, gap, size_in, labels}

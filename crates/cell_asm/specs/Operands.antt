@@ -2,7 +2,8 @@
 --     expression text       NAME, NAME+N, NAME-N or NAME-NAME
 --     immediate text        a number, or %word(EXPR)
 --     operand text          one of these, or I(reg)
-use Rattle.cell_asm.specs.Types.{ℕ, Bool, ◌||◌, ◌==◌, ◌-◌, List, [], ◌∷◌, take, drop, length, codes, Option, Some, None, option_map, option_and_then, if◌then◌else◌, neg_ℤ, position_or_len, before_last, after_last, where_true, or_else, Expression, ExpressionName as Name, Sum, Difference, Modifier, Whole, Hi, Lo, PcrelHi, PcrelLo, Immediate, Number, ImmediatePart as Part, Operand, OperandValue as Value, OperandMemory as Memory}
+use Rattle.std.specs.Prelude.{◌||◌, ◌==◌, ◌-◌, ◌∷◌, if◌then◌else◌}
+use Rattle.cell_asm.specs.Types.{ℕ, Bool, List, [], take, drop, length, codes, Option, Some, None, option_map, option_and_then, neg_ℤ, position_or_len, before_last, after_last, where_true, or_else, Expression, ExpressionName as Name, Sum, Difference, Modifier, Whole, Hi, Lo, PcrelHi, PcrelLo, Immediate, Number, ImmediatePart as Part, Operand, OperandValue as Value, OperandMemory as Memory}
 use Rattle.cell_asm.specs.Mnemonics.{row_of}
 use Rattle.cell_asm.specs.Names.{number, is_name, register, ends}
 

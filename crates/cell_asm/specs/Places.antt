@@ -1,7 +1,8 @@
 -- Where a line stands, by the lines before it; and what is wrong with it there.
 --     placed before n line      the line with its number, section and offset
 --     fault_at before line      the first of Section, Twice, Long that it has there
-use Rattle.cell_asm.specs.Types.{ℕ, ◌+◌, ◌-◌, ◌%◌, nat_lt, nat_le, ◌==◌, Bool, true, false, not, ◌&&◌, List, [], ◌∷◌, ◌++◌, map, Option, Some, None, is_none, if◌then◌else◌, filter, filter_map, flat_map, sum_by, count_by, length, list_any, equals, last, where_true, or_else, AsmKind, AsmKindSection as Section, Twice, Long, Part, Text, Rodata, Data, Bss, Code, Narrow, Target, TargetNamed as Name, TargetMade as Made, Mark, Statement, Nothing, StatementChoose as Choose, StatementGlobal as Global, StatementZeros as Zeros, StatementAlign as Align, Bytes, Line, Laid, Key, KeyNamed as Named, KeyMade, Label}
+use Rattle.std.specs.Prelude.{◌+◌, ◌-◌, ◌%◌, ◌==◌, ◌&&◌, ◌∷◌, ◌++◌, if◌then◌else◌}
+use Rattle.cell_asm.specs.Types.{ℕ, nat_lt, nat_le, Bool, true, false, not, List, [], map, Option, Some, None, is_none, filter, filter_map, flat_map, sum_by, count_by, length, list_any, equals, last, where_true, or_else, AsmKind, AsmKindSection as Section, Twice, Long, Part, Text, Rodata, Data, Bss, Code, Narrow, Target, TargetNamed as Name, TargetMade as Made, Mark, Statement, Nothing, StatementChoose as Choose, StatementGlobal as Global, StatementZeros as Zeros, StatementAlign as Align, Bytes, Line, Laid, Key, KeyNamed as Named, KeyMade, Label}
 
 abbrev pub is_same_part : Part → Part → Bool
 is_same_part Text Text = true

@@ -1,7 +1,8 @@
 -- What is kept while lines are put in their places.
 --     known names q              what is kept for the name
 --     Follows progress lines     what is kept is what the lines so far come to
-use Rattle.cell_asm.specs.Types.{◌≡◌, ℕ, ◌+◌, ◌<◌, ◌≤◌, ◌^◌, max, ◌==◌, Bool, false, not, ◌&&◌, ◌||◌, List, ◌++◌, ◌∷◌, [], map, All, Option, Some, None, option_map, is_some, find, flat_map, if◌then◌else◌, Result, Ok, Err, get_by, list_any, option_map_or, nat_cmp, is_pcrel_lo12, equals, where_true, holds_name, last, or_else, Part, Text, Rodata, Data, Bss, Statement, StatementGlobal as Global, Line, Laid, Label, Key, KeyNamed as Named, KeyMade as Made, Mark, Spot, Known, Body, Bodies, Reference, AsmKind, Progress, AsmFail, AsmFailFault as Fault, AsmFailOutOfMemory as OutOfMemory, Stop, StopFault as Stopped, StopOutOfMemory as NoMemory}
+use Rattle.std.specs.Prelude.{◌≡◌, ◌+◌, ◌<◌, ◌≤◌, ◌^◌, ◌==◌, ◌&&◌, ◌||◌, ◌++◌, ◌∷◌, if◌then◌else◌}
+use Rattle.cell_asm.specs.Types.{ℕ, max, Bool, false, not, List, [], map, All, Option, Some, None, option_map, is_some, find, flat_map, Result, Ok, Err, get_by, list_any, option_map_or, nat_cmp, is_pcrel_lo12, equals, where_true, holds_name, last, or_else, Part, Text, Rodata, Data, Bss, Statement, StatementGlobal as Global, Line, Laid, Label, Key, KeyNamed as Named, KeyMade as Made, Mark, Spot, Known, Body, Bodies, Reference, AsmKind, Progress, AsmFail, AsmFailFault as Fault, AsmFailOutOfMemory as OutOfMemory, Stop, StopFault as Stopped, StopOutOfMemory as NoMemory}
 use Rattle.std.specs.BTreeSet.{contains}
 use Rattle.std.specs.Cmp.Lexicographic.{slice_cmp}
 use Rattle.cell_asm.specs.Places.{marks_in, is_key, keys_of, labels_at, labels, choices, choice, size_in, made_in, is_in, taken, makes_label, fault_by, is_same_part}

@@ -1,6 +1,7 @@
 -- What a statement says, from its word and its operands.
 --     statement word operands      the statement, or the earliest fault
-use Rattle.cell_asm.specs.Types.{ℕ, ◌^◌, ◌*◌, ◌-◌, nat_le, List, [], ◌∷◌, map, Option, Some, None, if◌then◌else◌, ℤ, pos, negsuc, Result, Ok, Err, modulo_2, RelKind, AsmKind, Width, Byte, Half, WidthWord as Word, Quad, Directive, Difference, Whole, Number, ImmediatePart as Part, Operand, OperandValue as Value, Content, Code, Narrow, Wide, Block, Piece, Fix, Statement, StatementChoose as Choose, StatementGlobal as Global, StatementZeros as Zeros, StatementAlign as Align, Bytes, Layout}
+use Rattle.std.specs.Prelude.{◌^◌, ◌*◌, ◌-◌, ◌∷◌, if◌then◌else◌}
+use Rattle.cell_asm.specs.Types.{ℕ, nat_le, List, [], map, Option, Some, None, ℤ, pos, negsuc, Result, Ok, Err, modulo_2, RelKind, AsmKind, Width, Byte, Half, WidthWord as Word, Quad, Directive, Difference, Whole, Number, ImmediatePart as Part, Operand, OperandValue as Value, Content, Code, Narrow, Wide, Block, Piece, Fix, Statement, StatementChoose as Choose, StatementGlobal as Global, StatementZeros as Zeros, StatementAlign as Align, Bytes, Layout}
 use Rattle.cell_num.specs.declared.kinds.RelKind.TheVariants as kinds
 use Rattle.cell_asm.specs.declared.kind.AsmKind.TheVariants as faults
 use Rattle.cell_asm.specs.declared.mnemonic.Directive.TheVariants as directives

@@ -2,7 +2,8 @@
 --     register o, name o         a register, a name
 --     value form o               what stands for an immediate: a number that fits, or an entry over 0
 --     memory form o              I(rs1)
-use Rattle.cell_asm.specs.Types.{ℕ, ◌&&◌, Bool, true, false, List, Option, Some, None, ok_or, if◌then◌else◌, ℤ, pos, negsuc, int_le, Result, Ok, Err, RelKind, Hi20, Lo12I, Lo12S, PcrelHi20, PcrelLo12I, PcrelLo12S, CallPlt, AsmKind, Expression, ExpressionName as Name, Sum, Difference, Modifier, Whole, Hi, Lo, PcrelHi, PcrelLo, Immediate, Number, ImmediatePart as Part, Operand, OperandValue as Value, OperandMemory as Memory, Form, Low, LowStore, FormUpper as Upper, FormUpperPcrel as UpperPcrel, FormShift as Shift, FormShiftWord as ShiftWord, Small, FormBranch as Branch, FormJump as Jump, FormCall as Call, Address, TargetNamed as Named, Fix, Field}
+use Rattle.std.specs.Prelude.{◌&&◌, if◌then◌else◌}
+use Rattle.cell_asm.specs.Types.{ℕ, Bool, true, false, List, Option, Some, None, ok_or, ℤ, pos, negsuc, int_le, Result, Ok, Err, RelKind, Hi20, Lo12I, Lo12S, PcrelHi20, PcrelLo12I, PcrelLo12S, CallPlt, AsmKind, Expression, ExpressionName as Name, Sum, Difference, Modifier, Whole, Hi, Lo, PcrelHi, PcrelLo, Immediate, Number, ImmediatePart as Part, Operand, OperandValue as Value, OperandMemory as Memory, Form, Low, LowStore, FormUpper as Upper, FormUpperPcrel as UpperPcrel, FormShift as Shift, FormShiftWord as ShiftWord, Small, FormBranch as Branch, FormJump as Jump, FormCall as Call, Address, TargetNamed as Named, Fix, Field}
 use Rattle.cell_num.specs.declared.kinds.RelKind.TheVariants as kinds
 use Rattle.cell_asm.specs.declared.kind.AsmKind.TheVariants as faults
 use Rattle.cell_asm.specs.Faults.{with_value}

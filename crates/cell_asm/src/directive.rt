@@ -1,7 +1,10 @@
 //! What a directive says, from its operands.
 
-ghost use Rattle.cell_asm.specs.Words.{◌≡◌, ◌≤◌, ◌<◌, IfOk, Gives, joined, with_value, layout as layout_by, layout_of as layout_with, stored as stored_of, datum as datum_of, numbers as numbers_of, count as count_of, unit as unit_of, directed as directed_of, appended, drafted, modulo_2};
-ghost use Rattle.cell_asm.specs.Statements.{filled as filled_of};
+ghost use Rattle.std.specs.Prelude.{◌≡◌, ◌≤◌, ◌<◌, IfOk};
+ghost use Rattle.cell_asm.specs.Faults.{Gives, joined, with_value};
+ghost use Rattle.cell_asm.specs.Statements.{layout as layout_by, layout_of as layout_with, stored as stored_of, filled as filled_of, datum as datum_of, numbers as numbers_of, count as count_of, unit as unit_of, directed as directed_of};
+ghost use Rattle.cell_asm.specs.Blocks.{appended, drafted};
+ghost use Rattle.cell_num.specs.Bits.{modulo_2};
 
 use crate::kind::{AsmKind, Stop, both, or_stop};
 use crate::mnemonic::{Directive, Width};

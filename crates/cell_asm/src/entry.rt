@@ -1,6 +1,9 @@
 //! The relocation entries of an object.
 
-ghost use Rattle.cell_asm.specs.Words.{◌≡◌, ◌≤◌, ◌++◌, filter, find, flat_map, map, option_map, length, IfOk, OnOk, is_at as stands_at, is_upper_spot, key_lost_by, lost_by, entry_kept, part_entries};
+ghost use Rattle.std.specs.Prelude.{◌≡◌, ◌≤◌, ◌++◌, filter, find, flat_map, map, option_map, length, IfOk, OnOk};
+ghost use Rattle.cell_asm.specs.Places.{is_at as stands_at};
+ghost use Rattle.cell_asm.specs.Progress.{is_upper_spot, key_lost_by, lost_by};
+ghost use Rattle.cell_asm.specs.Numberings.{entry_kept, part_entries};
 
 use crate::place::Progress;
 use crate::reference::Reference;

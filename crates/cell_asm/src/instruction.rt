@@ -1,6 +1,9 @@
 //! The words of an instruction from its operands, and the entries for them.
 
-ghost use Rattle.cell_asm.specs.Words.{◌≡◌, Gives, said, put as put_of, miscounted as miscounted_of, filled, single as single_of, behind as behind_of, instruction as instruction_of};
+ghost use Rattle.std.specs.Prelude.{◌≡◌};
+ghost use Rattle.cell_asm.specs.Faults.{Gives};
+ghost use Rattle.cell_asm.specs.Mnemonics.{said};
+ghost use Rattle.cell_asm.specs.Instructions.{put as put_of, miscounted as miscounted_of, filled, single as single_of, behind as behind_of, instruction as instruction_of};
 
 use crate::kind::{AsmKind, Stop, both, earlier, or_stop};
 use crate::mnemonic::{Mnemonic, Slot};

@@ -1,6 +1,9 @@
 //! Why a source is no object.
 
-ghost use Rattle.cell_asm.specs.Words.{◌≡◌, ◌<◌, AsmFailOutOfMemory as OutOfMemory, StopOutOfMemory as NoMemory, Gives, rank as rank_of, earlier as earlier_of, both as both_of};
+ghost use Rattle.std.specs.Prelude.{◌≡◌, ◌<◌};
+ghost use Rattle.cell_asm.specs.declared.kind.AsmFail.TheVariants.{OutOfMemory};
+ghost use Rattle.cell_asm.specs.declared.kind.Stop.TheVariants.{OutOfMemory as NoMemory};
+ghost use Rattle.cell_asm.specs.Faults.{Gives, rank as rank_of, earlier as earlier_of, both as both_of};
 
 use std::alloc::{AllocError, AllocFailed};
 

@@ -1,6 +1,8 @@
 //! What is known by names.
 
-ghost use Rattle.cell_asm.specs.Words.{◌≡◌, ℕ, List, None, OnOk, equals, or_else, where_true, known};
+ghost use Rattle.std.specs.Prelude.{◌≡◌, ℕ, List, None, OnOk};
+ghost use Rattle.cell_num.specs.Lists.{equals, or_else, where_true};
+ghost use Rattle.cell_asm.specs.Progress.{known};
 
 use std::alloc::{AllocError, Global};
 use std::collections::BTreeMap;

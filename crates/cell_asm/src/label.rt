@@ -1,6 +1,10 @@
 //! The labels of a line, and the names that it mentions.
 
-ghost use Rattle.cell_asm.specs.Words.{◌≡◌, ◌++◌, ◌||◌, ℕ, List, is_some, flat_map, OnOk, or_else, target_names, makes_label as label_made, keys_of, labels_at, names_in, known, spot_here, declares};
+ghost use Rattle.std.specs.Prelude.{◌≡◌, ◌++◌, ◌||◌, ℕ, List, is_some, flat_map, OnOk};
+ghost use Rattle.cell_num.specs.Lists.{or_else};
+ghost use Rattle.cell_asm.specs.Objects.{target_names};
+ghost use Rattle.cell_asm.specs.Places.{makes_label as label_made, keys_of, labels_at};
+ghost use Rattle.cell_asm.specs.Progress.{names_in, known, spot_here, declares};
 
 use crate::known::Known;
 use crate::reference::marks_in;

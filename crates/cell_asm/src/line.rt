@@ -1,6 +1,10 @@
 //! A line: its label, its statement, its comment.
 
-ghost use Rattle.cell_asm.specs.Words.{◌≡◌, ◌≤◌, ◌-◌, ◌==◌, map, length, not, IfOk, prefix_len, suffix_len, slice_split, Gives, is_blank as blank, is_inked as inked, trimmed as trimmed_of, code_of as code_of_line, first_word as first_word_of, after_word as after_word_of, operand_texts, spelled, operands as operands_of, statement_in as statement_in_text, has_label as labelled, label_name, line_of, statement as statement_of};
+ghost use Rattle.std.specs.Prelude.{◌≡◌, ◌≤◌, ◌-◌, ◌==◌, map, length, not, IfOk};
+ghost use Rattle.std.specs.List.{prefix_len, suffix_len, slice_split};
+ghost use Rattle.cell_asm.specs.Faults.{Gives};
+ghost use Rattle.cell_asm.specs.Lines.{is_blank as blank, is_inked as inked, trimmed as trimmed_of, code_of as code_of_line, first_word as first_word_of, after_word as after_word_of, operand_texts, spelled, operands as operands_of, statement_in as statement_in_text, has_label as labelled, label_name, line_of};
+ghost use Rattle.cell_asm.specs.Statements.{statement as statement_of};
 
 use crate::directive::directed;
 use crate::instruction::instruction;

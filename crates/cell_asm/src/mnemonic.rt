@@ -1,6 +1,7 @@
 //! The words that a statement begins with.
 
-ghost use Rattle.cell_asm.specs.Words.{◌≡◌, map, bytes_eq, option_map, find, mnemonic as mnemonic_of, directive as directive_of, row_of, said};
+ghost use Rattle.std.specs.Prelude.{◌≡◌, map, bytes_eq, option_map, find};
+ghost use Rattle.cell_asm.specs.Mnemonics.{mnemonic as mnemonic_of, directive as directive_of, row_of, said};
 
 use crate::statement::Part;
 use Slot::{Memory, Rd, Rs1, Rs2, Value};

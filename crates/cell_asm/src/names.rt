@@ -1,6 +1,8 @@
 //! Names and registers.
 
-ghost use Rattle.cell_asm.specs.Words.{◌≡◌, ◌<◌, IfSome, option_map, position, bytes_eq, list_all, register_names, register as register_of, numbered_register as numbered_register_of, is_name as name, is_name_byte as name_byte, begins_with_digit as digit_first};
+ghost use Rattle.std.specs.Prelude.{◌≡◌, ◌<◌, IfSome, option_map, position, bytes_eq};
+ghost use Rattle.std.specs.List.{list_all};
+ghost use Rattle.cell_asm.specs.Names.{register_names, register as register_of, numbered_register as numbered_register_of, is_name as name, is_name_byte as name_byte, begins_with_digit as digit_first};
 
 use cell_text::read_dec;
 

@@ -1,7 +1,11 @@
 //! Numbers, as a source spells them.
 
-ghost use Rattle.cell_asm.specs.Words.{◌≡◌, ◌+◌, ◌*◌, ◌^◌, ◌<◌, ◌⊎◌, ◌≤ℤ◌, pos, negsuc, IfSome, option_map, IsTrue, list_all, digit_value, is_ascii_digit, digits_value, number as number_of, unsigned_number as unsigned_number_of, decimal_number as decimal_number_of, hex_number as hex_number_of, held as held_of, is_hex_digit as hex_digit};
+ghost use Rattle.std.specs.Prelude.{◌≡◌, ◌+◌, ◌*◌, ◌^◌, ◌<◌, ◌⊎◌, ◌≤ℤ◌, pos, negsuc, IfSome, option_map, IsTrue};
+ghost use Rattle.std.specs.List.{list_all};
+ghost use Rattle.std.specs.Char.{digit_value, is_ascii_digit};
+ghost use Rattle.std.specs.Str.Parse.{digits_value};
 ghost use Rattle.cell_text.specs.Number.{has_leading_zero as leading_zero};
+ghost use Rattle.cell_asm.specs.Names.{number as number_of, unsigned_number as unsigned_number_of, decimal_number as decimal_number_of, hex_number as hex_number_of, held as held_of, is_hex_digit as hex_digit};
 
 /// The first number that no instruction and no directive can hold.
 const TOO_LARGE: u128 = 1 << 64;

@@ -1,6 +1,8 @@
 //! Operands, as they are spelled.
 
-ghost use Rattle.cell_asm.specs.Words.{◌≡◌, ◌-◌, ◌≤◌, not, length, position_or_len, suffix_len, expression as expression_of, with_rest as with_rest_of, less as less_of, is_sign as sign, modifier as modifier_of, immediate as immediate_of, operand as operand_of, modified as modified_of, memory as memory_of, front as front_of, inside as inside_of, is_open as opens};
+ghost use Rattle.std.specs.Prelude.{◌≡◌, ◌-◌, ◌≤◌, not, length};
+ghost use Rattle.std.specs.List.{position_or_len, suffix_len};
+ghost use Rattle.cell_asm.specs.Operands.{expression as expression_of, with_rest as with_rest_of, less as less_of, is_sign as sign, modifier as modifier_of, immediate as immediate_of, operand as operand_of, modified as modified_of, memory as memory_of, front as front_of, inside as inside_of, is_open as opens};
 
 use crate::mnemonic::row_in;
 use crate::names::{is_name, register};

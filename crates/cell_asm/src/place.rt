@@ -1,6 +1,10 @@
 //! Lines in their places, one after the other.
 
-ghost use Rattle.cell_asm.specs.Words.{◌≡◌, ◌+◌, ◌-◌, ◌^◌, ◌<◌, ◌≤◌, false, List, [], OnOk, placed_line, taken, may_stand as may_stand_of, takes as takes_of, lays_nothing as lays_none, is_long as long_of, offset_of, twice_of, fault_after, laid_after, AreInside, HasRoom, Adds, Follows, Goes, Laid as LaidValue};
+ghost use Rattle.std.specs.Prelude.{◌≡◌, ◌+◌, ◌-◌, ◌^◌, ◌<◌, ◌≤◌, false, List, [], OnOk};
+ghost use Rattle.cell_asm.specs.Assembled.{placed_line};
+ghost use Rattle.cell_asm.specs.Places.{taken, may_stand as may_stand_of, takes as takes_of, lays_nothing as lays_none, is_long as long_of};
+ghost use Rattle.cell_asm.specs.Progress.{offset_of, twice_of, fault_after, laid_after, AreInside, HasRoom, Adds, Follows, Goes};
+ghost use Rattle.cell_asm.specs.declared.statement.Laid.{Laid as LaidValue};
 
 use crate::kind::{AsmKind, Stop};
 use crate::known::Known;

@@ -1,7 +1,13 @@
 //! References: the entries to come, and the instructions that `%pcrel_lo` may name.
 
-ghost use Rattle.cell_asm.specs.Words.{◌≡◌, ◌++◌, ◌+◌, ◌<◌, ◌^◌, ◌||◌, ◌&&◌, ℕ, OnOk, list_any, nat_cmp, is_pcrel_hi20 as pcrel_hi20, marks_in as marks_of, target_key as key_of, HasRoom, reference_at, references_of, is_upper_at};
+ghost use Rattle.std.specs.Prelude.{◌≡◌, ◌++◌, ◌+◌, ◌<◌, ◌^◌, ◌||◌, ◌&&◌, ℕ, OnOk};
+ghost use Rattle.std.specs.List.{list_any};
+ghost use Rattle.std.specs.Ordering.{nat_cmp};
 ghost use Rattle.std.specs.BTreeSet.{contains};
+ghost use Rattle.cell_num.specs.Kinds.{is_pcrel_hi20 as pcrel_hi20};
+ghost use Rattle.cell_asm.specs.Places.{marks_in as marks_of};
+ghost use Rattle.cell_asm.specs.Objects.{target_key as key_of};
+ghost use Rattle.cell_asm.specs.Progress.{HasRoom, reference_at, references_of, is_upper_at};
 
 use crate::statement::{Key, Laid, Mark, Part, Statement, Target};
 use cell_num::{RelKind, is_pcrel_hi20};

@@ -1,6 +1,13 @@
 //! The sections of an object, as they grow line by line.
 
-ghost use Rattle.cell_asm.specs.Words.{◌≡◌, ◌≤◌, ◌++◌, ◌+◌, List, [], map, min, replicate, length, flat_map, position, ◌<◌, false, if◌then◌else◌, IfSome, IfOk, OnOk, list_any, bytes_of, is_same_part as same, is_at as stands_at, is_in, is_long, gap as gap_of, taken as taken_of, body_of, grown, grown_in, grown_with, bytes_laid, section_kept, adds_choice, number_in, part_name as name_of, fill_of as fill_with, may_write as writes, alignment_asked as alignment_wanted, padding, Part as PartValue};
+ghost use Rattle.std.specs.Prelude.{◌≡◌, ◌≤◌, ◌++◌, ◌+◌, List, [], map, min, replicate, length, flat_map, position, ◌<◌, false, if◌then◌else◌, IfSome, IfOk, OnOk};
+ghost use Rattle.std.specs.List.{list_any};
+ghost use Rattle.cell_num.specs.Bits.{bytes_of};
+ghost use Rattle.cell_asm.specs.Places.{is_same_part as same, is_at as stands_at, is_in, is_long, gap as gap_of, taken as taken_of};
+ghost use Rattle.cell_asm.specs.Progress.{body_of, grown, grown_in, grown_with, bytes_laid};
+ghost use Rattle.cell_asm.specs.Numberings.{section_kept};
+ghost use Rattle.cell_asm.specs.Objects.{adds_choice, number_in, part_name as name_of, fill_of as fill_with, may_write as writes, alignment_asked as alignment_wanted, padding};
+ghost use Rattle.cell_asm.specs.declared.statement.Part.{Part as PartValue};
 
 use crate::statement::{Laid, Part, Statement};
 use cell_image::put_number;

@@ -1,6 +1,11 @@
 //! A source from its bytes to its object.
 
-ghost use Rattle.cell_asm.specs.Words.{◌≡◌, ◌^◌, ◌<◌, ◌≤◌, List, map, find, length, IfOk, IsWritable, placed_line, placed_texts, has_lost, object_unless, assembled, Assembles, line_of, Goes, Places, failure, Follows, Laid as LaidValue};
+ghost use Rattle.std.specs.Prelude.{◌≡◌, ◌^◌, ◌<◌, ◌≤◌, List, map, find, length, IfOk};
+ghost use Rattle.cell_object.specs.Writable.{IsWritable};
+ghost use Rattle.cell_asm.specs.Assembled.{placed_line, placed_texts, has_lost, object_unless, assembled, Assembles};
+ghost use Rattle.cell_asm.specs.Lines.{line_of};
+ghost use Rattle.cell_asm.specs.Progress.{Goes, Places, failure, Follows};
+ghost use Rattle.cell_asm.specs.declared.statement.Laid.{Laid as LaidValue};
 
 use crate::entry::{entries, first_lost};
 use crate::kind::{AsmFail, AsmKind, Stop};

@@ -1,6 +1,7 @@
 //! What a line says.
 
-ghost use Rattle.cell_asm.specs.Words.{◌≡◌, [], ◌++◌, length, OnOk, marks_at, appended, empty, drafted};
+ghost use Rattle.std.specs.Prelude.{◌≡◌, [], ◌++◌, length, OnOk};
+ghost use Rattle.cell_asm.specs.Blocks.{marks_at, appended, empty, drafted};
 
 use crate::text::Text;
 use cell_image::put_number;

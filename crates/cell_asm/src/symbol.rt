@@ -1,7 +1,14 @@
 //! The symbols of an object.
 
-ghost use Rattle.cell_asm.specs.Words.{◌≡◌, ◌==◌, ℕ, List, None, OnOk, ◌≤◌, ◌+◌, [], ◌∷◌, ◌++◌, fold, length, not, IfOk, option_map_or, or_else, where_true, is_key, number_of, number_kept, Lists, Locals, mentioned, Mentions, home_in, symbol_in, is_global_in, key_name as name_of, Key as KeyValue, Symbol as SymbolValue};
+ghost use Rattle.std.specs.Prelude.{◌≡◌, ◌==◌, ℕ, List, None, OnOk, ◌≤◌, ◌+◌, [], ◌∷◌, ◌++◌, fold, length, not, IfOk};
+ghost use Rattle.std.specs.Option.{option_map_or};
+ghost use Rattle.cell_num.specs.Lists.{or_else, where_true};
+ghost use Rattle.cell_asm.specs.Places.{is_key};
+ghost use Rattle.cell_asm.specs.Numberings.{number_of, number_kept, Lists, Locals, mentioned, Mentions, home_in, symbol_in, is_global_in};
+ghost use Rattle.cell_asm.specs.Objects.{key_name as name_of};
+ghost use Rattle.cell_asm.specs.declared.statement.Key.{Key as KeyValue};
 ghost use Rattle.cell_asm.specs.declared.statement.Key.TheVariants as keys;
+ghost use Rattle.cell_object.specs.declared.object.Symbol.{Symbol as SymbolValue};
 
 use crate::known::Known;
 use crate::place::Progress;

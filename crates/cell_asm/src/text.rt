@@ -1,6 +1,6 @@
 //! A piece of the source.
 
-ghost use Rattle.cell_asm.specs.Words.{◌≡◌};
+ghost use Rattle.std.specs.Prelude.{◌≡◌};
 
 use std::marker::Model;
 

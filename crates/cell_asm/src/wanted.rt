@@ -1,7 +1,7 @@
 //! What is wanted of one operand.
 
-ghost use Rattle.cell_asm.specs.Words.{◌≡◌, ◌≤◌, ◌<◌, ◌≤ℤ◌, pos, negsuc, IfOk, if◌then◌else◌, name as name_of, within as within_of, is_bare as bare, fix as fix_of, entry as entry_of, fitting as fitting_of, kind_of as kind_with, plain as plain_of, field as field_of, value as value_of};
-ghost use Rattle.cell_asm.specs.Wanted.{register as register_of, memory as memory_of};
+ghost use Rattle.std.specs.Prelude.{◌≡◌, ◌≤◌, ◌<◌, ◌≤ℤ◌, pos, negsuc, IfOk, if◌then◌else◌};
+ghost use Rattle.cell_asm.specs.Wanted.{register as register_of, name as name_of, within as within_of, is_bare as bare, fix as fix_of, entry as entry_of, fitting as fitting_of, kind_of as kind_with, plain as plain_of, field as field_of, value as value_of, memory as memory_of};
 
 use crate::kind::AsmKind;
 use crate::mnemonic::Form;

@@ -1,4 +1,5 @@
-use Rattle.cell_asm.proofs.Facts.{◌<◌, map, take, length, ap, sym, ◌∙◌, arith, appended, empty, joined, gathered, datum}
+use Rattle.std.specs.Prelude.{◌<◌}
+use Rattle.cell_asm.proofs.Facts.{map, take, length, ap, sym, ◌∙◌, arith, appended, empty, joined, gathered, datum}
 use Rattle.cell_asm.proofs.ReadingLemmas.{gathered_more}
 use Rattle.cell_asm.proofs.directive.numbers.Goals as goal
 

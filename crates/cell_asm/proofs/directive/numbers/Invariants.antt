@@ -1,4 +1,5 @@
-use Rattle.cell_asm.proofs.Facts.{◌≡◌, map, take, appended, empty, drafted, gathered, with_value, datum}
+use Rattle.std.specs.Prelude.{◌≡◌}
+use Rattle.cell_asm.proofs.Facts.{map, take, appended, empty, drafted, gathered, with_value, datum}
 use Rattle.cell_asm.proofs.directive.numbers.Given as goal
 
 -- the operands so far

@@ -1,4 +1,5 @@
-use Rattle.cell_asm.proofs.Facts.{◌≡◌, take, flat_map, part_entries}
+use Rattle.std.specs.Prelude.{◌≡◌}
+use Rattle.cell_asm.proofs.Facts.{take, flat_map, part_entries}
 use Rattle.cell_asm.proofs.entry.entries.Given as goal
 
 -- the entries of the sections so far

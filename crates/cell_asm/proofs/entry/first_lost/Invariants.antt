@@ -1,4 +1,5 @@
-use Rattle.cell_asm.proofs.Facts.{◌≡◌, drop, find, lost_by}
+use Rattle.std.specs.Prelude.{◌≡◌}
+use Rattle.cell_asm.proofs.Facts.{drop, find, lost_by}
 use Rattle.cell_asm.proofs.entry.first_lost.Given as goal
 
 -- none so far, so the first is among those that are left

@@ -1,4 +1,5 @@
-use Rattle.cell_asm.proofs.Facts.{◌≡◌, ◌++◌, map, take, filter, is_at, entry_kept}
+use Rattle.std.specs.Prelude.{◌≡◌, ◌++◌}
+use Rattle.cell_asm.proofs.Facts.{map, take, filter, is_at, entry_kept}
 use Rattle.cell_asm.proofs.entry.put_entries.Given as goal
 
 -- the entries so far

@@ -1,4 +1,5 @@
-use Rattle.cell_asm.proofs.Facts.{◌≡◌, ◌++◌, take, flat_map, target_names}
+use Rattle.std.specs.Prelude.{◌≡◌, ◌++◌}
+use Rattle.cell_asm.proofs.Facts.{take, flat_map, target_names}
 use Rattle.cell_asm.proofs.label.put_targets.Given as goal
 
 -- the names so far

@@ -1,4 +1,5 @@
-use Rattle.cell_asm.proofs.Facts.{◌≡◌, ◌+◌, drop, prefix_len, is_blank}
+use Rattle.std.specs.Prelude.{◌≡◌, ◌+◌}
+use Rattle.cell_asm.proofs.Facts.{drop, prefix_len, is_blank}
 use Rattle.cell_asm.proofs.line.blanks_before.Given as goal
 
 -- the bytes so far pass

@@ -1,4 +1,5 @@
-use Rattle.cell_asm.proofs.Facts.{◌≡◌, ◌+◌, drop, not, ◌==◌, prefix_len}
+use Rattle.std.specs.Prelude.{◌≡◌, ◌+◌, ◌==◌}
+use Rattle.cell_asm.proofs.Facts.{drop, not, prefix_len}
 use Rattle.cell_asm.proofs.line.comment_start.Given as goal
 
 -- the bytes so far pass

@@ -1,4 +1,5 @@
-use Rattle.cell_asm.proofs.Facts.{◌≡◌, ◌+◌, take, suffix_len, is_blank}
+use Rattle.std.specs.Prelude.{◌≡◌, ◌+◌}
+use Rattle.cell_asm.proofs.Facts.{take, suffix_len, is_blank}
 use Rattle.cell_asm.proofs.line.end_of_ink.Given as goal
 
 -- the bytes since then pass

@@ -1,4 +1,5 @@
-use Rattle.cell_asm.proofs.Facts.{rules, tests, ◌==◌}
+use Rattle.std.specs.Prelude.{◌==◌}
+use Rattle.cell_asm.proofs.Facts.{rules, tests}
 use Rattle.std.proofs.lemmas.Iterator.Consumers.{map_from_collect}
 use Rattle.std.proofs.lemmas.Iterator.Splits.{YieldsList-from_slice_split}
 use Rattle.cell_asm.proofs.line.parts_of.Goals as goal

@@ -1,4 +1,5 @@
-use Rattle.cell_asm.proofs.Facts.{ℕ, List, Bor, ◌<◌, [], ◌∷◌, ◌++◌, length, get_or, Ok, ap, sym, ◌∙◌, arith, ok_or, AsmKindWord as Word, Operand, joined, spelled, trimmed, operand}
+use Rattle.std.specs.Prelude.{◌<◌, ◌∷◌, ◌++◌}
+use Rattle.cell_asm.proofs.Facts.{ℕ, List, Bor, [], length, get_or, Ok, ap, sym, ◌∙◌, arith, ok_or, AsmKindWord as Word, Operand, joined, spelled, trimmed, operand}
 use Rattle.cell_asm.proofs.ReadingLemmas.{gathered_more, word_decides}
 use Rattle.cell_asm.proofs.line.read_parts.Goals as goal
 

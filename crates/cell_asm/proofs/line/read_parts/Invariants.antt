@@ -1,4 +1,5 @@
-use Rattle.cell_asm.proofs.Facts.{◌≡◌, map, take, Ok, spelled, trimmed, operands}
+use Rattle.std.specs.Prelude.{◌≡◌}
+use Rattle.cell_asm.proofs.Facts.{map, take, Ok, spelled, trimmed, operands}
 use Rattle.cell_asm.proofs.line.read_parts.Given as goal
 
 -- the parts so far are spelled well

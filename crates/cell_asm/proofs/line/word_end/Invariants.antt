@@ -1,4 +1,5 @@
-use Rattle.cell_asm.proofs.Facts.{◌≡◌, ◌+◌, drop, prefix_len, is_inked}
+use Rattle.std.specs.Prelude.{◌≡◌, ◌+◌}
+use Rattle.cell_asm.proofs.Facts.{drop, prefix_len, is_inked}
 use Rattle.cell_asm.proofs.line.word_end.Given as goal
 
 -- the bytes so far pass

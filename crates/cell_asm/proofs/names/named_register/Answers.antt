@@ -1,4 +1,5 @@
-use Rattle.cell_asm.proofs.Facts.{refl, ◌∙◌, subst, sym, ◌<◌, IfSome, bytes_eq, register_names}
+use Rattle.std.specs.Prelude.{◌<◌}
+use Rattle.cell_asm.proofs.Facts.{refl, ◌∙◌, subst, sym, IfSome, bytes_eq, register_names}
 use Rattle.cell_asm.proofs.ListLemmas.{position-below}
 use Rattle.cell_asm.proofs.names.named_register.Goals as goal
 

@@ -1,4 +1,5 @@
-use Rattle.cell_asm.proofs.Facts.{◌≡◌, true, arith, list_all, is_ascii_digit}
+use Rattle.std.specs.Prelude.{◌≡◌}
+use Rattle.cell_asm.proofs.Facts.{true, arith, list_all, is_ascii_digit}
 use Rattle.cell_asm.proofs.ReadingLemmas.{digits_are_hex}
 use Rattle.cell_asm.proofs.number.decimal_number.Goals as goal
 

@@ -1,4 +1,5 @@
-use Rattle.cell_asm.proofs.Facts.{◌≡◌, ◌+◌, ◌*◌, ◌<◌, take, length, get_or, ap, sym, ◌∙◌, arith, digit_value, digits_value, held}
+use Rattle.std.specs.Prelude.{◌≡◌, ◌+◌, ◌*◌, ◌<◌}
+use Rattle.cell_asm.proofs.Facts.{take, length, get_or, ap, sym, ◌∙◌, arith, digit_value, digits_value, held}
 use Rattle.std.proofs.lemmas.Int.Digits.{digits_value_more}
 use Rattle.cell_asm.proofs.ReadingLemmas.{held_step}
 use Rattle.cell_asm.proofs.number.value.Goals as goal

@@ -1,4 +1,5 @@
-use Rattle.cell_asm.proofs.Facts.{◌≡◌, ◌<◌, ◌^◌, ◌+◌, take, digits_value, held}
+use Rattle.std.specs.Prelude.{◌≡◌, ◌<◌, ◌^◌, ◌+◌}
+use Rattle.cell_asm.proofs.Facts.{take, digits_value, held}
 use Rattle.cell_asm.proofs.number.value.Given as goal
 
 -- what is held of the number of the digits so far

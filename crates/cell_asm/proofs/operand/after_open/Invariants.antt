@@ -1,4 +1,5 @@
-use Rattle.cell_asm.proofs.Facts.{◌≡◌, ◌+◌, take, not, suffix_len, is_open}
+use Rattle.std.specs.Prelude.{◌≡◌, ◌+◌}
+use Rattle.cell_asm.proofs.Facts.{take, not, suffix_len, is_open}
 use Rattle.cell_asm.proofs.operand.after_open.Given as goal
 
 -- the bytes since then pass

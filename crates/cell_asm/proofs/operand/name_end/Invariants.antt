@@ -1,4 +1,5 @@
-use Rattle.cell_asm.proofs.Facts.{◌≡◌, ◌+◌, drop, not, prefix_len, is_sign}
+use Rattle.std.specs.Prelude.{◌≡◌, ◌+◌}
+use Rattle.cell_asm.proofs.Facts.{drop, not, prefix_len, is_sign}
 use Rattle.cell_asm.proofs.operand.name_end.Given as goal
 
 -- the bytes so far pass

@@ -1,4 +1,5 @@
-use Rattle.cell_asm.proofs.Facts.{◌≡◌, ◌++◌, map, take, marks_in, reference_at}
+use Rattle.std.specs.Prelude.{◌≡◌, ◌++◌}
+use Rattle.cell_asm.proofs.Facts.{map, take, marks_in, reference_at}
 use Rattle.cell_asm.proofs.reference.put_references.Given as goal
 
 -- the references so far

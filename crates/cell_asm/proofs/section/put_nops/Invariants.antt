@@ -1,4 +1,5 @@
-use Rattle.cell_asm.proofs.Facts.{◌≡◌, ◌++◌, replicate, flat_map, bytes_of}
+use Rattle.std.specs.Prelude.{◌≡◌, ◌++◌}
+use Rattle.cell_asm.proofs.Facts.{replicate, flat_map, bytes_of}
 use Rattle.cell_asm.proofs.section.put_nops.Given as goal
 
 -- the bytes so far

@@ -1,4 +1,5 @@
-use Rattle.cell_asm.proofs.Facts.{◌≡◌, ◌++◌, replicate}
+use Rattle.std.specs.Prelude.{◌≡◌, ◌++◌}
+use Rattle.cell_asm.proofs.Facts.{replicate}
 use Rattle.cell_asm.proofs.section.put_zeros.Given as goal
 
 -- the bytes so far

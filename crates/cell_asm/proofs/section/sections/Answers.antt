@@ -1,4 +1,5 @@
-use Rattle.cell_asm.proofs.Facts.{◌<◌, ◌++◌, ◌∷◌, [], map, take, length, ap, sym, ◌∙◌, arith, map_more, section_kept}
+use Rattle.std.specs.Prelude.{◌<◌, ◌++◌, ◌∷◌}
+use Rattle.cell_asm.proofs.Facts.{[], map, take, length, ap, sym, ◌∙◌, arith, map_more, section_kept}
 use Rattle.cell_asm.proofs.section.sections.Goals as goal
 
 pub loop-part-preserved : goal.loop-part-preserved

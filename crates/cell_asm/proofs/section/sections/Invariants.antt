@@ -1,4 +1,5 @@
-use Rattle.cell_asm.proofs.Facts.{◌≡◌, map, take, section_kept}
+use Rattle.std.specs.Prelude.{◌≡◌}
+use Rattle.cell_asm.proofs.Facts.{map, take, section_kept}
 use Rattle.cell_asm.proofs.section.sections.Given as goal
 
 -- the sections so far

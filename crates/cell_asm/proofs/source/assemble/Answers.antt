@@ -1,4 +1,5 @@
-use Rattle.cell_asm.proofs.Facts.{List, ℕ, Bor, Ok, ◌≡◌, map, refl, sym, ap, ◌∙◌, placed_texts, lines_in}
+use Rattle.std.specs.Prelude.{◌≡◌}
+use Rattle.cell_asm.proofs.Facts.{List, ℕ, Bor, Ok, map, refl, sym, ap, ◌∙◌, placed_texts, lines_in}
 use Rattle.cell_asm.proofs.ObjectLemmas.{few}
 use Rattle.cell_asm.proofs.PlacingLemmas.{goes_all}
 use Rattle.cell_asm.proofs.AssembledFits.{writable_all}

@@ -1,4 +1,5 @@
-use Rattle.cell_asm.proofs.Facts.{◌≡◌, None, map, find, sym, ap, ◌∙◌, rules, has_lost, section_kept}
+use Rattle.std.specs.Prelude.{◌≡◌}
+use Rattle.cell_asm.proofs.Facts.{None, map, find, sym, ap, ◌∙◌, rules, has_lost, section_kept}
 use Rattle.cell_asm.proofs.ObjectLemmas.{first_is, object_is}
 use Rattle.cell_asm.proofs.PlacingLemmas.{lost_answer, whole_answer}
 use Rattle.cell_asm.proofs.source.object.Goals as goal

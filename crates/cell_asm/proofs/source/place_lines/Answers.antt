@@ -1,4 +1,5 @@
-use Rattle.cell_asm.proofs.Facts.{ℕ, List, Bor, Err, ◌+◌, ◌<◌, [], map, length, Ok, sym, subst, arith, Places}
+use Rattle.std.specs.Prelude.{◌+◌, ◌<◌}
+use Rattle.cell_asm.proofs.Facts.{ℕ, List, Bor, Err, [], map, length, Ok, sym, subst, arith, Places}
 use Rattle.cell_asm.proofs.PlacingLemmas.{placed_from, IsPlaced, next_placed, stopped, dropped}
 use Rattle.cell_asm.proofs.source.place_lines.Goals as goal
 

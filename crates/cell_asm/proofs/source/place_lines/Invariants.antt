@@ -1,4 +1,5 @@
-use Rattle.cell_asm.proofs.Facts.{◌≡◌, ◌+◌, ◌≤◌, [], map, drop, Ok}
+use Rattle.std.specs.Prelude.{◌≡◌, ◌+◌, ◌≤◌}
+use Rattle.cell_asm.proofs.Facts.{[], map, drop, Ok}
 use Rattle.cell_asm.proofs.PlacingLemmas.{placed_from, IsPlaced}
 use Rattle.cell_asm.proofs.source.place_lines.Given as goal
 

@@ -1,4 +1,5 @@
-use Rattle.cell_asm.proofs.Facts.{◌≡◌, ℕ, List, None, sym, ap, ◌∙◌, rules, bytes_eq, bytes_eq-Decides, known}
+use Rattle.std.specs.Prelude.{◌≡◌}
+use Rattle.cell_asm.proofs.Facts.{ℕ, List, None, sym, ap, ◌∙◌, rules, bytes_eq, bytes_eq-Decides, known}
 use Rattle.std.proofs.lemmas.Map.Text.{btree_map_updates_str}
 use Rattle.cell_asm.proofs.SymbolLemmas.{taken}
 use Rattle.cell_asm.proofs.known.Known.add.Goals as goal

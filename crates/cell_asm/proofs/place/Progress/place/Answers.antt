@@ -1,4 +1,5 @@
-use Rattle.cell_asm.proofs.Facts.{◌≡◌, Ok, None, refl, sym, ap, subst, ◌∙◌, rules, size_at, HasRoom, placed_unless}
+use Rattle.std.specs.Prelude.{◌≡◌}
+use Rattle.cell_asm.proofs.Facts.{Ok, None, refl, sym, ap, subst, ◌∙◌, rules, size_at, HasRoom, placed_unless}
 use Rattle.cell_asm.proofs.AssembledFits.{placed_room}
 use Rattle.cell_asm.proofs.PlacingLemmas.{fault_is, laid_is, follows_more}
 use Rattle.cell_asm.proofs.place.Progress.place.Goals as goal

@@ -1,4 +1,5 @@
-use Rattle.cell_asm.proofs.Facts.{◌≡◌, ◌==◌, cond, Some, None, sym, ap, ◌∙◌, rules, KeyMade as Made, number_of}
+use Rattle.std.specs.Prelude.{◌≡◌, ◌==◌}
+use Rattle.cell_asm.proofs.Facts.{cond, Some, None, sym, ap, ◌∙◌, rules, KeyMade as Made, number_of}
 use Rattle.cell_asm.proofs.SymbolLemmas.{taken, same_test}
 use Rattle.cell_asm.proofs.ListLemmas.{same_of}
 use Rattle.cell_asm.proofs.symbol.Numbering.add_made.Goals as goal

@@ -1,4 +1,5 @@
-use Rattle.cell_asm.proofs.Facts.{◌++◌, map, is_some, not, sym, ap, ◌∙◌, KeyNamed as Named, known, number_of, keys_with, local_in, locals_in, other_in}
+use Rattle.std.specs.Prelude.{◌++◌}
+use Rattle.cell_asm.proofs.Facts.{map, is_some, not, sym, ap, ◌∙◌, KeyNamed as Named, known, number_of, keys_with, local_in, locals_in, other_in}
 use Rattle.cell_asm.proofs.SymbolLemmas.{mention_known, mention_new}
 use Rattle.cell_asm.proofs.symbol.Symbols.add_mention.Goals as goal
 

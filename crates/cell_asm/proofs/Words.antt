@@ -1,5 +1,5 @@
--- The words of the contracts and of the proofs, each under one name here.
-pub use Rattle.cell_asm.specs.Types.{Abs64, Add32, Address, All, AsmFail, AsmFailFault, AsmFailOutOfMemory, AsmKind, AsmKindLabel, AsmKindSection, AsmKindWord, Bind, BindGlobal, Block, Bool, Bss, Byte, Bytes, CallPlt, Code, Content, Data, Difference, Directive, Entry, Expression, ExpressionName, Field, Fields, Fill, Fix, Form, Half, Hi, Hi20, Home, Immediate, ImmediatePart, Inside, Key, KeyMade, KeyNamed, Label, Laid, Line, List, Lo, Local, Long, Mark, Mnemonic, Modifier, Narrow, NoType, None, Note, Number, Numbering, Object, Op, Operand, OperandMemory, OperandValue, Option, Part, PcrelHi, PcrelHi20, PcrelLo, PcrelLo12I, PcrelLo12S, Piece, Prog, Progress, Quad, Rd, Reference, RelKind, Rodata, Rs1, Rs2, Section, Slot, Spot, Statement, StatementAlign, StatementChoose, StatementGlobal, StatementZeros, Stop, StopFault, StopOutOfMemory, Sub32, Sum, Symbol, Symbols, Target, TargetMade, TargetNamed, Text, Then, Twice, Undef, Whole, Wide, Width, WidthWord, Zero, [], after_last, before_first, bytes_eq, bytes_of, codes, cons_option, decimal, equals, false, filter, find, flat_map, fold, get, holds_name, if◌then◌else◌, int_le, is_none, is_pcrel_hi20, is_pcrel_lo12, is_some, last, length, lines_in, list_all, list_any, map, max, modulo_2, nat_cmp, nat_le, nat_lt, neg_ℤ, negsuc, not, numbered_from, ok_or, option_and_then, option_map, option_map_or, or_else, pos, position, position_or_len, prefix_len, replicate, slice_split, suffix_len, sum_by, unwrap_or, where_true, ℕ, ◌&&◌, ◌*◌, ◌++◌, ◌+◌, ◌-◌, ◌<◌, ◌==◌, ◌^◌, ◌||◌, ◌∷◌, ◌≡◌, ◌≤◌}
+-- The words of the contracts, each under one name for the proofs.
+pub use Rattle.cell_asm.specs.Types.{Abs64, Add32, Address, All, AsmFail, AsmFailFault, AsmFailOutOfMemory, AsmKind, AsmKindLabel, AsmKindSection, AsmKindWord, Bind, BindGlobal, Block, Bool, Bss, Byte, Bytes, CallPlt, Code, Content, Data, Difference, Directive, Entry, Expression, ExpressionName, Field, Fields, Fill, Fix, Form, Half, Hi, Hi20, Home, Immediate, ImmediatePart, Inside, Key, KeyMade, KeyNamed, Label, Laid, Line, List, Lo, Local, Long, Mark, Mnemonic, Modifier, Narrow, NoType, None, Note, Number, Numbering, Object, Op, Operand, OperandMemory, OperandValue, Option, Part, PcrelHi, PcrelHi20, PcrelLo, PcrelLo12I, PcrelLo12S, Piece, Prog, Progress, Quad, Rd, Reference, RelKind, Rodata, Rs1, Rs2, Section, Slot, Spot, Statement, StatementAlign, StatementChoose, StatementGlobal, StatementZeros, Stop, StopFault, StopOutOfMemory, Sub32, Sum, Symbol, Symbols, Target, TargetMade, TargetNamed, Text, Then, Twice, Undef, Whole, Wide, Width, WidthWord, Zero, [], after_last, before_first, bytes_eq, bytes_of, codes, cons_option, decimal, equals, false, filter, find, flat_map, fold, get, holds_name, int_le, is_none, is_pcrel_hi20, is_pcrel_lo12, is_some, last, length, lines_in, list_all, list_any, map, max, modulo_2, nat_cmp, nat_le, nat_lt, neg_ℤ, negsuc, not, numbered_from, ok_or, option_and_then, option_map, option_map_or, or_else, pos, position, position_or_len, prefix_len, replicate, slice_split, suffix_len, sum_by, unwrap_or, where_true, ℕ}
 pub use Rattle.cell_asm.specs.Assembled.{Assembles, add_line, assembled, has_lost, has_upper, is_lost, is_lost_mark, is_upper_label, object_from, object_unless, placed_line, placed_lines, placed_texts, placed_unless, with_line}
 pub use Rattle.cell_asm.specs.Blocks.{appended, drafted, empty, marks_at, marks_of}
 pub use Rattle.cell_asm.specs.Faults.{Gives, both, earlier, gathered, joined, rank, with_value}
