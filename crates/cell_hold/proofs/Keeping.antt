@@ -17,17 +17,28 @@ use Rattle.cell_num.proofs.Elements.{all-In, any-In, any-Has, In-map, map-In}
 use Rattle.cell_lemmas.proofs.KeptPaths.{In-holds, holds-In, directly_kept, kept_complete, kept_on, kept_present, kept_rises, kept_sound}
 use Rattle.cell_hold.specs.declared.roots.Root.{Root}
 use Rattle.cell_hold.specs.declared.roots.Root.TheVariants.{Attached, Task, Word}
-use Rattle.cell_hold.specs.Adds.{Adds, IsOnceEach, has_cell, has_or_full}
+use Rattle.cell_hold.specs.Adds.{Adds, IsOnceEach, Spreads, has_cell, has_or_full}
 use Rattle.cell_hold.specs.Places.{HasTargets, has_section, is_cells_at}
 use Rattle.cell_hold.specs.Reached.{linked, links_lead, reaches_anew, reaches_on, root_holds, rooted, touches, words_reach}
 use Rattle.cell_hold.specs.Roots.{AreCells, HasRoom, holding_by, is_attached, named_by, task_of}
-use Rattle.cell_hold.specs.Uses.{AddsKept, is_used_by}
+use Rattle.cell_hold.specs.Uses.{Uses, is_used_by}
 use Rattle.cell_hold.proofs.Adding.{full_more, has_left}
 use Rattle.cell_hold.proofs.Counting.{at_most, one_more, rising, same_rising}
 use Rattle.cell_hold.proofs.Opening.{in_others, root_others, root_within, words_others, words_within}
 use Rattle.cell_hold.proofs.Reaching.{reaches_by}
 use Rattle.cell_hold.proofs.Rooting.{by_roots}
 use Rattle.cell_hold.proofs.Using.{any_goes}
+
+-- how the list grows from the attached cells, `old`: by what is held, by what links of those lead into, and by what all these reach
+pub record AddsKept (graph : Links) (memory : MemoryState) (places : List Placed) (roots : List Root) (room : ℕ) (old new : List CellId) : Type 0 where
+  pub others : List Placed
+  pub held : List CellId
+  pub used : List CellId
+  -- the sections of the other cells
+  pub unfound : (p : Placed → Bool) → list_any p others ≡ list_any (λ s. not (has_cell old s.key.cell.0) && p s) places
+  pub holds : Adds (is_held_directly (rooted memory others roots)) room old held
+  pub uses : Uses graph.rows others room held used
+  pub spreads : Spreads (reaches_on graph memory places others) (reaches_anew graph memory places others old) room room used new
 
 module _ (graph : Links) (memory : MemoryState) (places : List Placed) (roots : List Root) where
   abbrev all_of : List ℕ → Holding
@@ -94,20 +105,20 @@ module _ (graph : Links) (memory : MemoryState) (places : List Placed) (roots : 
     held_places c d =
         sym (by_roots memory places c roots)
         ∙ any_goes (λ root. root_holds memory kept.others root c) (λ root. root_holds memory places root c) roots
-        (λ root t. root_within memory places kept.others attached kept.opened root c t) (by_roots memory kept.others c roots ∙ d)
+        (λ root t. root_within memory places kept.others attached kept.unfound root c t) (by_roots memory kept.others c roots ∙ d)
 
-    held_open : (c : ℕ) → has_cell attached c ≡ false → is_held_directly (rooted memory places roots) c ≡ true → is_held_directly (rooted memory kept.others roots) c ≡ true
-    held_open c none d =
+    held_unfound : (c : ℕ) → has_cell attached c ≡ false → is_held_directly (rooted memory places roots) c ≡ true → is_held_directly (rooted memory kept.others roots) c ≡ true
+    held_unfound c none d =
         sym (by_roots memory kept.others c roots)
         ∙ any_goes (λ root. root_holds memory places root c) (λ root. root_holds memory kept.others root c) roots
-        (λ root t. root_others memory places kept.others attached kept.opened root c none t) (by_roots memory places c roots ∙ d)
+        (λ root t. root_others memory places kept.others attached kept.unfound root c none t) (by_roots memory places c roots ∙ d)
 
     reaches_places : (a b : ℕ) → reaches_on graph memory places kept.others a b ≡ true → reaches (linked graph memory places) a b ≡ true
     reaches_places a b h = go (or_cases (links_lead graph a b) (words_reach memory places kept.others a b) h)
       where
         go : (links_lead graph a b ≡ true) ⊎ (words_reach memory places kept.others a b ≡ true) → reaches (linked graph memory places) a b ≡ true
         go (inl k) = sym (reaches_by memory places a b graph) ∙ or_left (links_lead graph a b) (words_reach memory places places a b) k
-        go (inr k) = sym (reaches_by memory places a b graph) ∙ or_right (links_lead graph a b) (words_reach memory places places a b) (words_within memory places kept.others attached kept.opened a b k)
+        go (inr k) = sym (reaches_by memory places a b graph) ∙ or_right (links_lead graph a b) (words_reach memory places places a b) (words_within memory places kept.others attached kept.unfound a b k)
 
     sound : (cells : List ℕ) → AreCells cells places roots → (c : ℕ) → has_cell new c ≡ true → IsKept (all_of cells) c
     sound cells named c h =
@@ -184,7 +195,7 @@ module _ (graph : Links) (memory : MemoryState) (places : List Placed) (roots : 
         same_cell s t = eqb-true s.key.cell.0 row.target.cell.0 (and_parts (s.key.cell.0 == row.target.cell.0) (s.key.section == row.target.section) t).0 ∙ eqb-true row.target.cell.0 b ends.1
 
         there : list_any (λ s. is_same s.key row.target) kept.others ≡ true
-        there = in_others memory places kept.others attached kept.opened b none (λ s. is_same s.key row.target) same_cell (all-In (λ (r : LinkRow). has_section places r.target) graph.rows whole row found.1)
+        there = in_others memory places kept.others attached kept.unfound b none (λ s. is_same s.key row.target) same_cell (all-In (λ (r : LinkRow). has_section places r.target) graph.rows whole row found.1)
 
         user_there : has_cell kept.held row.user.cell.0 ≡ true
         user_there = subst (λ n. has_cell kept.held n ≡ true) (sym (eqb-true row.user.cell.0 a ends.0)) (subst (λ xs. has_cell xs a ≡ true) (sym kept.holds.is) (has_left attached kept.holds.more a here))
@@ -209,7 +220,7 @@ module _ (graph : Links) (memory : MemoryState) (places : List Placed) (roots : 
           where
             go : (b : Bool) → has_cell attached a ≡ b → has_or_full kept.held room a ≡ true
             go true e = from_attached a e
-            go false e = kept.holds.has a (held_open a e d)
+            go false e = kept.holds.has a (held_unfound a e d)
 
         next : (a b : ℕ) → has_cell new a ≡ true → reaches (linked graph memory places) a b ≡ true → has_or_full new room b ≡ true
         next a b h r = to (has_cell attached b) refl
@@ -230,7 +241,7 @@ module _ (graph : Links) (memory : MemoryState) (places : List Placed) (roots : 
             by_way none (inl l) = by_link (has_cell attached a) refl none l
             by_way none (inr w) =
                 spread (or_right (not (has_cell attached a) && links_lead graph a b) (words_reach memory places kept.others a b)
-                (words_others memory places kept.others attached kept.opened a b none w))
+                (words_others memory places kept.others attached kept.unfound a b none w))
 
             to : (known : Bool) → has_cell attached b ≡ known → has_or_full new room b ≡ true
             to true e = from_held b (from_attached b e)

@@ -20,20 +20,20 @@ use Rattle.cell_hold.proofs.Rows.{any_filtered}
 use Rattle.cell_hold.proofs.Using.{any_goes}
 
 -- the sections that a sort by starts has put in order are those that were filtered
-pub opened_by : (cells : List CellId) (places kept sorted items : List Placed) → kept ≡ filter (λ s. not (has_cell cells s.key.cell.0)) places → IsPermutation kept sorted → items ≡ sorted
+pub unfound_by : (cells : List CellId) (places kept sorted items : List Placed) → kept ≡ filter (λ s. not (has_cell cells s.key.cell.0)) places → IsPermutation kept sorted → items ≡ sorted
     → (p : Placed → Bool) → list_any p items ≡ list_any (λ s. not (has_cell cells s.key.cell.0) && p s) places
-opened_by cells places kept sorted items is moved same p =
+unfound_by cells places kept sorted items is moved same p =
     ap (list_any p) same ∙ (sym (list_any-IsPermutation p kept sorted moved) ∙ (ap (list_any p) is ∙ any_filtered p (λ s. not (has_cell cells s.key.cell.0)) places))
 
-module _ (memory : MemoryState) (places others : List Placed) (known : List CellId) (opened : (p : Placed → Bool) → list_any p others ≡ list_any (λ s. not (has_cell known s.key.cell.0) && p s) places) where
+module _ (memory : MemoryState) (places others : List Placed) (known : List CellId) (unfound : (p : Placed → Bool) → list_any p others ≡ list_any (λ s. not (has_cell known s.key.cell.0) && p s) places) where
   -- a section of the others is a section
   pub others_within : (p : Placed → Bool) → list_any p others ≡ true → list_any p places ≡ true
-  others_within p h = any_goes (λ s. not (has_cell known s.key.cell.0) && p s) p places (λ s t. (and_parts (not (has_cell known s.key.cell.0)) (p s) t).1) (sym (opened p) ∙ h)
+  others_within p h = any_goes (λ s. not (has_cell known s.key.cell.0) && p s) p places (λ s t. (and_parts (not (has_cell known s.key.cell.0)) (p s) t).1) (sym (unfound p) ∙ h)
 
   -- a section of a cell that isn't known is one of the others
   pub in_others : (c : ℕ) → has_cell known c ≡ false → (p : Placed → Bool) → ((s : Placed) → p s ≡ true → s.key.cell.0 ≡ c) → list_any p places ≡ true → list_any p others ≡ true
   in_others c none p of h =
-      opened p
+      unfound p
       ∙ any_goes p (λ s. not (has_cell known s.key.cell.0) && p s) places
       (λ s t. and_from (not (has_cell known s.key.cell.0)) (p s) (ap not (subst (λ n. has_cell known n ≡ false) (sym (of s t)) none)) t) h
 

@@ -33,7 +33,7 @@ impl Model for Others {
 }
 
 /// Adds the section, unless its cell is found.
-fn put_if_open(sorted: &mut Vec<Placed>, place: &Placed, found: &Found)
+fn put_unless_found(sorted: &mut Vec<Placed>, place: &Placed, found: &Found)
     requires { length sorted.old.items < vec_capacity sorted.old }
     ensures items { sorted.new.items ≡ sorted.old.items ++ filter (λ s. not (has_cell found.now.items s.key.cell.0)) (place.now ∷ []) }
     ensures few { length sorted.new.items ≤ length sorted.old.items + 1 }
@@ -47,7 +47,7 @@ fn put_if_open(sorted: &mut Vec<Placed>, place: &Placed, found: &Found)
 
 /// Puts those of the sections whose cells aren't found into a list with room for all, in place of what
 /// it has.
-fn put_open(sorted: &mut Vec<Placed>, places: &[Placed], found: &Found)
+fn put_unfound(sorted: &mut Vec<Placed>, places: &[Placed], found: &Found)
     requires { length places.now ≤ vec_capacity sorted.old }
     ensures items { sorted.new.items ≡ filter (λ s. not (has_cell found.now.items s.key.cell.0)) places.now }
     ensures few { length sorted.new.items ≤ length places.now }
@@ -55,7 +55,7 @@ fn put_open(sorted: &mut Vec<Placed>, places: &[Placed], found: &Found)
 {
     sorted.clear();
     for index in 0..places.len() {
-        put_if_open(sorted, &places[index], found);
+        put_unless_found(sorted, &places[index], found);
     }
 }
 
@@ -76,7 +76,7 @@ impl Others {
         ensures others { (p : PlacedAt → Bool) → list_any p self.new.items ≡ list_any (λ s. not (has_cell found.now.items s.key.cell.0) && p s) places.now }
         ensures room { self.old.room ≤ self.new.room }
     {
-        put_open(&mut self.sorted, places, found);
+        put_unfound(&mut self.sorted, places, found);
         sort_by_start(&mut self.sorted);
         put_reaches(&mut self.spots, &self.sorted);
     }

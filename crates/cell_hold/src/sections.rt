@@ -1,4 +1,4 @@
-//! Sections, by their cells and by addresses.
+//! Sections, by their cells.
 
 ghost use Rattle.std.specs.Prelude.{◌≡◌, ◌≤◌, ◌==◌, ◌&&◌, true, false, All, Bool, IfOk, IsTrue, filter, length, nat_le, nat_lt};
 ghost use Rattle.std.specs.List.{list_any};

@@ -4,7 +4,6 @@ ghost use Rattle.std.specs.Prelude.{◌≡◌, ◌≤◌, ℕ, List, [], length,
 ghost use Rattle.cell_world.specs.Kept.{kept_in};
 ghost use Rattle.cell_hold.specs.Adds.{Spreads};
 ghost use Rattle.cell_hold.specs.Places.{HasTargets};
-ghost use Rattle.cell_hold.specs.Uses.{AddsKept};
 ghost use Rattle.cell_hold.specs.Reached.{reaches_anew, reaches_on};
 ghost use Rattle.cell_hold.specs.Roots.{AreCells, HasRoom, holding_by};
 
@@ -38,36 +37,9 @@ fn spread(reading: &Reading<'_>, known: usize, into: &mut Found)
     }
 }
 
-/// Adds the kept cells to a list that has the attached ones. Whatever leads to one of those is passed over:
-/// `others` gets the sections of all others, and of the attached cells' links those into these are looked for
-/// from there.
-fn add_kept(
-    graph: &Graph,
-    memory: &Memory,
-    places: &Sections,
-    others: &mut Others,
-    roots: &[Root],
-    into: &mut Found,
-)
-    requires room { length places.now ≤ others.old.room }
-    ensures kept { AddsKept graph.now memory.now places.now roots.now into.old.room into.old.items into.new.items }
-    ensures room { into.new.room ≡ into.old.room }
-    ensures others { others.old.room ≤ others.new.room }
-{
-    let attached = into.len();
-    others.take(places.all(), into);
-    add_held(memory, others, roots, into);
-    add_used(graph, others, into);
-    let reading = Reading {
-        graph,
-        memory,
-        places,
-        others,
-    };
-    spread(&reading, attached, into);
-}
-
-/// The kept cells, ascending, in a list that is empty before; and the marks again.
+/// The kept cells, ascending, in a list that is empty before; and the marks again. Whatever leads to an attached
+/// cell is passed over: `others` gets the sections of all others, and of the attached cells' links those into
+/// these are looked for from there.
 fn list_kept(
     graph: &Graph,
     memory: &Memory,
@@ -87,7 +59,17 @@ fn list_kept(
 {
     let mut found = Found::none(cells, marks);
     add_attached(roots, &mut found);
-    add_kept(graph, memory, places, others, roots, &mut found);
+    let attached = found.len();
+    others.take(places.all(), &found);
+    add_held(memory, others, roots, &mut found);
+    add_used(graph, others, &mut found);
+    let reading = Reading {
+        graph,
+        memory,
+        places,
+        others,
+    };
+    spread(&reading, attached, &mut found);
     let (mut kept, marks) = found.into_parts();
     kept.sort_unstable_by_key(|cell| cell.0);
     (kept, marks)

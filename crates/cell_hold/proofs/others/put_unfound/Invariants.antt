@@ -1,6 +1,6 @@
 use Rattle.std.proofs.Common.{◌≡◌, ◌≤◌, filter, length, not, take, vec_capacity}
 use Rattle.cell_hold.specs.Adds.{has_cell}
-use Rattle.cell_hold.proofs.others.put_open.Given as goal
+use Rattle.cell_hold.proofs.others.put_unfound.Given as goal
 
 abbrev pub invariant-loop-index : goal.invariant-loop-index
 invariant-loop-index l = record {
