@@ -4,7 +4,8 @@
 # ten of its own. And how long a script takes with 900 loads and then 2,000 swaps of a cell that these 900 name in 1,800
 # fields. It fails where one swap takes more than 3 ms of processor time, with twice the cells more than 2.3 times as long,
 # or that script more than a second. Each script runs five times, and the least time counts: the same run takes up to twice
-# as long where something else shares the processor.
+# as long where something else shares the processor. Where valgrind is installed, it says too how many instructions a swap
+# takes, which nothing beside it changes.
 #
 #     bench/swaps.sh [CELLS CELLAS]
 #
@@ -26,6 +27,7 @@ else
 fi
 
 swaps=1000
+counted=100
 runs=5
 most_ms=3
 most_times=2.3
@@ -103,6 +105,17 @@ seconds() {
     done | sort -g | head -1
 }
 
+# instructions FOLDER SCRIPT: how many instructions a run takes
+instructions() {
+    valgrind --tool=callgrind --callgrind-out-file=/dev/null "$cells" "$1" "$2" --pages 4096 2>&1 > "$work/text.txt" |
+        awk '/I +refs/ { gsub(",", ""); print $NF }'
+}
+
+# million FOLDER BEFORE WITH SWAPS: the millions of instructions of one swap, by two scripts of which the second has so many more
+million() {
+    awk -v a="$(instructions "$1" "$2")" -v b="$(instructions "$1" "$3")" -v n="$4" 'BEGIN { printf "%.2f", (b - a) / n / 1e6 }'
+}
+
 # swapped TIMES FIELDS: sees that so many swaps were done, and that each of them patched so many fields
 swapped() {
     if [ "$(grep -c "ok swap .* patched $2 removed #.* kept -" "$work/text.txt")" != "$1" ]; then
@@ -111,7 +124,7 @@ swapped() {
     fi
 }
 
-# one_swap CELLS WORDS: puts the milliseconds of one swap into $one
+# one_swap CELLS WORDS: puts the milliseconds of one swap into $one, and its millions of instructions into $count
 one_swap() {
     begun "$1" "$2" > "$crowd/before"
     { begun "$1" "$2"; alternate g100 $swaps; } > "$crowd/swaps"
@@ -121,7 +134,19 @@ one_swap() {
     one=$(awk -v a="$before" -v b="$with" -v n=$swaps 'BEGIN { printf "%.3f", (b - a) * 1000 / n }')
     printf 'one swap among %4d cells, and 64 tasks with %4d words on their stacks: %8.3f ms\n' "$1" "$2" "$one"
     at_most ms "$one" $most_ms
+    if $counting; then
+        { begun "$1" "$2"; alternate g100 $counted; } > "$crowd/swaps"
+        count=$(million "$crowd" before swaps $counted)
+        echo "  $count million instructions"
+    fi
 }
+
+# growth FEW MANY: how many times the first the second is
+growth() {
+    awk -v a="$1" -v b="$2" 'BEGIN { printf "%.2f", b / a }'
+}
+
+if command -v valgrind > /dev/null; then counting=true; else counting=false; fi
 
 crowd=$work/crowd
 turning | assemble "$crowd" 'k#f.o'
@@ -130,10 +155,12 @@ cp "$crowd/k#g100.o" "$crowd/n#g100-2.o"
 for words in 0 2047; do
     one_swap 500 $words
     half=$one
+    half_count=${count:-}
     one_swap 1000 $words
-    times=$(awk -v a="$half" -v b="$one" 'BEGIN { printf "%.2f", b / a }')
+    times=$(growth "$half" "$one")
     echo "  with twice the cells $times times as long"
     at_most times "$times" $most_times
+    if $counting; then echo "  and $(growth "$half_count" "$count") times as many instructions"; fi
 done
 
 users=$work/users
@@ -143,9 +170,11 @@ printf '.rodata\n.quad x::v, x::v\n' | assemble "$users" 'k#u1.o'
 for i in $(seq 2 900); do cp "$users/k#u1.o" "$users/k#u$i.o"; done
 for i in $(seq 900); do echo "load k u$i"; done > "$users/loads"
 { cat "$users/loads"; alternate x 2000; } > "$users/all"
+{ cat "$users/loads"; alternate x $counted; } > "$users/some"
 loads=$(seconds "$users" loads)
 all=$(seconds "$users" all)
 swapped 2000 1800
 awk -v a="$loads" -v b="$all" 'BEGIN { printf "900 loads: %.3f s; with 2,000 swaps of 1,800 fields: %.3f s, %.3f ms each\n", a, b, (b - a) / 2 }'
 at_most seconds "$all" $most_seconds
+if $counting; then echo "  $(million "$users" loads some $counted) million instructions each"; fi
 exit $failed
