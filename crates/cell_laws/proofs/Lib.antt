@@ -1,6 +1,6 @@
 mod NextCoherent
 mod Others
-mod NextTurn
+mod Progress
 mod Worked
 mod Windows
 mod Laid

@@ -2,5 +2,5 @@ pub mod Commands
 pub mod Counts
 pub mod KeepsTargets
 pub mod Lost
-pub mod NextTurn
+pub mod Progress
 pub mod Worked
