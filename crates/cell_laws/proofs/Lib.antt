@@ -13,3 +13,4 @@ mod CountsLoad
 mod CountsRemoval
 mod CountsSwap
 pub mod Counts
+mod FilesSound
