@@ -14,3 +14,5 @@ mod CountsRemoval
 mod CountsSwap
 pub mod Counts
 mod FilesSound
+mod SwapAnswers
+mod SwapChanges
