@@ -1,5 +1,5 @@
 -- A plan, an entry that doesn't fit and a task inside what changes are answered of a machine in which a swap's new cells have their places.
-use Rattle.std.proofs.Common.{◌≡◌, refl, sym, ◌∙◌, ap, subst, ℕ, zero, suc, ◌+◌, Bool, true, false, not, List, [], ◌∷◌, ◌++◌, length, Option, Some, None, Ok, Err}
+use Rattle.std.proofs.Common.{◌≡◌, refl, sym, ap, subst, ℕ, zero, suc, ◌+◌, Bool, true, false, not, List, [], ◌∷◌, length, Option, Some, None, Ok, Err}
 use Rattle.std.specs.Prelude.{◌*◌, ◌/◌, nat_le, nat_lt, option_map, Result}
 use Rattle.cell_num.specs.Lists.{or_else}
 use Rattle.cell_object.specs.declared.object.Object.{Object}
@@ -11,7 +11,7 @@ use Rattle.cell_world.specs.declared.layout.Class.{Class}
 use Rattle.cell_world.specs.declared.layout.Class.TheVariants.{Text, ReadOnly, Writable}
 use Rattle.cell_world.specs.declared.refusal.Many.TheVariants.{Cells, CellNumbers}
 use Rattle.cell_world.specs.declared.refusal.Refusal.{Refusal}
-use Rattle.cell_world.specs.declared.refusal.Refusal.TheVariants.{Ambiguous, BadObject, Duplicate, Exhausted, NoEntry, Overflow, TooMany, Torn, Unknown}
+use Rattle.cell_world.specs.declared.refusal.Refusal.TheVariants.{Ambiguous, BadObject, Exhausted, NoEntry, Overflow, TooMany, Torn, Unknown}
 use Rattle.cell_world.specs.Gather.{Source, Need, append_cell, bring_one, bring_within, clash_among, depot_files, duplicate, file_named, first_lack, fresh_cells, has_stem_in, missing, name_of_ns, nearest_file, object_in, one_file, stem_of_file}
 use Rattle.cell_world.specs.Layout.{image_of, sections_in}
 use Rattle.cell_world.specs.Limits.{max_cells, max_cell_number}
@@ -20,11 +20,13 @@ use Rattle.cell_world.specs.Outcome.{Outcome, ◌>>=◌, ◌>>◌, need, found, 
 use Rattle.cell_world.specs.Pages.{longest_run, lowest_run}
 use Rattle.cell_world.specs.Place.{page_table, place_all, place_cell, place_class, place_sections, start_of_run}
 use Rattle.cell_world.specs.SwapCommand.{Plan, Wanted, all_wanted, append_wanted, first_uncovered, gather_swap, plan_swap, renamed, set_aside, wanted_of}
-use Rattle.cell_world.specs.SwapTransfer.{begin_of, begins_of, stack_for}
+use Rattle.cell_world.specs.SwapTransfer.{Begin, begin_of, begins_of, stack_for}
 use Rattle.cell_world.specs.UnloadCommand.{attached_cell, cell_word}
 use Rattle.cell_world.specs.World.{World, Cell, Alias}
 use Rattle.cell_lemmas.proofs.Appended.{unmapped}
 use Rattle.cell_lemmas.proofs.Outcomes.{refused_ok}
+use Rattle.cell_lemmas.proofs.SwapSteps.{plan_is}
+use Rattle.cell_lemmas.specs.Swapping.{HasSwapPlaced}
 use Rattle.cell_laws.specs.SwapAnswers.{IsOfPlaced, HasAnsweredPlaced}
 
 -- a refusal of another kind
@@ -55,12 +57,12 @@ module _ {X : Type 0} where
 
 module _ {X Y : Type 0} where
   bind_early : (a : Outcome X) (f : X → Outcome Y) → RefusesEarly a → ((x : X) → RefusesEarly (f x)) → RefusesEarly (a >>= f)
-  bind_early (Ok x) f first then_ = then_ x
-  bind_early (Err r) f first then_ = refuses r (first r refl)
+  bind_early (Ok x) f first second = second x
+  bind_early (Err r) f first second = refuses r (first r refl)
 
   next_early : (a : Outcome X) (b : Outcome Y) → RefusesEarly a → RefusesEarly b → RefusesEarly (a >> b)
-  next_early (Ok x) b first then_ = then_
-  next_early (Err r) b first then_ = refuses r (first r refl)
+  next_early (Ok x) b first second = second
+  next_early (Err r) b first second = refuses r (first r refl)
 
 each_early : {X A : Type 0} (f : X → A → Outcome X) → ((x : X) (a : A) → RefusesEarly (f x a)) → (items : List A) (x : X) → RefusesEarly (each f x items)
 each_early f early [] x = passes x
@@ -183,6 +185,11 @@ module _ {X : Type 0} where
   passed_by (Err r) b answer early e of = absurd (apart r (subst IsOfPlaced (sym e) of) (early r refl))
 
 module _ (sources : List Source) (v : World) (items : List SwapItem) (reexport : Bool) (words : List (List ℕ)) where
+  with_answer : (placed : World) (swap : HasSwapPlaced sources v items reexport placed) (begins : List Begin) (stack : Option ℕ) → begins_of (fresh_cells v.next_cell swap.gathered) words ≡ Ok begins → stack_for placed words ≡ Ok stack
+      → HasAnsweredPlaced sources v items reexport words
+  with_answer placed swap begins stack b s =
+      record { placed = placed; swap = swap; begins = begins; stack = stack; begin_all = b; stack_free = s; answer = plan_is sources v items reexport words placed swap begins stack b s }
+
   answered_by : (answer : Outcome Plan) → plan_swap sources v items reexport words ≡ answer → IsOfPlaced answer → HasAnsweredPlaced sources v items reexport words
   answered_by answer e of =
       let a = passed (all_wanted sources v items) _ answer (wants_early sources v items) e of in
@@ -191,15 +198,7 @@ module _ (sources : List Source) (v : World) (items : List SwapItem) (reexport :
       let m = passed (begins_of (fresh_cells v.next_cell b.0) words) _ answer (begins_early (fresh_cells v.next_cell b.0) words) c.2 of in
       let d = passed (place_all b.0 (fresh_cells v.next_cell b.0)) _ answer (each_early place_cell cell_early (fresh_cells v.next_cell b.0) b.0) m.2 of in
       let s = passed (stack_for d.0 words) _ answer (stack_early d.0 words) d.2 of in
-      record {
-        placed = d.0;
-        swap = record { wants = a.0; gathered = b.0; want_all = a.1; gather_all = b.1; covered = unmapped missing _ (refused_ok _ c.0 c.1); place = d.1 };
-        begins = m.0;
-        stack = s.0;
-        begin_all = m.1;
-        stack_free = s.1;
-        answer = e ∙ sym s.2;
-      }
+      with_answer d.0 (record { wants = a.0; gathered = b.0; want_all = a.1; gather_all = b.1; covered = unmapped missing (first_uncovered v.next_cell b.0) (refused_ok (option_map missing (first_uncovered v.next_cell b.0)) c.0 c.1); place = d.1 }) m.0 s.0 m.1 s.1
 
   pub answered_placed : IsOfPlaced (plan_swap sources v items reexport words) → HasAnsweredPlaced sources v items reexport words
   answered_placed of = answered_by (plan_swap sources v items reexport words) refl of

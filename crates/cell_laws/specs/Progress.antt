@@ -5,7 +5,7 @@
 --     turned addresses m stack p           one turn further
 --     progress_after n addresses m ..      how far it has come after n turns
 --     cut_off p                            what is told of a transfer that gets no more turns
-use Rattle.std.specs.Prelude.{ℕ, zero, suc, ◌==◌, List, [], ◌∷◌, Option, Some, None, if◌then◌else◌}
+use Rattle.std.specs.Prelude.{ℕ, zero, suc, ◌==◌, List, [], ◌∷◌, Some, None, if◌then◌else◌}
 use Rattle.cell_num.specs.declared.ids.Why.{Why}
 use Rattle.cell_num.specs.declared.ids.Why.TheVariants.{Budget, Returned, Trap}
 use Rattle.cell_world.specs.declared.reply.TaskState.TheVariants.{Ready, Done, Fault as Faulted}

@@ -15,7 +15,7 @@ ghost use Rattle.cell_lemmas.specs.Kept.{KeepsFields, KeepsReadOnly, KeepsSealed
 ghost use Rattle.cell_laws.specs.Progress.{Ended, Running, Runs, cut_off, progress_after};
 ghost use Rattle.cell_laws.specs.Worked.{asking, displaced, failed, holding, pc_after, stores, storing};
 
-/// A transfer goes turn by turn: each turn is the move of the hart at which it stands, over the memory then. The hart of a routine begins at its entry with the registers of a spawn and goes on as its move leaves it; the next routine begins where one ended with the code 0. What is told within n turns is told of where it stands after n of them, and that is where the turn n + 1 goes on.
+/// The turns of a transfer one by one. Each is the move of the hart at which the transfer stands, over the memory then: the hart of a routine begins at its entry with the registers of a spawn and goes on as its move leaves it, and where a routine ends with the code 0 the next one begins. A budget of n turns comes to what the first n of them leave; where they run out in a routine, the turn n + 1 is the move of that hart.
 pub fn transfer_turn_by_turn()
     ensures is { (n : ℕ) (addresses : Addresses) (m : Seen) (stack : ℕ) (routines : List Routine) → transferred n addresses m stack routines ≡ cut_off (progress_after n addresses m stack routines) }
     ensures out { (n : ℕ) (addresses : Addresses) (m : Seen) (stack : ℕ) (routines : List Routine) (name : ℕ) → (transferred n addresses m stack routines).failure ≡ Some (record { routine = name; why = Budget }) →
