@@ -27,7 +27,7 @@ pub fn empty_is_coherent()
     ensures { (base : ℕ) (pages : ℕ) → IsSpace base pages → IsCoherent (empty_world base pages) }
 {}
 
-/// Each command keeps the machine coherent, be it accepted or refused, whatever the bytes of the files are.
+/// Each command keeps the machine coherent, be it accepted or refused, whatever files within the limit hold.
 pub fn next_keeps_coherent()
     ensures files { (files : List File) (w : World) (command : Command) → HasItems command → All (λ f. length f.bytes ≤ max_file_bytes) files → IsCoherent w → IsCoherent (next (map source_of files) w command).world }
     ensures sources { (sources : List Source) (w : World) (command : Command) → HasItems command → AreSound sources → IsCoherent w → IsCoherent (next sources w command).world }

@@ -1,7 +1,8 @@
 //! Which targets change: what attaching, detaching and removing cells does to them, and what each command may. `AreSound` holds of the sources of all files within the limit (`files_are_sound`).
 
-ghost use Rattle.std.specs.Prelude.{ℕ, ◌≡◌, ◌<◌, IsTrue, List, Some, All, Ok, length, false, Bool};
+ghost use Rattle.std.specs.Prelude.{ℕ, ◌≡◌, ◌<◌, IsTrue, List, Some, All, Ok, Err, filter, length, false, Bool};
 ghost use Rattle.cell_num.specs.Lists.{holds};
+ghost use Rattle.cell_num.specs.declared.ids.CellId.{CellId};
 ghost use Rattle.cell_object.specs.declared.object.Entry.{Entry};
 ghost use Rattle.cell_world.specs.Answer.{Done, numbers_of};
 ghost use Rattle.cell_world.specs.Changed.{changed_fields, differs, now_in};
@@ -13,12 +14,14 @@ ghost use Rattle.cell_world.specs.NsCommand.{next_ns};
 ghost use Rattle.cell_world.specs.Relink.{relink};
 ghost use Rattle.cell_world.specs.SwapCommand.{Plan, old_numbers, plan_swap};
 ghost use Rattle.cell_world.specs.Target.{target_of};
+ghost use Rattle.cell_world.specs.Torn.{first_torn};
 ghost use Rattle.cell_world.specs.UnloadCommand.{next_purge, next_unload, put_aside, detach};
-ghost use Rattle.cell_world.specs.World.{Cell, World, is_attached};
+ghost use Rattle.cell_world.specs.World.{Cell, World, is_attached, is_ready};
 ghost use Rattle.cell_world.specs.declared.state.Target.{Target};
 ghost use Rattle.cell_world.specs.declared.command.CellName.{CellName};
 ghost use Rattle.cell_world.specs.declared.command.Command.{Command};
 ghost use Rattle.cell_world.specs.declared.command.SwapItem.{SwapItem};
+ghost use Rattle.cell_world.specs.declared.refusal.Refusal.TheVariants.{Torn};
 ghost use Rattle.cell_lemmas.specs.Grown.{HasAttached};
 ghost use Rattle.cell_lemmas.specs.Named.{IsNamed, IsNewGroup};
 ghost use Rattle.cell_lemmas.specs.Left.{LeavesTargets};
@@ -66,7 +69,8 @@ pub fn other_commands_keep_targets()
 /// A swap changes exactly the targets that were in an old cell and aren't any more: of these an entry names something
 /// else by then, and each other one names what it named. The fields that change are those of such entries. That is so as soon
 /// as the new cells have their places, whatever is answered then. The answers that speak of it are a plan, an entry that doesn't
-/// fit, and a task that stands inside what changes. The machine of a plan is that one with its fields and links written.
+/// fit, and a task that stands inside what changes, which is then the first one inside such a field. The machine of a plan
+/// is that one with its fields and links written.
 pub fn swap_changes_lost_targets()
     ensures entries { (sources : List Source) (v : World) (items : List SwapItem) (reexport : Bool) (placed : World) → AreSound sources → IsCoherent v → (p : HasSwapPlaced sources v items reexport placed) →
         All (λ c. All (λ e. differs v placed c e ≡ loses v placed (old_numbers p.wants) c e) c.object.entries) v.cells }
@@ -74,6 +78,9 @@ pub fn swap_changes_lost_targets()
     ensures fields { (sources : List Source) (v : World) (items : List SwapItem) (reexport : Bool) (placed : World) → AreSound sources → IsCoherent v → (p : HasSwapPlaced sources v items reexport placed) →
         changed_fields v placed ≡ replaced_fields v placed (old_numbers p.wants) }
     ensures answers { (sources : List Source) (v : World) (items : List SwapItem) (reexport : Bool) (words : List (List ℕ)) → IsOfPlaced (plan_swap sources v items reexport words) → HasAnsweredPlaced sources v items reexport words }
+    ensures torn { (sources : List Source) (v : World) (items : List SwapItem) (reexport : Bool) (words : List (List ℕ)) (task : ℕ) (cell : CellId) (section offset : ℕ) → AreSound sources → IsCoherent v →
+        plan_swap sources v items reexport words ≡ Err (Torn task cell section offset) →
+        (placed : World) × (p : HasSwapPlaced sources v items reexport placed) × (first_torn (replaced_fields v placed (old_numbers p.wants)) (filter is_ready v.tasks) ≡ Some (Torn task cell section offset)) }
     ensures plan { (sources : List Source) (v : World) (items : List SwapItem) (reexport : Bool) (words : List (List ℕ)) (plan : Plan) → plan_swap sources v items reexport words ≡ Ok plan →
         (placed : World) × (p : HasSwapPlaced sources v items reexport placed) × (plan.wants ≡ p.wants) × (plan.changed ≡ changed_fields v placed) × (plan.linked ≡ relink placed) }
 {}
