@@ -1,6 +1,6 @@
 mod NextCoherent
 mod Others
-mod NextTurn
+mod Progress
 mod Worked
 mod Windows
 mod Laid
@@ -13,3 +13,6 @@ mod CountsLoad
 mod CountsRemoval
 mod CountsSwap
 pub mod Counts
+mod FilesSound
+mod SwapAnswers
+mod SwapChanges

@@ -2,5 +2,6 @@ pub mod Commands
 pub mod Counts
 pub mod KeepsTargets
 pub mod Lost
-pub mod NextTurn
+pub mod Progress
+pub mod SwapAnswers
 pub mod Worked

@@ -1,12 +1,15 @@
 -- Transfers by hand, over a text and eight bytes of data: a routine that stores 9 and returns a code, and one that asks for a name.
-use Rattle.std.specs.Prelude.{ℕ, ◌+◌, ◌*◌, false, List, [], ◌∷◌, Option, Some, codes, flat_map}
+use Rattle.std.specs.Prelude.{ℕ, ◌+◌, ◌*◌, false, List, [], ◌∷◌, Option, Some, None, codes, flat_map}
 use Rattle.cell_num.specs.declared.ids.Why.{Why}
 use Rattle.cell_num.specs.Bits.{bytes_of}
 use Rattle.cell_world.specs.World.{Region}
 use Rattle.cell_world.specs.Layout.{permission_of}
 use Rattle.cell_world.specs.declared.layout.Class.TheVariants.{Text, Writable}
 use Rattle.cell_world.specs.declared.transfer.Failure.{Failure}
+use Rattle.cell_world.specs.declared.transfer.Routine.{Routine}
+use Rattle.cell_world.specs.Execute.{Seen}
 use Rattle.cell_world.specs.Transfer.{Addresses, Transferred, transferred}
+use Rattle.cell_laws.specs.Progress.{Progress, Runs, Ended, progress_after}
 use Rattle.cell_world.specs.declared.transfer.Record.{Record}
 
 -- at 0x10000
@@ -17,10 +20,19 @@ text words = record { start = 0x10000; permission = permission_of Text; bytes = 
 abbrev pub holding : ℕ → Region
 holding value = record { start = 0x11000; permission = permission_of Writable; bytes = bytes_of 8 value }
 
--- at most n turns of one routine, over memory without seals
+-- without seals
+abbrev pub seen : List Region → Seen
+seen regions = record { regions = regions; is_sealed = λ addr k. false }
+
+abbrev pub stack : ℕ
+stack = 0x20000
+
+abbrev pub routine : Routine
+routine = record { name = 3; entry = 0x10000 }
+
+-- at most n turns of one routine
 abbrev pub by_hand : ℕ → Addresses → List Region → Transferred
-by_hand n addresses regions =
-    transferred n addresses (record { regions = regions; is_sealed = λ addr k. false }) 0x20000 (record { name = 3; entry = 0x10000 } ∷ [])
+by_hand n addresses regions = transferred n addresses (seen regions) stack (routine ∷ [])
 
 -- la t0, the data / li t1, 9 / sd t1, 0(t0) / li a0, the code / ret
 abbrev pub stores : ℕ → Region
@@ -28,6 +40,15 @@ stores code = text (0x1297 ∷ 0x28293 ∷ 0x900313 ∷ 0x62b023 ∷ (code * 0x1
 
 abbrev pub storing : ℕ → ℕ → Transferred
 storing code n = by_hand n (record { old = []; new = [] }) (stores code ∷ holding 0 ∷ [])
+
+-- the pc at which it stands after n turns, until it has ended
+abbrev pub pc_of : Progress → Option ℕ
+pc_of (Runs r) = Some r.hart.pc
+pc_of (Ended t) = None
+
+abbrev pub pc_after : ℕ → ℕ → Option ℕ
+pc_after code n =
+    pc_of (progress_after n (record { old = []; new = [] }) (seen (stores code ∷ holding 0 ∷ [])) stack (routine ∷ []))
 
 -- what its one store displaced
 abbrev pub displaced : List Record

@@ -1,10 +1,11 @@
-//! The machine begins coherent, and each step, each command and each turn of a task keeps it so.
+//! The machine begins coherent, and each step, each command and each turn of a task keeps it so. `AreSound` holds of the sources of all files within the limit (`files_are_sound`).
 
-ghost use Rattle.std.specs.Prelude.{ℕ, ◌≡◌, ◌<◌, List, Some, Ok, Err, length, Bool};
+ghost use Rattle.std.specs.Prelude.{ℕ, ◌≡◌, ◌<◌, ◌≤◌, List, All, Some, Ok, Err, length, map, Bool};
 ghost use Rattle.cell_world.specs.Answer.{Done};
 ghost use Rattle.cell_world.specs.Coherent.{AreSound, IsCoherent};
-ghost use Rattle.cell_world.specs.Gather.{Source};
+ghost use Rattle.cell_world.specs.Gather.{Source, source_of};
 ghost use Rattle.cell_world.specs.LoadCommand.{next_load};
+ghost use Rattle.cell_world.specs.Limits.{max_file_bytes};
 ghost use Rattle.cell_world.specs.Next.{next};
 ghost use Rattle.cell_world.specs.NsCommand.{next_ns};
 ghost use Rattle.cell_world.specs.Pages.{IsSpace};
@@ -17,6 +18,7 @@ ghost use Rattle.cell_world.specs.World.{World, empty_world, Task, task_of};
 ghost use Rattle.cell_world.specs.declared.command.CellName.{CellName};
 ghost use Rattle.cell_world.specs.declared.command.Command.{Command};
 ghost use Rattle.cell_world.specs.declared.command.SwapItem.{SwapItem};
+ghost use Rattle.cell_world.specs.declared.file.File.{File};
 ghost use Rattle.cell_world.specs.declared.refusal.Refusal.{Refusal};
 ghost use Rattle.cell_laws.specs.Commands.{HasItems};
 
@@ -25,9 +27,10 @@ pub fn empty_is_coherent()
     ensures { (base : ℕ) (pages : ℕ) → IsSpace base pages → IsCoherent (empty_world base pages) }
 {}
 
-/// Each command keeps the machine coherent, be it accepted or refused.
+/// Each command keeps the machine coherent, be it accepted or refused, whatever files within the limit hold.
 pub fn next_keeps_coherent()
-    ensures { (sources : List Source) (w : World) (command : Command) → HasItems command → AreSound sources → IsCoherent w → IsCoherent (next sources w command).world }
+    ensures files { (files : List File) (w : World) (command : Command) → HasItems command → All (λ f. length f.bytes ≤ max_file_bytes) files → IsCoherent w → IsCoherent (next (map source_of files) w command).world }
+    ensures sources { (sources : List Source) (w : World) (command : Command) → HasItems command → AreSound sources → IsCoherent w → IsCoherent (next sources w command).world }
 {}
 
 /// A command that is refused leaves the machine as it was, a swap whose routines have run no less than any other.
@@ -36,7 +39,7 @@ pub fn refused_changes_nothing()
 {}
 
 /// Each accepted command that changes something keeps the machine coherent. Only a load and a swap ask for more: that the
-/// objects in the files are sound, and that a swap has an item.
+/// objects in the files are sound, which all that are read are (`files_are_sound`), and that a swap has an item.
 pub fn commands_keep_coherent()
     ensures ns { (w : World) (name : List ℕ) (parent : List ℕ) (d : Done) → IsCoherent w → next_ns w name parent ≡ Ok d → IsCoherent d.world }
     ensures load { (sources : List Source) (w : World) (ns : List ℕ) (stem : List ℕ) (d : Done) → AreSound sources → IsCoherent w → next_load sources w ns stem ≡ Ok d → IsCoherent d.world }

@@ -1,6 +1,7 @@
 //! The laws over the definitions that the contracts of all other crates cite, in one place. Each is the contract of a
 //! public function with an empty body. Their lemmas are in the crates below, and no code stands on this crate.
 //!
+//! - `files`: what files are read as is sound; so what other laws ask of the sources of new cells holds of files
 //! - `coherence`: the machine begins coherent, and each command and each turn of a task keeps it so
 //! - `presence`: what entries and links of a machine name, and where its cells lie
 //! - `contents`: what the sections of a machine hold: their fresh bytes, and in each field its value
@@ -18,6 +19,7 @@
 pub mod coherence;
 pub mod contents;
 pub mod counting;
+pub mod files;
 pub mod presence;
 pub mod relinking;
 pub mod removal;

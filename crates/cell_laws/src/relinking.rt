@@ -1,4 +1,4 @@
-//! What linking makes of a machine, and what it writes after new cells have come and others have changed.
+//! What linking makes of a machine, and what it writes after new cells have come and others have changed. `AreSound` holds of the sources of all files within the limit (`files_are_sound`).
 
 ghost use Rattle.std.specs.Prelude.{ℕ, ◌≡◌, List, ◌++◌, All, Some, None, Err, map, [], false};
 ghost use Rattle.cell_num.specs.Lists.{numbered};

@@ -1,4 +1,4 @@
-//! Which cells are kept and who holds them, which are left when others go, and that nothing leads into one that went.
+//! Which cells are kept and who holds them, which are left when others go, and that nothing leads into one that went. `AreSound` holds of the sources of all files within the limit (`files_are_sound`).
 
 ghost use Rattle.std.specs.Prelude.{ℕ, ◌≡◌, ◌<◌, IsTrue, List, All, None, Ok, length, suc, ◌↔◌, false, is_some, filter, nat_lt, Bool};
 ghost use Rattle.cell_num.specs.Lists.{each_pair, holds, In};

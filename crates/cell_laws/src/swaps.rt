@@ -1,4 +1,4 @@
-//! What a swap plans, what its routines leave, and when it is accepted.
+//! What a swap plans, what its routines leave, and when it is accepted. `AreSound` holds of the sources of all files within the limit (`files_are_sound`).
 
 ghost use Rattle.std.specs.List.{list_all};
 ghost use Rattle.std.specs.Prelude.{ℕ, ◌≡◌, ◌<◌, IsTrue, List, All, true, Some, None, Ok, Err, is_none, length, suc, [], ◌↔◌, false, Bool, Option};

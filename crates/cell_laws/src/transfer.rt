@@ -1,22 +1,29 @@
 //! What the routines of a swap may touch, after each of their turns.
 
-ghost use Rattle.std.specs.Prelude.{ℕ, ◌≡◌, List, None, Ok, suc, [], ◌∷◌};
+ghost use Rattle.std.specs.Prelude.{ℕ, ◌≡◌, List, Option, None, Some, Ok, map, suc, [], ◌∷◌};
 ghost use Rattle.cell_num.specs.declared.ids.Cause.TheVariants.{Call};
 ghost use Rattle.cell_num.specs.declared.ids.Why.TheVariants.{Budget, Returned, Trap};
 ghost use Rattle.cell_world.specs.Coherent.{IsCoherent};
 ghost use Rattle.cell_world.specs.Execute.{Seen, seen_in};
+ghost use Rattle.cell_world.specs.Move.{move};
 ghost use Rattle.cell_world.specs.Place.{start_of_run};
 ghost use Rattle.cell_world.specs.declared.transfer.Routine.{Routine};
-ghost use Rattle.cell_world.specs.Transfer.{Addresses, after_turns, transfer, transferred};
+ghost use Rattle.cell_world.specs.Transfer.{Addresses, Transferred, after_turns, routine_column, transfer, transferred};
 ghost use Rattle.cell_world.specs.Undo.{undone};
 ghost use Rattle.cell_world.specs.World.{World};
 ghost use Rattle.cell_lemmas.specs.Kept.{KeepsFields, KeepsReadOnly, KeepsSealed, KeepsShapes};
-ghost use Rattle.cell_laws.specs.NextTurn.{IsNextTurn};
-ghost use Rattle.cell_laws.specs.Worked.{asking, displaced, failed, holding, stores, storing};
+ghost use Rattle.cell_laws.specs.Progress.{Ended, Running, Runs, cut_off, progress_after};
+ghost use Rattle.cell_laws.specs.Worked.{asking, displaced, failed, holding, pc_after, stores, storing};
 
-/// A transfer with one turn more in its budget is the same, or makes one turn more over the memory at which the other ran out of turns. So the budgets 1, 2, 3 and so on go through its turns.
+/// The turns of a transfer one by one. Each is the move of the hart at which the transfer stands, over the memory then: the hart of a routine begins at its entry with the registers of a spawn and goes on as its move leaves it, and where a routine ends with the code 0 the next one begins. A budget of n turns comes to what the first n of them leave; where they run out in a routine, the turn n + 1 is the move of that hart.
 pub fn transfer_turn_by_turn()
-    ensures { (n : ℕ) (addresses : Addresses) (m : Seen) (stack : ℕ) (routines : List Routine) → IsNextTurn addresses m (transferred n addresses m stack routines) (transferred (suc n) addresses m stack routines) }
+    ensures is { (n : ℕ) (addresses : Addresses) (m : Seen) (stack : ℕ) (routines : List Routine) → transferred n addresses m stack routines ≡ cut_off (progress_after n addresses m stack routines) }
+    ensures out { (n : ℕ) (addresses : Addresses) (m : Seen) (stack : ℕ) (routines : List Routine) (name : ℕ) → (transferred n addresses m stack routines).failure ≡ Some (record { routine = name; why = Budget }) →
+        (r : Running) × (progress_after n addresses m stack routines ≡ Runs r) × (r.routine.name ≡ name) }
+    ensures turn { (n : ℕ) (addresses : Addresses) (m : Seen) (stack : ℕ) (routines : List Routine) (r : Running) → progress_after n addresses m stack routines ≡ Runs r →
+        (transferred (suc n) addresses m stack routines).regions ≡ (move (routine_column addresses) (record m { regions = (transferred n addresses m stack routines).regions }) r.hart).regions }
+    ensures ended { (n : ℕ) (addresses : Addresses) (m : Seen) (stack : ℕ) (routines : List Routine) (t : Transferred) → progress_after n addresses m stack routines ≡ Ended t →
+        transferred (suc n) addresses m stack routines ≡ transferred n addresses m stack routines }
 {}
 
 /// After each turn of a transfer the machine is coherent, where the region of the transfer's stack is left out. The first n turns of a transfer are those of one with the budget n (`transfer_turn_by_turn`).
@@ -35,11 +42,12 @@ pub fn transfer_changes_no_cell()
     ensures end { (n : ℕ) (w v : World) (stack : ℕ) (addresses : Addresses) (routines : List Routine) → transfer w stack addresses routines n ≡ Ok v → v ≡ after_turns n w stack addresses routines }
 {}
 
-/// By hand: a routine of six turns that stores 9. A code other than 0, or a budget of five turns, is a failure, which comes after the store; one record goes back behind it. With the code 0 and six turns it succeeds. A routine that asks for a name returns its address in the old or in the new cells, and any call but 0 to 5 traps.
+/// By hand: a routine of six turns that stores 9, an instruction a turn. A code other than 0, or a budget of five turns, is a failure, which comes after the store; one record goes back behind it. With the code 0 and six turns it succeeds. A routine that asks for a name returns its address in the old or in the new cells, and any call but 0 to 5 traps.
 pub fn transfers_by_hand()
     ensures returns { storing 7 10 ≡ record { regions = stores 7 ∷ holding 9 ∷ []; failure = failed (Returned 7) } }
     ensures runs_out { storing 0 5 ≡ record { regions = stores 0 ∷ holding 9 ∷ []; failure = failed Budget } }
     ensures succeeds { storing 0 6 ≡ record { regions = stores 0 ∷ holding 9 ∷ []; failure = None } }
+    ensures turns { map (pc_after 0) (0 ∷ 1 ∷ 2 ∷ 3 ∷ 4 ∷ 5 ∷ 6 ∷ []) ≡ Some 0x10000 ∷ Some 0x10004 ∷ Some 0x10008 ∷ Some 0x1000c ∷ Some 0x10010 ∷ Some 0x10014 ∷ None ∷ [] }
     ensures goes_back { undone (stores 7 ∷ holding 9 ∷ []) displaced ≡ stores 7 ∷ holding 0 ∷ [] }
     ensures old { (asking 4).failure ≡ failed (Returned 0x4000) }
     ensures new { (asking 5).failure ≡ failed (Returned 0x5000) }

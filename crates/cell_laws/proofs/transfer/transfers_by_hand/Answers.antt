@@ -1,5 +1,5 @@
 use Rattle.std.proofs.Common.{refl}
-use Rattle.cell_laws.proofs.Worked.{returns_7, runs_out, succeeds, asks_old, asks_new, asks_other}
+use Rattle.cell_laws.proofs.Worked.{returns_7, runs_out, succeeds, turn_by_turn, asks_old, asks_new, asks_other}
 use Rattle.cell_laws.proofs.transfer.transfers_by_hand.Goals as goal
 
 pub returns-clause-returns : goal.returns-clause-returns
@@ -10,6 +10,9 @@ returns-clause-runs_out c = runs_out
 
 pub returns-clause-succeeds : goal.returns-clause-succeeds
 returns-clause-succeeds c = succeeds
+
+pub returns-clause-turns : goal.returns-clause-turns
+returns-clause-turns c = turn_by_turn
 
 pub returns-clause-goes_back : goal.returns-clause-goes_back
 returns-clause-goes_back c = refl
