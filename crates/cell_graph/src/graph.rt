@@ -29,8 +29,8 @@ use cell_num::{CellId, SecKey};
 use cell_world::LinkRow;
 use slab::Slab;
 use std::alloc::{AllocError, Global};
-use std::marker::Model;
-use std::sync::ledger::Ledger;
+use std::marker::{Brand, Model};
+use std::sync::ledger::{Blank, Ledger};
 
 /// The present sections and their links. Room for what is added is reserved before, so that adding
 /// takes no memory.
@@ -167,18 +167,8 @@ impl Graph {
         (CellDeps::of(&self.rows, list), next)
     }
 
-    /// The link of that user and entry, which is there.
-    pub fn link(&self, user: SecKey, entry: u32) -> LinkRow
-        requires { IsTrue (is_bound self.now.rows user entry) }
-        ensures there { Contains self.now.rows result }
-        ensures user { result.user ≡ user }
-        ensures entry { result.entry ≡ entry }
-    {
-        let index = row_index(&self.row_list, user, entry);
-        link_named(&self.rows, &self.row_list, index)
-    }
-
-    /// The same, with the index behind it in the list of links. It is looked for at an index first.
+    /// The link of that user and entry, which is there, with the index behind it in the list of links. It
+    /// is looked for at an index first.
     pub fn link_near(&self, user: SecKey, entry: u32, near: usize) -> (LinkRow, usize)
         requires { IsTrue (is_bound self.now.rows user entry) }
         ensures there { Contains self.now.rows result.0 }
@@ -186,7 +176,8 @@ impl Graph {
         ensures entry { result.0.entry ≡ entry }
     {
         let index = row_index_near(&self.row_list, near, user, entry);
-        (link_named(&self.rows, &self.row_list, index), index + 1)
+        let link = link_named::<Brand>(&self.rows, &self.row_list, index, Blank::new(1));
+        (link, index + 1)
     }
 
     /// The links of others to a section, in no stated order; none where it isn't there.
@@ -204,12 +195,39 @@ impl Graph {
     }
 
     /// Marks the cells of the links into a section that is there.
-    fn mark_users_of_section(&self, sec: SecKey, marks: &mut Vec<bool>) -> Result<(), AllocError>
+    fn mark_users_of_section<L: Ledger>(
+        &self,
+        sec: SecKey,
+        marks: &mut Vec<bool>,
+        steps: &mut Steps<L>,
+    ) -> Result<(), AllocError>
         requires { Contains self.now.sections sec }
-        ensures { OnOk result ((n : ℕ) → is_marked marks.new.items n ≡ (is_marked marks.old.items n || leads_to sec self.now.rows n)) }
+        ensures marks { OnOk result ((n : ℕ) → is_marked marks.new.items n ≡ (is_marked marks.old.items n || leads_to sec self.now.rows n)) }
+        ensures steps { steps.new ≤ steps.old + length (links_to sec self.now.rows) }
     {
-        for row in self.users_of(sec) {
+        let mut users = self.users_of(sec);
+        while let Some(row) = users.step(steps) {
             mark(marks, row.user.cell)?;
+        }
+        Ok(())
+    }
+
+    /// Marks the cells of the links into a cell, with a counter of its own.
+    fn mark_counted<L: Ledger>(
+        &self,
+        cell: CellId,
+        marks: &mut Vec<bool>,
+        blank: Blank,
+    ) -> Result<(), AllocError>
+        requires name { blank.name ≡ L.name }
+        requires parts { blank.parts ≡ L.parts }
+        requires countable { 0 < blank.parts }
+        ensures { OnOk result ((n : ℕ) → is_marked marks.new.items n ≡ (is_marked marks.old.items n || is_user_of cell.0 self.now.rows n)) }
+    {
+        let mut steps = Steps::<L>::new(blank);
+        let sections = cell_sections(&self.section_list, cell);
+        for index in 0..sections.len() {
+            self.mark_users_of_section(sections[index].key, marks, &mut steps)?;
         }
         Ok(())
     }
@@ -219,11 +237,7 @@ impl Graph {
     pub fn mark_users_of(&self, cell: CellId, marks: &mut Vec<bool>) -> Result<(), AllocError>
         ensures { OnOk result ((n : ℕ) → is_marked marks.new.items n ≡ (is_marked marks.old.items n || is_user_of cell.0 self.now.rows n)) }
     {
-        let sections = cell_sections(&self.section_list, cell);
-        for index in 0..sections.len() {
-            self.mark_users_of_section(sections[index].key, marks)?;
-        }
-        Ok(())
+        self.mark_counted::<Brand>(cell, marks, Blank::new(1))
     }
 
     /// A reference to a section that is there, which doesn't keep it there.
@@ -295,9 +309,12 @@ impl Graph {
         }
     }
 
-    /// Takes the link at an index away.
-    fn unbind_index(&mut self, index: usize)
-        requires { index < length self.old.rows }
+    /// Takes the link at an index away, with a counter of its own.
+    fn unbind_index<L: Ledger>(&mut self, index: usize, blank: Blank)
+        requires name { blank.name ≡ L.name }
+        requires parts { blank.parts ≡ L.parts }
+        requires countable { 0 < blank.parts }
+        requires within { index < length self.old.rows }
         ensures left { self.new.rows ≡ remove self.old.rows index }
         ensures room { self.new.spare_rows ≡ self.old.spare_rows + 1 }
         ensures same_sections { self.new.sections ≡ self.old.sections }
@@ -305,12 +322,14 @@ impl Graph {
     {
         let _ = self.rows.capacity();
         let _ = self.row_list.capacity();
+        let mut steps = Steps::<L>::new(blank);
         unbind_at(
             &mut self.sections,
             &mut self.rows,
             &self.section_list,
             &mut self.row_list,
             index,
+            &mut steps,
         );
     }
 
@@ -323,16 +342,23 @@ impl Graph {
         ensures same_room_for_sections { self.old.spare_sections ≤ self.new.spare_sections }
     {
         let index = row_index(&self.row_list, row.user, row.entry);
-        self.unbind_index(index);
+        self.unbind_index::<Brand>(index, Blank::new(1));
     }
 
     /// A section of a cell that isn't listed, which has a link to the section.
-    fn outside_user(&self, cells: &[CellId], sec: SecKey) -> Option<SecKey>
+    fn outside_user<L: Ledger>(
+        &self,
+        cells: &[CellId],
+        sec: SecKey,
+        steps: &mut Steps<L>,
+    ) -> Option<SecKey>
         requires { Contains self.now.sections sec }
         ensures none { IfNone result ((r : Row) → Contains self.now.rows r → r.target ≡ sec → is_listed cells.now r.user ≡ true) }
         ensures some { IfSome result (λ user. IsUsedBy cells.now sec user self.now.rows) }
+        ensures steps { steps.new ≤ steps.old + length (links_to sec self.now.rows) }
     {
-        for row in self.users_of(sec) {
+        let mut users = self.users_of(sec);
+        while let Some(row) = users.step(steps) {
             if !is_listed(cells, row.user) {
                 return Some(row.user);
             }
@@ -341,46 +367,60 @@ impl Graph {
     }
 
     /// The same for all sections of a cell.
-    fn outside_user_of(&self, cells: &[CellId], cell: CellId) -> Option<SecKey>
+    fn outside_user_of<L: Ledger>(
+        &self,
+        cells: &[CellId],
+        cell: CellId,
+        steps: &mut Steps<L>,
+    ) -> Option<SecKey>
         ensures none { IfNone result ((r : Row) → Contains self.now.rows r → r.target.cell.0 ≡ cell.0 → is_listed cells.now r.user ≡ true) }
         ensures some { IfSome result (λ user. IsCellUsedBy cells.now cell.0 user self.now.rows) }
     {
         for at in cell_sections(&self.section_list, cell) {
-            if let Some(user) = self.outside_user(cells, at.key) {
+            if let Some(user) = self.outside_user(cells, at.key, steps) {
                 return Some(user);
             }
         }
         None
     }
 
-    /// The same for all listed cells.
-    fn outside_user_of_any(&self, cells: &[CellId]) -> Option<SecKey>
+    /// The same for all listed cells, with a counter of its own.
+    fn outside_user_of_any<L: Ledger>(&self, cells: &[CellId], blank: Blank) -> Option<SecKey>
+        requires name { blank.name ≡ L.name }
+        requires parts { blank.parts ≡ L.parts }
+        requires countable { 0 < blank.parts }
         ensures none { IfNone result (is_used_outside cells.now self.now.rows ≡ false) }
         ensures some { IfSome result (λ user. IsTrue (uses_from_outside user cells.now self.now.rows)) }
         ensures used { IfSome result (λ user. IsTrue (is_used_outside cells.now self.now.rows)) }
     {
+        let mut steps = Steps::<L>::new(blank);
         for cell in cells {
-            if let Some(user) = self.outside_user_of(cells, *cell) {
+            if let Some(user) = self.outside_user_of(cells, *cell, &mut steps) {
                 return Some(user);
             }
         }
         None
     }
 
-    /// Takes away the links that the sections of the cells use.
-    fn remove_links(&mut self, cells: &[CellId])
+    /// Takes away the links that the sections of the cells use, with a counter of its own.
+    fn remove_links<L: Ledger>(&mut self, cells: &[CellId], blank: Blank)
+        requires name { blank.name ≡ L.name }
+        requires parts { blank.parts ≡ L.parts }
+        requires countable { 0 < blank.parts }
         ensures left { self.new.rows ≡ links_without cells.now self.old.rows }
         ensures room { self.old.spare_rows ≤ self.new.spare_rows }
         ensures same_sections { self.new.sections ≡ self.old.sections }
         ensures same_room_for_sections { self.new.spare_sections ≡ self.old.spare_sections }
     {
         let _ = self.rows.capacity();
+        let mut steps = Steps::<L>::new(blank);
         remove_rows(
             &mut self.sections,
             &mut self.rows,
             &self.section_list,
             &mut self.row_list,
             cells,
+            &mut steps,
         );
     }
 
@@ -411,10 +451,10 @@ impl Graph {
         ensures same_rows { OnErr result (self.new.rows ≡ self.old.rows) }
         ensures same_sections { OnErr result (self.new.sections ≡ self.old.sections) }
     {
-        if let Some(user) = self.outside_user_of_any(cells) {
+        if let Some(user) = self.outside_user_of_any::<Brand>(cells, Blank::new(1)) {
             return Err(StillUsed { user });
         }
-        self.remove_links(cells);
+        self.remove_links::<Brand>(cells, Blank::new(1));
         self.remove_sections(cells);
         Ok(())
     }

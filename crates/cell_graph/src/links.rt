@@ -25,11 +25,10 @@ use crate::removal::is_listed;
 use crate::rows::{ChainRow, Rows};
 use crate::section::Section;
 use crate::steps::Steps;
-use crate::walks::read_at;
 use cell_num::{CellId, SecKey};
 use cell_world::LinkRow;
 use slab::Slab;
-use std::sync::ledger::Ledger;
+use std::sync::ledger::{Blank, Ledger};
 
 /// Where in the list a section is that is there.
 pub fn section_index(list: &[SectionPlace], key: SecKey) -> usize
@@ -117,14 +116,18 @@ pub fn row_index(list: &[RowPlace], user: SecKey, entry: u32) -> usize
     row_cut(list, user, entry)
 }
 
-/// The link that the list names at an index.
-pub fn link_named(rows: &Rows, list: &[RowPlace], index: usize) -> LinkRow
+/// The link that the list names at an index, read with a counter of its own.
+pub fn link_named<L: Ledger>(rows: &Rows, list: &[RowPlace], index: usize, blank: Blank) -> LinkRow
+    requires name { blank.name ≡ L.name }
+    requires parts { blank.parts ≡ L.parts }
+    requires countable { 0 < blank.parts }
     requires inside { index < length list.now }
     requires listed { AllByRecursion (λ r. IsListed (get rows.now) r) list.now }
     ensures { (d : RowPlace) → result ≡ link_at (get rows.now) (slice_index_or list.now index d) }
 {
     let at = &list[index];
-    let chain = read_at(rows, at.place);
+    let mut steps = Steps::<L>::new(blank);
+    let chain = rows.read(at.place, &mut steps);
     LinkRow {
         user: at.user,
         entry: at.entry,
@@ -208,42 +211,46 @@ pub fn bind_row(
 }
 
 /// Takes the link at a place out of its chain and its arena. The list still names it.
-fn drop_row(
+fn drop_row<L: Ledger>(
     sections: &mut Slab<Section>,
     rows: &mut Rows,
     section_list: &[SectionPlace],
     place: usize,
+    steps: &mut Steps<L>,
 )
     requires chained { AreChained (get rows.old) (get sections.old) }
     requires listed { SectionsListed (get sections.old) section_list.now }
     requires stands { ContainsKey rows.old place }
     ensures chained { AreChained (get rows.new) (get sections.new) }
     ensures links { HasNone (links_at (get rows.old)) (links_at (get rows.new)) place }
+    ensures steps { steps.new ≡ steps.old + 1 }
     ensures keys { SameKeys (get sections.old) (get sections.new) }
     ensures row_count { slab_len rows.new + 1 ≡ slab_len rows.old }
     ensures section_count { slab_len sections.new ≡ slab_len sections.old }
     ensures row_capacity { rows.new.capacity ≡ rows.old.capacity }
     ensures section_capacity { sections.new.capacity ≡ sections.old.capacity }
 {
-    let chain = read_at(rows, place);
+    let chain = rows.read(place, steps);
     let target = section_place(section_list, chain.row.target);
     unlink(sections, rows, target, place, chain);
     rows.remove(place);
 }
 
 /// Takes the link at an index of the list away.
-pub fn unbind_at(
+pub fn unbind_at<L: Ledger>(
     sections: &mut Slab<Section>,
     rows: &mut Rows,
     section_list: &[SectionPlace],
     row_list: &mut Vec<RowPlace>,
     index: usize,
+    steps: &mut Steps<L>,
 )
     requires whole { IsWhole (get rows.old) (get sections.old) section_list.now row_list.old.items }
     requires within { index < length row_list.old.items }
     ensures whole { IsWhole (get rows.new) (get sections.new) section_list.now row_list.new.items }
     ensures items { row_list.new.items ≡ remove row_list.old.items index }
     ensures left { map (link_at (get rows.new)) row_list.new.items ≡ map (link_at (get rows.old)) (remove row_list.old.items index) }
+    ensures steps { steps.new ≡ steps.old + 1 }
     ensures row_count { slab_len rows.new + 1 ≡ slab_len rows.old }
     ensures section_count { slab_len sections.new ≡ slab_len sections.old }
     ensures row_capacity { rows.new.capacity ≡ rows.old.capacity }
@@ -251,23 +258,25 @@ pub fn unbind_at(
     ensures list_len { vec_len row_list.new + 1 ≡ vec_len row_list.old }
     ensures list_capacity { vec_capacity row_list.new ≡ vec_capacity row_list.old }
 {
-    drop_row(sections, rows, section_list, row_list[index].place);
+    drop_row(sections, rows, section_list, row_list[index].place, steps);
     let _ = row_list.remove(index);
 }
 
 /// The same for a link whose user is of a listed cell.
-fn drop_listed_row(
+fn drop_listed_row<L: Ledger>(
     sections: &mut Slab<Section>,
     rows: &mut Rows,
     section_list: &[SectionPlace],
     at: &RowPlace,
     cells: &[CellId],
+    steps: &mut Steps<L>,
 )
     requires chained { AreChained (get rows.old) (get sections.old) }
     requires listed { SectionsListed (get sections.old) section_list.now }
     requires stands { is_listed cells.now at.now.user ≡ true → ContainsKey rows.old at.now.place }
     ensures chained { AreChained (get rows.new) (get sections.new) }
     ensures links { DropsIf (is_listed cells.now at.now.user) (links_at (get rows.old)) (links_at (get rows.new)) at.now.place }
+    ensures steps { steps.new ≤ steps.old + 1 }
     ensures keys { SameKeys (get sections.old) (get sections.new) }
     ensures row_count { slab_len rows.new ≤ slab_len rows.old }
     ensures section_count { slab_len sections.new ≡ slab_len sections.old }
@@ -277,20 +286,22 @@ fn drop_listed_row(
     if !is_listed(cells, at.user) {
         return;
     }
-    drop_row(sections, rows, section_list, at.place);
+    drop_row(sections, rows, section_list, at.place, steps);
 }
 
 /// The same for all links whose users are of listed cells.
-fn drop_listed_rows(
+fn drop_listed_rows<L: Ledger>(
     sections: &mut Slab<Section>,
     rows: &mut Rows,
     section_list: &[SectionPlace],
     row_list: &[RowPlace],
     cells: &[CellId],
+    steps: &mut Steps<L>,
 )
     requires { IsWhole (get rows.old) (get sections.old) section_list.now row_list.now }
     ensures chained { AreChained (get rows.new) (get sections.new) }
     ensures links { AreDropped (λ r. r.place) (λ r. is_listed cells.now r.user) (links_at (get rows.old)) (links_at (get rows.new)) row_list.now }
+    ensures steps { steps.new ≤ steps.old + length row_list.now }
     ensures keys { SameKeys (get sections.old) (get sections.new) }
     ensures row_count { slab_len rows.new ≤ slab_len rows.old }
     ensures section_count { slab_len sections.new ≡ slab_len sections.old }
@@ -298,21 +309,23 @@ fn drop_listed_rows(
     ensures section_capacity { sections.new.capacity ≡ sections.old.capacity }
 {
     for at in row_list {
-        drop_listed_row(sections, rows, section_list, at, cells);
+        drop_listed_row(sections, rows, section_list, at, cells, steps);
     }
 }
 
 /// Takes the links away whose users are of listed cells. Each list is gone over once.
-pub fn remove_rows(
+pub fn remove_rows<L: Ledger>(
     sections: &mut Slab<Section>,
     rows: &mut Rows,
     section_list: &[SectionPlace],
     row_list: &mut Vec<RowPlace>,
     cells: &[CellId],
+    steps: &mut Steps<L>,
 )
     requires { IsWhole (get rows.old) (get sections.old) section_list.now row_list.old.items }
     ensures whole { IsWhole (get rows.new) (get sections.new) section_list.now row_list.new.items }
     ensures left { map (link_at (get rows.new)) row_list.new.items ≡ links_without cells.now (map (link_at (get rows.old)) row_list.old.items) }
+    ensures steps { steps.new ≤ steps.old + length row_list.old.items }
     ensures row_count { slab_len rows.new ≤ slab_len rows.old }
     ensures section_count { slab_len sections.new ≡ slab_len sections.old }
     ensures row_capacity { rows.new.capacity ≡ rows.old.capacity }
@@ -320,7 +333,7 @@ pub fn remove_rows(
     ensures list_len { vec_len row_list.new ≤ vec_len row_list.old }
     ensures list_capacity { vec_capacity row_list.new ≡ vec_capacity row_list.old }
 {
-    drop_listed_rows(sections, rows, section_list, row_list, cells);
+    drop_listed_rows(sections, rows, section_list, row_list, cells, steps);
     row_list.retain(|at| !is_listed(cells, at.user));
 }
 

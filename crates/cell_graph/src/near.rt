@@ -18,7 +18,9 @@ pub struct Near {
 
 impl Near {
     /// At the start of the lists.
-    pub fn start() -> Near {
+    pub fn start() -> Near
+        ensures { result ≡ record { row = 0; old = 0; new = 0 } }
+    {
         Near {
             row: 0,
             old: 0,

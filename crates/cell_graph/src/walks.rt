@@ -1,6 +1,6 @@
 //! Walks over the links of a section.
 
-ghost use Rattle.std.specs.Prelude.{◌≡◌, ◌<◌, Some};
+ghost use Rattle.std.specs.Prelude.{◌≡◌, ◌+◌, ◌<◌, Some, length};
 ghost use Rattle.std.specs.Iterator.{YieldsFirst, item_count};
 ghost use Rattle.std.specs.List.{AllByRecursion};
 ghost use Rattle.slab.specs.Slab.{ContainsKey, get};
@@ -13,7 +13,7 @@ use cell_world::LinkRow;
 use std::marker::{Brand, Model};
 use std::sync::ledger::{Blank, Ledger};
 
-/// Reads a link with a counter of its own.
+/// Reads a link with a counter of its own, which nobody else sees.
 fn read_counted<L: Ledger>(rows: &Rows, place: usize, blank: Blank) -> ChainRow
     requires name { blank.name ≡ L.name }
     requires parts { blank.parts ≡ L.parts }
@@ -23,14 +23,6 @@ fn read_counted<L: Ledger>(rows: &Rows, place: usize, blank: Blank) -> ChainRow
 {
     let mut steps = Steps::<L>::new(blank);
     rows.read(place, &mut steps)
-}
-
-/// Reads a link where nobody counts.
-pub fn read_at(rows: &Rows, place: usize) -> ChainRow
-    requires { ContainsKey rows.now place }
-    ensures { get rows.now place ≡ Some result }
-{
-    read_counted::<Brand>(rows, place, Blank::new(1))
 }
 
 /// The links whose user is a section, each once. Contracts see those that are still to come.
@@ -79,7 +71,7 @@ impl<'a> Iterator for Deps<'a> {
         while let [at, rest @ ..] = self.list {
             self.list = rest;
             if is_same(at.user, self.user) {
-                return Some(read_at(self.rows, at.place).row);
+                return Some(read_counted::<Brand>(self.rows, at.place, Blank::new(1)).row);
             }
         }
         None
@@ -133,7 +125,7 @@ impl<'a> Iterator for CellDeps<'a> {
             return None;
         };
         self.list = rest;
-        Some(read_at(self.rows, at.place).row)
+        Some(read_counted::<Brand>(self.rows, at.place, Blank::new(1)).row)
     }
 }
 
@@ -167,6 +159,29 @@ impl<'a> Users<'a> {
     {
         Users { rows, first, left }
     }
+
+    /// The next link, for a caller that counts. Each link that is given is one step.
+    pub(crate) fn step<L: Ledger>(&mut self, steps: &mut Steps<L>) -> Option<LinkRow>
+        ensures goes { YieldsFirst (λ s. s) self.old result self.new }
+        ensures steps { steps.new + length self.new ≡ steps.old + length self.old }
+    {
+        let place = self.first?;
+        let chain = self.rows.read(place, steps);
+        self.left -= 1;
+        self.first = chain.after;
+        Some(chain.row)
+    }
+}
+
+/// The next link, read with a counter of its own, which nobody else sees.
+fn step_counted<L: Ledger>(users: &mut Users<'_>, blank: Blank) -> Option<LinkRow>
+    requires name { blank.name ≡ L.name }
+    requires parts { blank.parts ≡ L.parts }
+    requires countable { 0 < blank.parts }
+    ensures { YieldsFirst (λ s. s) users.old result users.new }
+{
+    let mut steps = Steps::<L>::new(blank);
+    users.step(&mut steps)
 }
 
 impl<'a> Iterator for Users<'a> {
@@ -177,10 +192,6 @@ impl<'a> Iterator for Users<'a> {
     ghost remaining = { item_count (λ s. s) };
 
     fn next(&mut self) -> Option<LinkRow> {
-        let place = self.first?;
-        let chain = read_at(self.rows, place);
-        self.left -= 1;
-        self.first = chain.after;
-        Some(chain.row)
+        step_counted::<Brand>(self, Blank::new(1))
     }
 }

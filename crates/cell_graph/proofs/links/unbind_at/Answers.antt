@@ -5,7 +5,7 @@ use Rattle.cell_graph.proofs.Wholes.{seen_unbound, whole_unbound}
 use Rattle.cell_graph.proofs.links.unbind_at.Goals as goal
 
 pub returns-clause-whole : goal.returns-clause-whole
-returns-clause-whole c =
+returns-clause-whole g c =
     let r = c.index.result.now in
     whole_unbound (get c.args.rows.now) (get c.drop_row.new.rows) (get c.args.sections.now) (get c.drop_row.new.sections)
     c.args.section_list.now c.args.row_list.now.items c.remove.new.self.items c.args.index r c.requires.whole c.requires.within
@@ -13,7 +13,7 @@ returns-clause-whole c =
     c.drop_row.ensures.links c.remove.ensures.items c.drop_row.ensures.keys c.drop_row.ensures.chained
 
 pub returns-clause-left : goal.returns-clause-left
-returns-clause-left c =
+returns-clause-left g c =
     let r = c.index.result.now in
     seen_unbound (get c.args.rows.now) (get c.drop_row.new.rows) (get c.args.sections.now) (get c.drop_row.new.sections)
     c.args.section_list.now c.args.row_list.now.items c.remove.new.self.items c.args.index r c.requires.whole c.requires.within

@@ -24,16 +24,16 @@ returns-clause-there c =
     let index = c.row_index_near-index.result in
     let d : RowPlace = record { user = c.args.user; entry = c.args.entry; place = 0 } in
     let is = subst (λ (l : List RowPlace). IsRowAt l index c.args.user c.args.entry) c.deref.ensures.value c.row_index_near-index.ensures in
-    let found : c.link_named.result ≡ link_at at (get_or list index d) = c.link_named.ensures d ∙ ap (λ (l : List RowPlace). link_at at (get_or l index d)) c.deref-2.ensures.value in
+    let found : c.link_named-link.result ≡ link_at at (get_or list index d) = c.link_named-link.ensures d ∙ ap (λ (l : List RowPlace). link_at at (get_or l index d)) c.deref-2.ensures.value in
     let within : index < length (map (link_at at) list) = omega (arith, is.within, length-map list (link_at at)) in
-    let here : get_or (map (link_at at) list) index c.link_named.result ≡ c.link_named.result = get_or-map (link_at at) list index d c.link_named.result is.within ∙ sym found in
-    subst (λ (rows : List LinkRow). Contains rows c.link_named.result) (ap (λ v. v.rows) c.self.view_is) (index, within, here)
+    let here : get_or (map (link_at at) list) index c.link_named-link.result ≡ c.link_named-link.result = get_or-map (link_at at) list index d c.link_named-link.result is.within ∙ sym found in
+    subst (λ (rows : List LinkRow). Contains rows c.link_named-link.result) (ap (λ v. v.rows) c.self.view_is) (index, within, here)
 
 pub returns-clause-user : goal.returns-clause-user
 returns-clause-user c =
     let d : RowPlace = record { user = c.args.user; entry = c.args.entry; place = 0 } in
     let is = subst (λ (l : List RowPlace). IsRowAt l c.row_index_near-index.result c.args.user c.args.entry) c.deref.ensures.value c.row_index_near-index.ensures in
-    ap (λ (r : LinkRow). r.user) (c.link_named.ensures d)
+    ap (λ (r : LinkRow). r.user) (c.link_named-link.ensures d)
     ∙ ap (λ (l : List RowPlace). (get_or l c.row_index_near-index.result d).user) c.deref-2.ensures.value
     ∙ is.user_is d
 
@@ -41,6 +41,6 @@ pub returns-clause-entry : goal.returns-clause-entry
 returns-clause-entry c =
     let d : RowPlace = record { user = c.args.user; entry = c.args.entry; place = 0 } in
     let is = subst (λ (l : List RowPlace). IsRowAt l c.row_index_near-index.result c.args.user c.args.entry) c.deref.ensures.value c.row_index_near-index.ensures in
-    ap (λ (r : LinkRow). r.entry) (c.link_named.ensures d)
+    ap (λ (r : LinkRow). r.entry) (c.link_named-link.ensures d)
     ∙ ap (λ (l : List RowPlace). (get_or l c.row_index_near-index.result d).entry) c.deref-2.ensures.value
     ∙ is.entry_is d

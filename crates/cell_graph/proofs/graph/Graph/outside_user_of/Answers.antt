@@ -9,10 +9,10 @@ use Rattle.cell_graph.proofs.Rising.{at_index, in_map}
 use Rattle.cell_graph.proofs.graph.Graph.outside_user_of.Goals as goal
 
 pub loop-at-init : goal.loop-at-init
-loop-at-init c = λ k d below. absurd (omega arith)
+loop-at-init g c = λ k d below. absurd (omega arith)
 
 pub outside_user-requires : goal.outside_user-requires
-outside_user-requires c =
+outside_user-requires g c =
     let part = c.cell_sections-at-items.result.now in
     let range = subst (λ (l : List SectionPlace). IsSectionRange l c.args.cell.0 part) c.deref.ensures.value c.cell_sections-at-items.ensures in
     let s = get_or part c.loop-at.at-index no_section in
@@ -20,7 +20,7 @@ outside_user-requires c =
     subst (λ v. Contains v.sections s.key) c.self.view_is (in_map (λ x. x.key) c.self.inside.section_list.items s there.0)
 
 pub returns-in-Some-clause-some : goal.returns-in-Some-clause-some
-returns-in-Some-clause-some c =
+returns-in-Some-clause-some g c =
     let part = c.cell_sections-at-items.result.now in
     let range = subst (λ (l : List SectionPlace). IsSectionRange l c.args.cell.0 part) c.deref.ensures.value c.cell_sections-at-items.ensures in
     let s = get_or part c.loop-at.at-index no_section in
@@ -28,7 +28,7 @@ returns-in-Some-clause-some c =
     record { sec = s.key; of = there.1; used = (c.in-Some.ensures {u = tt}).some }
 
 pub loop-at-preserved : goal.loop-at-preserved
-loop-at-preserved c =
+loop-at-preserved g c =
     let part = c.cell_sections-at-items.result.now in
     λ k d below r has to. elim (cases_eq k c.loop-at.at-index) [
       | inl same ↦
@@ -39,7 +39,7 @@ loop-at-preserved c =
     ]
 
 pub returns-clause-none : goal.returns-clause-none
-returns-clause-none c =
+returns-clause-none g c =
     let part = c.cell_sections-at-items.result.now in
     let range = subst (λ (l : List SectionPlace). IsSectionRange l c.args.cell.0 part) c.deref.ensures.value c.cell_sections-at-items.ensures in
     λ r has of.

@@ -5,4 +5,4 @@ use Rattle.cell_graph.specs.Removal.{is_listed}
 use Rattle.cell_graph.proofs.graph.Graph.outside_user_of.Given as goal
 
 abbrev pub invariant-loop-at : goal.invariant-loop-at
-invariant-loop-at l = (k : ℕ) (d : SectionPlace) → k < l.at-index → (r : LinkRow) → Contains l.self.rows r → r.target ≡ (get_or l.at-items k d).key → is_listed l.cells r.user ≡ true
+invariant-loop-at g l = (k : ℕ) (d : SectionPlace) → k < l.at-index → (r : LinkRow) → Contains l.self.rows r → r.target ≡ (get_or l.at-items k d).key → is_listed l.cells r.user ≡ true

@@ -8,10 +8,10 @@ use Rattle.cell_graph.specs.Users.{is_marked, leads_to}
 use Rattle.cell_graph.proofs.Marking.{marked_more, users_by_sections}
 use Rattle.cell_graph.proofs.Outside.{no_section, in_section_range, of_section_range, target_seen}
 use Rattle.cell_graph.proofs.Rising.{at_index, in_map}
-use Rattle.cell_graph.proofs.graph.Graph.mark_users_of.Goals as goal
+use Rattle.cell_graph.proofs.graph.Graph.mark_counted.Goals as goal
 
 pub mark_users_of_section-requires : goal.mark_users_of_section-requires
-mark_users_of_section-requires c =
+mark_users_of_section-requires g c =
     let part = c.cell_sections-sections.result.now in
     let range = subst (λ (l : List SectionPlace). IsSectionRange l c.args.cell.0 part) c.deref.ensures.value c.cell_sections-sections.ensures in
     let s = get_or part c.loop-index.index no_section in
@@ -19,11 +19,11 @@ mark_users_of_section-requires c =
     subst (λ v. Contains v.sections s.key) c.self.view_is (in_map (λ x. x.key) c.self.inside.section_list.items s there.0)
 
 pub loop-index-preserved : goal.loop-index-preserved
-loop-index-preserved c =
-    λ n. marked_more c.args.self.now.rows c.cell_sections-sections.result.now c.loop-index.index n no_section _ _ _ c.loop-index-test.true (c.in_ok-mark_users_of_section.ensures n) (c.loop-index.invariant n)
+loop-index-preserved g c =
+    λ n. marked_more c.args.self.now.rows c.cell_sections-sections.result.now c.loop-index.index n no_section _ _ _ c.loop-index-test.true (c.in_ok-mark_users_of_section.ensures.marks n) (c.loop-index.invariant n)
 
 pub returns : goal.returns
-returns c =
+returns g c =
     let part = c.cell_sections-sections.result.now in
     let range = subst (λ (l : List SectionPlace). IsSectionRange l c.args.cell.0 part) c.deref.ensures.value c.cell_sections-sections.ensures in
     let rows = c.args.self.now.rows in
