@@ -13,7 +13,7 @@ links_of g =
     record {
       sections = map (λ s. s.key) g.section_list.items;
       rows = map (link_at (get g.rows)) g.row_list.items;
-      spare_sections = min (vec_capacity g.section_list - vec_len g.section_list) (g.sections.capacity - slab_len g.sections);
+      spare_sections = min g.section_list.spare (g.sections.capacity - slab_len g.sections);
       spare_rows = min (vec_capacity g.row_list - vec_len g.row_list) (g.rows.capacity - slab_len g.rows);
     }
 

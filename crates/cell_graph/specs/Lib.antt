@@ -9,6 +9,7 @@ pub mod Lists
 pub mod Moves
 pub mod Order
 pub mod Places
+pub mod SectionPlaces
 pub mod Removal
 pub mod Skips
 pub mod Users

@@ -13,15 +13,16 @@ ghost use Rattle.cell_graph.specs.Users.{is_marked, is_user_of, leads_to};
 ghost use Rattle.cell_graph.specs.Weaks.{made_for};
 
 use crate::links::{
-    add_section, bind_row, cell_rows, cell_sections, has_section, link_named, move_row,
-    remove_rows, remove_sections, row_index, section_place, unbind_at,
+    add_section, bind_row, cell_rows, link_named, move_row, remove_rows, remove_sections,
+    row_index, unbind_at,
 };
 use crate::marks::mark;
 use crate::near::{Near, cell_rows_near, row_index_near};
-use crate::order::{RowPlace, SectionPlace};
+use crate::order::RowPlace;
 use crate::removal::{StillUsed, is_listed};
 use crate::rows::Rows;
 use crate::section::Section;
+use crate::section_list::SectionList;
 use crate::steps::Steps;
 use crate::walks::{CellDeps, Deps, Users};
 use crate::weak::Weak;
@@ -38,7 +39,7 @@ use std::sync::ledger::{Blank, Ledger};
 pub struct Graph {
     sections: Slab<Section>,
     rows: Rows,
-    section_list: Vec<SectionPlace>,
+    section_list: SectionList,
     row_list: Vec<RowPlace>,
 }
 
@@ -63,7 +64,7 @@ impl Graph {
         Graph {
             sections: Slab::new(alloc),
             rows: Rows::new(alloc),
-            section_list: Vec::new(alloc),
+            section_list: SectionList::new(alloc),
             row_list: Vec::new(alloc),
         }
     }
@@ -184,10 +185,10 @@ impl Graph {
     pub fn users_of(&self, sec: SecKey) -> Users<'_>
         ensures { IsPermutation (links_to sec self.now.rows) result }
     {
-        if !has_section(&self.section_list, sec) {
+        if !self.section_list.has(sec) {
             return Users::of(&self.rows, None, 0);
         }
-        let place = section_place(&self.section_list, sec);
+        let place = self.section_list.place(sec);
         match self.sections.get(place) {
             Some(section) => Users::of(&self.rows, section.first, section.users),
             None => unreachable!(),
@@ -225,9 +226,10 @@ impl Graph {
         ensures { OnOk result ((n : ℕ) → is_marked marks.new.items n ≡ (is_marked marks.old.items n || is_user_of cell.0 self.now.rows n)) }
     {
         let mut steps = Steps::<L>::new(blank);
-        let sections = cell_sections(&self.section_list, cell);
+        let sections = self.section_list.of_cell(cell);
         for index in 0..sections.len() {
-            self.mark_users_of_section(sections[index].key, marks, &mut steps)?;
+            let at = sections.at(index, &mut steps);
+            self.mark_users_of_section(at.key, marks, &mut steps)?;
         }
         Ok(())
     }
@@ -245,7 +247,7 @@ impl Graph {
         requires { Contains self.now.sections sec }
         ensures { made_for result ≡ sec }
     {
-        Weak::of(sec, section_place(&self.section_list, sec))
+        Weak::of(sec, self.section_list.place(sec))
     }
 
     /// Whether the section stands at the place.
@@ -264,7 +266,7 @@ impl Graph {
         ensures section { IfSome result (λ sec. sec ≡ made_for weak) }
     {
         let key = weak.key();
-        if self.stands_at(weak.place(), key) || has_section(&self.section_list, key) {
+        if self.stands_at(weak.place(), key) || self.section_list.has(key) {
             Some(key)
         } else {
             None
@@ -276,7 +278,7 @@ impl Graph {
         requires bound { IsTrue (is_bound self.old.rows to.user to.entry) }
         requires present { Contains self.old.sections to.target }
         ensures moved { self.new.rows ≡ moved self.old.rows (to ∷ []) }
-        ensures steps { steps.new ≡ steps.old + 1 }
+        ensures steps { steps.new ≡ steps.old + 3 }
         ensures same_sections { self.new.sections ≡ self.old.sections }
         ensures same_room_for_links { self.new.spare_rows ≡ self.old.spare_rows }
         ensures same_room_for_sections { self.new.spare_sections ≡ self.old.spare_sections }
@@ -376,7 +378,9 @@ impl Graph {
         ensures none { IfNone result ((r : Row) → Contains self.now.rows r → r.target.cell.0 ≡ cell.0 → is_listed cells.now r.user ≡ true) }
         ensures some { IfSome result (λ user. IsCellUsedBy cells.now cell.0 user self.now.rows) }
     {
-        for at in cell_sections(&self.section_list, cell) {
+        let sections = self.section_list.of_cell(cell);
+        for index in 0..sections.len() {
+            let at = sections.at(index, steps);
             if let Some(user) = self.outside_user(cells, at.key, steps) {
                 return Some(user);
             }
@@ -424,16 +428,25 @@ impl Graph {
         );
     }
 
-    /// Takes away the sections of the cells, which have no links.
-    fn remove_sections(&mut self, cells: &[CellId])
-        requires { All (λ r. is_listed cells.now r.target ≡ false) self.old.rows }
+    /// Takes away the sections of the cells, which have no links, with a counter of its own.
+    fn remove_sections<L: Ledger>(&mut self, cells: &[CellId], blank: Blank)
+        requires name { blank.name ≡ L.name }
+        requires parts { blank.parts ≡ L.parts }
+        requires countable { 0 < blank.parts }
+        requires unused { All (λ r. is_listed cells.now r.target ≡ false) self.old.rows }
         ensures left { self.new.sections ≡ sections_without cells.now self.old.sections }
         ensures room { self.old.spare_sections ≤ self.new.spare_sections }
         ensures same_rows { self.new.rows ≡ self.old.rows }
         ensures same_room_for_links { self.new.spare_rows ≡ self.old.spare_rows }
     {
         let _ = self.sections.capacity();
-        remove_sections(&mut self.sections, &mut self.section_list, cells);
+        let mut steps = Steps::<L>::new(blank);
+        remove_sections(
+            &mut self.sections,
+            &mut self.section_list,
+            cells,
+            &mut steps,
+        );
     }
 
     /// Takes away the sections of the cells and the links that they use, unless another cell has a link
@@ -455,7 +468,7 @@ impl Graph {
             return Err(StillUsed { user });
         }
         self.remove_links::<Brand>(cells, Blank::new(1));
-        self.remove_sections(cells);
+        self.remove_sections::<Brand>(cells, Blank::new(1));
         Ok(())
     }
 }

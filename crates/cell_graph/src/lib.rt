@@ -11,6 +11,7 @@ mod order;
 mod removal;
 mod rows;
 mod section;
+mod section_list;
 mod steps;
 mod walks;
 mod weak;

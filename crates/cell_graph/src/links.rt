@@ -16,57 +16,25 @@ ghost use Rattle.cell_graph.specs.Order.{below_section, with_link};
 ghost use Rattle.cell_graph.specs.Places.{link_at};
 
 use crate::chains::{link, unlink};
-use crate::near::{Near, row_index_near, section_index_near};
-use crate::order::{
-    RowPlace, SectionPlace, is_same, row_cell_end, row_cell_start, row_cut, section_cell_end,
-    section_cell_start, section_cut,
-};
+use crate::near::{Near, row_index_near};
+use crate::order::{RowPlace, SectionPlace, row_cell_end, row_cell_start, row_cut};
 use crate::removal::is_listed;
 use crate::rows::{ChainRow, Rows};
 use crate::section::Section;
+use crate::section_list::SectionList;
 use crate::steps::Steps;
 use cell_num::{CellId, SecKey};
 use cell_world::LinkRow;
 use slab::Slab;
 use std::sync::ledger::{Blank, Ledger};
 
-/// Where in the list a section is that is there.
-pub fn section_index(list: &[SectionPlace], key: SecKey) -> usize
-    requires rise { SectionsRise list.now }
-    requires present { Contains (map (λ s. s.key) list.now) key }
-    ensures { IsSectionAt list.now result key }
-{
-    section_cut(list, key)
-}
-
-/// Whether the list names the section.
-pub fn has_section(list: &[SectionPlace], key: SecKey) -> bool
-    requires { SectionsRise list.now }
-    ensures { IsTrue result ↔ Contains (map (λ s. s.key) list.now) key }
-{
-    let index = section_cut(list, key);
-    if index < list.len() {
-        is_same(list[index].key, key)
-    } else {
-        false
-    }
-}
-
 /// The place of the section at an index.
-fn place_at(list: &[SectionPlace], index: usize, key: SecKey) -> usize
-    requires { IsSectionAt list.now index key }
-    ensures { Contains list.now (record { key = key; place = result }) }
+fn place_at<L: Ledger>(list: &SectionList, index: usize, key: SecKey, steps: &mut Steps<L>) -> usize
+    requires { IsSectionAt list.now.items index key }
+    ensures place { Contains list.now.items (record { key = key; place = result }) }
+    ensures step { steps.new ≡ steps.old + 1 }
 {
-    list[index].place
-}
-
-/// The place of a section that is there.
-pub fn section_place(list: &[SectionPlace], key: SecKey) -> usize
-    requires rise { SectionsRise list.now }
-    requires present { Contains (map (λ s. s.key) list.now) key }
-    ensures { Contains list.now (record { key = key; place = result }) }
-{
-    place_at(list, section_index(list, key), key)
+    list.at(index, steps).place
 }
 
 /// The links that the list names with users of the cell.
@@ -78,33 +46,23 @@ pub fn cell_rows(list: &[RowPlace], cell: CellId) -> &[RowPlace]
     &front[row_cell_start(front, cell)..]
 }
 
-/// The sections of a cell that the list names.
-pub fn cell_sections(list: &[SectionPlace], cell: CellId) -> &[SectionPlace]
-    requires { SectionsRise list.now }
-    ensures { IsSectionRange list.now cell.0 result.now }
-{
-    let front = &list[..section_cell_end(list, cell)];
-    &front[section_cell_start(front, cell)..]
-}
-
 /// Adds a section that is above all others.
-pub fn add_section(sections: &mut Slab<Section>, section_list: &mut Vec<SectionPlace>, key: SecKey)
+pub fn add_section(sections: &mut Slab<Section>, section_list: &mut SectionList, key: SecKey)
     requires above { (s : SectionPlace) → Contains section_list.old.items s → below_section s.key key ≡ true }
     requires room { HasRoomFor sections.old 1 }
-    requires room_in_list { vec_len section_list.old < vec_capacity section_list.old }
+    requires room_in_list { 0 < section_list.old.spare }
     ensures whole { (rows : ℕ → Option ChainRow) (row_list : List RowPlace) → IsWhole rows (get sections.old) section_list.old.items row_list → IsWhole rows (get sections.new) section_list.new.items row_list }
     ensures added { map (λ s. s.key) section_list.new.items ≡ map (λ s. s.key) section_list.old.items ++ key ∷ [] }
     ensures count { slab_len sections.new ≡ slab_len sections.old + 1 }
     ensures capacity { sections.new.capacity ≡ sections.old.capacity }
-    ensures list_len { vec_len section_list.new ≡ vec_len section_list.old + 1 }
-    ensures list_capacity { vec_capacity section_list.old ≤ vec_capacity section_list.new }
+    ensures list_room { section_list.old.spare ≤ section_list.new.spare + 1 }
 {
     let place = sections.insert_reserved(Section {
         key,
         first: None,
         users: 0,
     });
-    let _ = section_list.push(SectionPlace { key, place });
+    section_list.push(SectionPlace { key, place });
 }
 
 /// Where in the list a link is that is there.
@@ -135,22 +93,23 @@ pub fn link_named<L: Ledger>(rows: &Rows, list: &[RowPlace], index: usize, blank
     }
 }
 
-/// Gives a link its new target, and tells where to look for the next one first. One link is read.
+/// Gives a link its new target, and tells where to look for the next one first. One link is
+/// read, and two sections are looked at.
 pub fn move_row<L: Ledger>(
     sections: &mut Slab<Section>,
     rows: &mut Rows,
-    section_list: &[SectionPlace],
+    section_list: &SectionList,
     row_list: &[RowPlace],
     to: LinkRow,
     near: Near,
     steps: &mut Steps<L>,
 ) -> Near
-    requires whole { IsWhole (get rows.old) (get sections.old) section_list.now row_list.now }
+    requires whole { IsWhole (get rows.old) (get sections.old) section_list.now.items row_list.now }
     requires bound { IsTrue (has_row row_list.now to.user to.entry) }
-    requires present { Contains (map (λ s. s.key) section_list.now) to.target }
-    ensures whole { IsWhole (get rows.new) (get sections.new) section_list.now row_list.now }
+    requires present { Contains (map (λ s. s.key) section_list.now.items) to.target }
+    ensures whole { IsWhole (get rows.new) (get sections.new) section_list.now.items row_list.now }
     ensures moved { map (link_at (get rows.new)) row_list.now ≡ moved (map (link_at (get rows.old)) row_list.now) (to ∷ []) }
-    ensures steps { steps.new ≡ steps.old + 1 }
+    ensures steps { steps.new ≡ steps.old + 3 }
     ensures row_count { slab_len rows.new ≡ slab_len rows.old }
     ensures section_count { slab_len sections.new ≡ slab_len sections.old }
     ensures row_capacity { rows.new.capacity ≡ rows.old.capacity }
@@ -159,11 +118,11 @@ pub fn move_row<L: Ledger>(
     let row = row_index_near(row_list, near.row, to.user, to.entry);
     let place = row_list[row].place;
     let chain = rows.read(place, steps);
-    let old_index = section_index_near(section_list, near.old, chain.row.target);
-    let old = place_at(section_list, old_index, chain.row.target);
+    let old_index = section_list.index_near(near.old, chain.row.target);
+    let old = place_at(section_list, old_index, chain.row.target, steps);
     unlink(sections, rows, old, place, chain);
-    let new_index = section_index_near(section_list, near.new, to.target);
-    let new = place_at(section_list, new_index, to.target);
+    let new_index = section_list.index_near(near.new, to.target);
+    let new = place_at(section_list, new_index, to.target, steps);
     link(sections, rows, new, place, to);
     Near {
         row: row + 1,
@@ -176,16 +135,16 @@ pub fn move_row<L: Ledger>(
 pub fn bind_row(
     sections: &mut Slab<Section>,
     rows: &mut Rows,
-    section_list: &[SectionPlace],
+    section_list: &SectionList,
     row_list: &mut Vec<RowPlace>,
     row: LinkRow,
 )
-    requires whole { IsWhole (get rows.old) (get sections.old) section_list.now row_list.old.items }
+    requires whole { IsWhole (get rows.old) (get sections.old) section_list.now.items row_list.old.items }
     requires unbound { has_row row_list.old.items row.user row.entry ≡ false }
-    requires present { Contains (map (λ s. s.key) section_list.now) row.target }
+    requires present { Contains (map (λ s. s.key) section_list.now.items) row.target }
     requires room { HasRoomFor rows.old 1 }
     requires room_in_list { vec_len row_list.old < vec_capacity row_list.old }
-    ensures whole { IsWhole (get rows.new) (get sections.new) section_list.now row_list.new.items }
+    ensures whole { IsWhole (get rows.new) (get sections.new) section_list.now.items row_list.new.items }
     ensures added { map (link_at (get rows.new)) row_list.new.items ≡ with_link row (map (link_at (get rows.old)) row_list.old.items) }
     ensures row_count { slab_len rows.new ≡ slab_len rows.old + 1 }
     ensures section_count { slab_len sections.new ≡ slab_len sections.old }
@@ -194,7 +153,7 @@ pub fn bind_row(
     ensures list_len { vec_len row_list.new ≡ vec_len row_list.old + 1 }
     ensures list_capacity { vec_capacity row_list.old ≤ vec_capacity row_list.new }
 {
-    let target = section_place(section_list, row.target);
+    let target = section_list.place(row.target);
     let place = rows.insert(ChainRow {
         row,
         before: None,
@@ -214,12 +173,12 @@ pub fn bind_row(
 fn drop_row<L: Ledger>(
     sections: &mut Slab<Section>,
     rows: &mut Rows,
-    section_list: &[SectionPlace],
+    section_list: &SectionList,
     place: usize,
     steps: &mut Steps<L>,
 )
     requires chained { AreChained (get rows.old) (get sections.old) }
-    requires listed { SectionsListed (get sections.old) section_list.now }
+    requires listed { SectionsListed (get sections.old) section_list.now.items }
     requires stands { ContainsKey rows.old place }
     ensures chained { AreChained (get rows.new) (get sections.new) }
     ensures links { HasNone (links_at (get rows.old)) (links_at (get rows.new)) place }
@@ -231,7 +190,7 @@ fn drop_row<L: Ledger>(
     ensures section_capacity { sections.new.capacity ≡ sections.old.capacity }
 {
     let chain = rows.read(place, steps);
-    let target = section_place(section_list, chain.row.target);
+    let target = section_list.place(chain.row.target);
     unlink(sections, rows, target, place, chain);
     rows.remove(place);
 }
@@ -240,14 +199,14 @@ fn drop_row<L: Ledger>(
 pub fn unbind_at<L: Ledger>(
     sections: &mut Slab<Section>,
     rows: &mut Rows,
-    section_list: &[SectionPlace],
+    section_list: &SectionList,
     row_list: &mut Vec<RowPlace>,
     index: usize,
     steps: &mut Steps<L>,
 )
-    requires whole { IsWhole (get rows.old) (get sections.old) section_list.now row_list.old.items }
+    requires whole { IsWhole (get rows.old) (get sections.old) section_list.now.items row_list.old.items }
     requires within { index < length row_list.old.items }
-    ensures whole { IsWhole (get rows.new) (get sections.new) section_list.now row_list.new.items }
+    ensures whole { IsWhole (get rows.new) (get sections.new) section_list.now.items row_list.new.items }
     ensures items { row_list.new.items ≡ remove row_list.old.items index }
     ensures left { map (link_at (get rows.new)) row_list.new.items ≡ map (link_at (get rows.old)) (remove row_list.old.items index) }
     ensures steps { steps.new ≡ steps.old + 1 }
@@ -266,13 +225,13 @@ pub fn unbind_at<L: Ledger>(
 fn drop_listed_row<L: Ledger>(
     sections: &mut Slab<Section>,
     rows: &mut Rows,
-    section_list: &[SectionPlace],
+    section_list: &SectionList,
     at: &RowPlace,
     cells: &[CellId],
     steps: &mut Steps<L>,
 )
     requires chained { AreChained (get rows.old) (get sections.old) }
-    requires listed { SectionsListed (get sections.old) section_list.now }
+    requires listed { SectionsListed (get sections.old) section_list.now.items }
     requires stands { is_listed cells.now at.now.user ≡ true → ContainsKey rows.old at.now.place }
     ensures chained { AreChained (get rows.new) (get sections.new) }
     ensures links { DropsIf (is_listed cells.now at.now.user) (links_at (get rows.old)) (links_at (get rows.new)) at.now.place }
@@ -293,12 +252,12 @@ fn drop_listed_row<L: Ledger>(
 fn drop_listed_rows<L: Ledger>(
     sections: &mut Slab<Section>,
     rows: &mut Rows,
-    section_list: &[SectionPlace],
+    section_list: &SectionList,
     row_list: &[RowPlace],
     cells: &[CellId],
     steps: &mut Steps<L>,
 )
-    requires { IsWhole (get rows.old) (get sections.old) section_list.now row_list.now }
+    requires { IsWhole (get rows.old) (get sections.old) section_list.now.items row_list.now }
     ensures chained { AreChained (get rows.new) (get sections.new) }
     ensures links { AreDropped (λ r. r.place) (λ r. is_listed cells.now r.user) (links_at (get rows.old)) (links_at (get rows.new)) row_list.now }
     ensures steps { steps.new ≤ steps.old + length row_list.now }
@@ -317,13 +276,13 @@ fn drop_listed_rows<L: Ledger>(
 pub fn remove_rows<L: Ledger>(
     sections: &mut Slab<Section>,
     rows: &mut Rows,
-    section_list: &[SectionPlace],
+    section_list: &SectionList,
     row_list: &mut Vec<RowPlace>,
     cells: &[CellId],
     steps: &mut Steps<L>,
 )
-    requires { IsWhole (get rows.old) (get sections.old) section_list.now row_list.old.items }
-    ensures whole { IsWhole (get rows.new) (get sections.new) section_list.now row_list.new.items }
+    requires { IsWhole (get rows.old) (get sections.old) section_list.now.items row_list.old.items }
+    ensures whole { IsWhole (get rows.new) (get sections.new) section_list.now.items row_list.new.items }
     ensures left { map (link_at (get rows.new)) row_list.new.items ≡ links_without cells.now (map (link_at (get rows.old)) row_list.old.items) }
     ensures steps { steps.new ≤ steps.old + length row_list.old.items }
     ensures row_count { slab_len rows.new ≤ slab_len rows.old }
@@ -351,35 +310,39 @@ fn drop_listed_section(sections: &mut Slab<Section>, at: &SectionPlace, cells: &
 }
 
 /// The same for all sections of listed cells.
-fn drop_listed_sections(
+fn drop_listed_sections<L: Ledger>(
     sections: &mut Slab<Section>,
-    section_list: &[SectionPlace],
+    section_list: &SectionList,
     cells: &[CellId],
+    steps: &mut Steps<L>,
 )
-    requires { SectionsListed (get sections.old) section_list.now }
-    ensures sections { AreDropped (λ s. s.place) (λ s. is_listed cells.now s.key) (get sections.old) (get sections.new) section_list.now }
+    requires { SectionsListed (get sections.old) section_list.now.items }
+    ensures sections { AreDropped (λ s. s.place) (λ s. is_listed cells.now s.key) (get sections.old) (get sections.new) section_list.now.items }
+    ensures steps { steps.new ≡ steps.old + length section_list.now.items }
     ensures count { slab_len sections.new ≤ slab_len sections.old }
     ensures capacity { sections.new.capacity ≡ sections.old.capacity }
 {
-    for at in section_list {
-        drop_listed_section(sections, at, cells);
+    for index in 0..section_list.len() {
+        let at = section_list.at(index, steps);
+        drop_listed_section(sections, &at, cells);
     }
 }
 
-/// Takes the sections of listed cells away, which have no link. The list is gone over once.
-pub fn remove_sections(
+/// Takes the sections of listed cells away, which have no link. The list is gone over twice.
+pub fn remove_sections<L: Ledger>(
     sections: &mut Slab<Section>,
-    section_list: &mut Vec<SectionPlace>,
+    section_list: &mut SectionList,
     cells: &[CellId],
+    steps: &mut Steps<L>,
 )
     requires { SectionsListed (get sections.old) section_list.old.items }
     ensures whole { (rows : ℕ → Option ChainRow) (row_list : List RowPlace) → IsWhole rows (get sections.old) section_list.old.items row_list → ((p : ℕ) (row : ChainRow) → rows p ≡ Some row → is_listed cells.now row.row.target ≡ false) → IsWhole rows (get sections.new) section_list.new.items row_list }
     ensures left { map (λ s. s.key) section_list.new.items ≡ sections_without cells.now (map (λ s. s.key) section_list.old.items) }
+    ensures steps { steps.new ≡ steps.old + 2 * length section_list.old.items }
     ensures count { slab_len sections.new ≤ slab_len sections.old }
     ensures capacity { sections.new.capacity ≡ sections.old.capacity }
-    ensures list_len { vec_len section_list.new ≤ vec_len section_list.old }
-    ensures list_capacity { vec_capacity section_list.new ≡ vec_capacity section_list.old }
+    ensures list_room { section_list.old.spare ≤ section_list.new.spare }
 {
-    drop_listed_sections(sections, section_list, cells);
-    section_list.retain(|at| !is_listed(cells, at.key));
+    drop_listed_sections(sections, section_list, cells, steps);
+    section_list.remove_listed(cells, steps);
 }

@@ -1,11 +1,11 @@
 //! Look-ups that try an index first.
 
-ghost use Rattle.std.specs.Prelude.{◌≡◌, ◌≤◌, Contains, IsTrue, length, map, nat_le, nat_lt};
-ghost use Rattle.cell_graph.specs.Lists.{IsCellRange, IsRowAt, IsSectionAt, RowsRise, SectionsRise, has_row};
+ghost use Rattle.std.specs.Prelude.{◌≡◌, ◌≤◌, IsTrue, length, nat_le, nat_lt};
+ghost use Rattle.cell_graph.specs.Lists.{IsCellRange, IsRowAt, RowsRise, has_row};
 ghost use Rattle.cell_graph.specs.Order.{IsCut};
 
-use crate::links::{row_index, section_index};
-use crate::order::{RowPlace, SectionPlace, is_same, row_cell_start};
+use crate::links::row_index;
+use crate::order::{RowPlace, row_cell_start};
 use cell_num::{CellId, SecKey};
 
 /// Where to look first: behind the last link that was moved, and at the targets that it had.
@@ -39,16 +39,6 @@ fn is_row_at(list: &[RowPlace], index: usize, user: SecKey, entry: u32) -> bool
     }
 }
 
-/// Whether the list names the section at the index.
-fn is_section_at(list: &[SectionPlace], index: usize, key: SecKey) -> bool
-    ensures { IsTrue result → IsSectionAt list.now index key }
-{
-    match list.get(index) {
-        Some(section) => section.key == key,
-        None => false,
-    }
-}
-
 /// Where in the list a link is that is there.
 pub fn row_index_near(list: &[RowPlace], near: usize, user: SecKey, entry: u32) -> usize
     requires rise { RowsRise list.now }
@@ -59,18 +49,6 @@ pub fn row_index_near(list: &[RowPlace], near: usize, user: SecKey, entry: u32) 
         return near;
     }
     row_index(list, user, entry)
-}
-
-/// Where in the list a section is that is there.
-pub fn section_index_near(list: &[SectionPlace], near: usize, key: SecKey) -> usize
-    requires rise { SectionsRise list.now }
-    requires present { Contains (map (λ s. s.key) list.now) key }
-    ensures { IsSectionAt list.now result key }
-{
-    if is_section_at(list, near, key) {
-        return near;
-    }
-    section_index(list, key)
 }
 
 /// Whether the links before the index have users of lower cells, and those from it on don't.

@@ -21,7 +21,7 @@ returns-clause-whole c =
     let ok = c.insert.ensures.succeeds c.requires.room_in_list in
     let is = c.insert.ensures.items ∙ ap (λ b. cond b (insert c.args.row_list.now.items c.row_cut-index.result (record { user = c.args.row.user; entry = c.args.row.entry; place = c.insert-place.result })) c.args.row_list.now.items) ok in
     whole_bound (get c.args.rows.now) (get c.insert-place.new.self) (get c.link.new.rows) (get c.args.sections.now) (get c.link.new.sections)
-    c.args.section_list.now c.args.row_list.now.items c.insert.new.self.items c.row_cut-index.result c.insert-place.result _ c.args.row c.requires.whole
+    c.args.section_list.now.items c.args.row_list.now.items c.insert.new.self.items c.row_cut-index.result c.insert-place.result _ c.args.row c.requires.whole
     c.insert-place.ensures.was_empty c.insert-place.ensures.placed c.link.ensures.links c.requires.unbound cut is c.link.ensures.keys c.link.ensures.chained
 
 pub returns-clause-added : goal.returns-clause-added
@@ -30,5 +30,5 @@ returns-clause-added c =
     let ok = c.insert.ensures.succeeds c.requires.room_in_list in
     let is = c.insert.ensures.items ∙ ap (λ b. cond b (insert c.args.row_list.now.items c.row_cut-index.result (record { user = c.args.row.user; entry = c.args.row.entry; place = c.insert-place.result })) c.args.row_list.now.items) ok in
     seen_bound (get c.args.rows.now) (get c.insert-place.new.self) (get c.link.new.rows) (get c.args.sections.now) (get c.link.new.sections)
-    c.args.section_list.now c.args.row_list.now.items c.insert.new.self.items c.row_cut-index.result c.insert-place.result _ c.args.row c.requires.whole
+    c.args.section_list.now.items c.args.row_list.now.items c.insert.new.self.items c.row_cut-index.result c.insert-place.result _ c.args.row c.requires.whole
     c.insert-place.ensures.was_empty c.insert-place.ensures.placed c.link.ensures.links c.requires.unbound cut is

@@ -22,7 +22,7 @@ loop-at-init g c = record {
 
 pub drop_listed_row-requires-clause-listed : goal.drop_listed_row-requires-clause-listed
 drop_listed_row-requires-clause-listed g c =
-    sections_same (get c.args.sections.now) (get c.loop-at.sections) c.args.section_list.now c.loop-at.invariant.keys c.requires.sections_listed
+    sections_same (get c.args.sections.now) (get c.loop-at.sections) c.args.section_list.now.items c.loop-at.invariant.keys c.requires.sections_listed
 
 pub drop_listed_row-requires-clause-stands : goal.drop_listed_row-requires-clause-stands
 drop_listed_row-requires-clause-stands g c = λ h.

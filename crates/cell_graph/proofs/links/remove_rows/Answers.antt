@@ -13,7 +13,7 @@ returns-clause-whole g c =
     let out = λ (r : RowPlace). is_listed c.args.cells.now r.user in
     let dropped = subst (λ (l : List RowPlace). AreDropped (λ (r : RowPlace). r.place) out (links_at (get c.args.rows.now)) (links_at (get c.drop_listed_rows.new.rows)) l) c.deref.ensures.value c.drop_listed_rows.ensures.links in
     let is : c.retain.new.self.items ≡ filter (λ r. not (out r)) c.args.row_list.now.items = filter_same _ (λ r. not (is_listed c.args.cells.now r.user)) _ (λ x b q k. (search (rules, tests), search (rules, tests))) _ _ c.retain.ensures.filtered in
-    left_whole (get c.args.rows.now) (get c.drop_listed_rows.new.rows) (get c.args.sections.now) (get c.drop_listed_rows.new.sections) c.args.section_list.now
+    left_whole (get c.args.rows.now) (get c.drop_listed_rows.new.rows) (get c.args.sections.now) (get c.drop_listed_rows.new.sections) c.args.section_list.now.items
     c.args.row_list.now.items c.retain.new.self.items out c.requires c.drop_listed_rows.ensures.keys c.drop_listed_rows.ensures.chained dropped is
 
 pub returns-clause-left : goal.returns-clause-left

@@ -8,7 +8,7 @@ pub returns-clause-whole : goal.returns-clause-whole
 returns-clause-whole g c =
     let r = c.index.result.now in
     whole_unbound (get c.args.rows.now) (get c.drop_row.new.rows) (get c.args.sections.now) (get c.drop_row.new.sections)
-    c.args.section_list.now c.args.row_list.now.items c.remove.new.self.items c.args.index r c.requires.whole c.requires.within
+    c.args.section_list.now.items c.args.row_list.now.items c.remove.new.self.items c.args.index r c.requires.whole c.requires.within
     (λ d. sym (get_or_read c.args.row_list.now.items c.args.index r c.requires.within c.index.ensures d))
     c.drop_row.ensures.links c.remove.ensures.items c.drop_row.ensures.keys c.drop_row.ensures.chained
 
@@ -16,6 +16,6 @@ pub returns-clause-left : goal.returns-clause-left
 returns-clause-left g c =
     let r = c.index.result.now in
     seen_unbound (get c.args.rows.now) (get c.drop_row.new.rows) (get c.args.sections.now) (get c.drop_row.new.sections)
-    c.args.section_list.now c.args.row_list.now.items c.remove.new.self.items c.args.index r c.requires.whole c.requires.within
+    c.args.section_list.now.items c.args.row_list.now.items c.remove.new.self.items c.args.index r c.requires.whole c.requires.within
     (λ d. sym (get_or_read c.args.row_list.now.items c.args.index r c.requires.within c.index.ensures d))
     c.drop_row.ensures.links c.remove.ensures.items

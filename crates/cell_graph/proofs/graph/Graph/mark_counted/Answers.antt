@@ -1,9 +1,8 @@
-use Rattle.std.proofs.Common.{◌||◌, List, get_or, sym, ap, subst, ◌∙◌, arith, Contains}
+use Rattle.std.proofs.Common.{◌||◌, sym, ap, subst, ◌∙◌, arith, Contains}
 use Rattle.std.specs.List.{list_any}
 use Rattle.std.proofs.lemmas.List.{take_all}
 use Rattle.slab.specs.Slab.{get}
 use Rattle.cell_graph.specs.declared.order.SectionPlace.{SectionPlace}
-use Rattle.cell_graph.specs.Lists.{IsSectionRange}
 use Rattle.cell_graph.specs.Users.{is_marked, leads_to}
 use Rattle.cell_graph.proofs.Marking.{marked_more, users_by_sections}
 use Rattle.cell_graph.proofs.Outside.{no_section, in_section_range, of_section_range, target_seen}
@@ -12,20 +11,24 @@ use Rattle.cell_graph.proofs.graph.Graph.mark_counted.Goals as goal
 
 pub mark_users_of_section-requires : goal.mark_users_of_section-requires
 mark_users_of_section-requires g c =
-    let part = c.cell_sections-sections.result.now in
-    let range = subst (λ (l : List SectionPlace). IsSectionRange l c.args.cell.0 part) c.deref.ensures.value c.cell_sections-sections.ensures in
-    let s = get_or part c.loop-index.index no_section in
-    let there = of_section_range c.self.inside.section_list.items part c.args.cell.0 range s (at_index part c.loop-index.index no_section c.loop-index-test.true) in
+    let part = c.of_cell-sections.result in
+    let range = c.of_cell-sections.ensures in
+    let s = c.at-at.result in
+    let has = subst (λ (x : SectionPlace). Contains part x) (sym (c.at-at.ensures.place no_section)) (at_index part c.loop-index.index no_section (omega (arith, c.loop-index-test.true, c.len-index-end.ensures))) in
+    let there = of_section_range c.self.inside.section_list.items part c.args.cell.0 range s has in
     subst (λ v. Contains v.sections s.key) c.self.view_is (in_map (λ x. x.key) c.self.inside.section_list.items s there.0)
 
 pub loop-index-preserved : goal.loop-index-preserved
 loop-index-preserved g c =
-    λ n. marked_more c.args.self.now.rows c.cell_sections-sections.result.now c.loop-index.index n no_section _ _ _ c.loop-index-test.true (c.in_ok-mark_users_of_section.ensures.marks n) (c.loop-index.invariant n)
+    let rows = c.args.self.now.rows in
+    λ n. marked_more rows c.of_cell-sections.result c.loop-index.index n no_section _ _ _ (omega (arith, c.loop-index-test.true, c.len-index-end.ensures))
+    (c.in_ok-mark_users_of_section.ensures.marks n ∙ ap (λ (s : SectionPlace). is_marked c.loop-index.marks.items n || leads_to s.key rows n) (c.at-at.ensures.place no_section))
+    (c.loop-index.invariant n)
 
 pub returns : goal.returns
 returns g c =
-    let part = c.cell_sections-sections.result.now in
-    let range = subst (λ (l : List SectionPlace). IsSectionRange l c.args.cell.0 part) c.deref.ensures.value c.cell_sections-sections.ensures in
+    let part = c.of_cell-sections.result in
+    let range = c.of_cell-sections.ensures in
     let rows = c.args.self.now.rows in
     let all = take_all c.loop-index.index part (omega (arith, c.loop-index-test.false)) in
     λ n.

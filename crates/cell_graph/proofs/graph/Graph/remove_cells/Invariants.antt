@@ -5,3 +5,6 @@ ghosts-outside_user_of_any a = record { name = a.blank.name; parts = a.blank.par
 
 abbrev pub ghosts-remove_links : goal.ghosts-remove_links
 ghosts-remove_links a = record { name = a.blank.name; parts = a.blank.parts }
+
+abbrev pub ghosts-remove_sections : goal.ghosts-remove_sections
+ghosts-remove_sections a = record { name = a.blank.name; parts = a.blank.parts }

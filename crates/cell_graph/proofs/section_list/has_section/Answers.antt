@@ -2,7 +2,7 @@ use Rattle.std.proofs.Common.{Bool, sym, subst, map, Contains}
 use Rattle.std.specs.Prelude.{IsTrue}
 use Rattle.cell_graph.specs.declared.order.SectionPlace.{SectionPlace}
 use Rattle.cell_graph.proofs.Sights.{seen_at_cut, unseen_past}
-use Rattle.cell_graph.proofs.links.has_section.Goals as goal
+use Rattle.cell_graph.proofs.section_list.has_section.Goals as goal
 
 pub returns-then-index-list : goal.returns-then-index-list
 returns-then-index-list c =
