@@ -11,6 +11,7 @@ pub mod Order
 pub mod Places
 pub mod SectionPlaces
 pub mod Removal
+pub mod RowPlaces
 pub mod Skips
 pub mod Users
 pub mod Walks

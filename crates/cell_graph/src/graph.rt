@@ -5,6 +5,7 @@ ghost use Rattle.std.specs.List.{remove};
 ghost use Rattle.std.specs.List.Sorted.{IsPermutation, IsStrictlyIncreasing};
 ghost use Rattle.cell_world.specs.World.{key_of};
 ghost use Rattle.cell_graph.specs.Links.{is_bound, links_from, links_to};
+ghost use Rattle.cell_graph.specs.Lists.{IsCellRange, RowsRise};
 ghost use Rattle.cell_graph.specs.Moves.{AreApart, moved};
 ghost use Rattle.cell_world.specs.declared.state.LinkRow.{LinkRow as Row};
 ghost use Rattle.cell_graph.specs.Removal.{is_listed, is_used_outside, links_without, sections_without, uses_from_outside, IsCellUsedBy, IsUsedBy};
@@ -13,18 +14,17 @@ ghost use Rattle.cell_graph.specs.Users.{is_marked, is_user_of, leads_to};
 ghost use Rattle.cell_graph.specs.Weaks.{made_for};
 
 use crate::links::{
-    add_section, bind_row, cell_rows, link_named, move_row, remove_rows, remove_sections,
-    row_index, unbind_at,
+    add_section, bind_row, link_named, move_row, remove_rows, remove_sections, unbind_at,
 };
 use crate::marks::mark;
-use crate::near::{Near, cell_rows_near, row_index_near};
-use crate::order::RowPlace;
+use crate::near::Near;
 use crate::removal::{StillUsed, is_listed};
+use crate::row_list::RowList;
 use crate::rows::Rows;
 use crate::section::Section;
 use crate::section_list::SectionList;
 use crate::steps::Steps;
-use crate::walks::{CellDeps, Deps, Users};
+use crate::walks::{CellDeps, CellRows, Deps, Users};
 use crate::weak::Weak;
 use cell_num::{CellId, SecKey};
 use cell_world::LinkRow;
@@ -33,6 +33,23 @@ use std::alloc::{AllocError, Global};
 use std::marker::{Brand, Model};
 use std::sync::ledger::{Blank, Ledger};
 
+/// The links of a cell, looked for at an index first, with a counter of its own.
+fn cell_rows_counted<L: Ledger>(
+    list: &RowList,
+    near: usize,
+    cell: CellId,
+    blank: Blank,
+) -> (CellRows<'_>, usize)
+    requires name { blank.name ≡ L.name }
+    requires parts { blank.parts ≡ L.parts }
+    requires countable { 0 < blank.parts }
+    requires rise { RowsRise list.now.items }
+    ensures { IsCellRange list.now.items cell.0 result.0 }
+{
+    let mut steps = Steps::<L>::new(blank);
+    list.of_cell_near(near, cell, &mut steps)
+}
+
 /// The present sections and their links. Room for what is added is reserved before, so that adding
 /// takes no memory.
 #[derive(Drop)]
@@ -40,7 +57,7 @@ pub struct Graph {
     sections: Slab<Section>,
     rows: Rows,
     section_list: SectionList,
-    row_list: Vec<RowPlace>,
+    row_list: RowList,
 }
 
 impl Model for Graph {
@@ -65,7 +82,7 @@ impl Graph {
             sections: Slab::new(alloc),
             rows: Rows::new(alloc),
             section_list: SectionList::new(alloc),
-            row_list: Vec::new(alloc),
+            row_list: RowList::new(alloc),
         }
     }
 
@@ -149,22 +166,21 @@ impl Graph {
         requires { Contains self.now.sections sec }
         ensures { IsPermutation (links_from sec self.now.rows) result }
     {
-        let list = cell_rows(&self.row_list, sec.cell);
-        Deps::of(&self.rows, list, sec)
+        Deps::of(&self.rows, self.row_list.of_cell(sec.cell), sec)
     }
 
     /// The links of a cell's sections to others, by the entry and then the user's section.
     pub fn deps_of_cell(&self, cell: CellId) -> CellDeps<'_>
         ensures { result ≡ filter (λ r. r.user.cell.0 == cell.0) self.now.rows }
     {
-        CellDeps::of(&self.rows, cell_rows(&self.row_list, cell))
+        CellDeps::of(&self.rows, self.row_list.of_cell(cell))
     }
 
     /// The same, with the index behind them in the list of links. They are looked for at an index first.
     pub fn deps_of_cell_near(&self, cell: CellId, near: usize) -> (CellDeps<'_>, usize)
         ensures { result.0 ≡ filter (λ r. r.user.cell.0 == cell.0) self.now.rows }
     {
-        let (list, next) = cell_rows_near(&self.row_list, near, cell);
+        let (list, next) = cell_rows_counted::<Brand>(&self.row_list, near, cell, Blank::new(1));
         (CellDeps::of(&self.rows, list), next)
     }
 
@@ -176,7 +192,7 @@ impl Graph {
         ensures user { result.0.user ≡ user }
         ensures entry { result.0.entry ≡ entry }
     {
-        let index = row_index_near(&self.row_list, near, user, entry);
+        let index = self.row_list.index_near(near, user, entry);
         let link = link_named::<Brand>(&self.rows, &self.row_list, index, Blank::new(1));
         (link, index + 1)
     }
@@ -278,7 +294,7 @@ impl Graph {
         requires bound { IsTrue (is_bound self.old.rows to.user to.entry) }
         requires present { Contains self.old.sections to.target }
         ensures moved { self.new.rows ≡ moved self.old.rows (to ∷ []) }
-        ensures steps { steps.new ≡ steps.old + 3 }
+        ensures steps { steps.new ≡ steps.old + 4 }
         ensures same_sections { self.new.sections ≡ self.old.sections }
         ensures same_room_for_links { self.new.spare_rows ≡ self.old.spare_rows }
         ensures same_room_for_sections { self.new.spare_sections ≡ self.old.spare_sections }
@@ -323,7 +339,6 @@ impl Graph {
         ensures same_room_for_sections { self.new.spare_sections ≡ self.old.spare_sections }
     {
         let _ = self.rows.capacity();
-        let _ = self.row_list.capacity();
         let mut steps = Steps::<L>::new(blank);
         unbind_at(
             &mut self.sections,
@@ -343,7 +358,7 @@ impl Graph {
         ensures same_sections { self.new.sections ≡ self.old.sections }
         ensures same_room_for_sections { self.old.spare_sections ≤ self.new.spare_sections }
     {
-        let index = row_index(&self.row_list, row.user, row.entry);
+        let index = self.row_list.index(row.user, row.entry);
         self.unbind_index::<Brand>(index, Blank::new(1));
     }
 

@@ -9,6 +9,7 @@ mod marks;
 mod near;
 mod order;
 mod removal;
+mod row_list;
 mod rows;
 mod section;
 mod section_list;

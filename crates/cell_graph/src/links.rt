@@ -16,9 +16,10 @@ ghost use Rattle.cell_graph.specs.Order.{below_section, with_link};
 ghost use Rattle.cell_graph.specs.Places.{link_at};
 
 use crate::chains::{link, unlink};
-use crate::near::{Near, row_index_near};
-use crate::order::{RowPlace, SectionPlace, row_cell_end, row_cell_start, row_cut};
+use crate::near::Near;
+use crate::order::{RowPlace, SectionPlace};
 use crate::removal::is_listed;
+use crate::row_list::RowList;
 use crate::rows::{ChainRow, Rows};
 use crate::section::Section;
 use crate::section_list::SectionList;
@@ -35,15 +36,6 @@ fn place_at<L: Ledger>(list: &SectionList, index: usize, key: SecKey, steps: &mu
     ensures step { steps.new ≡ steps.old + 1 }
 {
     list.at(index, steps).place
-}
-
-/// The links that the list names with users of the cell.
-pub fn cell_rows(list: &[RowPlace], cell: CellId) -> &[RowPlace]
-    requires { RowsRise list.now }
-    ensures { IsCellRange list.now cell.0 result.now }
-{
-    let front = &list[..row_cell_end(list, cell)];
-    &front[row_cell_start(front, cell)..]
 }
 
 /// Adds a section that is above all others.
@@ -65,26 +57,17 @@ pub fn add_section(sections: &mut Slab<Section>, section_list: &mut SectionList,
     section_list.push(SectionPlace { key, place });
 }
 
-/// Where in the list a link is that is there.
-pub fn row_index(list: &[RowPlace], user: SecKey, entry: u32) -> usize
-    requires rise { RowsRise list.now }
-    requires bound { IsTrue (has_row list.now user entry) }
-    ensures { IsRowAt list.now result user entry }
-{
-    row_cut(list, user, entry)
-}
-
 /// The link that the list names at an index, read with a counter of its own.
-pub fn link_named<L: Ledger>(rows: &Rows, list: &[RowPlace], index: usize, blank: Blank) -> LinkRow
+pub fn link_named<L: Ledger>(rows: &Rows, list: &RowList, index: usize, blank: Blank) -> LinkRow
     requires name { blank.name ≡ L.name }
     requires parts { blank.parts ≡ L.parts }
     requires countable { 0 < blank.parts }
-    requires inside { index < length list.now }
-    requires listed { AllByRecursion (λ r. IsListed (get rows.now) r) list.now }
-    ensures { (d : RowPlace) → result ≡ link_at (get rows.now) (slice_index_or list.now index d) }
+    requires inside { index < length list.now.items }
+    requires listed { AllByRecursion (λ r. IsListed (get rows.now) r) list.now.items }
+    ensures { (d : RowPlace) → result ≡ link_at (get rows.now) (slice_index_or list.now.items index d) }
 {
-    let at = &list[index];
     let mut steps = Steps::<L>::new(blank);
+    let at = list.at(index, &mut steps);
     let chain = rows.read(at.place, &mut steps);
     LinkRow {
         user: at.user,
@@ -93,30 +76,30 @@ pub fn link_named<L: Ledger>(rows: &Rows, list: &[RowPlace], index: usize, blank
     }
 }
 
-/// Gives a link its new target, and tells where to look for the next one first. One link is
-/// read, and two sections are looked at.
+/// Gives a link its new target, and tells where to look for the next one first. Of four
+/// steps one reads the link, one looks where it stands, and two where the sections stand.
 pub fn move_row<L: Ledger>(
     sections: &mut Slab<Section>,
     rows: &mut Rows,
     section_list: &SectionList,
-    row_list: &[RowPlace],
+    row_list: &RowList,
     to: LinkRow,
     near: Near,
     steps: &mut Steps<L>,
 ) -> Near
-    requires whole { IsWhole (get rows.old) (get sections.old) section_list.now.items row_list.now }
-    requires bound { IsTrue (has_row row_list.now to.user to.entry) }
+    requires whole { IsWhole (get rows.old) (get sections.old) section_list.now.items row_list.now.items }
+    requires bound { IsTrue (has_row row_list.now.items to.user to.entry) }
     requires present { Contains (map (λ s. s.key) section_list.now.items) to.target }
-    ensures whole { IsWhole (get rows.new) (get sections.new) section_list.now.items row_list.now }
-    ensures moved { map (link_at (get rows.new)) row_list.now ≡ moved (map (link_at (get rows.old)) row_list.now) (to ∷ []) }
-    ensures steps { steps.new ≡ steps.old + 3 }
+    ensures whole { IsWhole (get rows.new) (get sections.new) section_list.now.items row_list.now.items }
+    ensures moved { map (link_at (get rows.new)) row_list.now.items ≡ moved (map (link_at (get rows.old)) row_list.now.items) (to ∷ []) }
+    ensures steps { steps.new ≡ steps.old + 4 }
     ensures row_count { slab_len rows.new ≡ slab_len rows.old }
     ensures section_count { slab_len sections.new ≡ slab_len sections.old }
     ensures row_capacity { rows.new.capacity ≡ rows.old.capacity }
     ensures section_capacity { sections.new.capacity ≡ sections.old.capacity }
 {
-    let row = row_index_near(row_list, near.row, to.user, to.entry);
-    let place = row_list[row].place;
+    let row = row_list.index_near(near.row, to.user, to.entry);
+    let place = row_list.at(row, steps).place;
     let chain = rows.read(place, steps);
     let old_index = section_list.index_near(near.old, chain.row.target);
     let old = place_at(section_list, old_index, chain.row.target, steps);
@@ -136,22 +119,21 @@ pub fn bind_row(
     sections: &mut Slab<Section>,
     rows: &mut Rows,
     section_list: &SectionList,
-    row_list: &mut Vec<RowPlace>,
+    row_list: &mut RowList,
     row: LinkRow,
 )
     requires whole { IsWhole (get rows.old) (get sections.old) section_list.now.items row_list.old.items }
     requires unbound { has_row row_list.old.items row.user row.entry ≡ false }
     requires present { Contains (map (λ s. s.key) section_list.now.items) row.target }
     requires room { HasRoomFor rows.old 1 }
-    requires room_in_list { vec_len row_list.old < vec_capacity row_list.old }
+    requires room_in_list { 0 < row_list.old.spare }
     ensures whole { IsWhole (get rows.new) (get sections.new) section_list.now.items row_list.new.items }
     ensures added { map (link_at (get rows.new)) row_list.new.items ≡ with_link row (map (link_at (get rows.old)) row_list.old.items) }
     ensures row_count { slab_len rows.new ≡ slab_len rows.old + 1 }
     ensures section_count { slab_len sections.new ≡ slab_len sections.old }
     ensures row_capacity { rows.new.capacity ≡ rows.old.capacity }
     ensures section_capacity { sections.new.capacity ≡ sections.old.capacity }
-    ensures list_len { vec_len row_list.new ≡ vec_len row_list.old + 1 }
-    ensures list_capacity { vec_capacity row_list.old ≤ vec_capacity row_list.new }
+    ensures list_room { row_list.old.spare ≤ row_list.new.spare + 1 }
 {
     let target = section_list.place(row.target);
     let place = rows.insert(ChainRow {
@@ -160,13 +142,13 @@ pub fn bind_row(
         after: None,
     });
     link(sections, rows, target, place, row);
-    let index = row_cut(row_list.as_slice(), row.user, row.entry);
+    let index = row_list.cut(row.user, row.entry);
     let at = RowPlace {
         user: row.user,
         entry: row.entry,
         place,
     };
-    let _ = row_list.insert(index, at);
+    row_list.insert(index, at);
 }
 
 /// Takes the link at a place out of its chain and its arena. The list still names it.
@@ -200,7 +182,7 @@ pub fn unbind_at<L: Ledger>(
     sections: &mut Slab<Section>,
     rows: &mut Rows,
     section_list: &SectionList,
-    row_list: &mut Vec<RowPlace>,
+    row_list: &mut RowList,
     index: usize,
     steps: &mut Steps<L>,
 )
@@ -209,16 +191,16 @@ pub fn unbind_at<L: Ledger>(
     ensures whole { IsWhole (get rows.new) (get sections.new) section_list.now.items row_list.new.items }
     ensures items { row_list.new.items ≡ remove row_list.old.items index }
     ensures left { map (link_at (get rows.new)) row_list.new.items ≡ map (link_at (get rows.old)) (remove row_list.old.items index) }
-    ensures steps { steps.new ≡ steps.old + 1 }
+    ensures steps { steps.new ≡ steps.old + 2 }
     ensures row_count { slab_len rows.new + 1 ≡ slab_len rows.old }
     ensures section_count { slab_len sections.new ≡ slab_len sections.old }
     ensures row_capacity { rows.new.capacity ≡ rows.old.capacity }
     ensures section_capacity { sections.new.capacity ≡ sections.old.capacity }
-    ensures list_len { vec_len row_list.new + 1 ≡ vec_len row_list.old }
-    ensures list_capacity { vec_capacity row_list.new ≡ vec_capacity row_list.old }
+    ensures list_room { row_list.new.spare ≡ row_list.old.spare + 1 }
 {
-    drop_row(sections, rows, section_list, row_list[index].place, steps);
-    let _ = row_list.remove(index);
+    let place = row_list.at(index, steps).place;
+    drop_row(sections, rows, section_list, place, steps);
+    row_list.remove(index);
 }
 
 /// The same for a link whose user is of a listed cell.
@@ -253,47 +235,47 @@ fn drop_listed_rows<L: Ledger>(
     sections: &mut Slab<Section>,
     rows: &mut Rows,
     section_list: &SectionList,
-    row_list: &[RowPlace],
+    row_list: &RowList,
     cells: &[CellId],
     steps: &mut Steps<L>,
 )
-    requires { IsWhole (get rows.old) (get sections.old) section_list.now.items row_list.now }
+    requires { IsWhole (get rows.old) (get sections.old) section_list.now.items row_list.now.items }
     ensures chained { AreChained (get rows.new) (get sections.new) }
-    ensures links { AreDropped (λ r. r.place) (λ r. is_listed cells.now r.user) (links_at (get rows.old)) (links_at (get rows.new)) row_list.now }
-    ensures steps { steps.new ≤ steps.old + length row_list.now }
+    ensures links { AreDropped (λ r. r.place) (λ r. is_listed cells.now r.user) (links_at (get rows.old)) (links_at (get rows.new)) row_list.now.items }
+    ensures steps { steps.new ≤ steps.old + 2 * length row_list.now.items }
     ensures keys { SameKeys (get sections.old) (get sections.new) }
     ensures row_count { slab_len rows.new ≤ slab_len rows.old }
     ensures section_count { slab_len sections.new ≡ slab_len sections.old }
     ensures row_capacity { rows.new.capacity ≡ rows.old.capacity }
     ensures section_capacity { sections.new.capacity ≡ sections.old.capacity }
 {
-    for at in row_list {
-        drop_listed_row(sections, rows, section_list, at, cells, steps);
+    for index in 0..row_list.len() {
+        let at = row_list.at(index, steps);
+        drop_listed_row(sections, rows, section_list, &at, cells, steps);
     }
 }
 
-/// Takes the links away whose users are of listed cells. Each list is gone over once.
+/// Takes the links away whose users are of listed cells. The list is gone over twice.
 pub fn remove_rows<L: Ledger>(
     sections: &mut Slab<Section>,
     rows: &mut Rows,
     section_list: &SectionList,
-    row_list: &mut Vec<RowPlace>,
+    row_list: &mut RowList,
     cells: &[CellId],
     steps: &mut Steps<L>,
 )
     requires { IsWhole (get rows.old) (get sections.old) section_list.now.items row_list.old.items }
     ensures whole { IsWhole (get rows.new) (get sections.new) section_list.now.items row_list.new.items }
     ensures left { map (link_at (get rows.new)) row_list.new.items ≡ links_without cells.now (map (link_at (get rows.old)) row_list.old.items) }
-    ensures steps { steps.new ≤ steps.old + length row_list.old.items }
+    ensures steps { steps.new ≤ steps.old + 3 * length row_list.old.items }
     ensures row_count { slab_len rows.new ≤ slab_len rows.old }
     ensures section_count { slab_len sections.new ≡ slab_len sections.old }
     ensures row_capacity { rows.new.capacity ≡ rows.old.capacity }
     ensures section_capacity { sections.new.capacity ≡ sections.old.capacity }
-    ensures list_len { vec_len row_list.new ≤ vec_len row_list.old }
-    ensures list_capacity { vec_capacity row_list.new ≡ vec_capacity row_list.old }
+    ensures list_room { row_list.old.spare ≤ row_list.new.spare }
 {
     drop_listed_rows(sections, rows, section_list, row_list, cells, steps);
-    row_list.retain(|at| !is_listed(cells, at.user));
+    row_list.remove_listed(cells, steps);
 }
 
 /// Takes a section of a listed cell out of its arena. The list still names it.

@@ -1,12 +1,11 @@
 //! Look-ups that try an index first.
 
 ghost use Rattle.std.specs.Prelude.{◌≡◌, ◌≤◌, IsTrue, length, nat_le, nat_lt};
-ghost use Rattle.cell_graph.specs.Lists.{IsCellRange, IsRowAt, RowsRise, has_row};
+ghost use Rattle.cell_graph.specs.Lists.{IsCellRange, RowsRise};
 ghost use Rattle.cell_graph.specs.Order.{IsCut};
 
-use crate::links::row_index;
 use crate::order::{RowPlace, row_cell_start};
-use cell_num::{CellId, SecKey};
+use cell_num::CellId;
 
 /// Where to look first: behind the last link that was moved, and at the targets that it had.
 #[derive(Clone, Copy, Debug, PartialEq, Eq)]
@@ -27,28 +26,6 @@ impl Near {
             new: 0,
         }
     }
-}
-
-/// Whether the list names a link of this user and entry at the index.
-fn is_row_at(list: &[RowPlace], index: usize, user: SecKey, entry: u32) -> bool
-    ensures { IsTrue result → IsRowAt list.now index user entry }
-{
-    match list.get(index) {
-        Some(row) => row.user == user && row.entry == entry,
-        None => false,
-    }
-}
-
-/// Where in the list a link is that is there.
-pub fn row_index_near(list: &[RowPlace], near: usize, user: SecKey, entry: u32) -> usize
-    requires rise { RowsRise list.now }
-    requires bound { IsTrue (has_row list.now user entry) }
-    ensures { IsRowAt list.now result user entry }
-{
-    if is_row_at(list, near, user, entry) {
-        return near;
-    }
-    row_index(list, user, entry)
 }
 
 /// Whether the links before the index have users of lower cells, and those from it on don't.

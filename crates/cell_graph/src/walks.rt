@@ -13,6 +13,29 @@ use cell_world::LinkRow;
 use std::marker::{Brand, Model};
 use std::sync::ledger::{Blank, Ledger};
 
+/// Links of one cell, as the list names them. The walks alone look at them.
+#[derive(Drop)]
+pub struct CellRows<'a> {
+    list: &'a [RowPlace],
+}
+
+impl<'a> Model for CellRows<'a> {
+    ghost use Rattle.std.specs.Prelude.{List};
+    ghost use Rattle.cell_graph.specs.declared.order.RowPlace.{RowPlace};
+
+    ghost Value = { List RowPlace };
+
+    ghost view = { λ r. r.list.now };
+}
+
+impl<'a> CellRows<'a> {
+    pub fn of(list: &'a [RowPlace]) -> CellRows<'a>
+        ensures { result ≡ list.now }
+    {
+        CellRows { list }
+    }
+}
+
 /// Reads a link with a counter of its own, which nobody else sees.
 fn read_counted<L: Ledger>(rows: &Rows, place: usize, blank: Blank) -> ChainRow
     requires name { blank.name ≡ L.name }
@@ -52,11 +75,15 @@ impl<'a> Deps<'a> {
     ghost use Rattle.cell_graph.specs.Listed.{IsListed};
     ghost use Rattle.cell_graph.specs.Walks.{named_deps};
 
-    pub(crate) fn of(rows: &'a Rows, list: &'a [RowPlace], user: SecKey) -> Deps<'a>
-        requires { AllByRecursion (λ r. IsListed (get rows.now) r) list.now }
-        ensures { result ≡ named_deps (get rows.now) user list.now }
+    pub(crate) fn of(rows: &'a Rows, list: CellRows<'a>, user: SecKey) -> Deps<'a>
+        requires { AllByRecursion (λ r. IsListed (get rows.now) r) list }
+        ensures { result ≡ named_deps (get rows.now) user list.entry }
     {
-        Deps { rows, list, user }
+        Deps {
+            rows,
+            list: list.list,
+            user,
+        }
     }
 }
 
@@ -105,11 +132,14 @@ impl<'a> CellDeps<'a> {
     ghost use Rattle.cell_graph.specs.Listed.{IsListed};
     ghost use Rattle.cell_graph.specs.Places.{link_at};
 
-    pub(crate) fn of(rows: &'a Rows, list: &'a [RowPlace]) -> CellDeps<'a>
-        requires { AllByRecursion (λ r. IsListed (get rows.now) r) list.now }
-        ensures { result ≡ map (link_at (get rows.now)) list.now }
+    pub(crate) fn of(rows: &'a Rows, list: CellRows<'a>) -> CellDeps<'a>
+        requires { AllByRecursion (λ r. IsListed (get rows.now) r) list }
+        ensures { result ≡ map (link_at (get rows.now)) list.entry }
     {
-        CellDeps { rows, list }
+        CellDeps {
+            rows,
+            list: list.list,
+        }
     }
 }
 
