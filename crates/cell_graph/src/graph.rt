@@ -3,6 +3,7 @@
 ghost use Rattle.std.specs.Prelude.{◌≡◌, ◌↔◌, ◌*◌, ◌<◌, ◌≤◌, ◌+◌, ◌++◌, ◌∷◌, [], ◌==◌, ◌≢◌, ◌||◌, ℕ, false, true, filter, not, slice_index_or, All, Contains, IfErr, IfNone, IfSome, IsOk, IsSome, IsTrue, OnErr, OnOk, length, map};
 ghost use Rattle.std.specs.List.{remove};
 ghost use Rattle.std.specs.List.Sorted.{IsPermutation, IsStrictlyIncreasing};
+ghost use Rattle.slab.specs.Slab.{get};
 ghost use Rattle.cell_world.specs.World.{key_of};
 ghost use Rattle.cell_graph.specs.Links.{is_bound, links_from, links_to};
 ghost use Rattle.cell_graph.specs.Lists.{IsCellRange, RowsRise};
@@ -13,11 +14,13 @@ ghost use Rattle.cell_graph.specs.Order.{below_link, below_section, with_link, w
 ghost use Rattle.cell_graph.specs.Users.{is_marked, is_user_of, leads_to};
 ghost use Rattle.cell_graph.specs.Weaks.{made_for};
 
+use crate::chains::Sections;
 use crate::links::{
     add_section, bind_row, link_named, move_row, remove_rows, remove_sections, unbind_at,
 };
 use crate::marks::mark;
 use crate::near::Near;
+use crate::order::is_same;
 use crate::removal::{StillUsed, is_listed};
 use crate::row_list::RowList;
 use crate::rows::Rows;
@@ -28,10 +31,20 @@ use crate::walks::{CellDeps, CellRows, Deps, Users};
 use crate::weak::Weak;
 use cell_num::{CellId, SecKey};
 use cell_world::LinkRow;
-use slab::Slab;
 use std::alloc::{AllocError, Global};
 use std::marker::{Brand, Model};
 use std::sync::ledger::{Blank, Ledger};
+
+/// The section at a place, looked at with a counter of its own.
+fn look_counted<L: Ledger>(sections: &Sections, place: usize, blank: Blank) -> Option<Section>
+    requires name { blank.name ≡ L.name }
+    requires parts { blank.parts ≡ L.parts }
+    requires countable { 0 < blank.parts }
+    ensures { result ≡ get sections.now place }
+{
+    let mut steps = Steps::<L>::new(blank);
+    sections.look(place, &mut steps)
+}
 
 /// The links of a cell, looked for at an index first, with a counter of its own.
 fn cell_rows_counted<L: Ledger>(
@@ -54,7 +67,7 @@ fn cell_rows_counted<L: Ledger>(
 /// takes no memory.
 #[derive(Drop)]
 pub struct Graph {
-    sections: Slab<Section>,
+    sections: Sections,
     rows: Rows,
     section_list: SectionList,
     row_list: RowList,
@@ -79,7 +92,7 @@ impl Graph {
         ensures rows { result.rows ≡ [] }
     {
         Graph {
-            sections: Slab::new(alloc),
+            sections: Sections::new(alloc),
             rows: Rows::new(alloc),
             section_list: SectionList::new(alloc),
             row_list: RowList::new(alloc),
@@ -205,7 +218,7 @@ impl Graph {
             return Users::of(&self.rows, None, 0);
         }
         let place = self.section_list.place(sec);
-        match self.sections.get(place) {
+        match look_counted::<Brand>(&self.sections, place, Blank::new(1)) {
             Some(section) => Users::of(&self.rows, section.first, section.users),
             None => unreachable!(),
         }
@@ -266,12 +279,16 @@ impl Graph {
         Weak::of(sec, self.section_list.place(sec))
     }
 
-    /// Whether the section stands at the place.
-    fn stands_at(&self, place: usize, key: SecKey) -> bool
+    /// Whether the section stands at the place, looked at with a counter of its own.
+    fn stands_at<L: Ledger>(&self, place: usize, key: SecKey, blank: Blank) -> bool
+        requires name { blank.name ≡ L.name }
+        requires parts { blank.parts ≡ L.parts }
+        requires countable { 0 < blank.parts }
         ensures { IsTrue result → Contains self.now.sections key }
     {
-        match self.sections.get(place) {
-            Some(section) => section.key == key,
+        let mut steps = Steps::<L>::new(blank);
+        match self.sections.look(place, &mut steps) {
+            Some(section) => is_same(section.key, key),
             None => false,
         }
     }
@@ -282,7 +299,7 @@ impl Graph {
         ensures section { IfSome result (λ sec. sec ≡ made_for weak) }
     {
         let key = weak.key();
-        if self.stands_at(weak.place(), key) || self.section_list.has(key) {
+        if self.stands_at::<Brand>(weak.place(), key, Blank::new(1)) || self.section_list.has(key) {
             Some(key)
         } else {
             None

@@ -15,7 +15,7 @@ ghost use Rattle.cell_graph.specs.Moves.{moved};
 ghost use Rattle.cell_graph.specs.Order.{below_section, with_link};
 ghost use Rattle.cell_graph.specs.Places.{link_at};
 
-use crate::chains::{link, unlink};
+use crate::chains::{Sections, link, unlink};
 use crate::near::Near;
 use crate::order::{RowPlace, SectionPlace};
 use crate::removal::is_listed;
@@ -26,7 +26,6 @@ use crate::section_list::SectionList;
 use crate::steps::Steps;
 use cell_num::{CellId, SecKey};
 use cell_world::LinkRow;
-use slab::Slab;
 use std::sync::ledger::{Blank, Ledger};
 
 /// The place of the section at an index.
@@ -39,7 +38,7 @@ fn place_at<L: Ledger>(list: &SectionList, index: usize, key: SecKey, steps: &mu
 }
 
 /// Adds a section that is above all others.
-pub fn add_section(sections: &mut Slab<Section>, section_list: &mut SectionList, key: SecKey)
+pub fn add_section(sections: &mut Sections, section_list: &mut SectionList, key: SecKey)
     requires above { (s : SectionPlace) → Contains section_list.old.items s → below_section s.key key ≡ true }
     requires room { HasRoomFor sections.old 1 }
     requires room_in_list { 0 < section_list.old.spare }
@@ -49,7 +48,7 @@ pub fn add_section(sections: &mut Slab<Section>, section_list: &mut SectionList,
     ensures capacity { sections.new.capacity ≡ sections.old.capacity }
     ensures list_room { section_list.old.spare ≤ section_list.new.spare + 1 }
 {
-    let place = sections.insert_reserved(Section {
+    let place = sections.insert(Section {
         key,
         first: None,
         users: 0,
@@ -79,7 +78,7 @@ pub fn link_named<L: Ledger>(rows: &Rows, list: &RowList, index: usize, blank: B
 /// Gives a link its new target, and tells where to look for the next one first. Of four
 /// steps one reads the link, one looks where it stands, and two where the sections stand.
 pub fn move_row<L: Ledger>(
-    sections: &mut Slab<Section>,
+    sections: &mut Sections,
     rows: &mut Rows,
     section_list: &SectionList,
     row_list: &RowList,
@@ -116,7 +115,7 @@ pub fn move_row<L: Ledger>(
 
 /// Adds a link.
 pub fn bind_row(
-    sections: &mut Slab<Section>,
+    sections: &mut Sections,
     rows: &mut Rows,
     section_list: &SectionList,
     row_list: &mut RowList,
@@ -153,7 +152,7 @@ pub fn bind_row(
 
 /// Takes the link at a place out of its chain and its arena. The list still names it.
 fn drop_row<L: Ledger>(
-    sections: &mut Slab<Section>,
+    sections: &mut Sections,
     rows: &mut Rows,
     section_list: &SectionList,
     place: usize,
@@ -179,7 +178,7 @@ fn drop_row<L: Ledger>(
 
 /// Takes the link at an index of the list away.
 pub fn unbind_at<L: Ledger>(
-    sections: &mut Slab<Section>,
+    sections: &mut Sections,
     rows: &mut Rows,
     section_list: &SectionList,
     row_list: &mut RowList,
@@ -205,7 +204,7 @@ pub fn unbind_at<L: Ledger>(
 
 /// The same for a link whose user is of a listed cell.
 fn drop_listed_row<L: Ledger>(
-    sections: &mut Slab<Section>,
+    sections: &mut Sections,
     rows: &mut Rows,
     section_list: &SectionList,
     at: &RowPlace,
@@ -232,7 +231,7 @@ fn drop_listed_row<L: Ledger>(
 
 /// The same for all links whose users are of listed cells.
 fn drop_listed_rows<L: Ledger>(
-    sections: &mut Slab<Section>,
+    sections: &mut Sections,
     rows: &mut Rows,
     section_list: &SectionList,
     row_list: &RowList,
@@ -257,7 +256,7 @@ fn drop_listed_rows<L: Ledger>(
 
 /// Takes the links away whose users are of listed cells. The list is gone over twice.
 pub fn remove_rows<L: Ledger>(
-    sections: &mut Slab<Section>,
+    sections: &mut Sections,
     rows: &mut Rows,
     section_list: &SectionList,
     row_list: &mut RowList,
@@ -279,7 +278,7 @@ pub fn remove_rows<L: Ledger>(
 }
 
 /// Takes a section of a listed cell out of its arena. The list still names it.
-fn drop_listed_section(sections: &mut Slab<Section>, at: &SectionPlace, cells: &[CellId])
+fn drop_listed_section(sections: &mut Sections, at: &SectionPlace, cells: &[CellId])
     requires { is_listed cells.now at.now.key ≡ true → ContainsKey sections.old at.now.place }
     ensures sections { DropsIf (is_listed cells.now at.now.key) (get sections.old) (get sections.new) at.now.place }
     ensures count { slab_len sections.new ≤ slab_len sections.old }
@@ -288,12 +287,12 @@ fn drop_listed_section(sections: &mut Slab<Section>, at: &SectionPlace, cells: &
     if !is_listed(cells, at.key) {
         return;
     }
-    let _ = sections.remove(at.place);
+    sections.remove(at.place);
 }
 
 /// The same for all sections of listed cells.
 fn drop_listed_sections<L: Ledger>(
-    sections: &mut Slab<Section>,
+    sections: &mut Sections,
     section_list: &SectionList,
     cells: &[CellId],
     steps: &mut Steps<L>,
@@ -312,7 +311,7 @@ fn drop_listed_sections<L: Ledger>(
 
 /// Takes the sections of listed cells away, which have no link. The list is gone over twice.
 pub fn remove_sections<L: Ledger>(
-    sections: &mut Slab<Section>,
+    sections: &mut Sections,
     section_list: &mut SectionList,
     cells: &[CellId],
     steps: &mut Steps<L>,

@@ -14,13 +14,13 @@ use Rattle.cell_graph.proofs.graph.Graph.users_of.Goals as goal
 
 pub of-requires-in-Some : goal.of-requires-in-Some
 of-requires-in-Some c =
-    let s = c.in-Some.section.now in
+    let s = c.in-Some.section in
     users_run (get c.self.inside.rows) c.args.sec c.self.inside.row_list.items c.self.invariant.rows_listed s
     (c.self.invariant.chained.chain c.place-place.result s (sym c.in-Some.ensures))
 
 pub returns : goal.returns
 returns c =
-    let s = c.in-Some.section.now in
+    let s = c.in-Some.section in
     let named = c.place-place.ensures in
     let home = home_of (get c.self.inside.sections) c.self.inside.section_list.items c.args.sec c.place-place.result c.self.invariant.sections_listed named in
     let key = ap (λ x. x.key) (same_Some s home.section (c.in-Some.ensures ∙ home.is)) ∙ home.named in
