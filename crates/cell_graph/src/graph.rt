@@ -1,6 +1,6 @@
 //! The graph.
 
-ghost use Rattle.std.specs.Prelude.{◌≡◌, ◌↔◌, ◌*◌, ◌<◌, ◌≤◌, ◌+◌, ◌++◌, ◌∷◌, [], ◌==◌, ◌≢◌, ◌||◌, ℕ, false, true, filter, not, slice_index_or, All, Contains, IfErr, IfNone, IfSome, IsOk, IsSome, IsTrue, OnErr, OnOk, length, map};
+ghost use Rattle.std.specs.Prelude.{◌≡◌, ◌↔◌, ◌*◌, ◌<◌, ◌≤◌, ◌+◌, ◌++◌, ◌∷◌, [], ◌==◌, ◌||◌, ℕ, false, true, filter, All, Contains, IfErr, IfNone, IfSome, IsOk, IsSome, IsTrue, OnErr, OnOk, length, map};
 ghost use Rattle.std.specs.List.{remove};
 ghost use Rattle.std.specs.List.Sorted.{IsPermutation, IsStrictlyIncreasing};
 ghost use Rattle.slab.specs.Slab.{get};

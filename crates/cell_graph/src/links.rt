@@ -1,6 +1,6 @@
 //! The links by both their arenas and both their lists.
 
-ghost use Rattle.std.specs.Prelude.{◌≡◌, ◌≢◌, ◌↔◌, ℕ, ◌+◌, ◌*◌, ◌<◌, ◌≤◌, ◌∷◌, ◌++◌, [], List, Option, Some, true, false, Contains, IsTrue, length, map, slice_index_or, vec_capacity, vec_len};
+ghost use Rattle.std.specs.Prelude.{◌≡◌, ℕ, ◌+◌, ◌*◌, ◌<◌, ◌≤◌, ◌∷◌, ◌++◌, [], List, Option, Some, true, false, Contains, IsTrue, length, map, slice_index_or};
 ghost use Rattle.std.specs.List.{AllByRecursion, remove};
 ghost use Rattle.slab.specs.Slab.{ContainsKey, HasRoomFor, get, slab_len};
 ghost use Rattle.cell_graph.specs.Chains.{AreChained, SameKeys};
@@ -10,7 +10,7 @@ ghost use Rattle.cell_graph.specs.declared.rows.ChainRow.{ChainRow};
 ghost use Rattle.cell_graph.specs.declared.order.SectionPlace.{SectionPlace};
 ghost use Rattle.cell_graph.specs.declared.order.RowPlace.{RowPlace};
 ghost use Rattle.cell_graph.specs.Listed.{IsListed, IsWhole, SectionsListed};
-ghost use Rattle.cell_graph.specs.Lists.{IsCellRange, IsRowAt, IsSectionAt, IsSectionRange, RowsRise, SectionsRise, has_row};
+ghost use Rattle.cell_graph.specs.Lists.{IsSectionAt, has_row};
 ghost use Rattle.cell_graph.specs.Moves.{moved};
 ghost use Rattle.cell_graph.specs.Order.{below_section, with_link};
 ghost use Rattle.cell_graph.specs.Places.{link_at};
@@ -75,8 +75,8 @@ pub fn link_named<L: Ledger>(rows: &Rows, list: &RowList, index: usize, blank: B
     }
 }
 
-/// Gives a link its new target, and tells where to look for the next one first. Of four
-/// steps one reads the link, one looks where it stands, and two where the sections stand.
+/// Gives a link its new target, and tells where to look for the next one first. Of the four steps one
+/// reads the link, one looks where it stands, and two look where its two targets stand.
 pub fn move_row<L: Ledger>(
     sections: &mut Sections,
     rows: &mut Rows,
