@@ -1,7 +1,7 @@
 -- What always holds of a graph, after a link more, less or moved.
-use Rattle.std.proofs.Common.{◌≡◌, inl, inr, ℕ, zero, suc, ◌<◌, ◌≤◌, Bool, false, List, [], ◌∷◌, Option, Some, None, length, get_or, map, refl, sym, ap, subst, ◌∙◌, arith, Contains}
-use Rattle.std.specs.Prelude.{option_map}
-use Rattle.std.specs.List.{insert, remove}
+use Rattle.std.proofs.Common.{◌≡◌, inl, inr, ℕ, zero, suc, ◌<◌, ◌≤◌, Bool, true, false, List, [], ◌∷◌, Option, Some, None, length, get_or, map, refl, sym, ap, subst, ◌∙◌, arith, Contains}
+use Rattle.std.specs.Prelude.{is_some, option_map}
+use Rattle.std.specs.List.{AllByRecursion, insert, remove}
 use Rattle.std.proofs.lemmas.Bool.{cases_eq}
 use Rattle.cell_num.specs.declared.ids.SecKey.{SecKey}
 use Rattle.cell_world.specs.declared.state.LinkRow.{LinkRow}
@@ -11,7 +11,7 @@ use Rattle.cell_graph.specs.declared.order.SectionPlace.{SectionPlace}
 use Rattle.cell_graph.specs.declared.order.RowPlace.{RowPlace}
 use Rattle.cell_graph.specs.Order.{IsCut, below_row, with_link}
 use Rattle.cell_graph.specs.Lists.{IsRowAt, has_row}
-use Rattle.cell_graph.specs.Listed.{SectionsListed, RowsListed, IsWhole}
+use Rattle.cell_graph.specs.Listed.{IsListed, SectionsListed, RowsListed, IsWhole}
 use Rattle.cell_graph.specs.Chains.{AreChained, IsHome, SameLinks, SameKeys}
 use Rattle.cell_graph.specs.Dropped.{HasNone, links_at}
 use Rattle.cell_graph.specs.Heads.{HasNew}
@@ -38,6 +38,12 @@ sections_same at new list same listed =
           let v = key_behind (at p) (new p) section (same p) is in
           subst (λ k. Contains list (record { key = k; place = p })) v.2 (listed.listed p v.0 v.1);
     }
+
+-- the link that is named at an index stands at its place
+pub row_stands : (at : ℕ → Option ChainRow) (list : List RowPlace) (n : ℕ) (r : RowPlace) → AllByRecursion (λ x. IsListed at x) list → n < length list → r ≡ get_or list n r
+    → is_some (at r.place) ≡ true
+row_stands at list n r stand within is =
+    ap is_some (all_at (λ x. IsListed at x) list r stand (subst (λ x. Contains list x) (sym is) (at_index list n r within))).is
 
 -- the target of a link is named
 pub target_listed : (rows : ℕ → Option ChainRow) (sections : ℕ → Option Section) (section_list : List SectionPlace) (p : ℕ) (row : ChainRow)

@@ -1,7 +1,7 @@
 -- What the fields of a graph mean, and what always holds of them.
 --     links_of g     the view
 --     IsSound g      the invariant
-use Rattle.std.specs.Prelude.{◌-◌, min, map, vec_capacity, vec_len}
+use Rattle.std.specs.Prelude.{◌-◌, min, map}
 use Rattle.slab.specs.Slab.{get, slab_len}
 use Rattle.cell_graph.specs.declared.graph.Graph.TheInside.{Inside}
 use Rattle.cell_graph.specs.Links.{Links}
@@ -13,8 +13,8 @@ links_of g =
     record {
       sections = map (λ s. s.key) g.section_list.items;
       rows = map (link_at (get g.rows)) g.row_list.items;
-      spare_sections = min (vec_capacity g.section_list - vec_len g.section_list) (g.sections.capacity - slab_len g.sections);
-      spare_rows = min (vec_capacity g.row_list - vec_len g.row_list) (g.rows.capacity - slab_len g.rows);
+      spare_sections = min g.section_list.spare (g.sections.capacity - slab_len g.sections);
+      spare_rows = min g.row_list.spare (g.rows.capacity - slab_len g.rows);
     }
 
 abbrev pub IsSound : Inside → Type 0

@@ -9,7 +9,9 @@ pub mod Lists
 pub mod Moves
 pub mod Order
 pub mod Places
+pub mod SectionPlaces
 pub mod Removal
+pub mod RowPlaces
 pub mod Skips
 pub mod Users
 pub mod Walks

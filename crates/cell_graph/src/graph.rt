@@ -1,10 +1,12 @@
 //! The graph.
 
-ghost use Rattle.std.specs.Prelude.{◌≡◌, ◌↔◌, ◌*◌, ◌<◌, ◌≤◌, ◌+◌, ◌++◌, ◌∷◌, [], ◌==◌, ◌≢◌, ◌||◌, ℕ, false, true, filter, not, slice_index_or, All, Contains, IfErr, IfNone, IfSome, IsOk, IsSome, IsTrue, OnErr, OnOk, length, map};
+ghost use Rattle.std.specs.Prelude.{◌≡◌, ◌↔◌, ◌*◌, ◌<◌, ◌≤◌, ◌+◌, ◌++◌, ◌∷◌, [], ◌==◌, ◌||◌, ℕ, false, true, filter, All, Contains, IfErr, IfNone, IfSome, IsOk, IsSome, IsTrue, OnErr, OnOk, length, map};
 ghost use Rattle.std.specs.List.{remove};
 ghost use Rattle.std.specs.List.Sorted.{IsPermutation, IsStrictlyIncreasing};
+ghost use Rattle.slab.specs.Slab.{get};
 ghost use Rattle.cell_world.specs.World.{key_of};
 ghost use Rattle.cell_graph.specs.Links.{is_bound, links_from, links_to};
+ghost use Rattle.cell_graph.specs.Lists.{IsCellRange, RowsRise};
 ghost use Rattle.cell_graph.specs.Moves.{AreApart, moved};
 ghost use Rattle.cell_world.specs.declared.state.LinkRow.{LinkRow as Row};
 ghost use Rattle.cell_graph.specs.Removal.{is_listed, is_used_outside, links_without, sections_without, uses_from_outside, IsCellUsedBy, IsUsedBy};
@@ -12,34 +14,63 @@ ghost use Rattle.cell_graph.specs.Order.{below_link, below_section, with_link, w
 ghost use Rattle.cell_graph.specs.Users.{is_marked, is_user_of, leads_to};
 ghost use Rattle.cell_graph.specs.Weaks.{made_for};
 
+use crate::chains::Sections;
 use crate::links::{
-    add_section, bind_row, cell_rows, cell_sections, has_section, link_named, move_row,
-    remove_rows, remove_sections, row_index, section_place, unbind_at,
+    add_section, bind_row, link_named, move_row, remove_rows, remove_sections, unbind_at,
 };
 use crate::marks::mark;
-use crate::near::{Near, cell_rows_near, row_index_near};
-use crate::order::{RowPlace, SectionPlace};
+use crate::near::Near;
+use crate::order::is_same;
 use crate::removal::{StillUsed, is_listed};
+use crate::row_list::RowList;
 use crate::rows::Rows;
 use crate::section::Section;
+use crate::section_list::SectionList;
 use crate::steps::Steps;
-use crate::walks::{CellDeps, Deps, Users};
+use crate::walks::{CellDeps, CellRows, Deps, Users};
 use crate::weak::Weak;
 use cell_num::{CellId, SecKey};
 use cell_world::LinkRow;
-use slab::Slab;
 use std::alloc::{AllocError, Global};
-use std::marker::Model;
-use std::sync::ledger::Ledger;
+use std::marker::{Brand, Model};
+use std::sync::ledger::{Blank, Ledger};
+
+/// The section at a place, looked at with a counter of its own.
+fn look_counted<L: Ledger>(sections: &Sections, place: usize, blank: Blank) -> Option<Section>
+    requires name { blank.name ≡ L.name }
+    requires parts { blank.parts ≡ L.parts }
+    requires countable { 0 < blank.parts }
+    ensures { result ≡ get sections.now place }
+{
+    let mut steps = Steps::<L>::new(blank);
+    sections.look(place, &mut steps)
+}
+
+/// The links of a cell, looked for at an index first, with a counter of its own.
+fn cell_rows_counted<L: Ledger>(
+    list: &RowList,
+    near: usize,
+    cell: CellId,
+    blank: Blank,
+) -> (CellRows<'_>, usize)
+    requires name { blank.name ≡ L.name }
+    requires parts { blank.parts ≡ L.parts }
+    requires countable { 0 < blank.parts }
+    requires rise { RowsRise list.now.items }
+    ensures { IsCellRange list.now.items cell.0 result.0 }
+{
+    let mut steps = Steps::<L>::new(blank);
+    list.of_cell_near(near, cell, &mut steps)
+}
 
 /// The present sections and their links. Room for what is added is reserved before, so that adding
 /// takes no memory.
 #[derive(Drop)]
 pub struct Graph {
-    sections: Slab<Section>,
+    sections: Sections,
     rows: Rows,
-    section_list: Vec<SectionPlace>,
-    row_list: Vec<RowPlace>,
+    section_list: SectionList,
+    row_list: RowList,
 }
 
 impl Model for Graph {
@@ -61,10 +92,10 @@ impl Graph {
         ensures rows { result.rows ≡ [] }
     {
         Graph {
-            sections: Slab::new(alloc),
+            sections: Sections::new(alloc),
             rows: Rows::new(alloc),
-            section_list: Vec::new(alloc),
-            row_list: Vec::new(alloc),
+            section_list: SectionList::new(alloc),
+            row_list: RowList::new(alloc),
         }
     }
 
@@ -148,68 +179,86 @@ impl Graph {
         requires { Contains self.now.sections sec }
         ensures { IsPermutation (links_from sec self.now.rows) result }
     {
-        let list = cell_rows(&self.row_list, sec.cell);
-        Deps::of(&self.rows, list, sec)
+        Deps::of(&self.rows, self.row_list.of_cell(sec.cell), sec)
     }
 
     /// The links of a cell's sections to others, by the entry and then the user's section.
     pub fn deps_of_cell(&self, cell: CellId) -> CellDeps<'_>
         ensures { result ≡ filter (λ r. r.user.cell.0 == cell.0) self.now.rows }
     {
-        CellDeps::of(&self.rows, cell_rows(&self.row_list, cell))
+        CellDeps::of(&self.rows, self.row_list.of_cell(cell))
     }
 
     /// The same, with the index behind them in the list of links. They are looked for at an index first.
     pub fn deps_of_cell_near(&self, cell: CellId, near: usize) -> (CellDeps<'_>, usize)
         ensures { result.0 ≡ filter (λ r. r.user.cell.0 == cell.0) self.now.rows }
     {
-        let (list, next) = cell_rows_near(&self.row_list, near, cell);
+        let (list, next) = cell_rows_counted::<Brand>(&self.row_list, near, cell, Blank::new(1));
         (CellDeps::of(&self.rows, list), next)
     }
 
-    /// The link of that user and entry, which is there.
-    pub fn link(&self, user: SecKey, entry: u32) -> LinkRow
-        requires { IsTrue (is_bound self.now.rows user entry) }
-        ensures there { Contains self.now.rows result }
-        ensures user { result.user ≡ user }
-        ensures entry { result.entry ≡ entry }
-    {
-        let index = row_index(&self.row_list, user, entry);
-        link_named(&self.rows, &self.row_list, index)
-    }
-
-    /// The same, with the index behind it in the list of links. It is looked for at an index first.
+    /// The link of that user and entry, which is there, with the index behind it in the list of links. It
+    /// is looked for at an index first.
     pub fn link_near(&self, user: SecKey, entry: u32, near: usize) -> (LinkRow, usize)
         requires { IsTrue (is_bound self.now.rows user entry) }
         ensures there { Contains self.now.rows result.0 }
         ensures user { result.0.user ≡ user }
         ensures entry { result.0.entry ≡ entry }
     {
-        let index = row_index_near(&self.row_list, near, user, entry);
-        (link_named(&self.rows, &self.row_list, index), index + 1)
+        let index = self.row_list.index_near(near, user, entry);
+        let link = link_named::<Brand>(&self.rows, &self.row_list, index, Blank::new(1));
+        (link, index + 1)
     }
 
     /// The links of others to a section, in no stated order; none where it isn't there.
     pub fn users_of(&self, sec: SecKey) -> Users<'_>
         ensures { IsPermutation (links_to sec self.now.rows) result }
     {
-        if !has_section(&self.section_list, sec) {
+        if !self.section_list.has(sec) {
             return Users::of(&self.rows, None, 0);
         }
-        let place = section_place(&self.section_list, sec);
-        match self.sections.get(place) {
+        let place = self.section_list.place(sec);
+        match look_counted::<Brand>(&self.sections, place, Blank::new(1)) {
             Some(section) => Users::of(&self.rows, section.first, section.users),
             None => unreachable!(),
         }
     }
 
     /// Marks the cells of the links into a section that is there.
-    fn mark_users_of_section(&self, sec: SecKey, marks: &mut Vec<bool>) -> Result<(), AllocError>
+    fn mark_users_of_section<L: Ledger>(
+        &self,
+        sec: SecKey,
+        marks: &mut Vec<bool>,
+        steps: &mut Steps<L>,
+    ) -> Result<(), AllocError>
         requires { Contains self.now.sections sec }
-        ensures { OnOk result ((n : ℕ) → is_marked marks.new.items n ≡ (is_marked marks.old.items n || leads_to sec self.now.rows n)) }
+        ensures marks { OnOk result ((n : ℕ) → is_marked marks.new.items n ≡ (is_marked marks.old.items n || leads_to sec self.now.rows n)) }
+        ensures steps { steps.new ≤ steps.old + length (links_to sec self.now.rows) }
     {
-        for row in self.users_of(sec) {
+        let mut users = self.users_of(sec);
+        while let Some(row) = users.step(steps) {
             mark(marks, row.user.cell)?;
+        }
+        Ok(())
+    }
+
+    /// Marks the cells of the links into a cell, with a counter of its own.
+    fn mark_counted<L: Ledger>(
+        &self,
+        cell: CellId,
+        marks: &mut Vec<bool>,
+        blank: Blank,
+    ) -> Result<(), AllocError>
+        requires name { blank.name ≡ L.name }
+        requires parts { blank.parts ≡ L.parts }
+        requires countable { 0 < blank.parts }
+        ensures { OnOk result ((n : ℕ) → is_marked marks.new.items n ≡ (is_marked marks.old.items n || is_user_of cell.0 self.now.rows n)) }
+    {
+        let mut steps = Steps::<L>::new(blank);
+        let sections = self.section_list.of_cell(cell);
+        for index in 0..sections.len() {
+            let at = sections.at(index, &mut steps);
+            self.mark_users_of_section(at.key, marks, &mut steps)?;
         }
         Ok(())
     }
@@ -219,11 +268,7 @@ impl Graph {
     pub fn mark_users_of(&self, cell: CellId, marks: &mut Vec<bool>) -> Result<(), AllocError>
         ensures { OnOk result ((n : ℕ) → is_marked marks.new.items n ≡ (is_marked marks.old.items n || is_user_of cell.0 self.now.rows n)) }
     {
-        let sections = cell_sections(&self.section_list, cell);
-        for index in 0..sections.len() {
-            self.mark_users_of_section(sections[index].key, marks)?;
-        }
-        Ok(())
+        self.mark_counted::<Brand>(cell, marks, Blank::new(1))
     }
 
     /// A reference to a section that is there, which doesn't keep it there.
@@ -231,15 +276,19 @@ impl Graph {
         requires { Contains self.now.sections sec }
         ensures { made_for result ≡ sec }
     {
-        Weak::of(sec, section_place(&self.section_list, sec))
+        Weak::of(sec, self.section_list.place(sec))
     }
 
-    /// Whether the section stands at the place.
-    fn stands_at(&self, place: usize, key: SecKey) -> bool
+    /// Whether the section stands at the place, looked at with a counter of its own.
+    fn stands_at<L: Ledger>(&self, place: usize, key: SecKey, blank: Blank) -> bool
+        requires name { blank.name ≡ L.name }
+        requires parts { blank.parts ≡ L.parts }
+        requires countable { 0 < blank.parts }
         ensures { IsTrue result → Contains self.now.sections key }
     {
-        match self.sections.get(place) {
-            Some(section) => section.key == key,
+        let mut steps = Steps::<L>::new(blank);
+        match self.sections.look(place, &mut steps) {
+            Some(section) => is_same(section.key, key),
             None => false,
         }
     }
@@ -250,7 +299,7 @@ impl Graph {
         ensures section { IfSome result (λ sec. sec ≡ made_for weak) }
     {
         let key = weak.key();
-        if self.stands_at(weak.place(), key) || has_section(&self.section_list, key) {
+        if self.stands_at::<Brand>(weak.place(), key, Blank::new(1)) || self.section_list.has(key) {
             Some(key)
         } else {
             None
@@ -262,7 +311,7 @@ impl Graph {
         requires bound { IsTrue (is_bound self.old.rows to.user to.entry) }
         requires present { Contains self.old.sections to.target }
         ensures moved { self.new.rows ≡ moved self.old.rows (to ∷ []) }
-        ensures steps { steps.new ≡ steps.old + 1 }
+        ensures steps { steps.new ≡ steps.old + 4 }
         ensures same_sections { self.new.sections ≡ self.old.sections }
         ensures same_room_for_links { self.new.spare_rows ≡ self.old.spare_rows }
         ensures same_room_for_sections { self.new.spare_sections ≡ self.old.spare_sections }
@@ -295,22 +344,26 @@ impl Graph {
         }
     }
 
-    /// Takes the link at an index away.
-    fn unbind_index(&mut self, index: usize)
-        requires { index < length self.old.rows }
+    /// Takes the link at an index away, with a counter of its own.
+    fn unbind_index<L: Ledger>(&mut self, index: usize, blank: Blank)
+        requires name { blank.name ≡ L.name }
+        requires parts { blank.parts ≡ L.parts }
+        requires countable { 0 < blank.parts }
+        requires within { index < length self.old.rows }
         ensures left { self.new.rows ≡ remove self.old.rows index }
         ensures room { self.new.spare_rows ≡ self.old.spare_rows + 1 }
         ensures same_sections { self.new.sections ≡ self.old.sections }
         ensures same_room_for_sections { self.new.spare_sections ≡ self.old.spare_sections }
     {
         let _ = self.rows.capacity();
-        let _ = self.row_list.capacity();
+        let mut steps = Steps::<L>::new(blank);
         unbind_at(
             &mut self.sections,
             &mut self.rows,
             &self.section_list,
             &mut self.row_list,
             index,
+            &mut steps,
         );
     }
 
@@ -322,17 +375,24 @@ impl Graph {
         ensures same_sections { self.new.sections ≡ self.old.sections }
         ensures same_room_for_sections { self.old.spare_sections ≤ self.new.spare_sections }
     {
-        let index = row_index(&self.row_list, row.user, row.entry);
-        self.unbind_index(index);
+        let index = self.row_list.index(row.user, row.entry);
+        self.unbind_index::<Brand>(index, Blank::new(1));
     }
 
     /// A section of a cell that isn't listed, which has a link to the section.
-    fn outside_user(&self, cells: &[CellId], sec: SecKey) -> Option<SecKey>
+    fn outside_user<L: Ledger>(
+        &self,
+        cells: &[CellId],
+        sec: SecKey,
+        steps: &mut Steps<L>,
+    ) -> Option<SecKey>
         requires { Contains self.now.sections sec }
         ensures none { IfNone result ((r : Row) → Contains self.now.rows r → r.target ≡ sec → is_listed cells.now r.user ≡ true) }
         ensures some { IfSome result (λ user. IsUsedBy cells.now sec user self.now.rows) }
+        ensures steps { steps.new ≤ steps.old + length (links_to sec self.now.rows) }
     {
-        for row in self.users_of(sec) {
+        let mut users = self.users_of(sec);
+        while let Some(row) = users.step(steps) {
             if !is_listed(cells, row.user) {
                 return Some(row.user);
             }
@@ -341,59 +401,84 @@ impl Graph {
     }
 
     /// The same for all sections of a cell.
-    fn outside_user_of(&self, cells: &[CellId], cell: CellId) -> Option<SecKey>
+    fn outside_user_of<L: Ledger>(
+        &self,
+        cells: &[CellId],
+        cell: CellId,
+        steps: &mut Steps<L>,
+    ) -> Option<SecKey>
         ensures none { IfNone result ((r : Row) → Contains self.now.rows r → r.target.cell.0 ≡ cell.0 → is_listed cells.now r.user ≡ true) }
         ensures some { IfSome result (λ user. IsCellUsedBy cells.now cell.0 user self.now.rows) }
     {
-        for at in cell_sections(&self.section_list, cell) {
-            if let Some(user) = self.outside_user(cells, at.key) {
+        let sections = self.section_list.of_cell(cell);
+        for index in 0..sections.len() {
+            let at = sections.at(index, steps);
+            if let Some(user) = self.outside_user(cells, at.key, steps) {
                 return Some(user);
             }
         }
         None
     }
 
-    /// The same for all listed cells.
-    fn outside_user_of_any(&self, cells: &[CellId]) -> Option<SecKey>
+    /// The same for all listed cells, with a counter of its own.
+    fn outside_user_of_any<L: Ledger>(&self, cells: &[CellId], blank: Blank) -> Option<SecKey>
+        requires name { blank.name ≡ L.name }
+        requires parts { blank.parts ≡ L.parts }
+        requires countable { 0 < blank.parts }
         ensures none { IfNone result (is_used_outside cells.now self.now.rows ≡ false) }
         ensures some { IfSome result (λ user. IsTrue (uses_from_outside user cells.now self.now.rows)) }
         ensures used { IfSome result (λ user. IsTrue (is_used_outside cells.now self.now.rows)) }
     {
+        let mut steps = Steps::<L>::new(blank);
         for cell in cells {
-            if let Some(user) = self.outside_user_of(cells, *cell) {
+            if let Some(user) = self.outside_user_of(cells, *cell, &mut steps) {
                 return Some(user);
             }
         }
         None
     }
 
-    /// Takes away the links that the sections of the cells use.
-    fn remove_links(&mut self, cells: &[CellId])
+    /// Takes away the links that the sections of the cells use, with a counter of its own.
+    fn remove_links<L: Ledger>(&mut self, cells: &[CellId], blank: Blank)
+        requires name { blank.name ≡ L.name }
+        requires parts { blank.parts ≡ L.parts }
+        requires countable { 0 < blank.parts }
         ensures left { self.new.rows ≡ links_without cells.now self.old.rows }
         ensures room { self.old.spare_rows ≤ self.new.spare_rows }
         ensures same_sections { self.new.sections ≡ self.old.sections }
         ensures same_room_for_sections { self.new.spare_sections ≡ self.old.spare_sections }
     {
         let _ = self.rows.capacity();
+        let mut steps = Steps::<L>::new(blank);
         remove_rows(
             &mut self.sections,
             &mut self.rows,
             &self.section_list,
             &mut self.row_list,
             cells,
+            &mut steps,
         );
     }
 
-    /// Takes away the sections of the cells, which have no links.
-    fn remove_sections(&mut self, cells: &[CellId])
-        requires { All (λ r. is_listed cells.now r.target ≡ false) self.old.rows }
+    /// Takes away the sections of the cells, which have no links, with a counter of its own.
+    fn remove_sections<L: Ledger>(&mut self, cells: &[CellId], blank: Blank)
+        requires name { blank.name ≡ L.name }
+        requires parts { blank.parts ≡ L.parts }
+        requires countable { 0 < blank.parts }
+        requires unused { All (λ r. is_listed cells.now r.target ≡ false) self.old.rows }
         ensures left { self.new.sections ≡ sections_without cells.now self.old.sections }
         ensures room { self.old.spare_sections ≤ self.new.spare_sections }
         ensures same_rows { self.new.rows ≡ self.old.rows }
         ensures same_room_for_links { self.new.spare_rows ≡ self.old.spare_rows }
     {
         let _ = self.sections.capacity();
-        remove_sections(&mut self.sections, &mut self.section_list, cells);
+        let mut steps = Steps::<L>::new(blank);
+        remove_sections(
+            &mut self.sections,
+            &mut self.section_list,
+            cells,
+            &mut steps,
+        );
     }
 
     /// Takes away the sections of the cells and the links that they use, unless another cell has a link
@@ -411,11 +496,11 @@ impl Graph {
         ensures same_rows { OnErr result (self.new.rows ≡ self.old.rows) }
         ensures same_sections { OnErr result (self.new.sections ≡ self.old.sections) }
     {
-        if let Some(user) = self.outside_user_of_any(cells) {
+        if let Some(user) = self.outside_user_of_any::<Brand>(cells, Blank::new(1)) {
             return Err(StillUsed { user });
         }
-        self.remove_links(cells);
-        self.remove_sections(cells);
+        self.remove_links::<Brand>(cells, Blank::new(1));
+        self.remove_sections::<Brand>(cells, Blank::new(1));
         Ok(())
     }
 }

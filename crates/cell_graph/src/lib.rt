@@ -1,5 +1,5 @@
 //! The sections that are present, and the links between them: two arenas, with two sorted lists of
-//! places beside them.
+//! places beside them. Each is a type of its own, which counts what is looked at.
 #![tactic(auto)]
 
 mod chains;
@@ -9,8 +9,10 @@ mod marks;
 mod near;
 mod order;
 mod removal;
+mod row_list;
 mod rows;
 mod section;
+mod section_list;
 mod steps;
 mod walks;
 mod weak;

@@ -1,6 +1,6 @@
 //! The links by both their arenas and both their lists.
 
-ghost use Rattle.std.specs.Prelude.{◌≡◌, ◌≢◌, ◌↔◌, ℕ, ◌+◌, ◌*◌, ◌<◌, ◌≤◌, ◌∷◌, ◌++◌, [], List, Option, Some, true, false, Contains, IsTrue, length, map, slice_index_or, vec_capacity, vec_len};
+ghost use Rattle.std.specs.Prelude.{◌≡◌, ℕ, ◌+◌, ◌*◌, ◌<◌, ◌≤◌, ◌∷◌, ◌++◌, [], List, Option, Some, true, false, Contains, IsTrue, length, map, slice_index_or};
 ghost use Rattle.std.specs.List.{AllByRecursion, remove};
 ghost use Rattle.slab.specs.Slab.{ContainsKey, HasRoomFor, get, slab_len};
 ghost use Rattle.cell_graph.specs.Chains.{AreChained, SameKeys};
@@ -10,121 +10,64 @@ ghost use Rattle.cell_graph.specs.declared.rows.ChainRow.{ChainRow};
 ghost use Rattle.cell_graph.specs.declared.order.SectionPlace.{SectionPlace};
 ghost use Rattle.cell_graph.specs.declared.order.RowPlace.{RowPlace};
 ghost use Rattle.cell_graph.specs.Listed.{IsListed, IsWhole, SectionsListed};
-ghost use Rattle.cell_graph.specs.Lists.{IsCellRange, IsRowAt, IsSectionAt, IsSectionRange, RowsRise, SectionsRise, has_row};
+ghost use Rattle.cell_graph.specs.Lists.{IsSectionAt, has_row};
 ghost use Rattle.cell_graph.specs.Moves.{moved};
 ghost use Rattle.cell_graph.specs.Order.{below_section, with_link};
 ghost use Rattle.cell_graph.specs.Places.{link_at};
 
-use crate::chains::{link, unlink};
-use crate::near::{Near, row_index_near, section_index_near};
-use crate::order::{
-    RowPlace, SectionPlace, is_same, row_cell_end, row_cell_start, row_cut, section_cell_end,
-    section_cell_start, section_cut,
-};
+use crate::chains::{Sections, link, unlink};
+use crate::near::Near;
+use crate::order::{RowPlace, SectionPlace};
 use crate::removal::is_listed;
+use crate::row_list::RowList;
 use crate::rows::{ChainRow, Rows};
 use crate::section::Section;
+use crate::section_list::SectionList;
 use crate::steps::Steps;
-use crate::walks::read_at;
 use cell_num::{CellId, SecKey};
 use cell_world::LinkRow;
-use slab::Slab;
-use std::sync::ledger::Ledger;
-
-/// Where in the list a section is that is there.
-pub fn section_index(list: &[SectionPlace], key: SecKey) -> usize
-    requires rise { SectionsRise list.now }
-    requires present { Contains (map (λ s. s.key) list.now) key }
-    ensures { IsSectionAt list.now result key }
-{
-    section_cut(list, key)
-}
-
-/// Whether the list names the section.
-pub fn has_section(list: &[SectionPlace], key: SecKey) -> bool
-    requires { SectionsRise list.now }
-    ensures { IsTrue result ↔ Contains (map (λ s. s.key) list.now) key }
-{
-    let index = section_cut(list, key);
-    if index < list.len() {
-        is_same(list[index].key, key)
-    } else {
-        false
-    }
-}
+use std::sync::ledger::{Blank, Ledger};
 
 /// The place of the section at an index.
-fn place_at(list: &[SectionPlace], index: usize, key: SecKey) -> usize
-    requires { IsSectionAt list.now index key }
-    ensures { Contains list.now (record { key = key; place = result }) }
+fn place_at<L: Ledger>(list: &SectionList, index: usize, key: SecKey, steps: &mut Steps<L>) -> usize
+    requires { IsSectionAt list.now.items index key }
+    ensures place { Contains list.now.items (record { key = key; place = result }) }
+    ensures step { steps.new ≡ steps.old + 1 }
 {
-    list[index].place
-}
-
-/// The place of a section that is there.
-pub fn section_place(list: &[SectionPlace], key: SecKey) -> usize
-    requires rise { SectionsRise list.now }
-    requires present { Contains (map (λ s. s.key) list.now) key }
-    ensures { Contains list.now (record { key = key; place = result }) }
-{
-    place_at(list, section_index(list, key), key)
-}
-
-/// The links that the list names with users of the cell.
-pub fn cell_rows(list: &[RowPlace], cell: CellId) -> &[RowPlace]
-    requires { RowsRise list.now }
-    ensures { IsCellRange list.now cell.0 result.now }
-{
-    let front = &list[..row_cell_end(list, cell)];
-    &front[row_cell_start(front, cell)..]
-}
-
-/// The sections of a cell that the list names.
-pub fn cell_sections(list: &[SectionPlace], cell: CellId) -> &[SectionPlace]
-    requires { SectionsRise list.now }
-    ensures { IsSectionRange list.now cell.0 result.now }
-{
-    let front = &list[..section_cell_end(list, cell)];
-    &front[section_cell_start(front, cell)..]
+    list.at(index, steps).place
 }
 
 /// Adds a section that is above all others.
-pub fn add_section(sections: &mut Slab<Section>, section_list: &mut Vec<SectionPlace>, key: SecKey)
+pub fn add_section(sections: &mut Sections, section_list: &mut SectionList, key: SecKey)
     requires above { (s : SectionPlace) → Contains section_list.old.items s → below_section s.key key ≡ true }
     requires room { HasRoomFor sections.old 1 }
-    requires room_in_list { vec_len section_list.old < vec_capacity section_list.old }
+    requires room_in_list { 0 < section_list.old.spare }
     ensures whole { (rows : ℕ → Option ChainRow) (row_list : List RowPlace) → IsWhole rows (get sections.old) section_list.old.items row_list → IsWhole rows (get sections.new) section_list.new.items row_list }
     ensures added { map (λ s. s.key) section_list.new.items ≡ map (λ s. s.key) section_list.old.items ++ key ∷ [] }
     ensures count { slab_len sections.new ≡ slab_len sections.old + 1 }
     ensures capacity { sections.new.capacity ≡ sections.old.capacity }
-    ensures list_len { vec_len section_list.new ≡ vec_len section_list.old + 1 }
-    ensures list_capacity { vec_capacity section_list.old ≤ vec_capacity section_list.new }
+    ensures list_room { section_list.old.spare ≤ section_list.new.spare + 1 }
 {
-    let place = sections.insert_reserved(Section {
+    let place = sections.insert(Section {
         key,
         first: None,
         users: 0,
     });
-    let _ = section_list.push(SectionPlace { key, place });
+    section_list.push(SectionPlace { key, place });
 }
 
-/// Where in the list a link is that is there.
-pub fn row_index(list: &[RowPlace], user: SecKey, entry: u32) -> usize
-    requires rise { RowsRise list.now }
-    requires bound { IsTrue (has_row list.now user entry) }
-    ensures { IsRowAt list.now result user entry }
+/// The link that the list names at an index, read with a counter of its own.
+pub fn link_named<L: Ledger>(rows: &Rows, list: &RowList, index: usize, blank: Blank) -> LinkRow
+    requires name { blank.name ≡ L.name }
+    requires parts { blank.parts ≡ L.parts }
+    requires countable { 0 < blank.parts }
+    requires inside { index < length list.now.items }
+    requires listed { AllByRecursion (λ r. IsListed (get rows.now) r) list.now.items }
+    ensures { (d : RowPlace) → result ≡ link_at (get rows.now) (slice_index_or list.now.items index d) }
 {
-    row_cut(list, user, entry)
-}
-
-/// The link that the list names at an index.
-pub fn link_named(rows: &Rows, list: &[RowPlace], index: usize) -> LinkRow
-    requires inside { index < length list.now }
-    requires listed { AllByRecursion (λ r. IsListed (get rows.now) r) list.now }
-    ensures { (d : RowPlace) → result ≡ link_at (get rows.now) (slice_index_or list.now index d) }
-{
-    let at = &list[index];
-    let chain = read_at(rows, at.place);
+    let mut steps = Steps::<L>::new(blank);
+    let at = list.at(index, &mut steps);
+    let chain = rows.read(at.place, &mut steps);
     LinkRow {
         user: at.user,
         entry: at.entry,
@@ -132,35 +75,36 @@ pub fn link_named(rows: &Rows, list: &[RowPlace], index: usize) -> LinkRow
     }
 }
 
-/// Gives a link its new target, and tells where to look for the next one first. One link is read.
+/// Gives a link its new target, and tells where to look for the next one first. Of the four steps one
+/// reads the link, one looks where it stands, and two look where its two targets stand.
 pub fn move_row<L: Ledger>(
-    sections: &mut Slab<Section>,
+    sections: &mut Sections,
     rows: &mut Rows,
-    section_list: &[SectionPlace],
-    row_list: &[RowPlace],
+    section_list: &SectionList,
+    row_list: &RowList,
     to: LinkRow,
     near: Near,
     steps: &mut Steps<L>,
 ) -> Near
-    requires whole { IsWhole (get rows.old) (get sections.old) section_list.now row_list.now }
-    requires bound { IsTrue (has_row row_list.now to.user to.entry) }
-    requires present { Contains (map (λ s. s.key) section_list.now) to.target }
-    ensures whole { IsWhole (get rows.new) (get sections.new) section_list.now row_list.now }
-    ensures moved { map (link_at (get rows.new)) row_list.now ≡ moved (map (link_at (get rows.old)) row_list.now) (to ∷ []) }
-    ensures steps { steps.new ≡ steps.old + 1 }
+    requires whole { IsWhole (get rows.old) (get sections.old) section_list.now.items row_list.now.items }
+    requires bound { IsTrue (has_row row_list.now.items to.user to.entry) }
+    requires present { Contains (map (λ s. s.key) section_list.now.items) to.target }
+    ensures whole { IsWhole (get rows.new) (get sections.new) section_list.now.items row_list.now.items }
+    ensures moved { map (link_at (get rows.new)) row_list.now.items ≡ moved (map (link_at (get rows.old)) row_list.now.items) (to ∷ []) }
+    ensures steps { steps.new ≡ steps.old + 4 }
     ensures row_count { slab_len rows.new ≡ slab_len rows.old }
     ensures section_count { slab_len sections.new ≡ slab_len sections.old }
     ensures row_capacity { rows.new.capacity ≡ rows.old.capacity }
     ensures section_capacity { sections.new.capacity ≡ sections.old.capacity }
 {
-    let row = row_index_near(row_list, near.row, to.user, to.entry);
-    let place = row_list[row].place;
+    let row = row_list.index_near(near.row, to.user, to.entry);
+    let place = row_list.at(row, steps).place;
     let chain = rows.read(place, steps);
-    let old_index = section_index_near(section_list, near.old, chain.row.target);
-    let old = place_at(section_list, old_index, chain.row.target);
+    let old_index = section_list.index_near(near.old, chain.row.target);
+    let old = place_at(section_list, old_index, chain.row.target, steps);
     unlink(sections, rows, old, place, chain);
-    let new_index = section_index_near(section_list, near.new, to.target);
-    let new = place_at(section_list, new_index, to.target);
+    let new_index = section_list.index_near(near.new, to.target);
+    let new = place_at(section_list, new_index, to.target, steps);
     link(sections, rows, new, place, to);
     Near {
         row: row + 1,
@@ -171,103 +115,108 @@ pub fn move_row<L: Ledger>(
 
 /// Adds a link.
 pub fn bind_row(
-    sections: &mut Slab<Section>,
+    sections: &mut Sections,
     rows: &mut Rows,
-    section_list: &[SectionPlace],
-    row_list: &mut Vec<RowPlace>,
+    section_list: &SectionList,
+    row_list: &mut RowList,
     row: LinkRow,
 )
-    requires whole { IsWhole (get rows.old) (get sections.old) section_list.now row_list.old.items }
+    requires whole { IsWhole (get rows.old) (get sections.old) section_list.now.items row_list.old.items }
     requires unbound { has_row row_list.old.items row.user row.entry ≡ false }
-    requires present { Contains (map (λ s. s.key) section_list.now) row.target }
+    requires present { Contains (map (λ s. s.key) section_list.now.items) row.target }
     requires room { HasRoomFor rows.old 1 }
-    requires room_in_list { vec_len row_list.old < vec_capacity row_list.old }
-    ensures whole { IsWhole (get rows.new) (get sections.new) section_list.now row_list.new.items }
+    requires room_in_list { 0 < row_list.old.spare }
+    ensures whole { IsWhole (get rows.new) (get sections.new) section_list.now.items row_list.new.items }
     ensures added { map (link_at (get rows.new)) row_list.new.items ≡ with_link row (map (link_at (get rows.old)) row_list.old.items) }
     ensures row_count { slab_len rows.new ≡ slab_len rows.old + 1 }
     ensures section_count { slab_len sections.new ≡ slab_len sections.old }
     ensures row_capacity { rows.new.capacity ≡ rows.old.capacity }
     ensures section_capacity { sections.new.capacity ≡ sections.old.capacity }
-    ensures list_len { vec_len row_list.new ≡ vec_len row_list.old + 1 }
-    ensures list_capacity { vec_capacity row_list.old ≤ vec_capacity row_list.new }
+    ensures list_room { row_list.old.spare ≤ row_list.new.spare + 1 }
 {
-    let target = section_place(section_list, row.target);
+    let target = section_list.place(row.target);
     let place = rows.insert(ChainRow {
         row,
         before: None,
         after: None,
     });
     link(sections, rows, target, place, row);
-    let index = row_cut(row_list.as_slice(), row.user, row.entry);
+    let index = row_list.cut(row.user, row.entry);
     let at = RowPlace {
         user: row.user,
         entry: row.entry,
         place,
     };
-    let _ = row_list.insert(index, at);
+    row_list.insert(index, at);
 }
 
 /// Takes the link at a place out of its chain and its arena. The list still names it.
-fn drop_row(
-    sections: &mut Slab<Section>,
+fn drop_row<L: Ledger>(
+    sections: &mut Sections,
     rows: &mut Rows,
-    section_list: &[SectionPlace],
+    section_list: &SectionList,
     place: usize,
+    steps: &mut Steps<L>,
 )
     requires chained { AreChained (get rows.old) (get sections.old) }
-    requires listed { SectionsListed (get sections.old) section_list.now }
+    requires listed { SectionsListed (get sections.old) section_list.now.items }
     requires stands { ContainsKey rows.old place }
     ensures chained { AreChained (get rows.new) (get sections.new) }
     ensures links { HasNone (links_at (get rows.old)) (links_at (get rows.new)) place }
+    ensures steps { steps.new ≡ steps.old + 1 }
     ensures keys { SameKeys (get sections.old) (get sections.new) }
     ensures row_count { slab_len rows.new + 1 ≡ slab_len rows.old }
     ensures section_count { slab_len sections.new ≡ slab_len sections.old }
     ensures row_capacity { rows.new.capacity ≡ rows.old.capacity }
     ensures section_capacity { sections.new.capacity ≡ sections.old.capacity }
 {
-    let chain = read_at(rows, place);
-    let target = section_place(section_list, chain.row.target);
+    let chain = rows.read(place, steps);
+    let target = section_list.place(chain.row.target);
     unlink(sections, rows, target, place, chain);
     rows.remove(place);
 }
 
 /// Takes the link at an index of the list away.
-pub fn unbind_at(
-    sections: &mut Slab<Section>,
+pub fn unbind_at<L: Ledger>(
+    sections: &mut Sections,
     rows: &mut Rows,
-    section_list: &[SectionPlace],
-    row_list: &mut Vec<RowPlace>,
+    section_list: &SectionList,
+    row_list: &mut RowList,
     index: usize,
+    steps: &mut Steps<L>,
 )
-    requires whole { IsWhole (get rows.old) (get sections.old) section_list.now row_list.old.items }
+    requires whole { IsWhole (get rows.old) (get sections.old) section_list.now.items row_list.old.items }
     requires within { index < length row_list.old.items }
-    ensures whole { IsWhole (get rows.new) (get sections.new) section_list.now row_list.new.items }
+    ensures whole { IsWhole (get rows.new) (get sections.new) section_list.now.items row_list.new.items }
     ensures items { row_list.new.items ≡ remove row_list.old.items index }
     ensures left { map (link_at (get rows.new)) row_list.new.items ≡ map (link_at (get rows.old)) (remove row_list.old.items index) }
+    ensures steps { steps.new ≡ steps.old + 2 }
     ensures row_count { slab_len rows.new + 1 ≡ slab_len rows.old }
     ensures section_count { slab_len sections.new ≡ slab_len sections.old }
     ensures row_capacity { rows.new.capacity ≡ rows.old.capacity }
     ensures section_capacity { sections.new.capacity ≡ sections.old.capacity }
-    ensures list_len { vec_len row_list.new + 1 ≡ vec_len row_list.old }
-    ensures list_capacity { vec_capacity row_list.new ≡ vec_capacity row_list.old }
+    ensures list_room { row_list.new.spare ≡ row_list.old.spare + 1 }
 {
-    drop_row(sections, rows, section_list, row_list[index].place);
-    let _ = row_list.remove(index);
+    let place = row_list.at(index, steps).place;
+    drop_row(sections, rows, section_list, place, steps);
+    row_list.remove(index);
 }
 
 /// The same for a link whose user is of a listed cell.
-fn drop_listed_row(
-    sections: &mut Slab<Section>,
+fn drop_listed_row<L: Ledger>(
+    sections: &mut Sections,
     rows: &mut Rows,
-    section_list: &[SectionPlace],
+    section_list: &SectionList,
     at: &RowPlace,
     cells: &[CellId],
+    steps: &mut Steps<L>,
 )
     requires chained { AreChained (get rows.old) (get sections.old) }
-    requires listed { SectionsListed (get sections.old) section_list.now }
+    requires listed { SectionsListed (get sections.old) section_list.now.items }
     requires stands { is_listed cells.now at.now.user ≡ true → ContainsKey rows.old at.now.place }
     ensures chained { AreChained (get rows.new) (get sections.new) }
     ensures links { DropsIf (is_listed cells.now at.now.user) (links_at (get rows.old)) (links_at (get rows.new)) at.now.place }
+    ensures steps { steps.new ≤ steps.old + 1 }
     ensures keys { SameKeys (get sections.old) (get sections.new) }
     ensures row_count { slab_len rows.new ≤ slab_len rows.old }
     ensures section_count { slab_len sections.new ≡ slab_len sections.old }
@@ -277,55 +226,59 @@ fn drop_listed_row(
     if !is_listed(cells, at.user) {
         return;
     }
-    drop_row(sections, rows, section_list, at.place);
+    drop_row(sections, rows, section_list, at.place, steps);
 }
 
 /// The same for all links whose users are of listed cells.
-fn drop_listed_rows(
-    sections: &mut Slab<Section>,
+fn drop_listed_rows<L: Ledger>(
+    sections: &mut Sections,
     rows: &mut Rows,
-    section_list: &[SectionPlace],
-    row_list: &[RowPlace],
+    section_list: &SectionList,
+    row_list: &RowList,
     cells: &[CellId],
+    steps: &mut Steps<L>,
 )
-    requires { IsWhole (get rows.old) (get sections.old) section_list.now row_list.now }
+    requires { IsWhole (get rows.old) (get sections.old) section_list.now.items row_list.now.items }
     ensures chained { AreChained (get rows.new) (get sections.new) }
-    ensures links { AreDropped (λ r. r.place) (λ r. is_listed cells.now r.user) (links_at (get rows.old)) (links_at (get rows.new)) row_list.now }
+    ensures links { AreDropped (λ r. r.place) (λ r. is_listed cells.now r.user) (links_at (get rows.old)) (links_at (get rows.new)) row_list.now.items }
+    ensures steps { steps.new ≤ steps.old + 2 * length row_list.now.items }
     ensures keys { SameKeys (get sections.old) (get sections.new) }
     ensures row_count { slab_len rows.new ≤ slab_len rows.old }
     ensures section_count { slab_len sections.new ≡ slab_len sections.old }
     ensures row_capacity { rows.new.capacity ≡ rows.old.capacity }
     ensures section_capacity { sections.new.capacity ≡ sections.old.capacity }
 {
-    for at in row_list {
-        drop_listed_row(sections, rows, section_list, at, cells);
+    for index in 0..row_list.len() {
+        let at = row_list.at(index, steps);
+        drop_listed_row(sections, rows, section_list, &at, cells, steps);
     }
 }
 
-/// Takes the links away whose users are of listed cells. Each list is gone over once.
-pub fn remove_rows(
-    sections: &mut Slab<Section>,
+/// Takes the links away whose users are of listed cells. The list is gone over twice.
+pub fn remove_rows<L: Ledger>(
+    sections: &mut Sections,
     rows: &mut Rows,
-    section_list: &[SectionPlace],
-    row_list: &mut Vec<RowPlace>,
+    section_list: &SectionList,
+    row_list: &mut RowList,
     cells: &[CellId],
+    steps: &mut Steps<L>,
 )
-    requires { IsWhole (get rows.old) (get sections.old) section_list.now row_list.old.items }
-    ensures whole { IsWhole (get rows.new) (get sections.new) section_list.now row_list.new.items }
+    requires { IsWhole (get rows.old) (get sections.old) section_list.now.items row_list.old.items }
+    ensures whole { IsWhole (get rows.new) (get sections.new) section_list.now.items row_list.new.items }
     ensures left { map (link_at (get rows.new)) row_list.new.items ≡ links_without cells.now (map (link_at (get rows.old)) row_list.old.items) }
+    ensures steps { steps.new ≤ steps.old + 3 * length row_list.old.items }
     ensures row_count { slab_len rows.new ≤ slab_len rows.old }
     ensures section_count { slab_len sections.new ≡ slab_len sections.old }
     ensures row_capacity { rows.new.capacity ≡ rows.old.capacity }
     ensures section_capacity { sections.new.capacity ≡ sections.old.capacity }
-    ensures list_len { vec_len row_list.new ≤ vec_len row_list.old }
-    ensures list_capacity { vec_capacity row_list.new ≡ vec_capacity row_list.old }
+    ensures list_room { row_list.old.spare ≤ row_list.new.spare }
 {
-    drop_listed_rows(sections, rows, section_list, row_list, cells);
-    row_list.retain(|at| !is_listed(cells, at.user));
+    drop_listed_rows(sections, rows, section_list, row_list, cells, steps);
+    row_list.remove_listed(cells, steps);
 }
 
 /// Takes a section of a listed cell out of its arena. The list still names it.
-fn drop_listed_section(sections: &mut Slab<Section>, at: &SectionPlace, cells: &[CellId])
+fn drop_listed_section(sections: &mut Sections, at: &SectionPlace, cells: &[CellId])
     requires { is_listed cells.now at.now.key ≡ true → ContainsKey sections.old at.now.place }
     ensures sections { DropsIf (is_listed cells.now at.now.key) (get sections.old) (get sections.new) at.now.place }
     ensures count { slab_len sections.new ≤ slab_len sections.old }
@@ -334,39 +287,43 @@ fn drop_listed_section(sections: &mut Slab<Section>, at: &SectionPlace, cells: &
     if !is_listed(cells, at.key) {
         return;
     }
-    let _ = sections.remove(at.place);
+    sections.remove(at.place);
 }
 
 /// The same for all sections of listed cells.
-fn drop_listed_sections(
-    sections: &mut Slab<Section>,
-    section_list: &[SectionPlace],
+fn drop_listed_sections<L: Ledger>(
+    sections: &mut Sections,
+    section_list: &SectionList,
     cells: &[CellId],
+    steps: &mut Steps<L>,
 )
-    requires { SectionsListed (get sections.old) section_list.now }
-    ensures sections { AreDropped (λ s. s.place) (λ s. is_listed cells.now s.key) (get sections.old) (get sections.new) section_list.now }
+    requires { SectionsListed (get sections.old) section_list.now.items }
+    ensures sections { AreDropped (λ s. s.place) (λ s. is_listed cells.now s.key) (get sections.old) (get sections.new) section_list.now.items }
+    ensures steps { steps.new ≡ steps.old + length section_list.now.items }
     ensures count { slab_len sections.new ≤ slab_len sections.old }
     ensures capacity { sections.new.capacity ≡ sections.old.capacity }
 {
-    for at in section_list {
-        drop_listed_section(sections, at, cells);
+    for index in 0..section_list.len() {
+        let at = section_list.at(index, steps);
+        drop_listed_section(sections, &at, cells);
     }
 }
 
-/// Takes the sections of listed cells away, which have no link. The list is gone over once.
-pub fn remove_sections(
-    sections: &mut Slab<Section>,
-    section_list: &mut Vec<SectionPlace>,
+/// Takes the sections of listed cells away, which have no link. The list is gone over twice.
+pub fn remove_sections<L: Ledger>(
+    sections: &mut Sections,
+    section_list: &mut SectionList,
     cells: &[CellId],
+    steps: &mut Steps<L>,
 )
     requires { SectionsListed (get sections.old) section_list.old.items }
     ensures whole { (rows : ℕ → Option ChainRow) (row_list : List RowPlace) → IsWhole rows (get sections.old) section_list.old.items row_list → ((p : ℕ) (row : ChainRow) → rows p ≡ Some row → is_listed cells.now row.row.target ≡ false) → IsWhole rows (get sections.new) section_list.new.items row_list }
     ensures left { map (λ s. s.key) section_list.new.items ≡ sections_without cells.now (map (λ s. s.key) section_list.old.items) }
+    ensures steps { steps.new ≡ steps.old + 2 * length section_list.old.items }
     ensures count { slab_len sections.new ≤ slab_len sections.old }
     ensures capacity { sections.new.capacity ≡ sections.old.capacity }
-    ensures list_len { vec_len section_list.new ≤ vec_len section_list.old }
-    ensures list_capacity { vec_capacity section_list.new ≡ vec_capacity section_list.old }
+    ensures list_room { section_list.old.spare ≤ section_list.new.spare }
 {
-    drop_listed_sections(sections, section_list, cells);
-    section_list.retain(|at| !is_listed(cells, at.key));
+    drop_listed_sections(sections, section_list, cells, steps);
+    section_list.remove_listed(cells, steps);
 }

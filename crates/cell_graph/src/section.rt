@@ -5,7 +5,7 @@ ghost use Rattle.std.specs.Prelude.{◌≡◌, ◌+◌, ◌<◌, ◌^◌, None, 
 use cell_num::SecKey;
 
 /// A section, the first link to it, and how many there are.
-#[derive(Drop)]
+#[derive(Clone, Copy, Debug, PartialEq, Eq)]
 pub struct Section {
     pub key: SecKey,
     pub first: Option<usize>,

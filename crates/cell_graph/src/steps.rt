@@ -6,7 +6,7 @@ use std::marker::Model;
 use std::sync::ledger::{Blank, Book, Ledger, Share};
 
 /// How many steps were taken. It takes no bytes, nothing is done when it runs, and only `tick`
-/// changes it.
+/// and `ticks` change it.
 #[derive(Drop)]
 pub struct Steps<L: Ledger> {
     book: Book<L>,
@@ -33,6 +33,13 @@ impl<L: Ledger> Steps<L> {
     {
         let (book, share) = blank.open::<L>();
         Steps { book, share }
+    }
+
+    /// So many steps more.
+    pub(crate) fn ticks(&mut self, count: usize)
+        ensures { self.new ≡ self.old + count }
+    {
+        self.book.add(&mut self.share, count as u64);
     }
 
     /// One step more.

@@ -1,6 +1,6 @@
 //! Walks over the links of a section.
 
-ghost use Rattle.std.specs.Prelude.{◌≡◌, ◌<◌, Some};
+ghost use Rattle.std.specs.Prelude.{◌≡◌, ◌+◌, ◌<◌, Some, length};
 ghost use Rattle.std.specs.Iterator.{YieldsFirst, item_count};
 ghost use Rattle.std.specs.List.{AllByRecursion};
 ghost use Rattle.slab.specs.Slab.{ContainsKey, get};
@@ -13,7 +13,30 @@ use cell_world::LinkRow;
 use std::marker::{Brand, Model};
 use std::sync::ledger::{Blank, Ledger};
 
-/// Reads a link with a counter of its own.
+/// Links of one cell, as the list names them. The walks alone look at them.
+#[derive(Drop)]
+pub struct CellRows<'a> {
+    list: &'a [RowPlace],
+}
+
+impl<'a> Model for CellRows<'a> {
+    ghost use Rattle.std.specs.Prelude.{List};
+    ghost use Rattle.cell_graph.specs.declared.order.RowPlace.{RowPlace};
+
+    ghost Value = { List RowPlace };
+
+    ghost view = { λ r. r.list.now };
+}
+
+impl<'a> CellRows<'a> {
+    pub fn of(list: &'a [RowPlace]) -> CellRows<'a>
+        ensures { result ≡ list.now }
+    {
+        CellRows { list }
+    }
+}
+
+/// Reads a link with a counter of its own, which nobody else sees.
 fn read_counted<L: Ledger>(rows: &Rows, place: usize, blank: Blank) -> ChainRow
     requires name { blank.name ≡ L.name }
     requires parts { blank.parts ≡ L.parts }
@@ -23,14 +46,6 @@ fn read_counted<L: Ledger>(rows: &Rows, place: usize, blank: Blank) -> ChainRow
 {
     let mut steps = Steps::<L>::new(blank);
     rows.read(place, &mut steps)
-}
-
-/// Reads a link where nobody counts.
-pub fn read_at(rows: &Rows, place: usize) -> ChainRow
-    requires { ContainsKey rows.now place }
-    ensures { get rows.now place ≡ Some result }
-{
-    read_counted::<Brand>(rows, place, Blank::new(1))
 }
 
 /// The links whose user is a section, each once. Contracts see those that are still to come.
@@ -60,11 +75,15 @@ impl<'a> Deps<'a> {
     ghost use Rattle.cell_graph.specs.Listed.{IsListed};
     ghost use Rattle.cell_graph.specs.Walks.{named_deps};
 
-    pub(crate) fn of(rows: &'a Rows, list: &'a [RowPlace], user: SecKey) -> Deps<'a>
-        requires { AllByRecursion (λ r. IsListed (get rows.now) r) list.now }
-        ensures { result ≡ named_deps (get rows.now) user list.now }
+    pub(crate) fn of(rows: &'a Rows, list: CellRows<'a>, user: SecKey) -> Deps<'a>
+        requires { AllByRecursion (λ r. IsListed (get rows.now) r) list }
+        ensures { result ≡ named_deps (get rows.now) user list.entry }
     {
-        Deps { rows, list, user }
+        Deps {
+            rows,
+            list: list.list,
+            user,
+        }
     }
 }
 
@@ -79,7 +98,7 @@ impl<'a> Iterator for Deps<'a> {
         while let [at, rest @ ..] = self.list {
             self.list = rest;
             if is_same(at.user, self.user) {
-                return Some(read_at(self.rows, at.place).row);
+                return Some(read_counted::<Brand>(self.rows, at.place, Blank::new(1)).row);
             }
         }
         None
@@ -113,11 +132,14 @@ impl<'a> CellDeps<'a> {
     ghost use Rattle.cell_graph.specs.Listed.{IsListed};
     ghost use Rattle.cell_graph.specs.Places.{link_at};
 
-    pub(crate) fn of(rows: &'a Rows, list: &'a [RowPlace]) -> CellDeps<'a>
-        requires { AllByRecursion (λ r. IsListed (get rows.now) r) list.now }
-        ensures { result ≡ map (link_at (get rows.now)) list.now }
+    pub(crate) fn of(rows: &'a Rows, list: CellRows<'a>) -> CellDeps<'a>
+        requires { AllByRecursion (λ r. IsListed (get rows.now) r) list }
+        ensures { result ≡ map (link_at (get rows.now)) list.entry }
     {
-        CellDeps { rows, list }
+        CellDeps {
+            rows,
+            list: list.list,
+        }
     }
 }
 
@@ -133,7 +155,7 @@ impl<'a> Iterator for CellDeps<'a> {
             return None;
         };
         self.list = rest;
-        Some(read_at(self.rows, at.place).row)
+        Some(read_counted::<Brand>(self.rows, at.place, Blank::new(1)).row)
     }
 }
 
@@ -167,6 +189,29 @@ impl<'a> Users<'a> {
     {
         Users { rows, first, left }
     }
+
+    /// The next link, for a caller that counts. Each link that is given is one step.
+    pub(crate) fn step<L: Ledger>(&mut self, steps: &mut Steps<L>) -> Option<LinkRow>
+        ensures goes { YieldsFirst (λ s. s) self.old result self.new }
+        ensures steps { steps.new + length self.new ≡ steps.old + length self.old }
+    {
+        let place = self.first?;
+        let chain = self.rows.read(place, steps);
+        self.left -= 1;
+        self.first = chain.after;
+        Some(chain.row)
+    }
+}
+
+/// The next link, read with a counter of its own, which nobody else sees.
+fn step_counted<L: Ledger>(users: &mut Users<'_>, blank: Blank) -> Option<LinkRow>
+    requires name { blank.name ≡ L.name }
+    requires parts { blank.parts ≡ L.parts }
+    requires countable { 0 < blank.parts }
+    ensures { YieldsFirst (λ s. s) users.old result users.new }
+{
+    let mut steps = Steps::<L>::new(blank);
+    users.step(&mut steps)
 }
 
 impl<'a> Iterator for Users<'a> {
@@ -177,10 +222,6 @@ impl<'a> Iterator for Users<'a> {
     ghost remaining = { item_count (λ s. s) };
 
     fn next(&mut self) -> Option<LinkRow> {
-        let place = self.first?;
-        let chain = read_at(self.rows, place);
-        self.left -= 1;
-        self.first = chain.after;
-        Some(chain.row)
+        step_counted::<Brand>(self, Blank::new(1))
     }
 }

@@ -3,16 +3,16 @@ use Rattle.cell_graph.proofs.Listing.{home_of}
 use Rattle.cell_graph.proofs.Wholes.{chained_without, emptied, target_listed}
 use Rattle.cell_graph.proofs.links.drop_row.Goals as goal
 
-pub section_place-target-requires-clause-present : goal.section_place-target-requires-clause-present
-section_place-target-requires-clause-present c =
-    target_listed (get c.args.rows.now) (get c.args.sections.now) c.args.section_list.now c.args.place c.read_at-chain.result c.requires.chained c.requires.listed c.read_at-chain.ensures
+pub place-target-requires-clause-present : goal.place-target-requires-clause-present
+place-target-requires-clause-present g c =
+    target_listed (get c.args.rows.now) (get c.args.sections.now) c.args.section_list.now.items c.args.place c.read-chain.result c.requires.chained c.requires.listed c.read-chain.ensures.row
 
 pub unlink-requires-clause-home : goal.unlink-requires-clause-home
-unlink-requires-clause-home c =
-    home_of (get c.args.sections.now) c.args.section_list.now c.read_at-chain.result.row.target c.section_place-target.result c.requires.listed c.section_place-target.ensures
+unlink-requires-clause-home g c =
+    home_of (get c.args.sections.now) c.args.section_list.now.items c.read-chain.result.row.target c.place-target.result c.requires.listed c.place-target.ensures
 
 pub returns-clause-chained : goal.returns-clause-chained
-returns-clause-chained c = chained_without (get c.unlink.new.rows) (get c.remove.new.self) (get c.unlink.new.sections) c.args.place c.remove.ensures.gone c.unlink.ensures.chained
+returns-clause-chained g c = chained_without (get c.unlink.new.rows) (get c.remove.new.self) (get c.unlink.new.sections) c.args.place c.remove.ensures.gone c.unlink.ensures.chained
 
 pub returns-clause-links : goal.returns-clause-links
-returns-clause-links c = emptied (get c.args.rows.now) (get c.unlink.new.rows) (get c.remove.new.self) c.args.place c.unlink.ensures.links c.remove.ensures.gone
+returns-clause-links g c = emptied (get c.args.rows.now) (get c.unlink.new.rows) (get c.remove.new.self) c.args.place c.unlink.ensures.links c.remove.ensures.gone

@@ -1,8 +1,4 @@
-use Rattle.std.proofs.Common.{◌≡◌, ℕ, ◌||◌, take}
-use Rattle.std.specs.List.{list_any}
-use Rattle.cell_graph.specs.Users.{is_marked, leads_to}
 use Rattle.cell_graph.proofs.graph.Graph.mark_users_of.Given as goal
 
--- the users of the sections so far
-abbrev pub invariant-loop-index : goal.invariant-loop-index
-invariant-loop-index l = (n : ℕ) → is_marked l.marks.items n ≡ (is_marked l.fn.marks.items n || list_any (λ s. leads_to s.key l.self.rows n) (take l.index l.sections))
+abbrev pub ghosts-mark_counted : goal.ghosts-mark_counted
+ghosts-mark_counted a = record { name = a.blank.name; parts = a.blank.parts }

@@ -4,5 +4,5 @@ use Rattle.cell_graph.specs.declared.order.SectionPlace.{SectionPlace}
 use Rattle.cell_graph.specs.Removal.{is_listed}
 use Rattle.cell_graph.proofs.graph.Graph.outside_user_of.Given as goal
 
-abbrev pub invariant-loop-at : goal.invariant-loop-at
-invariant-loop-at l = (k : ℕ) (d : SectionPlace) → k < l.at-index → (r : LinkRow) → Contains l.self.rows r → r.target ≡ (get_or l.at-items k d).key → is_listed l.cells r.user ≡ true
+abbrev pub invariant-loop-index : goal.invariant-loop-index
+invariant-loop-index g l = (k : ℕ) (d : SectionPlace) → k < l.index → (r : LinkRow) → Contains l.self.rows r → r.target ≡ (get_or l.sections k d).key → is_listed l.cells r.user ≡ true

@@ -4,7 +4,6 @@ use Rattle.std.specs.List.Sorted.{IsPermutation}
 use Rattle.std.proofs.lemmas.Option.{same_Some}
 use Rattle.slab.specs.Slab.{get}
 use Rattle.cell_world.specs.declared.state.LinkRow.{LinkRow}
-use Rattle.cell_graph.specs.declared.order.SectionPlace.{SectionPlace}
 use Rattle.cell_graph.specs.Links.{links_to}
 use Rattle.cell_graph.specs.Walks.{walked}
 use Rattle.cell_graph.proofs.Listing.{home_of}
@@ -15,30 +14,29 @@ use Rattle.cell_graph.proofs.graph.Graph.users_of.Goals as goal
 
 pub of-requires-in-Some : goal.of-requires-in-Some
 of-requires-in-Some c =
-    let s = c.in-Some.section.now in
+    let s = c.in-Some.section in
     users_run (get c.self.inside.rows) c.args.sec c.self.inside.row_list.items c.self.invariant.rows_listed s
-    (c.self.invariant.chained.chain c.section_place-place.result s (sym c.in-Some.ensures))
+    (c.self.invariant.chained.chain c.place-place.result s (sym c.in-Some.ensures))
 
 pub returns : goal.returns
 returns c =
-    let s = c.in-Some.section.now in
-    let named = subst (λ (l : List SectionPlace). Contains l (record { key = c.args.sec; place = c.section_place-place.result })) c.deref-2.ensures.value c.section_place-place.ensures in
-    let home = home_of (get c.self.inside.sections) c.self.inside.section_list.items c.args.sec c.section_place-place.result c.self.invariant.sections_listed named in
+    let s = c.in-Some.section in
+    let named = c.place-place.ensures in
+    let home = home_of (get c.self.inside.sections) c.self.inside.section_list.items c.args.sec c.place-place.result c.self.invariant.sections_listed named in
     let key = ap (λ x. x.key) (same_Some s home.section (c.in-Some.ensures ∙ home.is)) ∙ home.named in
     let walk = users_walked (get c.self.inside.rows) c.args.sec c.self.inside.row_list.items c.self.invariant.rows_listed s key
-    (c.self.invariant.chained.chain c.section_place-place.result s (sym c.in-Some.ensures)) in
+    (c.self.invariant.chained.chain c.place-place.result s (sym c.in-Some.ensures)) in
     subst (λ (l : List LinkRow). IsPermutation (links_to c.args.sec c.args.self.now.rows) l) (sym c.of-in-Some.ensures)
     (subst (λ v. IsPermutation (links_to c.args.sec v.rows) (walked (get c.self.inside.rows) s.users s.first)) c.self.view_is walk)
 
 pub of-requires : goal.of-requires
 of-requires c = record { key = c.args.sec; before = None; places = []; counted = refl; linked = refl }
 
-pub returns-then-not-has_section : goal.returns-then-not-has_section
-returns-then-not-has_section c =
+pub returns-then-not-has : goal.returns-then-not-has
+returns-then-not-has c =
     let rows = c.args.self.now.rows in
     let none = none_to c.args.sec rows (λ r has to.
     let s = target_seen (get c.self.inside.rows) (get c.self.inside.sections) c.self.inside.section_list.items c.self.inside.row_list.items r c.self.invariant (subst (λ v. Contains v.rows r) (sym c.self.view_is) has) in
     let named = subst (λ k. Contains (map (λ x. x.key) c.self.inside.section_list.items) k) (s.2 ∙ to) (in_map (λ x. x.key) c.self.inside.section_list.items s.0 s.1) in
-    let there = subst (λ (l : List SectionPlace). Contains (map (λ x. x.key) l) c.args.sec) (sym c.deref.ensures.value) named in
-    false≢true (sym c.if-not-has_section.true ∙ c.has_section.ensures.1 there)) in
+    false≢true (sym c.if-not-has.true ∙ c.has.ensures.1 named)) in
     permutation_same (links_to c.args.sec rows) c.of.result (none ∙ sym c.of.ensures)

@@ -13,3 +13,6 @@ invariant-loop-self l = record {
 
 abbrev pub decreases-loop-self : goal.decreases-loop-self
 decreases-loop-self l = length l.self-inside.list.now
+
+abbrev pub ghosts-read_counted : goal.ghosts-read_counted
+ghosts-read_counted a = record { name = a.blank.name; parts = a.blank.parts }

@@ -1,0 +1,4 @@
+use Rattle.cell_graph.proofs.walks.CellDepsIterator.next.Given as goal
+
+abbrev pub ghosts-read_counted : goal.ghosts-read_counted
+ghosts-read_counted a = record { name = a.blank.name; parts = a.blank.parts }

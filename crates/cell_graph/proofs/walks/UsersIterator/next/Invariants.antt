@@ -1,0 +1,4 @@
+use Rattle.cell_graph.proofs.walks.UsersIterator.next.Given as goal
+
+abbrev pub ghosts-step_counted : goal.ghosts-step_counted
+ghosts-step_counted a = record { name = a.blank.name; parts = a.blank.parts }
