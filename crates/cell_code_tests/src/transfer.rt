@@ -1,11 +1,13 @@
+//! The routines of a swap, over a memory.
+
 ghost use Rattle.std.specs.Prelude.{◌≡◌, IfOk, is_some, length, true};
 ghost use Rattle.cell_mem.specs.State.{HasWrites};
 
-use crate::*;
 use cell_hart::STACK_SIZE;
 use cell_mem::{Memory, Perm};
 use cell_num::{Cause, Why};
 use cell_world::{Failure, Record, Routine};
+use cell_xfer::*;
 use std::alloc::Global;
 use std::test::*;
 
@@ -15,10 +17,6 @@ const STACK: u64 = 0x1000_1000;
 
 // Instructions, encoded by the manual's formats.
 const RETURN: u32 = 0x0000_8067; // jalr x0, 0(x1)
-
-const SEVEN: u32 = 0x0070_0513; // addi x10, x0, 7
-
-const BREAK: u32 = 0x0010_0073; // ebreak
 
 const KEEP: u32 = 0x0021_3023; // sd x2, 0(x2)
 
@@ -82,28 +80,9 @@ fn failure(routine: u32, why: Why) -> Result<(), Failure> {
     Err(Failure { routine, why })
 }
 
-#[test]
-fn ends(rt: HostRuntime) -> Result<(), Fail> {
-    let alloc = rt.alloc();
-    assert_eq!(rt; outcome(alloc, &[RETURN], 10)?, Ok(()));
-    assert_eq!(rt;
-        outcome(alloc, &[SEVEN, RETURN], 10)?,
-        failure(0, Why::Returned(7))
-    );
-    assert_eq!(rt;
-        outcome(alloc, &[BREAK], 10)?,
-        failure(0, Why::Trap(Cause::Break, BASE))
-    );
-    assert_eq!(rt;
-        outcome(alloc, &[SEVEN, RETURN], 1)?,
-        failure(0, Why::Budget)
-    );
-    Ok(())
-}
-
 /// What was stored stays until it is undone.
 #[test]
-#[tactic(auto, using(crate::proofs::Writing::still_begun))]
+#[tactic(auto, using(cell_xfer::proofs::Writing::still_begun))]
 fn stores_stay(rt: HostRuntime) -> Result<(), Fail> {
     let alloc = rt.alloc();
     let mut memory = begun(alloc, &[KEEP, STAY], 3)?;
@@ -124,27 +103,6 @@ fn stores_stay(rt: HostRuntime) -> Result<(), Fail> {
     assert_eq!(rt; memory.journal(), &[displaced][..]);
     memory.undo();
     assert_eq!(rt; memory.load(place, 8), Ok(0));
-    Ok(())
-}
-
-/// The turns are for all routines together, and the failure has the name of the one that failed.
-#[test]
-fn second_fails(rt: HostRuntime) -> Result<(), Fail> {
-    let alloc = rt.alloc();
-    let addresses = two_tables(alloc)?;
-    let first = Routine {
-        name: 0,
-        entry: BASE,
-    };
-    let second = Routine {
-        name: 1,
-        entry: BASE + 4,
-    };
-    for (budget, why) in [(3, Why::Returned(7)), (2, Why::Budget)] {
-        let mut memory = begun(alloc, &[RETURN, SEVEN, RETURN], budget)?;
-        let answer = transfer(&[first, second], budget, STACK, &mut memory, &addresses);
-        assert_eq!(rt; answer, failure(1, why));
-    }
     Ok(())
 }
 
@@ -192,7 +150,7 @@ const ACROSS: Ask = Ask {
     answer: Some(0),
 };
 
-const ASKS: [Ask; 14] = [
+const ASKS: [Ask; 8] = [
     ASK,
     Ask {
         number: 5,
@@ -206,11 +164,6 @@ const ASKS: [Ask; 14] = [
     },
     // Unknown names, of which the longest has 1024 bytes.
     ACROSS,
-    Ask {
-        len: 1,
-        answer: Some(0),
-        ..ASK
-    },
     Ask {
         number: 5,
         len: 0,
@@ -227,39 +180,12 @@ const ASKS: [Ask; 14] = [
         answer: None,
         ..ASK
     },
-    // Not mapped: the second byte, both, and the one after the last address.
+    // The second byte isn't mapped.
     Ask {
         number: 4,
         page: PAGE + 0x5000,
         answer: None,
         ..ACROSS
-    },
-    Ask {
-        page: PAGE + 0xf000,
-        place: 0,
-        answer: None,
-        ..ACROSS
-    },
-    Ask {
-        page: 0,
-        answer: None,
-        ..ACROSS
-    },
-    // The calls before and after don't answer, and 6 is none.
-    Ask {
-        number: 3,
-        answer: Some(0x1000_0040),
-        ..ASK
-    },
-    Ask {
-        number: 6,
-        answer: None,
-        ..ASK
-    },
-    Ask {
-        number: 0,
-        answer: Some(0x1000_0040),
-        ..ASK
     },
 ];
 

@@ -1,3 +1,5 @@
+//! Where routines begin, and the addresses that they may ask for.
+
 ghost use Rattle.std.specs.Prelude.{◌≡◌, ◌∷◌, [], if◌then◌else◌, not, All, IfOk, IsTrue, nat_lt};
 ghost use Rattle.cell_num.specs.Lists.{each_pair};
 ghost use Rattle.cell_object.specs.declared.object.Bind.TheVariants.{Global as GlobalBind, Local as LocalBind};
@@ -7,12 +9,10 @@ ghost use Rattle.cell_object.specs.declared.object.Home.TheVariants.{Inside};
 ghost use Rattle.cell_placed.specs.Low.{AreLow, IsLow};
 ghost use Rattle.cell_world.specs.Coherent.{IsLoadable};
 
-use crate::*;
 use cell_num::{Bytes, CellId, Listed, Name};
 use cell_object::{Bind, Fill, Home, Object, Section, Sort, Symbol};
-use cell_space::NameRows;
+use cell_routines::*;
 use cell_world::{Fail as Refused, NewCell, Refusal, SecPlace};
-use cell_xfer::Firsts;
 use std::alloc::{AllocError, Global};
 use std::test::*;
 
@@ -202,56 +202,5 @@ fn begins(rt: HostRuntime) -> Result<(), Fail> {
         };
         assert_eq!(rt; begin(alloc, choice.first, ENTRY)?, want);
     }
-    Ok(())
-}
-
-/// The first of two names without an entry is told.
-#[test]
-fn tells_the_first(rt: HostRuntime) -> Result<(), Fail> {
-    let alloc = rt.alloc();
-    let cells = cells(alloc, ENTRY, ENTRY)?;
-    let words = vec![in alloc;
-        Name::of(alloc, b"a")?,
-        Name::of(alloc, b"c")?,
-        Name::of(alloc, b"d")?,
-    ]?;
-    match begins_of(alloc, &cells, &words) {
-        Err(Refused::Refused(Refusal::NoEntry { name })) => {
-            assert_eq!(rt; name.bytes(), b"c".as_slice());
-            Ok(())
-        }
-        _ => Err("another answer".into()),
-    }
-}
-
-/// A routine's number is its place, and it begins where its cell stands.
-#[test]
-fn starts_at_the_places(rt: HostRuntime) -> Result<(), Fail> {
-    let alloc = rt.alloc();
-    let cells = cells(alloc, ENTRY, ENTRY)?;
-    let begins = [at(9, 2), at(7, 6), at(8, 2)];
-    let routines = routines_at(alloc, &cells, &begins)?;
-    let entries: Vec<u64> = routines.iter().map(|routine| routine.entry).collect(alloc)?;
-    assert_eq!(rt; entries.as_slice(), [0x3008, 0x100c, 0].as_slice());
-    let names: Vec<u32> = routines.iter().map(|routine| routine.name).collect(alloc)?;
-    assert_eq!(rt; names.as_slice(), [0, 1, 2].as_slice());
-    Ok(())
-}
-
-/// An alias has the address of its symbol, and a name keeps the address that it had first.
-#[test]
-fn addresses(rt: HostRuntime) -> Result<(), Fail> {
-    let alloc = rt.alloc();
-    let mut names = NameRows::new(alloc);
-    names.add(alloc, b"a", 1)?;
-    names.add(alloc, b"other", 1)?;
-    names.add(alloc, b"none", 2)?;
-    let mut table = Firsts::new(alloc);
-    add_addresses(alloc, &mut table, &cell(alloc, 7, 0x1006, ENTRY)?, &names)?;
-    add_addresses(alloc, &mut table, &cell(alloc, 9, 0x3006, ENTRY)?, &names)?;
-    assert_eq!(rt; table.get(b"a"), Some(0x1008));
-    assert_eq!(rt; table.get(b"other"), Some(0x1008));
-    assert_eq!(rt; table.get(b"none"), Some(0));
-    assert_eq!(rt; table.get(b"x"), None);
     Ok(())
 }
