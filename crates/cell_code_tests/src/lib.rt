@@ -1,15 +1,7 @@
-//! Tests of the crates that memory, tasks and holding are made of.
+//! Tests of what tasks and routines do in a memory, where no script shows it.
 #![tactic(auto)]
 
 #[cfg(test)]
-mod hart;
-#[cfg(test)]
-mod hold;
-#[cfg(test)]
-mod layout;
-#[cfg(test)]
-mod mem;
-#[cfg(test)]
-mod place;
-#[cfg(test)]
 mod task;
+#[cfg(test)]
+mod transfer;

@@ -5,8 +5,6 @@ mod draws;
 mod files;
 mod making;
 mod script;
-#[cfg(test)]
-mod tests;
 mod text;
 
 pub use making::{Generated, generate};

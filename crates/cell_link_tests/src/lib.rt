@@ -1,13 +1,9 @@
-//! Tests of the crates that links, names, fields and files are made of.
+//! Tests of links, fields and names, where no script shows them.
 #![tactic(auto)]
 
-#[cfg(test)]
-mod commit;
-#[cfg(test)]
-mod depot;
 #[cfg(test)]
 mod graph;
 #[cfg(test)]
 mod link;
 #[cfg(test)]
-mod space;
+mod names;

@@ -1,3 +1,5 @@
+//! Fields of a cell.
+
 ghost use Rattle.std.specs.Prelude.{◌≡◌, ◌<◌, ◌^◌, All, IfOk, length};
 
 use cell_link::*;

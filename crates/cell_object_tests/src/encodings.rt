@@ -48,11 +48,6 @@ const OF_REGISTERS: [Encoding; 15] = [
     Encoding(b"sraw a1,s0,t0", 0x4054_55bb),
 ];
 
-#[test]
-fn registers(rt: HostRuntime) -> Result<(), Fail> {
-    try_each(&rt, rt.alloc(), &OF_REGISTERS)
-}
-
 /// Products and quotients.
 const OF_PRODUCTS: [Encoding; 13] = [
     Encoding(b"mul a4,a3,a2", 0x02c6_8733),
@@ -69,11 +64,6 @@ const OF_PRODUCTS: [Encoding; 13] = [
     Encoding(b"remw a5,tp,s9", 0x0392_67bb),
     Encoding(b"remuw s2,s1,zero", 0x0204_f93b),
 ];
-
-#[test]
-fn products(rt: HostRuntime) -> Result<(), Fail> {
-    try_each(&rt, rt.alloc(), &OF_PRODUCTS)
-}
 
 /// A register, a register and a number.
 const OF_NUMBERS: [Encoding; 13] = [
@@ -92,11 +82,6 @@ const OF_NUMBERS: [Encoding; 13] = [
     Encoding(b"sraiw a0,a1,17", 0x4115_d51b),
 ];
 
-#[test]
-fn numbers(rt: HostRuntime) -> Result<(), Fail> {
-    try_each(&rt, rt.alloc(), &OF_NUMBERS)
-}
-
 /// A number and a register in brackets.
 const OF_MEMORY: [Encoding; 12] = [
     Encoding(b"lb s2,-2048(t0)", 0x8002_8903),
@@ -113,11 +98,6 @@ const OF_MEMORY: [Encoding; 12] = [
     Encoding(b"jalr ra,-4(a5)", 0xffc7_80e7),
 ];
 
-#[test]
-fn memory(rt: HostRuntime) -> Result<(), Fail> {
-    try_each(&rt, rt.alloc(), &OF_MEMORY)
-}
-
 /// Upper parts, no operands, and spellings of other instructions.
 const OF_FEW_OPERANDS: [Encoding; 12] = [
     Encoding(b"lui t0,1048575", 0xffff_f2b7),
@@ -133,11 +113,6 @@ const OF_FEW_OPERANDS: [Encoding; 12] = [
     Encoding(b"mul a0,a1,a2", 0x02c5_8533),
     Encoding(b"slli zero,zero,32", 0x0200_1013),
 ];
-
-#[test]
-fn few_operands(rt: HostRuntime) -> Result<(), Fail> {
-    try_each(&rt, rt.alloc(), &OF_FEW_OPERANDS)
-}
 
 /// Branches, jumps and parts of addresses, whose fields hold 0.
 const OF_NAMES: [Encoding; 13] = [
@@ -157,6 +132,12 @@ const OF_NAMES: [Encoding; 13] = [
 ];
 
 #[test]
-fn names(rt: HostRuntime) -> Result<(), Fail> {
-    try_each(&rt, rt.alloc(), &OF_NAMES)
+fn encodings(rt: HostRuntime) -> Result<(), Fail> {
+    try_each(&rt, rt.alloc(), &OF_REGISTERS)?;
+    try_each(&rt, rt.alloc(), &OF_PRODUCTS)?;
+    try_each(&rt, rt.alloc(), &OF_NUMBERS)?;
+    try_each(&rt, rt.alloc(), &OF_MEMORY)?;
+    try_each(&rt, rt.alloc(), &OF_FEW_OPERANDS)?;
+    try_each(&rt, rt.alloc(), &OF_NAMES)?;
+    Ok(())
 }

@@ -41,11 +41,6 @@ const UNKNOWN: [Faulty; 12] = [
     Faulty(b".text\nlw a0,%pcrel_lo(x)(a0)\nfrob", 3),
 ];
 
-#[test]
-fn unknown_words(rt: HostRuntime) {
-    try_each(&rt, rt.alloc(), AsmKind::Word, &UNKNOWN);
-}
-
 /// Operands that are not read.
 const UNREAD_OPERANDS: [Faulty; 11] = [
     Faulty(b".text\nadd foo,a1,a2", 2),
@@ -60,11 +55,6 @@ const UNREAD_OPERANDS: [Faulty; 11] = [
     Faulty(b".text\nlw a0,4(foo)", 2),
     Faulty(b".text\nli a0,%lo(.La1)", 2),
 ];
-
-#[test]
-fn unread_operands(rt: HostRuntime) {
-    try_each(&rt, rt.alloc(), AsmKind::Word, &UNREAD_OPERANDS);
-}
 
 /// Operands of the wrong number or kind.
 const WRONG_OPERANDS: [Faulty; 15] = [
@@ -85,11 +75,6 @@ const WRONG_OPERANDS: [Faulty; 15] = [
     Faulty(b"x: add a0,a1,5", 1),
 ];
 
-#[test]
-fn wrong_operands(rt: HostRuntime) {
-    try_each(&rt, rt.alloc(), AsmKind::Operand, &WRONG_OPERANDS);
-}
-
 /// Numbers that are too far for an instruction.
 const FAR_NUMBERS: [Faulty; 11] = [
     Faulty(b"li a0,2048", 1),
@@ -105,11 +90,6 @@ const FAR_NUMBERS: [Faulty; 11] = [
     Faulty(b".text\nlui a0,1048576", 2),
 ];
 
-#[test]
-fn numbers_in_instructions(rt: HostRuntime) {
-    try_each(&rt, rt.alloc(), AsmKind::Range, &FAR_NUMBERS);
-}
-
 /// Numbers that are too far for a directive.
 const FAR_DATA: [Faulty; 11] = [
     Faulty(b".text\nx:\n.byte 256", 3),
@@ -124,11 +104,6 @@ const FAR_DATA: [Faulty; 11] = [
     Faulty(b".align 13", 1),
     Faulty(b".zero -1", 1),
 ];
-
-#[test]
-fn numbers_in_directives(rt: HostRuntime) {
-    try_each(&rt, rt.alloc(), AsmKind::Range, &FAR_DATA);
-}
 
 /// Statements in no section or a wrong one.
 const MISPLACED: [Faulty; 10] = [
@@ -147,22 +122,12 @@ const MISPLACED: [Faulty; 10] = [
     ),
 ];
 
-#[test]
-fn sections(rt: HostRuntime) {
-    try_each(&rt, rt.alloc(), AsmKind::Section, &MISPLACED);
-}
-
 /// Names that are defined twice.
 const REPEATED: [Faulty; 3] = [
     Faulty(b".data\nx:\nx: .zero 1048577", 3),
     Faulty(b".text\nx: nop\nlw a0,%pcrel_lo(x)(a0)\nx: nop", 4),
     Faulty(b".text\nx:\nx: nop", 3),
 ];
-
-#[test]
-fn names_defined_twice(rt: HostRuntime) {
-    try_each(&rt, rt.alloc(), AsmKind::Twice, &REPEATED);
-}
 
 /// Sections that grow above their limit.
 const TOO_LONG: [Faulty; 3] = [
@@ -173,11 +138,6 @@ const TOO_LONG: [Faulty; 3] = [
         2,
     ),
 ];
-
-#[test]
-fn long_sections(rt: HostRuntime) {
-    try_each(&rt, rt.alloc(), AsmKind::Long, &TOO_LONG);
-}
 
 /// References to labels that are none of an upper part.
 const NO_UPPER: [Faulty; 3] = [
@@ -193,6 +153,14 @@ const NO_UPPER: [Faulty; 3] = [
 ];
 
 #[test]
-fn lost_labels(rt: HostRuntime) {
+fn faults(rt: HostRuntime) {
+    try_each(&rt, rt.alloc(), AsmKind::Word, &UNKNOWN);
+    try_each(&rt, rt.alloc(), AsmKind::Word, &UNREAD_OPERANDS);
+    try_each(&rt, rt.alloc(), AsmKind::Operand, &WRONG_OPERANDS);
+    try_each(&rt, rt.alloc(), AsmKind::Range, &FAR_NUMBERS);
+    try_each(&rt, rt.alloc(), AsmKind::Range, &FAR_DATA);
+    try_each(&rt, rt.alloc(), AsmKind::Section, &MISPLACED);
+    try_each(&rt, rt.alloc(), AsmKind::Twice, &REPEATED);
+    try_each(&rt, rt.alloc(), AsmKind::Long, &TOO_LONG);
     try_each(&rt, rt.alloc(), AsmKind::Label, &NO_UPPER);
 }

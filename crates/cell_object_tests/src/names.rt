@@ -1,23 +1,7 @@
-//! Names, fields, kinds and bytes.
+//! Fields, kinds and pages.
 
 use cell_num::*;
 use std::test::*;
-
-#[test]
-fn a_name(rt: HostRuntime) -> Result<(), Fail> {
-    let name = Name::of(rt.alloc(), b"k#a.o")?;
-    let copy = name.copy(rt.alloc())?;
-    assert!(rt; copy.bytes() == b"k#a.o".as_slice());
-    Ok(())
-}
-
-#[test]
-fn a_list(rt: HostRuntime) -> Result<(), Fail> {
-    let list = Listed::from_vec(Vec::from_slice(rt.alloc(), &[3u8, 4])?);
-    assert_eq!(rt; list.as_slice().len(), 2);
-    assert_eq!(rt; list.into_vec().len(), 2);
-    Ok(())
-}
 
 /// The register rd of `addi a0, a0, -1` is 10, and its immediate is -1.
 #[test]
@@ -81,16 +65,4 @@ fn kinds(rt: HostRuntime) {
 fn pages(rt: HostRuntime) {
     assert_eq!(rt; page_up(4097), Some(8192));
     assert_eq!(rt; page_up(u64::MAX), None);
-}
-
-#[test]
-fn parts(rt: HostRuntime) -> Result<(), Fail> {
-    let all = Shared::from_vec(rt.alloc(), Vec::from_slice(rt.alloc(), b"one two")?)?;
-    let two = all.part(4, 3)?;
-    drop(all);
-    let last = two.share()?.part(2, 1)?;
-    assert!(rt; two.equals(b"two".as_slice()));
-    assert!(rt; last.as_slice() == b"o".as_slice());
-    assert_eq!(rt; last.len(), 1);
-    Ok(())
 }

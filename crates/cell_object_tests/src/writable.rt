@@ -12,8 +12,6 @@ use cell_object::{Bind, Fill, Home, Sort};
 use std::alloc::Global;
 use std::test::*;
 
-const LONG_NAME: [u8; 1024] = [b'x'; 1024];
-
 const SEVEN_PARTS: Plain = Plain {
     sections: &[DATA],
     symbols: &[N],
@@ -99,17 +97,7 @@ fn an_image_cut_short(rt: HostRuntime) -> Result<(), Fail> {
 }
 
 /// Objects that can be written.
-const WRITABLE: [Plain; 8] = [
-    Plain {
-        sections: &[],
-        symbols: &[],
-        entries: &[],
-    },
-    Plain {
-        sections: &[DATA, ZEROS],
-        symbols: &[],
-        entries: &[],
-    },
+const WRITABLE: [Plain; 4] = [
     // empty sections, and one without a name
     Plain {
         sections: &[
@@ -170,19 +158,6 @@ const WRITABLE: [Plain; 8] = [
             PlainEntry(2, 4, RelKind::PcrelLo12I, 2, 0),
             PlainEntry(2, 0, RelKind::PcrelHi20, 0, 0x7FFF_FFFF_FFFF_FFFF),
         ],
-    },
-    Plain {
-        sections: &[DATA],
-        symbols: &[PlainSymbol(&LONG_NAME, Bind::Global, Sort::NoType, Home::Undef, 0)],
-        entries: &[
-            PlainEntry(1, 0, RelKind::Add16, 1, 1),
-            PlainEntry(1, 0, RelKind::Sub16, 0, -1),
-        ],
-    },
-    Plain {
-        sections: &[DATA],
-        symbols: &[PlainSymbol(b"n", Bind::Global, Sort::NoType, Home::Undef, 0)],
-        entries: &[],
     },
 ];
 

@@ -1,11 +1,9 @@
-//! Tests of what a swap changes in cells that stay.
+//! Tests of the parts of a swap: tasks that stand inside what changes, and where routines begin.
 #![tactic(auto)]
 
 #[cfg(test)]
 mod cell;
 #[cfg(test)]
-mod changes;
+mod routines;
 #[cfg(test)]
 mod torn;
-#[cfg(test)]
-mod users;

@@ -6,8 +6,6 @@ mod begins;
 mod definitions;
 mod entries;
 mod routines;
-#[cfg(test)]
-mod tests;
 
 pub use addresses::add_addresses;
 pub use begins::begins_of;

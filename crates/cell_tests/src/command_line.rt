@@ -2,7 +2,6 @@
 
 use crate::cases::try_script;
 use crate::folder::outcome;
-use crate::samples::first_example;
 use crate::sources::{SourceFile, object_files};
 use cell_run::Status;
 use std::alloc::{AllocError, Global};
@@ -126,14 +125,6 @@ const GENERATED: [Line; 4] = [
     },
 ];
 
-#[test]
-fn generated_runs(rt: HostRuntime) -> Result<(), Fail> {
-    for line in &GENERATED {
-        try_line(&rt, rt.alloc(), line)?;
-    }
-    Ok(())
-}
-
 /// How many crates are made at most.
 const CRATES: u64 = 400;
 
@@ -194,11 +185,9 @@ fn command_lines(rt: HostRuntime) -> Result<(), Fail> {
     for line in &LINES {
         try_line(&rt, rt.alloc(), line)?;
     }
-    Ok(())
-}
-
-#[test]
-fn command_lines_without_a_reading(rt: HostRuntime) -> Result<(), Fail> {
+    for line in &GENERATED {
+        try_line(&rt, rt.alloc(), line)?;
+    }
     for words in &UNREADABLE {
         let line = Line {
             words: *words,
@@ -207,24 +196,7 @@ fn command_lines_without_a_reading(rt: HostRuntime) -> Result<(), Fail> {
         };
         try_line(&rt, rt.alloc(), &line)?;
     }
-    Ok(())
-}
-
-#[test]
-fn no_words(rt: HostRuntime) -> Result<(), Fail> {
     try_script(&rt, rt.alloc(), &[], &[], "", Status::Usage, USAGE)
-}
-
-#[test]
-fn another_base(rt: HostRuntime) -> Result<(), Fail> {
-    let files = first_example(rt.alloc())?;
-    let words = ["d", "s", "--pages", "16", "--base", "0x7ff0000"];
-    let script = "load k a\nload k b\ndump 2 1\n";
-    let text = "1 ok load #1 patched 0\n\
-        2 ok load #2 patched 1\n\
-        3 ok dump #2.1\n  \
-        7ff1000 04 00 ff 07 00 00 00 00 01 00 00 00 00 00 00 00\n";
-    try_script(&rt, rt.alloc(), &words, &files, script, Status::Done, text)
 }
 
 /// A source at the end of the memory that HI20 reaches, and what comes of it.

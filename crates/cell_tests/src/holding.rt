@@ -43,11 +43,6 @@ static OF_CYCLE: [Case; 2] = [
     },
 ];
 
-#[test]
-fn cycles(rt: HostRuntime) -> Result<(), Fail> {
-    try_all(&rt, rt.alloc(), &["d", "s"], &CYCLE, &OF_CYCLE)
-}
-
 /// A crate that goes on in another one, whose code has an end.
 static PASSES: [SourceFile; 2] = [
     SourceFile {
@@ -83,11 +78,6 @@ static OF_TASKS: [Case; 2] = [
     },
 ];
 
-#[test]
-fn tasks_hold(rt: HostRuntime) -> Result<(), Fail> {
-    try_all(&rt, rt.alloc(), &["d", "s"], &PASSES, &OF_TASKS)
-}
-
 /// A call inside a call: the return addresses stand on the stack. Then x2 moves: above the last one,
 /// below the stack, to its end and above it.
 static CALLS: [SourceFile; 3] = [
@@ -116,11 +106,6 @@ static OF_STACKS: [Case; 1] = [Case {
         11 ok step t1 turns 1 ready\n12 E15 held #2 t1\n13 ok kill t1\n14 E15 held #2 #1\n\
         15 ok unload removed #1 #2 #3\n",
 }];
-
-#[test]
-fn stacks_hold(rt: HostRuntime) -> Result<(), Fail> {
-    try_all(&rt, rt.alloc(), &["d", "s"], &CALLS, &OF_STACKS)
-}
 
 /// Data of 12 bytes, a crate that writes another crate's address so many bytes behind their start,
 /// and the other crate.
@@ -170,11 +155,6 @@ static OF_WORDS: [Case; 4] = [
             4 ok step t1 turns 8 done 16\n5 ok unload removed #2\n6 ok unload removed #3\n",
     },
 ];
-
-#[test]
-fn words_hold(rt: HostRuntime) -> Result<(), Fail> {
-    try_all(&rt, rt.alloc(), &["d", "s"], &WRITES, &OF_WORDS)
-}
 
 /// Data of 8 bytes, constants and data with numbers that are addresses in it or beside it.
 static NUMBERS: [SourceFile; 5] = [
@@ -229,11 +209,6 @@ static OF_NUMBERS: [Case; 4] = [
     },
 ];
 
-#[test]
-fn numbers_hold(rt: HostRuntime) -> Result<(), Fail> {
-    try_all(&rt, rt.alloc(), &["d", "s"], &NUMBERS, &OF_NUMBERS)
-}
-
 /// Data, three crates in a cycle, and a crate that writes the address of one of them to the data.
 static CYCLE_AND_DATA: [SourceFile; 5] = [
     SourceFile {
@@ -266,11 +241,6 @@ static OF_ONE_WORD: [Case; 1] = [Case {
         4 ok step t1 turns 7 done 0\n5 ok unload removed #2\n6 E15 held #3 #1\n7 E15 held #5 #4\n\
         8 ok unload removed #1\n9 ok unload removed #3 #4 #5\n",
 }];
-
-#[test]
-fn one_word_holds_a_cycle(rt: HostRuntime) -> Result<(), Fail> {
-    try_all(&rt, rt.alloc(), &["d", "s"], &CYCLE_AND_DATA, &OF_ONE_WORD)
-}
 
 /// Two crates that hold only each other, and one that links to one of them in several ways.
 static PAIR: [SourceFile; 3] = [
@@ -311,6 +281,13 @@ static OF_PAIR: [Case; 2] = [
 ];
 
 #[test]
-fn pairs(rt: HostRuntime) -> Result<(), Fail> {
-    try_all(&rt, rt.alloc(), &["d", "s"], &PAIR, &OF_PAIR)
+fn holding(rt: HostRuntime) -> Result<(), Fail> {
+    try_all(&rt, rt.alloc(), &["d", "s"], &CYCLE, &OF_CYCLE)?;
+    try_all(&rt, rt.alloc(), &["d", "s"], &PASSES, &OF_TASKS)?;
+    try_all(&rt, rt.alloc(), &["d", "s"], &CALLS, &OF_STACKS)?;
+    try_all(&rt, rt.alloc(), &["d", "s"], &WRITES, &OF_WORDS)?;
+    try_all(&rt, rt.alloc(), &["d", "s"], &NUMBERS, &OF_NUMBERS)?;
+    try_all(&rt, rt.alloc(), &["d", "s"], &CYCLE_AND_DATA, &OF_ONE_WORD)?;
+    try_all(&rt, rt.alloc(), &["d", "s"], &PAIR, &OF_PAIR)?;
+    Ok(())
 }

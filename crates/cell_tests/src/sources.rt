@@ -14,6 +14,12 @@ pub struct SourceFile {
     pub source: &'static str,
 }
 
+/// The file in a list that has room for more than there are.
+pub const NO_FILE: SourceFile = SourceFile {
+    name: "",
+    source: "",
+};
+
 /// Assembles a source, which is short.
 fn assemble_short(alloc: Global, source: &[u8]) -> Result<Object, AsmFail> {
     if source.len() > 1000 {
@@ -42,7 +48,9 @@ pub fn object_file(alloc: Global, file: &SourceFile) -> Result<ObjectFile, Fail>
 pub fn object_files(alloc: Global, sources: &[SourceFile]) -> Result<Vec<ObjectFile>, Fail> {
     let mut files = Vec::new(alloc);
     for source in sources {
-        files.push(object_file(alloc, source)?)?;
+        if !source.name.is_empty() {
+            files.push(object_file(alloc, source)?)?;
+        }
     }
     Ok(files)
 }

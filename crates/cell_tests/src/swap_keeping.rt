@@ -116,11 +116,6 @@ static OF_CALL: [Case; 7] = [
     },
 ];
 
-#[test]
-fn tasks_go_on(rt: HostRuntime) -> Result<(), Fail> {
-    try_all(&rt, rt.alloc(), &["d", "s"], &CALL, &OF_CALL)
-}
-
 /// A crate that yields and then calls another one, and forms of both that don't fit together with these.
 static TOGETHER: [SourceFile; 4] = [
     SourceFile {
@@ -148,11 +143,6 @@ static OF_TOGETHER: [Case; 1] = [Case {
             4 ok swap 1 new #3 #4 patched 0 removed - kept #1 #2\n5 ok step t1 turns 7 done 5\n\
             6 ok purge removed #1 #2\n",
 }];
-
-#[test]
-fn old_cells_keep_each_other(rt: HostRuntime) -> Result<(), Fail> {
-    try_all(&rt, rt.alloc(), &["d", "s"], &TOGETHER, &OF_TOGETHER)
-}
 
 /// A call inside a call, and a form of the middle one that calls nothing. In the inner call the way back into
 /// the middle one stands on the stack alone.
@@ -187,11 +177,6 @@ static OF_RETURNS: [Case; 1] = [Case {
             6 ok step t1 turns 11 done 6\n7 ok purge removed #2\n8 ok spawn t2 pc 10000000\n\
             9 ok step t2 turns 9 done 105\n",
 }];
-
-#[test]
-fn a_return_address_keeps(rt: HostRuntime) -> Result<(), Fail> {
-    try_all(&rt, rt.alloc(), &["d", "s"], &RETURNS, &OF_RETURNS)
-}
 
 /// Constants, data, a crate that writes the address of the constants to the data, and one that reads by it
 /// and clears it.
@@ -231,6 +216,10 @@ static OF_WRITTEN: [Case; 1] = [Case {
 }];
 
 #[test]
-fn a_written_pointer_keeps(rt: HostRuntime) -> Result<(), Fail> {
-    try_all(&rt, rt.alloc(), &["d", "s"], &WRITTEN, &OF_WRITTEN)
+fn swap_keeping(rt: HostRuntime) -> Result<(), Fail> {
+    try_all(&rt, rt.alloc(), &["d", "s"], &CALL, &OF_CALL)?;
+    try_all(&rt, rt.alloc(), &["d", "s"], &TOGETHER, &OF_TOGETHER)?;
+    try_all(&rt, rt.alloc(), &["d", "s"], &RETURNS, &OF_RETURNS)?;
+    try_all(&rt, rt.alloc(), &["d", "s"], &WRITTEN, &OF_WRITTEN)?;
+    Ok(())
 }

@@ -33,11 +33,6 @@ static OF_NOTHING: [Case; 1] = [
     },
 ];
 
-#[test]
-fn words_that_name_nothing(rt: HostRuntime) -> Result<(), Fail> {
-    try_all(&rt, rt.alloc(), &["d", "s"], &NOTHING, &OF_NOTHING)
-}
-
 /// Crates of one function each, and other forms of them with other stems and names.
 static TAKEN: [SourceFile; 9] = [
     SourceFile {
@@ -99,11 +94,6 @@ static OF_TAKEN: [Case; 2] = [
             8 E8 duplicate d::f #3\n9 ok swap 2 new #4 patched 0 removed #3 kept -\n10 E8 duplicate d #4\n",
     },
 ];
-
-#[test]
-fn names_that_are_taken(rt: HostRuntime) -> Result<(), Fail> {
-    try_all(&rt, rt.alloc(), &["d", "s"], &TAKEN, &OF_TAKEN)
-}
 
 /// A crate that another one needs, forms of it that need more or define less, and a crate that meets these
 /// needs.
@@ -171,11 +161,6 @@ static OF_NEEDS: [Case; 1] = [
     },
 ];
 
-#[test]
-fn needs_that_nobody_meets(rt: HostRuntime) -> Result<(), Fail> {
-    try_all(&rt, rt.alloc(), &["d", "s"], &NEEDS, &OF_NEEDS)
-}
-
 /// A crate that yields and then calls another one, a form of it that doesn't, and one of the other without
 /// the name.
 static ASIDE: [SourceFile; 4] = [
@@ -210,11 +195,6 @@ static OF_ASIDE: [Case; 1] = [
     },
 ];
 
-#[test]
-fn needs_of_cells_put_aside(rt: HostRuntime) -> Result<(), Fail> {
-    try_all(&rt, rt.alloc(), &["d", "s"], &ASIDE, &OF_ASIDE)
-}
-
 /// A crate, and a form of it of twelve pages.
 static LARGE: [SourceFile; 3] = [
     SourceFile {
@@ -247,17 +227,6 @@ static OF_LARGE: [Case; 2] = [
             5 ok swap 1 new #2 patched 0 removed #1 kept -\n",
     },
 ];
-
-#[test]
-fn want_of_pages(rt: HostRuntime) -> Result<(), Fail> {
-    try_all(
-        &rt,
-        rt.alloc(),
-        &["d", "s", "--pages", "16"],
-        &LARGE,
-        &OF_LARGE,
-    )
-}
 
 /// Crates in a memory of which two pages are in reach of `lui`, and forms of them.
 static FAR: [SourceFile; 7] = [
@@ -322,16 +291,6 @@ static OF_FAR: [Case; 3] = [
     },
 ];
 
-#[test]
-fn numbers_that_do_not_fit(rt: HostRuntime) -> Result<(), Fail> {
-    try_all(
-        &rt,
-        rt.alloc(),
-        &["d", "s", "--base", "0x7fffe000", "--pages", "16"],
-        &FAR,
-        &OF_FAR,
-    )
-}
 /// Three crates, a form of one of them that needs a crate of a broken file, and one under the stem of another.
 static BROKEN: [SourceFile; 6] = [
     SourceFile {
@@ -391,4 +350,27 @@ fn files_that_are_no_objects(rt: HostRuntime) -> Result<(), Fail> {
         text,
     } = OF_BROKEN;
     try_script(&rt, rt.alloc(), &["d", "s"], &files, script, status, text)
+}
+
+#[test]
+fn swap_refusals(rt: HostRuntime) -> Result<(), Fail> {
+    try_all(&rt, rt.alloc(), &["d", "s"], &NOTHING, &OF_NOTHING)?;
+    try_all(&rt, rt.alloc(), &["d", "s"], &TAKEN, &OF_TAKEN)?;
+    try_all(&rt, rt.alloc(), &["d", "s"], &NEEDS, &OF_NEEDS)?;
+    try_all(&rt, rt.alloc(), &["d", "s"], &ASIDE, &OF_ASIDE)?;
+    try_all(
+        &rt,
+        rt.alloc(),
+        &["d", "s", "--pages", "16"],
+        &LARGE,
+        &OF_LARGE,
+    )?;
+    try_all(
+        &rt,
+        rt.alloc(),
+        &["d", "s", "--base", "0x7fffe000", "--pages", "16"],
+        &FAR,
+        &OF_FAR,
+    )?;
+    Ok(())
 }

@@ -59,11 +59,6 @@ static OF_MOVES: [Case; 2] = [
     },
 ];
 
-#[test]
-fn routines_within_turns(rt: HostRuntime) -> Result<(), Fail> {
-    try_all(&rt, rt.alloc(), &["d", "s"], &MOVES, &OF_MOVES)
-}
-
 /// Crates whose routines ask for names, and one whose routine is in a crate that comes beside it.
 static ASKS: [SourceFile; 6] = [
     SourceFile {
@@ -120,11 +115,6 @@ static OF_ASKS: [Case; 3] = [
             4 ok dump #1.1\n  10000000 f0 7f 00 10 00 00 00 00\n",
     },
 ];
-
-#[test]
-fn routines_that_ask(rt: HostRuntime) -> Result<(), Fail> {
-    try_all(&rt, rt.alloc(), &["d", "s"], &ASKS, &OF_ASKS)
-}
 
 /// A routine `c::mv` of a new crate, the words of the swap, and its refusal.
 #[derive(Drop)]
@@ -432,5 +422,12 @@ fn a_routine_of_two_new_cells_that_fails(rt: HostRuntime) -> Result<(), Fail> {
     let text = OF_PAIR.shown_after(alloc, files.as_slice(), line)?;
     let wanted = format!(in alloc; "2 E14 transfer a::mv returned 1\n{before}")?;
     assert!(rt; text == wanted, "{text}");
+    Ok(())
+}
+
+#[test]
+fn swap_transfer(rt: HostRuntime) -> Result<(), Fail> {
+    try_all(&rt, rt.alloc(), &["d", "s"], &MOVES, &OF_MOVES)?;
+    try_all(&rt, rt.alloc(), &["d", "s"], &ASKS, &OF_ASKS)?;
     Ok(())
 }

@@ -65,11 +65,6 @@ static OF_SINGLE: [Case; 3] = [
     },
 ];
 
-#[test]
-fn one_cell(rt: HostRuntime) -> Result<(), Fail> {
-    try_all(&rt, rt.alloc(), &["d", "s"], &SINGLE, &OF_SINGLE)
-}
-
 /// Constants that are as far apart as two other crates, and another form of one of these.
 static PROVIDER: [SourceFile; 4] = [
     SourceFile {
@@ -96,11 +91,6 @@ static OF_PROVIDER: [Case; 1] = [Case {
     text: "1 ok load #1 #2 #3 patched 1\n2 ok dump #1.1\n  10000000 10 f0 ff ff\n\
             3 ok swap 1 new #4 patched 1 removed #2 kept -\n4 ok dump #1.1\n  10000000 20 10 00 00\n",
 }];
-
-#[test]
-fn a_provider(rt: HostRuntime) -> Result<(), Fail> {
-    try_all(&rt, rt.alloc(), &["d", "s"], &PROVIDER, &OF_PROVIDER)
-}
 
 /// Two crates that lead into each other, and other forms of both.
 static PAIR: [SourceFile; 4] = [
@@ -138,11 +128,6 @@ static OF_PAIR: [Case; 1] = [
     },
 ];
 
-#[test]
-fn crates_that_need_each_other(rt: HostRuntime) -> Result<(), Fail> {
-    try_all(&rt, rt.alloc(), &["d", "s"], &PAIR, &OF_PAIR)
-}
-
 /// Three crates, each of which leads into the next one, and another form of one of them.
 static CYCLE: [SourceFile; 4] = [
     SourceFile {
@@ -178,11 +163,6 @@ static OF_CYCLE: [Case; 1] = [
             10 ok deps #7\n  #7.1+0 64 -> #5.1\n",
     },
 ];
-
-#[test]
-fn a_cycle(rt: HostRuntime) -> Result<(), Fail> {
-    try_all(&rt, rt.alloc(), &["d", "s"], &CYCLE, &OF_CYCLE)
-}
 
 /// A crate of one name in two sibling namespaces, with a user of each: one in a namespace below, one in the
 /// same namespace.
@@ -227,11 +207,6 @@ static OF_SPACES: [Case; 1] = [
             1 ro 10004000 16\n  #6 v/lib attached n#lib-2.o\n    1 ro 10001000 16\n",
     },
 ];
-
-#[test]
-fn namespaces(rt: HostRuntime) -> Result<(), Fail> {
-    try_all(&rt, rt.alloc(), &["d", "s"], &SPACES, &OF_SPACES)
-}
 
 /// Crates, a form of one of them that needs others, and one in place of another that needs the old name.
 static BRINGS: [SourceFile; 7] = [
@@ -287,6 +262,12 @@ static OF_BRINGS: [Case; 2] = [
 ];
 
 #[test]
-fn a_swap_brings(rt: HostRuntime) -> Result<(), Fail> {
-    try_all(&rt, rt.alloc(), &["d", "s"], &BRINGS, &OF_BRINGS)
+fn swaps(rt: HostRuntime) -> Result<(), Fail> {
+    try_all(&rt, rt.alloc(), &["d", "s"], &SINGLE, &OF_SINGLE)?;
+    try_all(&rt, rt.alloc(), &["d", "s"], &PROVIDER, &OF_PROVIDER)?;
+    try_all(&rt, rt.alloc(), &["d", "s"], &PAIR, &OF_PAIR)?;
+    try_all(&rt, rt.alloc(), &["d", "s"], &CYCLE, &OF_CYCLE)?;
+    try_all(&rt, rt.alloc(), &["d", "s"], &SPACES, &OF_SPACES)?;
+    try_all(&rt, rt.alloc(), &["d", "s"], &BRINGS, &OF_BRINGS)?;
+    Ok(())
 }

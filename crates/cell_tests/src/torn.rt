@@ -45,11 +45,6 @@ static OF_INSIDE: [Case; 2] = [
     },
 ];
 
-#[test]
-fn tasks_inside_a_call(rt: HostRuntime) -> Result<(), Fail> {
-    try_all(&rt, rt.alloc(), &["d", "s"], &INSIDE, &OF_INSIDE)
-}
-
 /// Data, another form of it, and crates that take its addresses: by two sequences one after the other, by two
 /// that overlap, with a fault inside, and by the first instruction alone.
 static ADDRESSES: [SourceFile; 6] = [
@@ -125,6 +120,8 @@ static OF_ADDRESSES: [Case; 4] = [
 ];
 
 #[test]
-fn tasks_inside_an_address(rt: HostRuntime) -> Result<(), Fail> {
-    try_all(&rt, rt.alloc(), &["d", "s"], &ADDRESSES, &OF_ADDRESSES)
+fn torn(rt: HostRuntime) -> Result<(), Fail> {
+    try_all(&rt, rt.alloc(), &["d", "s"], &INSIDE, &OF_INSIDE)?;
+    try_all(&rt, rt.alloc(), &["d", "s"], &ADDRESSES, &OF_ADDRESSES)?;
+    Ok(())
 }

@@ -1,4 +1,4 @@
-//! Tests of the crates that texts are made of: words, scripts, transcripts and the outside.
+//! Tests of words, scripts and the outside.
 #![tactic(auto)]
 
 #[cfg(test)]
@@ -8,16 +8,8 @@ mod bad_lines;
 #[cfg(test)]
 mod doubles;
 #[cfg(test)]
-mod lines;
-#[cfg(test)]
 mod outside;
 #[cfg(test)]
-mod print;
-#[cfg(test)]
-mod refusals;
-#[cfg(test)]
 mod script;
-#[cfg(test)]
-mod task_lines;
 #[cfg(test)]
 mod text;

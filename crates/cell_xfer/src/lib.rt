@@ -5,8 +5,6 @@ mod asking;
 mod carrying;
 mod firsts;
 mod routines;
-#[cfg(test)]
-mod tests;
 mod turn;
 
 pub use carrying::{Transfer, carry_over};
