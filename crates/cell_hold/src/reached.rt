@@ -34,7 +34,9 @@ pub struct Reading<'a> {
 
 impl Near {
     /// At the start of both.
-    pub fn start() -> Near {
+    pub fn start() -> Near
+        ensures { result ≡ record { links = 0; sections = 0 } }
+    {
         Near {
             links: 0,
             sections: 0,

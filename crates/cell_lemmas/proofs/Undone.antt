@@ -20,7 +20,7 @@ use Rattle.cell_lemmas.proofs.FieldsInside.{length-bytes_of}
 use Rattle.cell_lemmas.proofs.Patches.{length-pasted}
 use Rattle.cell_lemmas.proofs.Relinked.{map_twice}
 use Rattle.cell_lemmas.specs.Kept.{KeepsShapes}
-use Rattle.cell_lemmas.specs.Undo.{GivesBack}
+use Rattle.cell_lemmas.specs.Undo.{GivesBack, undone_in}
 use Rattle.cell_num.proofs.Sublists.{In-fixed, and_left, and_right, filter_same, map_filter, pairs_kept}
 use Rattle.cell_lemmas.proofs.Pastes.{over}
 use Rattle.cell_lemmas.proofs.Stores.{one_covers, shape_apart}
@@ -204,7 +204,7 @@ pub undo_all : (regions : List Region) (writes : List Write) → each_pair ends_
 undo_all regions writes apart bytes h = all_back regions writes (are_regions regions apart bytes) h
 
 -- the last record goes back first
-undo_next : (regions : List Region) (records : List Record) (x : Record) → undone regions (records ++ x ∷ []) ≡ undone (put_back regions x) records
+pub undo_next : (regions : List Region) (records : List Record) (x : Record) → undone regions (records ++ x ∷ []) ≡ undone (put_back regions x) records
 undo_next regions [] x = refl
 undo_next regions (y ∷ records) x = ap (λ rs. put_back rs y) (undo_next regions records x)
 
@@ -254,11 +254,11 @@ In-with_region n r (y ∷ rs) i = go (nat_lt n.start y.start) i (In-with_region 
     go false (inl e) f = inl e
     go false (inr k) f = inr (f k)
 
-abbrev undone_in : Region → List Record → Region
-undone_in r [] = r
-undone_in r (x ∷ records) = put_back_in x (undone_in r records)
+pub undone_start : (r : Region) (records : List Record) → (undone_in r records).start ≡ r.start
+undone_start r [] = refl
+undone_start r (x ∷ records) = start_still x (undone_in r records) ∙ undone_start r records
 
-undone_mapped : (n : Region) (regions : List Region) (records : List Record) → undone (with_region n regions) records ≡ with_region (undone_in n records) (undone regions records)
+pub undone_mapped : (n : Region) (regions : List Region) (records : List Record) → undone (with_region n regions) records ≡ with_region (undone_in n records) (undone regions records)
 undone_mapped n regions [] = refl
 undone_mapped n regions (x ∷ records) =
     ap (λ rs. put_back rs x) (undone_mapped n regions records)

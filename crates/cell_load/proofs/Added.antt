@@ -89,7 +89,7 @@ module _ (m n : Machine) (s : Staged) (patches : List FieldValue) (moves rows : 
   pub sound : IsSound n
   sound =
       sound_added m n s r.parts r.new r.staged mid rows is mid_base mid_pages r.there changed r.after r.comes mid_regions
-      (patched_sealed mapped patches ∙ mapped_sealed roomy s.regions.items) (patched_undo mapped patches (mapped_undo roomy s.regions.items ∙ r.parts.undo)) few_patches (omega (arith, mid_maps))
+      (patched_sealed mapped patches ∙ mapped_sealed roomy s.regions.items) (patched_undo mapped patches (mapped_undo roomy s.regions.items r.undo)) few_patches (omega (arith, mid_maps))
 
   pub patches_now : n.memory.patches ≡ raised m.memory.patches (length patches + length s.fields.items)
   patches_now =

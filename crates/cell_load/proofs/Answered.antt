@@ -19,7 +19,7 @@ use Rattle.cell_task.specs.State.{TasksState}
 use Rattle.cell_gather.specs.declared.gathering.Gathered.{Gathered}
 use Rattle.cell_machine.specs.declared.machine.Machine.{Machine}
 use Rattle.cell_machine.specs.declared.staged.Staged.{Staged}
-use Rattle.cell_machine.specs.Does.{Does, new_runs}
+use Rattle.cell_machine.specs.Does.{Does, new_runs, no_stack}
 use Rattle.cell_machine.specs.Machine.{IsSound, world_of}
 use Rattle.cell_machine.specs.Same.{raised}
 use Rattle.cell_machine.specs.Staged.{IsStaged, arrivals}
@@ -38,7 +38,7 @@ module _ (files : List File) (are : AreSound (map source_of files)) (m : Machine
   w = world_of m
 
   -- gathering is refused
-  pub gather_failed : (fail : Fail) → Loads files m ns stem (Err fail) → Does (next_load (map source_of files) w ns stem) 0 m (Err fail) m
+  pub gather_failed : (fail : Fail) → Loads files m ns stem (Err fail) → Does (next_load (map source_of files) w ns stem) no_stack m (Err fail) m
   gather_failed (Refused r) e = (load_refused (map source_of files) w ns stem r e, same_itself m)
   gather_failed OutOfMemory e = same_itself m
 
@@ -55,7 +55,7 @@ module _ (files : List File) (are : AreSound (map source_of files)) (m : Machine
     }
 
     -- the new cells have no room, or an entry doesn't fit
-    pub stage_failed : (fail : Fail) → Stages w new (Err fail) → Does (next_load (map source_of files) w ns stem) 0 m (Err fail) m
+    pub stage_failed : (fail : Fail) → Stages w new (Err fail) → Does (next_load (map source_of files) w ns stem) no_stack m (Err fail) m
     stage_failed (Refused r) e = (refused (map source_of files) w ns stem sound.coherent are new loaded.gathered r e, same_itself m)
     stage_failed OutOfMemory e = same_itself m
 
@@ -69,6 +69,7 @@ module _ (files : List File) (are : AreSound (map source_of files)) (m : Machine
         coherent = sound.coherent;
         like = record { base = refl; pages = refl; regions = refl; cells = sym sound.joined.placed; next = refl };
         parts = sound.parts;
+        undo = sound.undo;
         planned = record {
           new = new;
           staged = st;
@@ -106,10 +107,10 @@ module _ (files : List File) (are : AreSound (map source_of files)) (m : Machine
 
         -- the staged cells have been added
         pub load_done : (fresh : List CellId) → fresh ≡ map (λ (c : NewCell). c.id) s.cells.items → (patched : ℕ) → patched ≡ length s.fields.items
-            → Does (next_load (map source_of files) w ns stem) 0 m (Ok (Load fresh patched)) n
+            → Does (next_load (map source_of files) w ns stem) no_stack m (Ok (Load fresh patched)) n
         load_done fresh fresh_is patched patched_is =
-            subst (λ (k : ℕ). Does (next_load (map source_of files) w ns stem) 0 m (Ok (Load fresh k)) n) (sym patched_is)
-            (subst (λ (xs : List CellId). Does (next_load (map source_of files) w ns stem) 0 m (Ok (Load xs (length s.fields.items))) n) (sym (fresh_is ∙ (ap (map (λ (c : NewCell). c.id)) st.cells ∙ ids_are cells)))
+            subst (λ (k : ℕ). Does (next_load (map source_of files) w ns stem) no_stack m (Ok (Load fresh k)) n) (sym patched_is)
+            (subst (λ (xs : List CellId). Does (next_load (map source_of files) w ns stem) no_stack m (Ok (Load xs (length s.fields.items))) n) (sym (fresh_is ∙ (ap (map (λ (c : NewCell). c.id)) st.cells ∙ ids_are cells)))
             (record {
               sound = after;
               is = record {

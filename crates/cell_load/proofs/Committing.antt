@@ -152,7 +152,7 @@ module _ (m : Machine) (s : Staged) (p : Prepared) (patches : List FieldValue) (
     room = room;
     regions = regions_room;
     mapped = fields_are_mapped;
-    undo = any_writes m.memory (length patches + length s.fields.items) r.parts.undo;
+    undo = any_writes m.memory (length patches + length s.fields.items) r.undo;
     change = change;
     above = all_above;
     present = all_present;

@@ -37,6 +37,7 @@ ready_same old new same changed rows s r = record {
     next = same.next ∙ r.like.next;
   };
   parts = parts_same old new same r.parts;
+  undo = ap (λ (m : MemoryState). m.undo) same.memory ∙ r.undo;
   planned = subst (λ (w : World). IsPlanned w changed rows s) (sym (world_same old new same)) r.planned;
 }
 

@@ -6,7 +6,7 @@
 --     CanChange m s patches moves     these fields of others may be written, and these links of others moved
 --     IsCommittable m s p patches moves   what the calls of the commit ask
 --     IsAdded old patches moves s newcomers new   the machine with the staged cells, to which others lead so
-use Rattle.std.specs.Prelude.{◌≡◌, ◌≤◌, ◌+◌, ℕ, List, ◌++◌, All, Contains, IsTrue, length, map, vec_len, vec_capacity}
+use Rattle.std.specs.Prelude.{◌≡◌, ◌≤◌, ◌+◌, ℕ, List, ◌++◌, None, All, Contains, IsTrue, length, map, vec_len, vec_capacity}
 use Rattle.cell_num.specs.declared.ids.CellId.{CellId}
 use Rattle.cell_world.specs.declared.state.LinkRow.{LinkRow}
 use Rattle.cell_world.specs.declared.state.NewCell.{NewCell}
@@ -42,6 +42,7 @@ pub record IsReadyToAdd (m : Machine) (changed : List Patch) (rows : List LinkRo
   pub coherent : IsCoherent before
   pub like : IsLike before m
   pub parts : AreParts m
+  pub undo : m.memory.undo ≡ None
   pub planned : IsPlanned (world_of m) changed rows s
   pub open planned use *
 

@@ -5,7 +5,7 @@ ghost use Rattle.cell_world.specs.Limits.{max_file_bytes};
 ghost use Rattle.cell_depot.specs.Files.{are_apart};
 ghost use Rattle.cell_world.specs.Gather.{source_of};
 ghost use Rattle.cell_world.specs.LoadCommand.{next_load};
-ghost use Rattle.cell_machine.specs.Does.{Does};
+ghost use Rattle.cell_machine.specs.Does.{Does, no_stack};
 ghost use Rattle.cell_machine.specs.Machine.{IsSound, world_of};
 
 use crate::add::add;
@@ -44,7 +44,7 @@ pub fn load(
     requires sound { IsSound machine.old }
     requires small { All (λ f. length f.bytes ≤ max_file_bytes) depot.now }
     requires apart { are_apart depot.now ≡ true }
-    ensures { Does (next_load (map source_of depot.now) (world_of machine.old) ns.now stem.now) 0 machine.old result machine.new }
+    ensures { Does (next_load (map source_of depot.now) (world_of machine.old) ns.now stem.now) no_stack machine.old result machine.new }
 {
     let gathered = load_cells(alloc, depot, machine, ns, stem)?;
     let staged = stage(alloc, machine, gathered)?;

@@ -55,8 +55,8 @@ module _ (base pages : ℕ) (space : IsSpace base pages) (m : Machine) (cells : 
           ∙ (none_sealed base (4096 * pages)
           ∙ (ap (λ (x : MemoryState). seal_table x.base (4096 * x.pages) []) (sym memory)
           ∙ ap (λ (cs : List NewCell). seal_table m.memory.base (4096 * m.memory.pages) (field_bytes cs)) (sym cells)));
-      undo = ap (λ (x : MemoryState). x.undo) memory;
       patches = subst (λ (x : MemoryState). x.patches ≤ 2 ^ 64 - 1) (sym memory) (omega arith);
       maps = subst (λ (x : MemoryState). x.maps ≤ 2 ^ 64 - 1) (sym memory) (omega arith);
     };
+    undo = ap (λ (x : MemoryState). x.undo) memory;
   }

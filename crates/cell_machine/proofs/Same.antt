@@ -1,5 +1,5 @@
 -- A machine with other room is the same machine.
-use Rattle.std.proofs.Common.{◌≡◌, sym, ◌∙◌, ap, ap₂, subst, ◌≤◌, ◌-◌, ◌*◌, ◌^◌, List, length}
+use Rattle.std.proofs.Common.{◌≡◌, sym, ◌∙◌, ap, ap₂, subst, ℕ, ◌≤◌, ◌-◌, ◌*◌, ◌^◌, List, length}
 use Rattle.cell_world.specs.declared.state.LinkRow.{LinkRow}
 use Rattle.cell_world.specs.declared.state.Namespace.{Namespace}
 use Rattle.cell_world.specs.declared.state.NewCell.{NewCell}
@@ -14,7 +14,7 @@ use Rattle.cell_task.specs.State.{TasksState}
 use Rattle.cell_commit.specs.Seals.{seal_table}
 use Rattle.cell_machine.specs.declared.machine.Machine.{Machine}
 use Rattle.cell_machine.specs.Machine.{AreParts, IsSound, field_bytes, keys_of, world_by, world_of}
-use Rattle.cell_machine.specs.Same.{IsSame}
+use Rattle.cell_machine.specs.Same.{IsSame, without_counts}
 
 module _ (old new : Machine) (same : IsSame old new) where
   cells_same : cells_of new.cells.items new.spaces.cells ≡ cells_of old.cells.items old.spaces.cells
@@ -50,10 +50,54 @@ module _ (old new : Machine) (same : IsSame old new) where
         ∙ (s.seals
         ∙ (ap (λ (m : MemoryState). seal_table m.base (4096 * m.pages) (field_bytes old.cells.items)) (sym same.memory)
         ∙ ap (λ (cells : List NewCell). seal_table new.memory.base (4096 * new.memory.pages) (field_bytes cells)) (sym same.cells)));
-    undo = ap (λ (m : MemoryState). m.undo) same.memory ∙ s.undo;
     patches = subst (λ (m : MemoryState). m.patches ≤ 2 ^ 64 - 1) (sym same.memory) s.patches;
     maps = subst (λ (m : MemoryState). m.maps ≤ 2 ^ 64 - 1) (sym same.memory) s.maps;
   }
 
   pub sound_same : IsSound old → IsSound new
-  sound_same s = record { coherent = subst IsCoherent (sym world_same) s.coherent; parts = parts_same s.parts }
+  sound_same s = record { coherent = subst IsCoherent (sym world_same) s.coherent; parts = parts_same s.parts; undo = ap (λ (m : MemoryState). m.undo) same.memory ∙ s.undo }
+
+-- a machine of which only the counts have risen
+module _ (old new : Machine) (same : IsSame old (without_counts old new)) where
+  pub world_back : world_of new ≡ world_of old
+  world_back = world_same old (without_counts old new) same
+
+  pub sound_back : IsSound old → new.memory.patches ≤ 2 ^ 64 - 1 → new.memory.maps ≤ 2 ^ 64 - 1 → IsSound new
+  sound_back sound patches maps =
+      let s : IsSound (without_counts old new) = sound_same old (without_counts old new) same sound in
+      record {
+        coherent = s.coherent;
+        parts = record { joined = s.joined; table = s.table; base = s.base; sections = s.sections; seals = s.seals; patches = patches; maps = maps };
+        undo = s.undo;
+      }
+
+pub counts_same : (old new : Machine) → IsSame old new → IsSame old (without_counts old new)
+counts_same old new same = record {
+  cells = same.cells;
+  next = same.next;
+  swaps = same.swaps;
+  namespaces = same.namespaces;
+  known = same.known;
+  space = same.space;
+  spare = same.spare;
+  memory = ap (λ (s : MemoryState). let x : MemoryState = record s { patches = old.memory.patches; maps = old.memory.maps } in x) same.memory;
+  sections = same.sections;
+  rows = same.rows;
+  tasks = same.tasks;
+}
+
+-- where the counts haven't risen
+pub same_counted : (old new : Machine) → IsSame old (without_counts old new) → new.memory.patches ≡ old.memory.patches → new.memory.maps ≡ old.memory.maps → IsSame old new
+same_counted old new same patches maps = record {
+  cells = same.cells;
+  next = same.next;
+  swaps = same.swaps;
+  namespaces = same.namespaces;
+  known = same.known;
+  space = same.space;
+  spare = same.spare;
+  memory = ap₂ (λ (p q : ℕ). let x : MemoryState = record new.memory { patches = p; maps = q } in x) patches maps ∙ same.memory;
+  sections = same.sections;
+  rows = same.rows;
+  tasks = same.tasks;
+}

@@ -183,8 +183,8 @@ module _ (m n : Machine) (s : Staged) (parts : AreParts m) (new : List Cell) (st
           base = ap (λ (x : SpaceState). x.base) c.space ∙ (st.base ∙ sym base_is);
           sections = keys_are;
           seals = seals_are;
-          undo = ap (λ (x : MemoryState). x.undo) c.memory ∙ written_undo mid s.fields.items mid_undo;
           patches = let k = patches_raised few_patches in omega (arith, k);
           maps = let k = maps_raised in omega (arith, k, few_maps);
         };
+        undo = ap (λ (x : MemoryState). x.undo) c.memory ∙ written_undo mid s.fields.items mid_undo;
       }

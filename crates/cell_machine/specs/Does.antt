@@ -2,16 +2,20 @@
 --     State, state_of m             the machine, and how many fields were patched and regions mapped
 --     patched_by reply              how many fields the command patched
 --     new_runs reply w              how many regions its new cells have in w
---     IsDone said stacks old reply new   the reply that is said, and the machine after it
---     Answers said stacks old result new  the same; or the refusal that is said, and the same machine
+--     Counts                        what a command counts: no_stack, one_stack, or of a swap what it may have counted where it is refused
+--     HasRisen most old new         a count rose by that much at most
+--     IsDone said stacks old reply new    the reply that is said, and the machine after it
+--     Answers said counts old result new  the same; or the refusal that is said, and the same machine, of which a refused swap may have raised the counts
 --     answer_in w reply             what only shows something leaves the machine
---     Does said stacks old result new     the same of a machine's parts, which are sound and but for room the same after a refusal
-use Rattle.std.specs.Prelude.{ℕ, ◌≡◌, ◌+◌, List, [], ◌∷◌, Result, Ok, Err, filter, flat_map, length, map}
+--     Does said counts old result new     the same of a machine's parts, which are sound and but for room the same after a refusal
+use Rattle.std.specs.Prelude.{ℕ, ◌≡◌, ◌≤◌, ◌+◌, List, [], ◌∷◌, Option, Some, None, Result, Ok, Err, filter, flat_map, length, map}
 use Rattle.cell_num.specs.declared.ids.CellId.{CellId}
 use Rattle.cell_num.specs.Lists.{holds}
 use Rattle.cell_world.specs.declared.fail.Fail.{Fail}
 use Rattle.cell_world.specs.declared.fail.Fail.TheVariants.{Refused, OutOfMemory}
 use Rattle.cell_world.specs.declared.layout.Class.TheVariants.{Text, ReadOnly, Writable}
+use Rattle.cell_world.specs.declared.refusal.Refusal.{Refusal}
+use Rattle.cell_world.specs.declared.refusal.Refusal.TheVariants.{Held, Transfer}
 use Rattle.cell_world.specs.declared.reply.Reply.{Reply}
 use Rattle.cell_world.specs.declared.reply.Reply.TheVariants.{Load, Swap}
 use Rattle.cell_world.specs.Answer.{Done, done}
@@ -20,7 +24,7 @@ use Rattle.cell_world.specs.Outcome.{Outcome}
 use Rattle.cell_world.specs.World.{World, Cell}
 use Rattle.cell_machine.specs.declared.machine.Machine.{Machine}
 use Rattle.cell_machine.specs.Machine.{IsSound, world_of}
-use Rattle.cell_machine.specs.Same.{IsSame, raised}
+use Rattle.cell_machine.specs.Same.{IsSame, raised, without_counts}
 
 pub record State : Type 0 where
   pub world : World
@@ -56,19 +60,60 @@ pub record IsDone (said : Outcome Done) (stacks : ℕ) (old : State) (reply : Re
   pub patches : new.patches ≡ raised old.patches (patched_by reply)
   pub maps : new.maps ≡ raised old.maps (new_runs reply new.world + stacks)
 
-abbrev pub Answers : Outcome Done → ℕ → State → Result Reply Fail → State → Type 0
-Answers said stacks old (Ok reply) new = IsDone said stacks old reply new
-Answers said stacks old (Err (Refused refusal)) new = (said ≡ Err refusal) × (new ≡ old)
-Answers said stacks old (Err OutOfMemory) new = new ≡ old
+-- so many fields and regions
+pub record Most : Type 0 where
+  pub patches : ℕ
+  pub maps : ℕ
+
+-- `stacks` is how many stacks an accepted command maps, `undone` of a swap alone, how much it may have counted before it went back
+pub record Counts : Type 0 where
+  pub stacks : ℕ
+  pub undone : Option Most
+
+abbrev pub no_stack : Counts
+no_stack = record { stacks = 0; undone = None }
+
+abbrev pub one_stack : Counts
+one_stack = record { stacks = 1; undone = None }
+
+abbrev pub HasRisen : ℕ → ℕ → ℕ → Type 0
+HasRisen most old new = (old ≤ new) × (new ≤ raised old most)
+
+-- a swap went back from its new cells: only the counts may have risen
+pub record HasGoneBack (most : Most) (old new : State) : Type 0 where
+  pub world : new.world ≡ old.world
+  pub patches : HasRisen most.patches old.patches new.patches
+  pub maps : HasRisen most.maps old.maps new.maps
+
+-- a swap has counted before it is refused where a routine failed or an old cell is kept, and at no other refusal
+abbrev pub counted_before : Refusal → Most → Most
+counted_before (Transfer name why) most = most
+counted_before (Held cell holder) most = most
+counted_before _ most = record { patches = 0; maps = 0 }
+
+abbrev pub Leaves : Option Most → Refusal → State → State → Type 0
+Leaves None refusal old new = new ≡ old
+Leaves (Some most) refusal old new = HasGoneBack (counted_before refusal most) old new
+
+abbrev pub Answers : Outcome Done → Counts → State → Result Reply Fail → State → Type 0
+Answers said counts old (Ok reply) new = IsDone said counts.stacks old reply new
+Answers said counts old (Err (Refused refusal)) new = (said ≡ Err refusal) × Leaves counts.undone refusal old new
+Answers said counts old (Err OutOfMemory) new = new ≡ old
 
 pub record HasDone (said : Outcome Done) (stacks : ℕ) (old : Machine) (reply : Reply) (new : Machine) : Type 0 where
   pub sound : IsSound new
   pub is : IsDone said stacks (state_of old) reply (state_of new)
 
-abbrev pub Does : Outcome Done → ℕ → Machine → Result Reply Fail → Machine → Type 0
-Does said stacks old (Ok reply) new = HasDone said stacks old reply new
-Does said stacks old (Err (Refused refusal)) new = (said ≡ Err refusal) × IsSame old new
-Does said stacks old (Err OutOfMemory) new = IsSame old new
+-- the parts after a refusal
+abbrev pub LeavesParts : Option Most → Refusal → Machine → Machine → Type 0
+LeavesParts None refusal old new = IsSame old new
+LeavesParts (Some most) refusal old new =
+    IsSame old (without_counts old new) × HasGoneBack (counted_before refusal most) (state_of old) (state_of new)
+
+abbrev pub Does : Outcome Done → Counts → Machine → Result Reply Fail → Machine → Type 0
+Does said counts old (Ok reply) new = HasDone said counts.stacks old reply new
+Does said counts old (Err (Refused refusal)) new = (said ≡ Err refusal) × LeavesParts counts.undone refusal old new
+Does said counts old (Err OutOfMemory) new = IsSame old new
 
 -- what is shown leaves the machine
 abbrev pub answer_in : World → Reply → Done

@@ -4,7 +4,8 @@
 --     field_bytes cells       where the fields of the cells begin, and how many bytes each of them has
 --     AreParts m              the parts are those of one machine, also while it isn't coherent: they have its cells, its page table and
 --                             its sections, and the sealed bytes are those of the fields
---     IsSound m               and the machine is coherent
+--     IsWhole m               and the machine is coherent, also while an undo is begun
+--     IsSound m               and none is begun
 use Rattle.std.specs.Prelude.{ℕ, ◌≡◌, ◌≤◌, ◌-◌, ◌*◌, ◌^◌, List, None, flat_map, map}
 use Rattle.cell_num.specs.Kinds.{width_of}
 use Rattle.cell_num.specs.declared.ids.SecKey.{SecKey}
@@ -60,11 +61,16 @@ pub record AreParts (m : Machine) : Type 0 where
   pub base : m.space.base ≡ m.memory.base
   pub sections : m.graph.sections ≡ keys_of m.cells.items
   pub seals : m.memory.sealed ≡ seal_table m.memory.base (4096 * m.memory.pages) (field_bytes m.cells.items)
-  pub undo : m.memory.undo ≡ None
   pub patches : m.memory.patches ≤ 2 ^ 64 - 1
   pub maps : m.memory.maps ≤ 2 ^ 64 - 1
+
+pub record IsWhole (m : Machine) : Type 0 where
+  pub coherent : IsCoherent (world_of m)
+  pub parts : AreParts m
+  pub open parts use *
 
 pub record IsSound (m : Machine) : Type 0 where
   pub coherent : IsCoherent (world_of m)
   pub parts : AreParts m
   pub open parts use *
+  pub undo : m.memory.undo ≡ None

@@ -13,3 +13,4 @@ pub mod Writes
 pub mod Back
 pub mod Small
 pub mod LaidApart
+pub mod Undoing

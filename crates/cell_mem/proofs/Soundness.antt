@@ -11,11 +11,13 @@ use Rattle.cell_world.specs.World.{Region, Permission}
 use Rattle.cell_world.specs.Memory.{covers, end_of, written}
 use Rattle.cell_world.specs.Pages.{filled}
 use Rattle.cell_world.specs.Place.{with_region}
+use Rattle.cell_world.specs.Turn.{without_region}
 use Rattle.cell_world.specs.Undo.{AreBytes, put_in}
 use Rattle.cell_mem.specs.declared.memory.Memory.TheInside.{Inside}
-use Rattle.cell_mem.specs.Inside.{IsSound, state_of}
+use Rattle.cell_mem.specs.Inside.{IsSound, state_of, undo_over}
 use Rattle.cell_mem.specs.Index.{IsLaid, IsWhole, IsIndex, AreInPlace, held, first_page, covers_page}
 use Rattle.cell_mem.specs.State.{MemoryState, IsRoom, region_of, region_with, region_from, size_of, one_more, write_at, mapped, unmapped}
+use Rattle.cell_mem.specs.Undo.{UndoState, with_mapped, with_unmapped}
 use Rattle.cell_mem.specs.Writing.{HasBytes, put}
 use Rattle.cell_mem.proofs.Held.{found_stands, in_place_set, held_new, held_less, held_put, passes_at, starts, lies_at, one_held_more, one_held_less}
 use Rattle.cell_mem.proofs.Inserting.{is_apart, laid_with, find_with, find_new, apart_covers}
@@ -23,6 +25,7 @@ use Rattle.cell_mem.proofs.Laid.{Lies, find_lies}
 use Rattle.cell_mem.proofs.Marking.{marked, run_inside}
 use Rattle.cell_mem.proofs.Reading.{mapped_is}
 use Rattle.cell_mem.proofs.Small.{small_written}
+use Rattle.cell_mem.proofs.Undoing.{no_undo, over_mapped, over_unmapped}
 use Rattle.cell_mem.proofs.Removing.{starts_at, laid_less, find_left, find_gone}
 use Rattle.cell_mem.proofs.Writes.{laid_written, index_written, length-bytes_of}
 
@@ -262,14 +265,17 @@ has_at i addr n page h = subst (λ o. IsSomeAnd o (λ r. HasBytes r addr n)) (sy
 pub few_written : (i : Inside) (addr : ℕ) (new : List ℕ) (pages : List (Option Region)) → IsSound i → Written i addr new pages → i.spare + length (held pages) ≤ 2 ^ 32 + i.pages
 few_written i addr new pages s w = omega (arith, s.few, ap length w.regions, length-map (held i.regions.items) (λ r. written r addr new))
 
-pub state_written : (i : Inside) (addr width value : ℕ) (pages : List (Option Region)) → Written i addr (bytes_of width value) pages
+-- while no undo is begun
+pub state_written : (i : Inside) (addr width value : ℕ) (pages : List (Option Region)) → (state_of i).undo ≡ None → Written i addr (bytes_of width value) pages
     → (let old : MemoryState = state_of i in
-    let new : MemoryState = record old { regions = held pages } in
+    let new : MemoryState = record old { regions = held pages; undo = option_map (undo_over (held pages)) i.undo } in
     let wanted : MemoryState = record old { regions = put_in old.regions (write_at addr width value) } in
     new ≡ wanted)
-state_written i addr width value pages w =
+state_written i addr width value pages none w =
     let old : MemoryState = state_of i in
-    ap (λ (rs : List Region). let new : MemoryState = record old { regions = rs } in new) w.regions
+    let nothing : option_map (undo_over (held pages)) i.undo ≡ old.undo = ap (option_map (undo_over (held pages))) (no_undo (held i.regions.items) i.undo none) ∙ sym none in
+    ap (λ (o : Option UndoState). let new : MemoryState = record old { regions = held pages; undo = o } in new) nothing
+    ∙ ap (λ (rs : List Region). let new : MemoryState = record old { regions = rs } in new) w.regions
 
 module _ (i : Inside) (m : MemoryState) (start : ℕ) (p : Permission) (bytes : List ℕ) (s : IsSound i) (e : state_of i ≡ m) (room : IsRoom m start (length bytes)) where
   here : IsRoom (state_of i) start (length bytes)
@@ -289,11 +295,15 @@ module _ (i : Inside) (m : MemoryState) (start : ℕ) (p : Permission) (bytes : 
       (subst (λ t. Mapped i new page (set i.regions.items page (Some t)) (filled i.firsts.items page (length bytes / 4096) (Some page))) (sym is) all)
 
   pub state_mapped : (page maps : ℕ) (pages : List (Option Region)) (firsts : List (Option ℕ)) → Mapped i (record { start = start; permission = p; bytes = bytes }) page pages firsts → maps ≡ one_more i.maps
-      → (let old : MemoryState = state_of i in let new : MemoryState = record old { regions = held pages; spare = old.spare - 1; maps = maps } in new ≡ mapped m start p bytes)
+      → (let old : MemoryState = state_of i in
+      let new : MemoryState = record old { regions = held pages; spare = old.spare - 1; undo = option_map (undo_over (held pages)) i.undo; maps = maps } in
+      new ≡ mapped m start p bytes)
   state_mapped page maps pages firsts f count =
       let old : MemoryState = state_of i in
-      ap (λ (rs : List Region). let new : MemoryState = record old { regions = rs; spare = old.spare - 1; maps = maps } in new) f.regions
-      ∙ ap (λ (n : ℕ). let new : MemoryState = record old { regions = with_region (record { start = start; permission = p; bytes = bytes }) (held i.regions.items); spare = old.spare - 1; maps = n } in new) count
+      let r : Region = record { start = start; permission = p; bytes = bytes } in
+      ap (λ (rs : List Region). let new : MemoryState = record old { regions = rs; spare = old.spare - 1; undo = option_map (undo_over rs) i.undo; maps = maps } in new) f.regions
+      ∙ ap (λ (o : Option UndoState). let new : MemoryState = record old { regions = with_region r (held i.regions.items); spare = old.spare - 1; undo = o; maps = maps } in new) (over_mapped r (held i.regions.items) i.undo)
+      ∙ ap (λ (n : ℕ). let new : MemoryState = record old { regions = with_region r (held i.regions.items); spare = old.spare - 1; undo = with_mapped r old.undo; maps = n } in new) count
       ∙ ap (λ k. mapped k start p bytes) e
 
 module _ (i : Inside) (m : MemoryState) (start : ℕ) (s : IsSound i) (e : state_of i ≡ m) (there : is_some (region_from m start) ≡ true) where
@@ -325,11 +335,14 @@ module _ (i : Inside) (m : MemoryState) (start : ℕ) (s : IsSound i) (e : state
 
   pub state_unmapped : (page size : ℕ) (pages : List (Option Region)) (firsts : List (Option ℕ)) (sealed : List Bool) → Unmapped i start pages firsts → (b : Begins i start page) → size ≡ length b.region.bytes
       → sealed ≡ filled i.sealed.items (start - i.base) size false
-      → (let old : MemoryState = state_of i in let new : MemoryState = record old { regions = held pages; sealed = sealed; spare = old.spare + 1 } in new ≡ unmapped m start)
+      → (let old : MemoryState = state_of i in
+      let new : MemoryState = record old { regions = held pages; sealed = sealed; spare = old.spare + 1; undo = option_map (undo_over (held pages)) i.undo } in
+      new ≡ unmapped m start)
   state_unmapped page size pages firsts sealed f b n marks =
       let old : MemoryState = state_of i in
       let wanted : size ≡ size_of (region_from old start) = n ∙ sym (ap size_of b.found) in
-      ap (λ (rs : List Region). let new : MemoryState = record old { regions = rs; sealed = sealed; spare = old.spare + 1 } in new) f.regions
-      ∙ ap (λ (bs : List Bool). let new : MemoryState = record old { regions = filter (λ r. not (starts_at start r)) (held i.regions.items); sealed = bs; spare = old.spare + 1 } in new)
+      ap (λ (rs : List Region). let new : MemoryState = record old { regions = rs; sealed = sealed; spare = old.spare + 1; undo = option_map (undo_over rs) i.undo } in new) f.regions
+      ∙ ap (λ (o : Option UndoState). let new : MemoryState = record old { regions = without_region start (held i.regions.items); sealed = sealed; spare = old.spare + 1; undo = o } in new) (over_unmapped start (held i.regions.items) i.undo)
+      ∙ ap (λ (bs : List Bool). let new : MemoryState = record old { regions = without_region start (held i.regions.items); sealed = bs; spare = old.spare + 1; undo = with_unmapped start old.undo } in new)
       (marks ∙ ap (λ k. filled i.sealed.items (start - i.base) k false) wanted)
       ∙ ap (λ k. unmapped k start) e

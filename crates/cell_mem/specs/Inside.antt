@@ -1,10 +1,16 @@
 -- What the fields of a memory mean, and what always holds of them.
-use Rattle.std.specs.Prelude.{◌≡◌, ◌≤◌, ◌+◌, ◌*◌, ◌^◌, length}
+use Rattle.std.specs.Prelude.{◌≡◌, ◌≤◌, ◌+◌, ◌*◌, ◌^◌, List, length, option_map}
 use Rattle.cell_world.specs.Pages.{IsSpace}
-use Rattle.cell_world.specs.Undo.{AreBytes}
+use Rattle.cell_world.specs.Undo.{AreBytes, undone}
+use Rattle.cell_world.specs.World.{Region}
 use Rattle.cell_mem.specs.declared.memory.Memory.TheInside.{Inside}
 use Rattle.cell_mem.specs.Index.{IsLaid, IsIndex, AreInPlace, held}
 use Rattle.cell_mem.specs.State.{MemoryState}
+use Rattle.cell_mem.specs.Undo.{Noted, UndoState}
+
+-- going back by the records leads to what was there before
+abbrev pub undo_over : List Region → Noted → UndoState
+undo_over regions u = record { left = u.left; journal = u.journal; before = undone regions u.journal }
 
 abbrev pub state_of : Inside → MemoryState
 state_of m =
@@ -14,7 +20,7 @@ state_of m =
       regions = held m.regions.items;
       sealed = m.sealed.items;
       spare = m.spare;
-      undo = m.undo;
+      undo = option_map (undo_over (held m.regions.items)) m.undo;
       patches = m.patches;
       maps = m.maps;
     }

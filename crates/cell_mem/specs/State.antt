@@ -10,7 +10,8 @@
 --     HasWrites m n                     where an undo is begun, so many writes are left
 --     begun_at m n, undone_at m         with an undo begun, and gone back by it
 --     journal_in m                      the records of the begun undo
-use Rattle.std.specs.Prelude.{◌≡◌, ◌≤◌, ℕ, ◌+◌, ◌-◌, ◌*◌, ◌%◌, ◌^◌, ◌==◌, nat_le, Bool, true, false, not, ◌||◌, List, [], ◌∷◌, Option, Some, None, length, filter, find, min, max, replicate, slice_range, option_map, option_and_then, unwrap_or, IfSome}
+--     before_in m                       the regions that it gives back
+use Rattle.std.specs.Prelude.{◌≡◌, ◌≤◌, ℕ, ◌+◌, ◌-◌, ◌*◌, ◌%◌, ◌^◌, ◌==◌, nat_le, Bool, true, false, ◌||◌, List, [], ◌∷◌, Option, Some, None, length, find, min, max, replicate, slice_range, option_map, option_and_then, unwrap_or, IfSome}
 use Rattle.std.specs.List.{list_any, list_all}
 use Rattle.cell_num.specs.Lists.{holds, where_true}
 use Rattle.cell_world.specs.World.{Region, Permission}
@@ -18,9 +19,10 @@ use Rattle.cell_world.specs.Memory.{covers, end_of}
 pub use Rattle.cell_world.specs.Memory.{part_of}
 use Rattle.cell_world.specs.Pages.{filled}
 use Rattle.cell_world.specs.Place.{with_region}
+use Rattle.cell_world.specs.Turn.{without_region}
 use Rattle.cell_world.specs.declared.transfer.Record.{Record}
-use Rattle.cell_world.specs.Undo.{Write, put_in, record_of, undone}
-use Rattle.cell_mem.specs.Undo.{UndoState, begun, noted}
+use Rattle.cell_world.specs.Undo.{Write, put_in, record_of}
+use Rattle.cell_mem.specs.Undo.{UndoState, begun, noted, with_mapped, with_unmapped}
 
 -- regions ascend by their starts; `sealed` has one Bool a byte of the space; `spare` is how many regions
 -- more can be mapped without memory
@@ -94,6 +96,7 @@ mapped m start permission bytes =
     record m {
       regions = with_region (record { start = start; permission = permission; bytes = bytes }) m.regions;
       spare = m.spare - 1;
+      undo = with_mapped (record { start = start; permission = permission; bytes = bytes }) m.undo;
       maps = one_more m.maps;
     }
 
@@ -108,27 +111,29 @@ size_of (Some r) = length r.bytes
 abbrev pub unmapped : MemoryState → ℕ → MemoryState
 unmapped m start =
     record m {
-      regions = filter (λ r. not (r.start == start)) m.regions;
+      regions = without_region start m.regions;
       sealed = filled m.sealed (start - m.base) (size_of (region_from m start)) false;
       spare = m.spare + 1;
+      undo = with_unmapped start m.undo;
     }
 
 abbrev pub reserved : MemoryState → ℕ → MemoryState
 reserved m regions = record m { spare = max m.spare regions }
 
 abbrev pub begun_at : MemoryState → ℕ → MemoryState
-begun_at m writes = record m { undo = Some (begun writes m.patches m.maps) }
+begun_at m writes = record m { undo = Some (begun writes m.regions) }
 
 -- none where no undo is begun
 abbrev pub journal_in : MemoryState → List Record
 journal_in m = unwrap_or (option_map (λ u. u.journal) m.undo) []
 
--- what each write displaced is there again, where it is still mapped, and neither the patches nor the maps count
-abbrev pub undone_by : MemoryState → UndoState → MemoryState
-undone_by m u = record m { regions = undone m.regions u.journal; undo = None; patches = u.patches; maps = u.maps }
+-- those that are there where no undo is begun
+abbrev pub before_in : MemoryState → List Region
+before_in m = unwrap_or (option_map (λ u. u.before) m.undo) m.regions
 
+-- what was patched and mapped meanwhile counts, and what was sealed is so still
 abbrev pub undone_at : MemoryState → MemoryState
-undone_at m = elim m.undo [ None ↦ m | Some u ↦ undone_by m u ]
+undone_at m = record m { regions = before_in m; undo = None }
 
 -- the memory of a space before the first region is mapped
 abbrev pub empty_memory : ℕ → ℕ → MemoryState

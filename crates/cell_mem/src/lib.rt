@@ -13,4 +13,3 @@ mod undo;
 pub use fault::MemFault;
 pub use memory::Memory;
 pub use perm::Perm;
-pub use undo::Undo;

@@ -1,16 +1,17 @@
 //! The memory and its calls.
 
-ghost use Rattle.std.specs.Prelude.{ℕ, ◌≡◌, ◌≢◌, ◌<◌, ◌+◌, ◌*◌, ◌/◌, ◌-◌, ◌≤◌, Some, None, Ok, Err, true, false, length, find, replicate, slice_set, slice_index_or, is_some, option_map, IfSome, IsSomeAnd, IfOk, IfErr, OnOk, OnErr};
+ghost use Rattle.std.specs.Prelude.{ℕ, ◌≡◌, ◌≢◌, ◌<◌, ◌+◌, ◌*◌, ◌/◌, ◌-◌, ◌≤◌, Some, None, Ok, Err, true, false, length, find, map, replicate, slice_set, slice_index_or, is_some, option_map, IfSome, IsSomeAnd, IfOk, IfErr, OnOk, OnErr};
 ghost use Rattle.std.specs.Result.{result_map_both};
 ghost use Rattle.cell_num.specs.Bits.{bytes_of};
 ghost use Rattle.cell_world.specs.Memory.{covers};
 ghost use Rattle.cell_world.specs.Pages.{IsSpace};
+ghost use Rattle.cell_world.specs.Coherent.{shape_of};
 ghost use Rattle.cell_world.specs.Undo.{AreBytes, put_back, put_in, record_of};
 ghost use Rattle.cell_mem.specs.Access.{fetched, loaded, region_for, storable, stored};
 ghost use Rattle.cell_mem.specs.Index.{IsLaid, IsWhole, first_page};
+ghost use Rattle.cell_mem.specs.Inside.{undo_over};
 ghost use Rattle.cell_mem.specs.Perm.{permission_of};
-ghost use Rattle.cell_mem.specs.State.{HasWrites, IsRoom, MemoryState, begun_at, bytes_at, empty_memory, is_sealed, is_width, journal_in, mapped, patched_at, region_from, region_of, region_with, reserved, sealed_at, size_of, undone_at, unmapped, write_at, written_at};
-ghost use Rattle.cell_mem.specs.Undo.{noted};
+ghost use Rattle.cell_mem.specs.State.{HasWrites, IsRoom, MemoryState, before_in, begun_at, bytes_at, empty_memory, is_sealed, is_width, journal_in, mapped, patched_at, region_from, region_of, region_with, reserved, sealed_at, size_of, undone_at, unmapped, write_at, written_at};
 ghost use Rattle.cell_mem.specs.Writing.{HasBytes, put};
 
 use crate::fault::MemFault;
@@ -95,14 +96,14 @@ impl Memory {
         self.pages
     }
 
-    /// How many patches there were, but for those that were undone. The count stands still at its last value.
+    /// How many patches there were, also those that were undone since. The count stands still at its last value.
     pub fn patches(&self) -> u64
         ensures { result ≡ self.now.patches }
     {
         self.patches
     }
 
-    /// How many regions were mapped, but for those of an undo that went back. The count stands still at its last value.
+    /// How many regions were mapped, also those that are gone. The count stands still at its last value.
     pub fn maps(&self) -> u64
         ensures { result ≡ self.now.maps }
     {
@@ -258,20 +259,10 @@ impl Memory {
         }
     }
 
-    /// A begun undo notes what a write is to displace.
-    fn note(&mut self, displaced: Record)
-        requires { HasWrites self.old 1 }
-        ensures { self.new ≡ record self.old { undo = noted displaced self.old.undo } }
-    {
-        match &mut self.undo {
-            Some(undo) => undo.note(displaced),
-            None => {}
-        }
-    }
-
-    /// Puts the number's low bytes in their place, whatever the permission and the seals.
+    /// Puts the number's low bytes in their place, whatever the permission and the seals. No undo notes it.
     fn put(&mut self, addr: u64, width: u8, value: u64)
-        requires { is_some (region_with self.old addr width) ≡ true }
+        requires mapped { is_some (region_with self.old addr width) ≡ true }
+        requires none { self.old.undo ≡ None }
         ensures { self.new ≡ record self.old { regions = put_in self.old.regions (write_at addr width value) } }
     {
         let Some(first) = self.first(addr) else {
@@ -280,17 +271,28 @@ impl Memory {
         write_in(&mut self.regions, first, addr, width, value);
     }
 
-    /// Writes the number's low bytes, whatever the permission and the seals.
+    /// Goes on with an undo that was taken out.
+    fn resume(&mut self, undo: Undo)
+        requires { self.old.undo ≡ None }
+        ensures { self.new ≡ record self.old { undo = Some (undo_over self.old.regions undo) } }
+    {
+        self.undo = Some(undo);
+    }
+
+    /// Writes the number's low bytes, whatever the permission and the seals. A begun undo notes what they displace.
     fn write(&mut self, addr: u64, width: u8, value: u64)
         requires width { is_width width ≡ true }
         requires mapped { is_some (region_with self.old addr width) ≡ true }
         requires undo { HasWrites self.old 1 }
         ensures { self.new ≡ written_at self.old addr width value }
     {
-        if self.undo.is_some() {
-            self.note(self.displaced_by(addr, width));
-        }
+        let Some(mut undo) = self.undo.take() else {
+            self.put(addr, width, value);
+            return;
+        };
+        undo.note(self.displaced_by(addr, width));
         self.put(addr, width, value);
+        self.resume(undo);
     }
 
     /// Writes so many of the number's low bytes, the lowest first, where the region may be written
@@ -384,7 +386,7 @@ impl Memory {
         ensures ok { OnOk result (self.new ≡ begun_at self.old writes) }
         ensures err { OnErr result (self.new ≡ self.old) }
     {
-        self.undo = Some(Undo::of(alloc, writes, self.patches, self.maps)?);
+        self.undo = Some(Undo::of(alloc, writes)?);
         Ok(())
     }
 
@@ -399,8 +401,16 @@ impl Memory {
         }
     }
 
+    /// The regions that the begun undo gives back have the starts, lengths and permissions of those that are there.
+    pub fn keeps_shapes(&self)
+        ensures { map shape_of (before_in self.now) ≡ map shape_of self.now.regions }
+    {
+        let _ = &self.base;
+    }
+
     /// Puts back what a write displaced, where it is still mapped.
     fn put_back(&mut self, displaced: Record)
+        requires { self.old.undo ≡ None }
         ensures { self.new ≡ record self.old { regions = put_back self.old.regions displaced } }
     {
         self.laid_out();
@@ -410,12 +420,13 @@ impl Memory {
         }
     }
 
-    /// Goes back to where the undo was begun: puts back what each write displaced, the last first, and
-    /// what was patched and mapped since doesn't count. Regions that were mapped since stay mapped, and
-    /// what was unmapped stays so. This takes no memory.
+    /// Goes back to where the undo was begun: each region that was there then and still is holds what it
+    /// held. Regions that were mapped since stay mapped, what was unmapped stays so, and all that was
+    /// patched and mapped counts. This takes no memory.
     pub fn undo(&mut self)
         requires { is_some self.old.undo ≡ true }
-        ensures { self.new ≡ undone_at self.old }
+        ensures back { self.new ≡ undone_at self.old }
+        ensures shapes { map shape_of self.new.regions ≡ map shape_of self.old.regions }
     {
         let Some(undo) = self.undo.take() else {
             unreachable!();
@@ -424,8 +435,6 @@ impl Memory {
         for passed in 0..records.len() {
             self.put_back(records[records.len() - 1 - passed]);
         }
-        self.patches = undo.patches();
-        self.maps = undo.maps();
     }
 
     /// Ends the undo: what was written stays. This takes no memory.
@@ -434,25 +443,5 @@ impl Memory {
         ensures { self.new ≡ record self.old { undo = None } }
     {
         self.undo = None;
-    }
-
-    /// Takes the undo out for a while: meanwhile nothing may be written that it is to undo.
-    pub fn suspend_undo(&mut self) -> Undo
-        requires { is_some self.old.undo ≡ true }
-        ensures undo { self.old.undo ≡ Some result }
-        ensures out { self.new ≡ record self.old { undo = None } }
-    {
-        match self.undo.take() {
-            Some(undo) => undo,
-            None => unreachable!(),
-        }
-    }
-
-    /// Goes on with an undo that was taken out.
-    pub fn resume_undo(&mut self, undo: Undo)
-        requires { self.old.undo ≡ None }
-        ensures { self.new ≡ record self.old { undo = Some undo } }
-    {
-        self.undo = Some(undo);
     }
 }

@@ -6,12 +6,12 @@ use Rattle.std.specs.Io.KnownBytes.{Appends}
 use Rattle.cell_io.specs.Written.{AppendsPartOf}
 use Rattle.cell_laws.specs.Counts.{removed_by}
 use Rattle.cell_laws.proofs.Counts.{outcome_counts}
-use Rattle.cell_machine.specs.Does.{State as MachineState, fresh_by}
+use Rattle.cell_machine.specs.Does.{Leaves, Most, State as MachineState, fresh_by}
 use Rattle.cell_machine.specs.Same.{raised}
 use Rattle.cell_print.specs.Lines.{lines_of}
 use Rattle.cell_script.specs.declared.line.Line.{Line}
 use Rattle.cell_system.specs.State.{State}
-use Rattle.cell_system.specs.Step.{IsStep}
+use Rattle.cell_system.specs.Step.{IsStep, counts_of}
 use Rattle.cell_world.specs.declared.command.Command.{Command}
 use Rattle.cell_world.specs.Coherent.{IsCoherent}
 use Rattle.cell_world.specs.Gather.{source_of}
@@ -67,9 +67,16 @@ plainly s t command (Ok reply) coherent step =
     counts_exactly summary.cells (length (fresh_by reply)) (length (removed_by reply)) (length s.machine.world.cells) (length t.machine.world.cells) e adds.counted adds.room)
 plainly s t command (Err refusal) coherent step =
     answered_as s t command (Err refusal)
-    (ap (answered_by s.machine.world) step.answer.0 ∙ ap (λ (m : MachineState). let a : Answered = record { answer = Err refusal; world = m.world } in a) (sym step.answer.1))
+    (ap (answered_by s.machine.world) step.answer.0 ∙ ap (λ (w : World). let a : Answered = record { answer = Err refusal; world = w } in a) (sym (same_world step.answer.1)))
     step.files
-    (λ summary e. e ∙ ap (λ (m : MachineState). length m.world.cells) (sym step.answer.1))
+    (λ summary e. e ∙ ap (λ (w : World). length w.cells) (sym (same_world step.answer.1)))
+  where
+    same_world : Leaves (counts_of (map source_of s.files) s.machine.world command).undone refusal s.machine t.machine → t.machine.world ≡ s.machine.world
+    same_world = left (counts_of (map source_of s.files) s.machine.world command).undone
+      where
+        left : (undone : Option Most) → Leaves undone refusal s.machine t.machine → t.machine.world ≡ s.machine.world
+        left None same = ap (λ (m : MachineState). m.world) same
+        left (Some most) back = back.world
 
 -- after these lines, with these answers
 record ArePlainly (s : State) (lines : List Line) (answers : List Answer) (t : State) : Type 0 where

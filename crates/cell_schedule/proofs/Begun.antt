@@ -20,6 +20,7 @@ use Rattle.cell_num.proofs.Elements.{All-In, In-all}
 use Rattle.cell_lemmas.proofs.Places.{FreeAt, run_at, table_length}
 use Rattle.cell_lemmas.proofs.Tables.{run_clear, table_filled}
 use Rattle.cell_mem.specs.State.{IsRoom, MemoryState, mapped, one_more, reserved}
+use Rattle.cell_mem.specs.Undo.{with_mapped}
 use Rattle.cell_place.specs.declared.search.NoRun.{NoRun}
 use Rattle.cell_place.specs.declared.search.Run.{Run}
 use Rattle.cell_place.specs.Runs.{run_of}
@@ -137,10 +138,10 @@ module _ (m : Machine) (sound : IsSound m) where
           base = sound.base;
           sections = sound.sections;
           seals = sound.seals;
-          undo = sound.undo;
           patches = sound.patches;
           maps = one_low m.memory.maps;
         };
+        undo = ap (with_mapped region) sound.undo;
       }
 
       begun : HasDone (started w entry arg) 1 m (SpawnDone m.tasks.next entry.1) new

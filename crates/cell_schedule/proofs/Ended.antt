@@ -14,6 +14,7 @@ use Rattle.cell_world.specs.Turn.{without_task}
 use Rattle.cell_num.specs.Lists.{In}
 use Rattle.cell_num.proofs.Elements.{found-In, find_there}
 use Rattle.cell_mem.specs.State.{MemoryState, region_from, size_of, unmapped}
+use Rattle.cell_mem.specs.Undo.{with_unmapped}
 use Rattle.cell_place.specs.Space.{SpaceState}
 use Rattle.cell_space.specs.declared.cell.SpaceCell.{SpaceCell}
 use Rattle.cell_space.specs.Joined.{AreJoined, cells_of}
@@ -110,8 +111,8 @@ module _ (old : Machine) (sound : IsSound old) (t : Task) (live : task_of (world
         base = ap (λ (s : SpaceState). s.base) is.space ∙ (sound.base ∙ ap (λ (m : MemoryState). m.base) (sym is.memory));
         sections = is.sections ∙ (sound.sections ∙ ap keys_of (sym is.cells));
         seals = seals_ended;
-        undo = ap (λ (m : MemoryState). m.undo) is.memory ∙ sound.undo;
         patches = subst (λ (n : ℕ). n ≤ 2 ^ 64 - 1) (sym patches_ended) sound.patches;
         maps = subst (λ (n : ℕ). n ≤ 2 ^ 64 - 1) (sym maps_ended) sound.maps;
       };
+      undo = ap (λ (m : MemoryState). m.undo) is.memory ∙ ap (with_unmapped t.stack) sound.undo;
     }

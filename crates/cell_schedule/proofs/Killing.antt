@@ -16,12 +16,12 @@ use Rattle.cell_machine.specs.declared.machine.Machine.{Machine}
 use Rattle.cell_machine.specs.Machine.{IsSound, world_of}
 use Rattle.cell_machine.proofs.Counts.{counts_stand}
 use Rattle.cell_machine.proofs.Unchanged.{same_itself}
-use Rattle.cell_machine.specs.Does.{Does, HasDone}
+use Rattle.cell_machine.specs.Does.{Does, HasDone, no_stack}
 use Rattle.cell_schedule.specs.Ends.{IsEnded}
 use Rattle.cell_schedule.proofs.Ended.{ended_sound, maps_ended, patches_ended, world_ended}
 
 module _ (m : Machine) (sound : IsSound m) (number : ℕ) where
-  pub kill_failed : (fail : Fail) → FailsAs fail (live_task (world_of m) number) → Does (next_kill (world_of m) number) 0 m (Err fail) m
+  pub kill_failed : (fail : Fail) → FailsAs fail (live_task (world_of m) number) → Does (next_kill (world_of m) number) no_stack m (Err fail) m
   kill_failed (Refused refusal) e = (ap (λ o. o >>= (λ t. done (KillDone number) (without_task (world_of m) t))) e, same_itself m)
   kill_failed OutOfMemory e = same_itself m
 

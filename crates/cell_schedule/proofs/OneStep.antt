@@ -17,13 +17,13 @@ use Rattle.cell_task.specs.State.{IsReady}
 use Rattle.cell_machine.specs.declared.machine.Machine.{Machine}
 use Rattle.cell_machine.specs.Machine.{IsSound, world_of}
 use Rattle.cell_machine.proofs.Unchanged.{same_itself}
-use Rattle.cell_machine.specs.Does.{Does, HasDone}
+use Rattle.cell_machine.specs.Does.{Does, HasDone, no_stack}
 use Rattle.cell_schedule.specs.Turns.{HasRun, IsCounted}
 use Rattle.cell_machine.proofs.Counts.{counts_stand}
 
 -- no region is mapped, and the count of maps stands
-pub lacking : (said : Outcome Done) (m : Machine) (fail : Fail) → fail ≡ OutOfMemory → Does said 0 m (Err fail) m
-lacking said m fail e = subst (λ (f : Fail). Does said 0 m (Err f) m) (sym e) (same_itself m)
+pub lacking : (said : Outcome Done) (m : Machine) (fail : Fail) → fail ≡ OutOfMemory → Does said no_stack m (Err fail) m
+lacking said m fail e = subst (λ (f : Fail). Does said no_stack m (Err f) m) (sym e) (same_itself m)
 
 -- a task that may run has no fault
 no_fault : (t : Task) → can_run t ≡ Ok tt → t.fault ≡ None
@@ -34,7 +34,7 @@ no_fault t e = go t.fault e
     go (Some fault) e = cc
 
 module _ (m : Machine) (sound : IsSound m) (number n : ℕ) where
-  pub not_live : (fail : Fail) → FailsAs fail (live_task (world_of m) number) → Does (next_step (world_of m) number n) 0 m (Err fail) m
+  pub not_live : (fail : Fail) → FailsAs fail (live_task (world_of m) number) → Does (next_step (world_of m) number n) no_stack m (Err fail) m
   not_live (Refused refusal) e = (ap (λ o. o >>= (λ t. can_run t >> (let after = turns_of n (world_of m) number in done (StepDone after.run) after.world))) e, same_itself m)
   not_live OutOfMemory e = same_itself m
 
@@ -42,7 +42,7 @@ module _ (m : Machine) (sound : IsSound m) (number n : ℕ) where
     abbrev step_of : next_step (world_of m) number n ≡ (can_run t >> (let after = turns_of n (world_of m) number in done (StepDone after.run) after.world))
     step_of = ap (λ o. o >>= (λ t. can_run t >> (let after = turns_of n (world_of m) number in done (StepDone after.run) after.world))) is
 
-    pub not_ready : (fail : Fail) → FailsAs fail (can_run t) → Does (next_step (world_of m) number n) 0 m (Err fail) m
+    pub not_ready : (fail : Fail) → FailsAs fail (can_run t) → Does (next_step (world_of m) number n) no_stack m (Err fail) m
     not_ready (Refused refusal) e = (step_of ∙ ap (λ o. o >> (let after = turns_of n (world_of m) number in done (StepDone after.run) after.world)) e, same_itself m)
     not_ready OutOfMemory e = same_itself m
 

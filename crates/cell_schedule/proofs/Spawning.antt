@@ -18,7 +18,7 @@ use Rattle.cell_task.specs.State.{TasksState}
 use Rattle.cell_machine.specs.declared.machine.Machine.{Machine}
 use Rattle.cell_machine.specs.Machine.{world_of}
 use Rattle.cell_machine.proofs.Unchanged.{same_itself}
-use Rattle.cell_machine.specs.Does.{Does}
+use Rattle.cell_machine.specs.Does.{Does, one_stack}
 use Rattle.cell_schedule.specs.Starts.{may_start, started}
 
 two_needs : {X : Type 0} (a b : Bool) (r s : Refusal) (more : Outcome X) → (need a r >> (need b s >> more)) ≡ ((need a r >> need b s) >> more)
@@ -47,7 +47,7 @@ module _ (m : Machine) (name symbol : List ℕ) (arg : ℕ) where
       go (Ok ns) = two_needs (nat_lt (length m.tasks.tasks) 64) (nat_le m.tasks.next 65535) (TooMany ManyTasks 64) (TooMany TaskNumbers 65535) (entered ns)
 
   -- a refusal that is said, or want of memory
-  failed : (said : Outcome Done) → next_spawn w name symbol arg ≡ said → (fail : Fail) → FailsAs fail said → Does (next_spawn w name symbol arg) 1 m (Err fail) m
+  failed : (said : Outcome Done) → next_spawn w name symbol arg ≡ said → (fail : Fail) → FailsAs fail said → Does (next_spawn w name symbol arg) one_stack m (Err fail) m
   failed said is (Refused refusal) e = (is ∙ e, same_itself m)
   failed said is OutOfMemory e = same_itself m
 
@@ -59,24 +59,24 @@ module _ (m : Machine) (name symbol : List ℕ) (arg : ℕ) where
   then_fails (Refused refusal) o more e = ap (λ x. x >> more) e
   then_fails OutOfMemory o more e = tt
 
-  pub no_space : (fail : Fail) → FailsAs fail (space_of w name) → Does (next_spawn w name symbol arg) 1 m (Err fail) m
+  pub no_space : (fail : Fail) → FailsAs fail (space_of w name) → Does (next_spawn w name symbol arg) one_stack m (Err fail) m
   no_space fail e = failed (space_of w name >>= (λ ns. may_start m.tasks >> entered ns)) next_is fail (bind_fails fail (space_of w name) (λ ns. may_start m.tasks >> entered ns) e)
 
   module _ (ns : ℕ) (in_space : space_of w name ≡ Ok ns) where
     in_it : next_spawn w name symbol arg ≡ (may_start m.tasks >> entered ns)
     in_it = next_is ∙ ap (λ o. o >>= (λ ns. may_start m.tasks >> entered ns)) in_space
 
-    pub no_room : (fail : Fail) → FailsAs fail (may_start m.tasks) → Does (next_spawn w name symbol arg) 1 m (Err fail) m
+    pub no_room : (fail : Fail) → FailsAs fail (may_start m.tasks) → Does (next_spawn w name symbol arg) one_stack m (Err fail) m
     no_room fail e = failed (may_start m.tasks >> entered ns) in_it fail (then_fails fail (may_start m.tasks) (entered ns) e)
 
     module _ (u : Unit {0}) (roomy : may_start m.tasks ≡ Ok u) where
       roomed : next_spawn w name symbol arg ≡ entered ns
       roomed = in_it ∙ ap (λ o. o >> entered ns) roomy
 
-      pub no_entry : (fail : Fail) → FailsAs fail (found (entry_named w ns symbol) (NoEntry symbol)) → Does (next_spawn w name symbol arg) 1 m (Err fail) m
+      pub no_entry : (fail : Fail) → FailsAs fail (found (entry_named w ns symbol) (NoEntry symbol)) → Does (next_spawn w name symbol arg) one_stack m (Err fail) m
       no_entry fail e = failed (entered ns) roomed fail (bind_fails fail (found (entry_named w ns symbol) (NoEntry symbol)) (λ entry. started w entry arg) e)
 
       -- then all is as it starts
-      pub then_started : (entry : ℕ × ℕ) → found (entry_named w ns symbol) (NoEntry symbol) ≡ Ok entry → (result : Result Reply Fail) (new : Machine) → Does (started w entry arg) 1 m result new → Does (next_spawn w name symbol arg) 1 m result new
+      pub then_started : (entry : ℕ × ℕ) → found (entry_named w ns symbol) (NoEntry symbol) ≡ Ok entry → (result : Result Reply Fail) (new : Machine) → Does (started w entry arg) one_stack m result new → Does (next_spawn w name symbol arg) one_stack m result new
       then_started entry is result new d =
-          subst (λ (said : Outcome Done). Does said 1 m result new) (sym (roomed ∙ ap (λ o. o >>= (λ entry. started w entry arg)) is)) d
+          subst (λ (said : Outcome Done). Does said one_stack m result new) (sym (roomed ∙ ap (λ o. o >>= (λ entry. started w entry arg)) is)) d

@@ -73,10 +73,10 @@ module _ (old : Machine) (sound : IsSound old) where
       base = sound.base;
       sections = sound.sections;
       seals = sound.seals;
-      undo = sound.undo;
       patches = sound.patches;
       maps = sound.maps;
     };
+    undo = sound.undo;
   }
 
   module _ (t : Task) (number : ℕ) (live : live_in old.tasks number ≡ Some t) where

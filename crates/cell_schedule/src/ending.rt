@@ -2,7 +2,7 @@
 
 ghost use Rattle.cell_machine.specs.Machine.{IsSound, world_of};
 ghost use Rattle.cell_world.specs.TaskCommands.{next_kill};
-ghost use Rattle.cell_machine.specs.Does.{Does};
+ghost use Rattle.cell_machine.specs.Does.{Does, no_stack};
 
 use crate::live::live;
 use crate::stack::give_back;
@@ -13,7 +13,7 @@ use std::alloc::Global;
 /// Ends a live task. Its stack is given back at once.
 pub fn kill(alloc: Global, machine: &mut Machine, task: u32) -> Result<Reply, Fail>
     requires { IsSound machine.old }
-    ensures { Does (next_kill (world_of machine.old) task) 0 machine.old result machine.new }
+    ensures { Does (next_kill (world_of machine.old) task) no_stack machine.old result machine.new }
 {
     live(alloc, machine, task)?;
     let stack = machine.tasks.kill(task);

@@ -4,7 +4,7 @@ ghost use Rattle.std.specs.Prelude.{◌≡◌, ◌*◌, ◌≤◌, [], IfOk, fil
 ghost use Rattle.cell_machine.specs.Machine.{IsSound, world_of};
 ghost use Rattle.cell_task.specs.State.{live_in};
 ghost use Rattle.cell_world.specs.TaskCommands.{next_run};
-ghost use Rattle.cell_machine.specs.Does.{Does};
+ghost use Rattle.cell_machine.specs.Does.{Does, no_stack};
 ghost use Rattle.cell_schedule.specs.Rounds.{AreDue, HasGone, HaveRoom, can_turn};
 
 use crate::slice::slice;
@@ -74,7 +74,7 @@ fn run_each(
 /// yields, ends or faults.
 pub fn run(alloc: Global, machine: &mut Machine, turns: u32) -> Result<Reply, Fail>
     requires { IsSound machine.old }
-    ensures { Does (next_run (world_of machine.old) turns) 0 machine.old result machine.new }
+    ensures { Does (next_run (world_of machine.old) turns) no_stack machine.old result machine.new }
 {
     let due = due_tasks(alloc, &machine.tasks, turns)?;
     let runs = Vec::with_capacity(alloc, due.len())?;

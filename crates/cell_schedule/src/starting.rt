@@ -6,7 +6,7 @@ ghost use Rattle.cell_machine.specs.Machine.{IsSound, world_of};
 ghost use Rattle.cell_world.specs.declared.refusal.Refusal.TheVariants.{Exhausted as TooFull};
 ghost use Rattle.cell_world.specs.SpawnCommand.{next_spawn};
 ghost use Rattle.cell_world.specs.World.{cell_of};
-ghost use Rattle.cell_machine.specs.Does.{Does};
+ghost use Rattle.cell_machine.specs.Does.{Does, one_stack};
 ghost use Rattle.cell_schedule.specs.Starts.{entry_as, may_start, started};
 
 use crate::entry::{Entry, entry_for};
@@ -66,7 +66,7 @@ fn start(alloc: Global, machine: &mut Machine, entry: Entry, arg: u64) -> Result
     requires few { length machine.old.tasks.tasks < 64 }
     requires numbers { machine.old.tasks.next ≤ 65535 }
     requires present { is_some (cell_of (world_of machine.old) entry.cell.0) ≡ true }
-    ensures { Does (started (world_of machine.old) (entry_as entry) arg) 1 machine.old result machine.new }
+    ensures { Does (started (world_of machine.old) (entry_as entry) arg) one_stack machine.old result machine.new }
 {
     let bytes = zeros(alloc, STACK_SIZE as usize)?;
     machine.memory.reserve(1)?;
@@ -102,7 +102,7 @@ pub fn spawn(
     arg: u64,
 ) -> Result<Reply, Fail>
     requires { IsSound machine.old }
-    ensures { Does (next_spawn (world_of machine.old) ns.now symbol.now arg) 1 machine.old result machine.new }
+    ensures { Does (next_spawn (world_of machine.old) ns.now symbol.now arg) one_stack machine.old result machine.new }
 {
     let ns = namespace(alloc, &machine.spaces, ns)?;
     check(&machine.tasks)?;

@@ -5,7 +5,7 @@ ghost use Rattle.cell_world.specs.Following.{Follows};
 ghost use Rattle.cell_machine.specs.Machine.{IsSound, world_of};
 ghost use Rattle.cell_task.specs.State.{seen_as};
 ghost use Rattle.cell_world.specs.TaskCommands.{can_run as can_run_as, next_step};
-ghost use Rattle.cell_machine.specs.Does.{Does};
+ghost use Rattle.cell_machine.specs.Does.{Does, no_stack};
 
 use crate::live::live;
 use crate::slice::slice;
@@ -44,7 +44,7 @@ fn can_run(number: u32, task: &Task) -> Result<(), Fail>
 /// Refusals: a number that no live task has, and a task that faulted.
 pub fn step(alloc: Global, machine: &mut Machine, task: u32, turns: u32) -> Result<Reply, Fail>
     requires { IsSound machine.old }
-    ensures { Does (next_step (world_of machine.old) task turns) 0 machine.old result machine.new }
+    ensures { Does (next_step (world_of machine.old) task turns) no_stack machine.old result machine.new }
 {
     can_run(task, live(alloc, machine, task)?)?;
     let out = room(alloc, turns)?;

@@ -33,7 +33,7 @@ use Rattle.cell_load.proofs.Sources.{sources_sound}
 use Rattle.cell_swap.specs.declared.asked.Asked.{Asked}
 use Rattle.cell_swap.specs.Asking.{AreWantsOf, IsWantOf}
 use Rattle.cell_swap.specs.Planning.{IsBegun}
-use Rattle.cell_swap.proofs.OldStates.{aside_like, aside_parts, aside_world}
+use Rattle.cell_swap.proofs.OldStates.{aside_like, aside_parts, aside_undo, aside_world}
 
 is_some_of : {A : Type 0} (o : Option A) (a : A) → o ≡ Some a → IsSome o
 is_some_of None a e = absurd (cc e)
@@ -78,6 +78,9 @@ module _ (files : List File) (asked : Asked) (m : Machine) (b : IsBegun files as
 
   pub parts : AreParts m
   parts = aside_parts b.before asked.replaced.items m b.sound b.aside
+
+  pub no_undo : m.memory.undo ≡ None
+  no_undo = aside_undo b.before asked.replaced.items m b.sound b.aside
 
   pub like : IsLike v m
   like = aside_like b.before asked.replaced.items m b.sound b.aside

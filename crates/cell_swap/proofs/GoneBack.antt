@@ -19,8 +19,7 @@ use Rattle.cell_lemmas.proofs.ShapesLeft.{shapes_left}
 use Rattle.cell_space.specs.Joined.{placed_of}
 use Rattle.cell_commit.specs.Cells.{arrived}
 use Rattle.cell_graph.specs.Moves.{moved}
-use Rattle.cell_mem.specs.State.{HasWrites, MemoryState, begun_at, undone_at, undone_by}
-use Rattle.cell_mem.specs.Undo.{UndoState}
+use Rattle.cell_mem.specs.State.{HasWrites, MemoryState, before_in, begun_at, undone_at}
 use Rattle.cell_task.specs.State.{TasksState}
 use Rattle.cell_machine.specs.declared.machine.Machine.{Machine}
 use Rattle.cell_machine.specs.Machine.{IsSound, world_of}
@@ -35,12 +34,12 @@ use Rattle.cell_graph.specs.Links.{is_bound}
 use Rattle.cell_graph.specs.Removal.{is_used_outside, links_without, sections_without}
 use Rattle.cell_space.specs.Named.{cell_numbered}
 use Rattle.cell_space.specs.declared.cell.SpaceCell.{SpaceCell}
-use Rattle.cell_lemmas.proofs.Undone.{In-with_region, undo_shapes}
+use Rattle.cell_lemmas.proofs.Undone.{In-with_region}
 use Rattle.cell_world.specs.declared.state.SecPlace.{SecPlace}
 use Rattle.cell_swap.specs.declared.planning.Plan.{Plan}
 use Rattle.cell_swap.specs.declared.swapping.Ready.{Ready}
 use Rattle.cell_swap.specs.Back.{CanGoBack}
-use Rattle.cell_swap.specs.Before.{begun_in, suspended}
+use Rattle.cell_swap.specs.Before.{begun_in}
 use Rattle.cell_swap.specs.Swapped.{IsPlanned, IsReadyFor}
 use Rattle.cell_swap.specs.declared.swapping.Options.{Options}
 use Rattle.cell_unload.proofs.AllRemoved.{all_named, can_leave, keys_left, known_left, numbers, places_rise, starts_are, stay, tabled}
@@ -49,14 +48,15 @@ use Rattle.cell_space.specs.Machine.{called}
 use Rattle.cell_commit.specs.Seals.{seal_table}
 use Rattle.cell_mem.specs.Index.{IsLaid}
 use Rattle.cell_place.specs.Space.{SpaceState}
-use Rattle.cell_machine.specs.Same.{IsSame}
-use Rattle.cell_swap.proofs.Suspended.{committable_begun, committed_without}
-use Rattle.cell_swap.proofs.Journals.{end_base, end_pages, gone_back, mid, still_begun, writes_left}
+use Rattle.cell_machine.specs.Same.{IsSame, without_counts}
+use Rattle.cell_swap.proofs.Suspended.{committed_without, suspended}
+use Rattle.cell_swap.proofs.FieldsUndone.{end_base, end_pages, gone_back, mid, still_begun, writes_left}
 use Rattle.cell_swap.proofs.LinksBack.{bound_still, links_of_cells, rows_back, rows_left, unused}
 use Rattle.cell_swap.proofs.MemoryBack.{memory_back, other}
 use Rattle.cell_mem.proofs.LaidApart.{laid_apart}
 use Rattle.cell_swap.proofs.TableBack.{leave_by, tabled_by}
 use Rattle.cell_unload.specs.Removed.{CanGo, IsTaken}
+use Rattle.cell_unload.proofs.Unmapping.{same_maps, same_patches}
 use Rattle.cell_unload.specs.Unmapped.{CanLeave, IsTabled, lost_starts, table_of, without_regions}
 use Rattle.cell_swap.proofs.SwapFinished.{HasAdded, after, committable, below, cells_are, fresh_are, new, old_placed}
 
@@ -108,7 +108,7 @@ numbers_again (n ∷ ns) = ap (λ ms. n ∷ ms) (numbers_again ns)
 module _ (m : Machine) {o : Options} (p : Plan) (x : IsPlanned m o p) (k : Machine) {olds : List CellId} (r : Ready) (y : IsReadyFor m olds o p k r) (count : ℕ) (n : Machine)
     (added : IsCommitted (begun_in k count) (memory_with (begun_in k count).memory r.plan.staged.regions.items r.plan.patches.items) (moved k.graph.rows r.plan.moves.items) (map arrived r.prepared.newcomers.items) r.plan.staged n) where
   pub none : k.memory.undo ≡ None
-  none = ap (λ (s : MemoryState). s.undo) y.same.memory ∙ x.ready.parts.undo
+  none = ap (λ (s : MemoryState). s.undo) y.same.memory ∙ x.ready.undo
 
   pub whole : HasAdded k r (suspended n)
   whole = committed_without k none count r.plan.staged r.plan.patches.items (moved k.graph.rows r.plan.moves.items) (map arrived r.prepared.newcomers.items) n added
@@ -157,13 +157,21 @@ module _ (m : Machine) {o : Options} (p : Plan) (x : IsPlanned m o p) (k : Machi
       ∙ sym x.begun.sound.coherent.ready.regions
       ∙ ap (map shape_of) (sym same_regions)
 
--- an undo keeps where regions lie, and all parts but the bytes
-shapes_undone : (s : MemoryState) → map shape_of (undone_at s).regions ≡ map shape_of s.regions
-shapes_undone s = go s.undo
-  where
-    go : (o : Option UndoState) → map shape_of (elim o as (λ _. MemoryState) [ None ↦ s | Some u ↦ undone_by s u ]).regions ≡ map shape_of s.regions
-    go None = refl
-    go (Some u) = undo_shapes s.regions u.journal
+-- what an undo gives back once routines have run, is what it gave back before, but for the count of their stack
+pub undone_like : (added now last : MemoryState) → now ≡ (record added { regions = now.regions; undo = now.undo; maps = now.maps }) → before_in now ≡ before_in added
+    → last ≡ undone_at now → last ≡ (let m : MemoryState = undone_at added in record m { maps = last.maps })
+undone_like added now last rest same gone =
+    let by : List Region → ℕ → MemoryState = λ rs maps. record added { regions = rs; undo = None; maps = maps } in
+    let was : last ≡ by (before_in added) now.maps =
+    gone ∙ (ap (λ (s : MemoryState). let x : MemoryState = record s { regions = before_in now; undo = None } in x) rest ∙ ap (λ (rs : List Region). by rs now.maps) same) in
+    was ∙ ap (by (before_in added)) (sym (ap (λ (s : MemoryState). s.maps) was))
+
+-- the counts stay where cells are taken away
+pub taken_patches : (a b : Machine) (cells : List CellId) → IsTaken a cells b → b.memory.patches ≡ a.memory.patches
+taken_patches a b cells t = ap (λ (s : MemoryState). s.patches) t.memory ∙ same_patches (lost_starts (all_attached a.cells.items) (map (λ (c : CellId). c.0) cells)) a.memory
+
+pub taken_maps : (a b : Machine) (cells : List CellId) → IsTaken a cells b → b.memory.maps ≡ a.memory.maps
+taken_maps a b cells t = ap (λ (s : MemoryState). s.maps) t.memory ∙ same_maps (lost_starts (all_attached a.cells.items) (map (λ (c : CellId). c.0) cells)) a.memory
 
 In-mapped : (s : MemoryState) (regions : List Region) (r : Region) → In r s.regions → In r (all_mapped s regions).regions
 In-mapped s [] r i = i
@@ -197,38 +205,25 @@ module _ (n : Machine) (back : List LinkRow) (cells : List CellId) (x : CanGoBac
   nothing : k.memory.undo ≡ None
   nothing = none m x.plan_before x.planned k r x.is x.count n x.added
 
-  can : IsCommittable (begun_in k x.count) r.plan.staged r.prepared r.plan.patches.items r.plan.moves.items
-  can = committable_begun k nothing x.count r.plan.staged r.prepared r.plan.patches.items r.plan.moves.items x.enough (committable m x.plan_before x.planned k r x.is)
-
   abbrev before_fields : MemoryState
   before_fields = mid k.memory x.count regions r.plan.patches.items r.plan.staged.fields.items
-
-  apart : each_pair ends_before before_fields.regions ≡ true
-  apart = laid_apart before_fields.base before_fields.regions (before_fields.base + 4096 * before_fields.pages) x.laid
 
   pub still : is_some n.memory.undo ≡ true
   still =
       ap (λ (s : MemoryState). is_some s.undo) x.added.memory
-      ∙ still_begun k.memory x.count regions r.plan.patches.items r.plan.staged.fields.items x.laid apart x.bytes can.change.mapped can.mapped
+      ∙ still_begun k.memory x.count regions r.plan.patches.items r.plan.staged.fields.items
 
   pub turns_left : (more : ℕ) → length r.plan.patches.items + length r.plan.staged.fields.items + more ≤ x.count → HasWrites n.memory more
   turns_left more enough =
       subst (λ (s : MemoryState). HasWrites s more) (sym x.added.memory)
-      (writes_left k.memory x.count regions r.plan.patches.items r.plan.staged.fields.items x.laid apart x.bytes can.change.mapped can.mapped more enough)
+      (writes_left k.memory x.count regions r.plan.patches.items r.plan.staged.fields.items more enough)
 
-  gone : undone_at n.memory ≡ (record n.memory { regions = before_fields.regions; undo = None; patches = k.memory.patches; maps = k.memory.maps })
-  gone =
-      subst (λ (s : MemoryState). undone_at s ≡ (record s { regions = before_fields.regions; undo = None; patches = k.memory.patches; maps = k.memory.maps })) (sym x.added.memory)
-      (gone_back k.memory x.count regions r.plan.patches.items r.plan.staged.fields.items x.laid apart x.bytes can.change.mapped can.mapped)
+  gone : before_in n.memory ≡ before_fields.regions
+  gone = ap before_in x.added.memory ∙ gone_back k.memory x.count regions r.plan.patches.items r.plan.staged.fields.items
 
-  abbrev undone : MemoryState
-  undone = undone_at n.memory
-
-  base_undone : undone.base ≡ n.memory.base
-  base_undone = ap (λ (s : MemoryState). s.base) gone
-
-  pages_undone : undone.pages ≡ n.memory.pages
-  pages_undone = ap (λ (s : MemoryState). s.pages) gone
+  -- the memory that an undo leaves, in which so many regions were mapped
+  abbrev undone : ℕ → MemoryState
+  undone maps = record n.memory { regions = before_in n.memory; undo = None; maps = maps }
 
   fresh_is : numbers cells ≡ numbers_of (new m x.plan_before x.planned k r x.is)
   fresh_is = ap numbers x.fresh_are ∙ numbers_are m x.plan_before x.planned k r x.is x.count n x.added
@@ -273,19 +268,19 @@ module _ (n : Machine) (back : List LinkRow) (cells : List CellId) (x : CanGoBac
       contains_left : (xs ys : List SecKey) (key : SecKey) → Contains xs key → Contains (xs ++ ys) key
       contains_left xs ys key has = (has.0, omega (arith, has.1, length-append xs ys), get_or_append_left xs ys key has.0 has.1 ∙ has.2)
 
-  module _ (a : Machine) (memory : a.memory ≡ undone) (rows : a.graph.rows ≡ moved n.graph.rows back) (sections : a.graph.sections ≡ n.graph.sections) (items : a.cells.items ≡ n.cells.items)
+  module _ (kept : map shape_of (before_in n.memory) ≡ map shape_of n.memory.regions) (a : Machine) (memory : a.memory ≡ undone a.memory.maps) (rows : a.graph.rows ≡ moved n.graph.rows back) (sections : a.graph.sections ≡ n.graph.sections) (items : a.cells.items ≡ n.cells.items)
       (known : a.spaces.cells ≡ n.spaces.cells) (space : a.space ≡ n.space) where
     starts_same : List ℕ
     starts_same = lost_starts (all_attached n.cells.items) (numbers cells)
 
     abbrev shapes_now : map shape_of (suspended n).memory.regions ≡ map shape_of a.memory.regions
-    shapes_now = sym (shapes_undone n.memory) ∙ ap (λ (s : MemoryState). map shape_of s.regions) (sym memory)
+    shapes_now = sym kept ∙ ap (λ (s : MemoryState). map shape_of s.regions) (sym memory)
 
     pub can_go_back : CanGo a cells
     can_go_back = record {
       places = subst (λ (cs : List NewCell). All (λ (c : NewCell). IsTrue (each_pair (λ (f g : SecPlace). nat_lt f.section g.section) c.places)) cs) (sym items) (places_rise (suspended n) s0 cells);
       tabled = subst (IsTabled a.memory) (sym space)
-          (tabled_by (suspended n).memory a.memory n.space (sym (ap (λ (s : MemoryState). s.base) memory ∙ base_undone)) (sym (ap (λ (s : MemoryState). s.pages) memory ∙ pages_undone)) shapes_now (tabled (suspended n) s0 cells));
+          (tabled_by (suspended n).memory a.memory n.space (sym (ap (λ (s : MemoryState). s.base) memory)) (sym (ap (λ (s : MemoryState). s.pages) memory)) shapes_now (tabled (suspended n) s0 cells));
       regions = subst (λ (cs : List NewCell). CanLeave a.memory (lost_starts (all_attached cs) (numbers cells))) (sym items)
           (leave_by (suspended n).memory a.memory (lost_starts (all_attached n.cells.items) (numbers cells)) shapes_now (can_leave (suspended n) s0 cells));
       named = subst (λ (cs : List SpaceCell). All (λ (c : CellId). IsSome (cell_numbered cs c.0)) cells) (sym known) (all_named (suspended n) s0 cells all_present);
@@ -331,9 +326,6 @@ module _ (n : Machine) (back : List LinkRow) (cells : List CellId) (x : CanGoBac
       pages_before : n.memory.pages ≡ k.memory.pages
       pages_before = ap (λ (s : MemoryState). s.pages) x.added.memory ∙ end_pages k.memory x.count regions r.plan.patches.items r.plan.staged.fields.items
 
-      now : (part : MemoryState → ℕ) → part a.memory ≡ part (record n.memory { regions = before_fields.regions; undo = None; patches = k.memory.patches; maps = k.memory.maps })
-      now part = ap part (memory ∙ gone)
-
       seals_before : k.memory.sealed ≡ seal_table k.memory.base (4096 * k.memory.pages) (field_bytes (filter (stay cells) n.cells.items))
       seals_before =
           ap (λ (s : MemoryState). s.sealed) x.is.same.memory
@@ -350,18 +342,22 @@ module _ (n : Machine) (back : List LinkRow) (cells : List CellId) (x : CanGoBac
           ∙ (ap (λ (ids : List CellId). map shape_of (without_cells w0 (numbers ids)).regions) x.fresh_are
           ∙ shapes_again m x.plan_before x.planned k r x.is x.count n x.added)
 
-      back_memory : b.memory ≡ (record k.memory { spare = b.memory.spare })
+      -- the memory of before, with the counts of now
+      abbrev counted : MemoryState
+      counted = record k.memory { patches = a.memory.patches; maps = a.memory.maps }
+
+      back_memory : b.memory ≡ (record counted { spare = b.memory.spare })
       back_memory =
           t.memory
           ∙ (ap (λ (cs : List NewCell). without_regions a.memory (lost_starts (all_attached cs) (numbers cells))) items
-          ∙ (memory_back (suspended n) s0 cells laid_before (starts_are (suspended n) s0 cells) k.memory a.memory (now (λ s. s.base) ∙ base_before) (now (λ s. s.pages) ∙ pages_before) base_before pages_before
-          (ap (λ (s : MemoryState). s.sealed) (memory ∙ gone)) (ap (λ (s : MemoryState). s.undo) (memory ∙ gone) ∙ sym nothing) (now (λ s. s.patches)) (now (λ s. s.maps))
+          ∙ (memory_back (suspended n) s0 cells laid_before (starts_are (suspended n) s0 cells) counted a.memory (ap (λ (s : MemoryState). s.base) memory ∙ base_before) (ap (λ (s : MemoryState). s.pages) memory ∙ pages_before) base_before pages_before
+          (ap (λ (s : MemoryState). s.sealed) memory) (ap (λ (s : MemoryState). s.undo) memory) nothing refl refl
           laid_then (sym shapes_now) shapes_left_now there seals_before
-          ∙ ap (λ (s : MemoryState). let y : MemoryState = record k.memory { spare = s.spare } in y)
+          ∙ ap (λ (s : MemoryState). let y : MemoryState = record counted { spare = s.spare } in y)
           (sym (t.memory ∙ ap (λ (cs : List NewCell). without_regions a.memory (lost_starts (all_attached cs) (numbers cells))) items))))
         where
           there : (q : Region) → In q k.memory.regions → In q a.memory.regions
-          there q i = subst (λ (s : MemoryState). In q s.regions) (sym (memory ∙ gone)) (In-mapped (begun_at k.memory x.count) regions q i)
+          there q i = subst (λ (s : MemoryState). In q s.regions) (sym memory) (subst (λ (rs : List Region). In q rs) (sym gone) (In-mapped (begun_at k.memory x.count) regions q i))
 
       space_back : b.space ≡ k.space
       space_back =
@@ -370,7 +366,7 @@ module _ (n : Machine) (back : List LinkRow) (cells : List CellId) (x : CanGoBac
           (t.tabled.table ∙ (ap table_of back_memory ∙ (ap table_of x.is.same.memory ∙ sym x.planned.ready.parts.table)))
           ∙ sym x.is.same.space
 
-      pub went_back : IsSame k (record b { next = b.next - length cells })
+      pub went_back : IsSame k (without_counts k (record b { next = b.next - length cells }))
       went_back = record {
         cells = t.left ∙ (ap (filter (stay cells)) items ∙ items_left);
         next = numbers_back;
@@ -379,7 +375,7 @@ module _ (n : Machine) (back : List LinkRow) (cells : List CellId) (x : CanGoBac
         known = known_left_now;
         space = space_back;
         spare = b.memory.spare;
-        memory = back_memory;
+        memory = ap (λ (s : MemoryState). let y : MemoryState = record s { patches = k.memory.patches; maps = k.memory.maps } in y) back_memory;
         sections = t.sections ∙ (ap (sections_without cells) (sections ∙ s0.sections) ∙ (keys_left cells n.cells.items ∙ (ap keys_of items_left ∙ sym keys_before)));
         rows = t.rows
             ∙ (ap (links_without cells) (rows ∙ rows_are)

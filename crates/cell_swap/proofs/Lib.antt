@@ -19,7 +19,7 @@ pub mod SwapRuns
 pub mod SwapFinished
 pub mod SwapExchanged
 pub mod SwapAnswered
-pub mod Journals
+pub mod FieldsUndone
 pub mod RowsBack
 pub mod MemoryBack
 pub mod TableBack
@@ -29,6 +29,7 @@ pub mod LinksBack
 pub mod SwapEnded
 pub mod Tried
 pub mod SwapLeft
+mod Late
 pub mod LinksBefore
 mod BeginsPlain
 mod RoutinesRun

@@ -1,5 +1,5 @@
 -- The memory once the regions of the new cells are gone again.
-use Rattle.std.proofs.Common.{◌≡◌, refl, sym, ap, subst, ◌∙◌, arith, ℕ, ◌+◌, ◌-◌, ◌*◌, ◌<◌, Bool, true, false, not, List, [], ◌∷◌, Option, length, map}
+use Rattle.std.proofs.Common.{◌≡◌, refl, sym, ap, subst, ◌∙◌, arith, ℕ, ◌+◌, ◌-◌, ◌*◌, ◌<◌, Bool, true, false, not, List, [], ◌∷◌, Option, None, length, map}
 use Rattle.std.specs.Prelude.{filter, ◌==◌}
 use Rattle.cell_num.specs.Lists.{holds, In}
 use Rattle.cell_num.specs.declared.ids.CellId.{CellId}
@@ -20,7 +20,7 @@ use Rattle.cell_unload.specs.Unmapped.{CanLeave, lost_starts, without_regions}
 use Rattle.cell_unload.proofs.AllRemoved.{can_leave, numbers, stay}
 use Rattle.cell_mem.proofs.LaidApart.{laid_apart, laid_some, lies_in, same_sizes}
 use Rattle.cell_unload.proofs.SealsLeft.{seals_after, table_long}
-use Rattle.cell_unload.proofs.Unmapping.{IsWell, regions_left, same_base, same_maps, same_pages, same_patches, same_undo}
+use Rattle.cell_unload.proofs.Unmapping.{IsWell, regions_left, same_base, same_maps, same_pages, same_patches, no_undo}
 
 -- what hangs on the shapes of regions alone
 other_shapes : (start : ℕ) (xs ys : List Region) → map shape_of xs ≡ map shape_of ys
@@ -83,7 +83,7 @@ module _ (n : Machine) (sound : IsSound n) (cells : List CellId) (laid : IsLaid 
 
     -- the memory before the cells, the memory when their fields were undone, and its regions
     module _ (old u : MemoryState) (base : u.base ≡ old.base) (pages : u.pages ≡ old.pages) (same_memory : n.memory.base ≡ old.base) (same_size : n.memory.pages ≡ old.pages)
-        (sealed : u.sealed ≡ n.memory.sealed) (undo : u.undo ≡ old.undo) (patches : u.patches ≡ old.patches) (maps : u.maps ≡ old.maps)
+        (sealed : u.sealed ≡ n.memory.sealed) (none : u.undo ≡ None) (old_none : old.undo ≡ None) (patches : u.patches ≡ old.patches) (maps : u.maps ≡ old.maps)
         (u_laid : IsLaid u.base u.regions (u.base + 4096 * u.pages)) (shapes : map shape_of u.regions ≡ map shape_of n.memory.regions)
         (left : map shape_of (filter other n.memory.regions) ≡ map shape_of old.regions) (there : (r : Region) → In r old.regions → In r u.regions)
         (seals : old.sealed ≡ seal_table old.base (4096 * old.pages) (field_bytes (filter (stay cells) n.cells.items))) where
@@ -109,6 +109,6 @@ module _ (n : Machine) (sound : IsSound n) (cells : List CellId) (laid : IsLaid 
           ∙ ap (λ rs. by old.base old.pages rs after.sealed after.undo after.patches after.maps)
           (regions_left starts u ∙ regions_back u.base (u.base + 4096 * u.pages) u.regions old u_laid shapes left there)
           ∙ ap (λ marks. by old.base old.pages old.regions marks after.undo after.patches after.maps) seals_back
-          ∙ ap (λ o. by old.base old.pages old.regions old.sealed o after.patches after.maps) (same_undo starts u ∙ undo)
+          ∙ ap (λ o. by old.base old.pages old.regions old.sealed o after.patches after.maps) (no_undo starts u none ∙ sym old_none)
           ∙ ap (λ count. by old.base old.pages old.regions old.sealed old.undo count after.maps) (same_patches starts u ∙ patches)
           ∙ ap (λ mapped. by old.base old.pages old.regions old.sealed old.undo old.patches mapped) (same_maps starts u ∙ maps)

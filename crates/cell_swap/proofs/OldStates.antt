@@ -1,5 +1,5 @@
 -- Old cells put aside, as cells of the machine.
-use Rattle.std.proofs.Common.{◌≡◌, refl, sym, ◌∙◌, ap, ap₂, arith, ℕ, suc, ◌+◌, Bool, true, false, cond, List, map}
+use Rattle.std.proofs.Common.{◌≡◌, refl, sym, ◌∙◌, ap, ap₂, arith, ℕ, suc, ◌+◌, Bool, true, false, cond, None, List, map}
 use Rattle.cell_num.specs.declared.ids.CellId.{CellId}
 use Rattle.cell_world.specs.declared.state.Namespace.{Namespace}
 use Rattle.cell_world.specs.UnloadCommand.{detach, put_aside}
@@ -99,10 +99,12 @@ module _ (before : Machine) (old : List CellId) (m : Machine) (sound : IsSound b
     base = sound.base;
     sections = sound.sections;
     seals = sound.seals;
-    undo = sound.undo;
     patches = sound.patches;
     maps = sound.maps;
   })
+
+  pub aside_undo : m.memory.undo ≡ None
+  aside_undo = ap (λ (x : MemoryState). x.undo) aside.memory ∙ sound.undo
 
   pub aside_like : IsLike w m
   aside_like = record {

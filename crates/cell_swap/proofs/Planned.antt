@@ -47,7 +47,7 @@ use Rattle.cell_plan.specs.Exchanged.{IsChange, patches_of}
 use Rattle.cell_plan.specs.Staying.{is_user}
 use Rattle.cell_swap.specs.declared.asked.Asked.{Asked}
 use Rattle.cell_swap.specs.Planning.{IsBegun, IsGatheredFor, view_with}
-use Rattle.cell_swap.proofs.Began.{are, aside_is, h, like, old, parts, sources, u, v, wants}
+use Rattle.cell_swap.proofs.Began.{are, aside_is, h, like, no_undo, old, parts, sources, u, v, wants}
 use Rattle.cell_swap.proofs.Changing.{W, W_is, fits, moves_are, patches_are, placed, runs, stays_by, taken}
 use Rattle.cell_swap.proofs.Covered.{G}
 use Rattle.cell_swap.proofs.MovesLead.{moves as moves_in, moves_apart, moves_bound, moves_lead, moves_present}
@@ -122,6 +122,7 @@ module _ (files : List File) (asked : Asked) (m : Machine) (b : IsBegun files as
           coherent = h files asked m b;
           like = like files asked m b;
           parts = parts files asked m b;
+          undo = no_undo files asked m b;
           planned = record {
             new = new_cells g;
             staged = st;

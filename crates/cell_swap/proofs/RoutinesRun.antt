@@ -50,7 +50,7 @@ use Rattle.cell_schedule.proofs.Marks.{marks_are_fields}
 use Rattle.cell_schedule.proofs.Unsealed.{unsealed}
 use Rattle.cell_xfer.specs.Carried.{said, with_zeros}
 use Rattle.cell_xfer.proofs.AlikeTransfer.{transferred_alike}
-use Rattle.cell_swap.specs.Before.{suspended}
+use Rattle.cell_swap.proofs.Suspended.{suspended}
 use Rattle.cell_swap.proofs.TableBack.{same_table}
 
 -- regions apart, in a space
@@ -249,10 +249,10 @@ module _ (n : Machine) (sound : IsSound (suspended n)) (stack : ℕ) (run : star
           seals =
               ap (λ (x : MemoryState). x.sealed) rest
               ∙ (sound.seals ∙ ap₂ (λ (b k : ℕ). seal_table b (4096 * k) (field_bytes n.cells.items)) (sym (ap (λ (x : MemoryState). x.base) rest)) (sym (ap (λ (x : MemoryState). x.pages) rest)));
-          undo = refl;
           patches = subst (λ k. k ≤ 2 ^ 64 - 1) (sym (ap (λ (x : MemoryState). x.patches) rest)) sound.patches;
           maps = let e = ap (λ (x : MemoryState). x.maps) rest in omega (arith, e);
         };
+        undo = refl;
       }
 
       -- what the definition says of them

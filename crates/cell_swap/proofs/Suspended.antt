@@ -6,19 +6,50 @@ use Rattle.cell_world.specs.declared.state.LinkRow.{LinkRow}
 use Rattle.cell_link.specs.declared.value.FieldValue.{FieldValue}
 use Rattle.cell_commit.specs.Commit.{AreRoom, IsMapped, all_mapped, field_patched, field_written, fields_patched, fields_written, mapped_one}
 use Rattle.cell_mem.specs.State.{IsRoom, MemoryState, begun_at}
-use Rattle.cell_mem.specs.Undo.{UndoState}
+use Rattle.cell_mem.specs.Undo.{UndoState, with_mapped}
 use Rattle.cell_space.specs.declared.cell.SpaceCell.{SpaceCell}
 use Rattle.cell_machine.specs.declared.machine.Machine.{Machine}
 use Rattle.cell_machine.specs.declared.staged.Staged.{Staged}
+use Rattle.cell_machine.specs.Machine.{IsSound, IsWhole}
 use Rattle.cell_machine.specs.Staged.{IsCommitted}
-use Rattle.cell_swap.specs.Before.{begun_in, suspended, with_undo}
+use Rattle.cell_swap.specs.Before.{begun_in}
 use Rattle.cell_load.specs.declared.prepared.Prepared.{Prepared}
+use Rattle.cell_unload.specs.declared.outlook.Outlook.{Outlook}
+use Rattle.cell_unload.specs.declared.survey.Survey.{Survey}
+use Rattle.cell_unload.specs.Sweep.{IsOutlook, IsSurvey}
 use Rattle.cell_load.specs.Adding.{IsCommittable, memory_with}
 
--- mapping leaves the undo as it is, and is left by it
-pub mapped_with : (o : Option UndoState) (m : MemoryState) (regions : List Region) → all_mapped (with_undo o m) regions ≡ with_undo o (all_mapped m regions)
-mapped_with o m [] = refl
-mapped_with o m (r ∷ regions) = mapped_with o (mapped_one m r) regions
+abbrev pub with_undo : Option UndoState → MemoryState → MemoryState
+with_undo o m = record m { undo = o }
+
+-- the machine with no undo begun
+abbrev pub suspended : Machine → Machine
+suspended m = record m { memory = with_undo None m.memory }
+
+pub whole_suspended : (m : Machine) → IsWhole m → IsWhole (suspended m)
+whole_suspended m w = record {
+  coherent = w.coherent;
+  parts = record { joined = w.joined; table = w.table; base = w.base; sections = w.sections; seals = w.seals; patches = w.patches; maps = w.maps };
+}
+
+pub whole_again : (m : Machine) → IsSound (suspended m) → IsWhole m
+whole_again m s = record {
+  coherent = s.coherent;
+  parts = record { joined = s.joined; table = s.table; base = s.base; sections = s.sections; seals = s.seals; patches = s.patches; maps = s.maps };
+}
+
+pub outlook_again : (m : Machine) (o : Outlook) → IsOutlook (suspended m) [] o → IsOutlook m [] o
+outlook_again m o l = record { sections = l.sections; attached = l.attached; claims = l.claims; present = l.present }
+
+pub survey_suspended : (m : Machine) (s : Survey) → IsSurvey m [] s → IsSurvey (suspended m) [] s
+survey_suspended m s y = record {
+  outlook = record { sections = y.sections; attached = y.attached; claims = y.claims; present = y.present };
+  kept = y.kept;
+}
+
+mapped_without : (m : MemoryState) (regions : List Region) → with_undo None (all_mapped m regions) ≡ all_mapped (with_undo None m) regions
+mapped_without m [] = refl
+mapped_without m (r ∷ regions) = mapped_without (mapped_one m r) regions
 
 pub room_with : (o : Option UndoState) (m : MemoryState) (regions : List Region) → AreRoom m regions → AreRoom (with_undo o m) regions
 room_with o m [] h = tt
@@ -32,7 +63,7 @@ room_with o m (r ∷ regions) h = (
     apart = h.0.apart;
     spare = h.0.spare;
   } in room,
-  room_with o (mapped_one m r) regions h.1,
+  room_with (with_mapped (record { start = r.start; permission = r.permission; bytes = r.bytes }) o) (mapped_one m r) regions h.1,
 )
 
 patched_without : (m : MemoryState) (fields : List FieldValue) → with_undo None (fields_patched m fields) ≡ fields_patched (with_undo None m) fields
@@ -53,7 +84,7 @@ module _ (m : MemoryState) (none : m.undo ≡ None) (count : ℕ) where
       written_without (memory_with (begun_at m count) regions patches) fields
       ∙ ap (λ (x : MemoryState). fields_written x fields)
       (patched_without (all_mapped (begun_at m count) regions) patches
-      ∙ ap (λ (x : MemoryState). fields_patched x patches) (sym (mapped_with None (begun_at m count) regions) ∙ ap (λ (x : MemoryState). all_mapped x regions) plain))
+      ∙ ap (λ (x : MemoryState). fields_patched x patches) (mapped_without (begun_at m count) regions ∙ ap (λ (x : MemoryState). all_mapped x regions) plain))
 
 module _ (k : Machine) (none : k.memory.undo ≡ None) (count : ℕ) where
   pub committed_without : (s : Staged) (patches : List FieldValue) (links : List LinkRow) (newcomers : List SpaceCell) (n : Machine)
@@ -74,15 +105,19 @@ module _ (k : Machine) (none : k.memory.undo ≡ None) (count : ℕ) where
   pub committable_begun : (s : Staged) (p : Prepared) (patches : List FieldValue) (moves : List LinkRow) → length patches + length s.fields.items ≤ count
       → IsCommittable k s p patches moves → IsCommittable (begun_in k count) s p patches moves
   committable_begun s p patches moves enough c =
-      let mapped = mapped_with (begun_at k.memory count).undo k.memory s.regions.items in
+      let then = all_mapped (begun_at k.memory count) s.regions.items in
+      let same : all_mapped k.memory s.regions.items ≡ with_undo None then =
+      sym (mapped_without (begun_at k.memory count) s.regions.items ∙ ap (λ (x : MemoryState). all_mapped x s.regions.items) (plain k.memory none count)) in
+      let fields : All (IsMapped then) s.fields.items = subst (λ (x : MemoryState). All (IsMapped x) s.fields.items) same c.mapped in
+      let changes : All (IsMapped then) patches = subst (λ (x : MemoryState). All (IsMapped x) patches) same c.change.mapped in
       record {
         sections = c.sections;
         room = record { cells = c.room.cells; regions = c.room.regions; sections = c.room.sections; rows = c.room.rows; newcomers = c.room.newcomers; names = c.room.names };
         regions = room_with (begun_at k.memory count).undo k.memory s.regions.items c.regions;
-        mapped = subst (λ (x : MemoryState). All (IsMapped x) s.fields.items) (sym mapped) c.mapped;
+        mapped = fields;
         undo = enough;
         change = record {
-          mapped = subst (λ (x : MemoryState). All (IsMapped x) patches) (sym mapped) c.change.mapped;
+          mapped = changes;
           bound = c.change.bound;
           apart = c.change.apart;
           present = c.change.present;

@@ -25,9 +25,10 @@ use Rattle.cell_space.specs.declared.cell.SpaceCell.{SpaceCell}
 use Rattle.cell_space.specs.Machine.{state_of}
 use Rattle.cell_space.specs.Named.{cell_numbered}
 use Rattle.cell_machine.specs.declared.machine.Machine.{Machine}
-use Rattle.cell_machine.specs.Does.{Does, new_runs, patched_by}
+use Rattle.cell_machine.specs.Does.{Counts, Does, HasRisen, Most, counted_before, new_runs, patched_by}
 use Rattle.cell_machine.specs.Machine.{IsSound, world_of}
-use Rattle.cell_machine.specs.Same.{IsSame, raised}
+use Rattle.cell_machine.specs.Same.{IsSame, raised, without_counts}
+use Rattle.cell_machine.proofs.Same.{counts_same, maps_same, patches_same, same_counted, world_same}
 use Rattle.cell_machine.proofs.States.{known_at}
 use Rattle.cell_machine.proofs.Unchanged.{same_itself}
 use Rattle.cell_lemmas.proofs.SwapGathered.{IsWanted, wanted_all}
@@ -36,7 +37,9 @@ use Rattle.cell_swap.specs.Asking.{AreAsked}
 use Rattle.cell_swap.specs.OldCells.{AreThere, CanReturn, IsAside}
 use Rattle.cell_swap.specs.Planning.{IsBegun}
 use Rattle.cell_swap.specs.Swapped.{Exchanges, HasExchanged, ended}
+use Rattle.cell_swap.specs.Counted.{most_by, swap_counts}
 use Rattle.cell_swap.specs.Transferring.{stacks_for}
+use Rattle.cell_swap.proofs.Late.{unrisen}
 use Rattle.cell_swap.specs.declared.swapping.Options.{Options}
 use Rattle.cell_swap.proofs.SwapLanded.{unasked}
 
@@ -44,8 +47,8 @@ attached_state : (standing : Standing) → is_attached standing ≡ true → sta
 attached_state IsAttached e = refl
 attached_state (IsDetached k) e = cc
 
--- the old cells stand aside also where there is other room
-pub aside_same : (before : Machine) (old : List CellId) (m n : Machine) → IsAside before old m → IsSame m n → IsAside before old n
+-- the old cells stand aside also where there is other room and counts have risen
+pub aside_same : (before : Machine) (old : List CellId) (m n : Machine) → IsAside before old m → IsSame m (without_counts m n) → IsAside before old (without_counts before n)
 aside_same before old m n aside same = record {
   cells = same.cells ∙ aside.cells;
   next = same.next ∙ aside.next;
@@ -54,7 +57,9 @@ aside_same before old m n aside same = record {
   known = same.known ∙ aside.known;
   space = same.space ∙ aside.space;
   spare = same.spare;
-  memory = same.memory ∙ ap (λ (s : MemoryState). record s { spare = same.spare }) aside.memory;
+  memory =
+      ap (λ (s : MemoryState). let x : MemoryState = record s { patches = before.memory.patches; maps = before.memory.maps } in x) same.memory
+      ∙ ap (λ (s : MemoryState). let x : MemoryState = record s { spare = same.spare; patches = before.memory.patches; maps = before.memory.maps } in x) aside.memory;
   sections = same.sections ∙ aside.sections;
   rows = same.rows ∙ aside.rows;
   tasks = same.tasks ∙ aside.tasks;
@@ -126,28 +131,59 @@ module _ (files : List File) (before : Machine) (sound : IsSound before) (items 
         go (Err r) e = refused r e
 
     -- an item names nothing
-    pub not_asked : (fail : Fail) → FailsAs fail (all_wanted sources w items) → Does said (stacks_for words) before (Err fail) before
-    not_asked (Refused r) e = (refused r (unasked sources w items o.reexport words r e), same_itself before)
+    abbrev counts : Counts
+    counts = swap_counts sources w items o.reexport words
+
+    abbrev most : Most
+    most = most_by (plan_swap sources w items o.reexport words) (stacks_for words)
+
+    pub not_asked : (fail : Fail) → FailsAs fail (all_wanted sources w items) → Does said counts before (Err fail) before
+    not_asked (Refused r) e = (
+      refused r (unasked sources w items o.reexport words r e),
+      (
+        counts_same before before (same_itself before),
+        record {
+          world = refl;
+          patches = unrisen (counted_before r most).patches before.memory.patches sound.patches;
+          maps = unrisen (counted_before r most).maps before.memory.maps sound.maps;
+        },
+      ),
+    )
     not_asked OutOfMemory e = same_itself before
 
     module _ (asked : Asked) (found : AreAsked sources w items asked) (small : All (λ f. length f.bytes ≤ max_file_bytes) files) (some : 0 < length items) (m : Machine) (aside : IsAside before asked.replaced.items m) where
       abbrev pub begun : IsBegun files asked m
       begun = record { before = before; sound = sound; small = small; items = items; some = some; found = found; aside = aside }
 
-      pub same_then : (fail : Fail) (n : Machine) → Exchanges files asked m begun o (Err fail) n → IsSame m n
-      same_then (Refused r) n e = e.1
-      same_then OutOfMemory n e = e
+      pub same_then : (fail : Fail) (n : Machine) → Exchanges files asked m begun o (Err fail) n → IsSame m (without_counts m n)
+      same_then (Refused r) n e = e.1.0
+      same_then OutOfMemory n e = counts_same m n e
 
       -- the old cells may be taken back
-      pub can_return : (n : Machine) → IsSame m n → CanReturn n asked.replaced.items
+      pub can_return : (n : Machine) → IsSame m (without_counts m n) → CanReturn n asked.replaced.items
       can_return n same = record { before = before; sound = sound; there = old_there asked found; aside = aside_same before asked.replaced.items m n aside same }
 
       -- they were
-      pub taken_back : (fail : Fail) (n last : Machine) → Exchanges files asked m begun o (Err fail) n → IsSame before last → Does said (stacks_for words) before (Err fail) last
-      taken_back (Refused r) n last e same = (by_exchange ∙ ap (λ (x : Outcome (SwapPlan × World)). x >>= answer) e.0, same)
-      taken_back OutOfMemory n last e same = same
+      pub taken_back : (fail : Fail) (n last : Machine) → Exchanges files asked m begun o (Err fail) n → IsSame before (without_counts before last) → last.memory ≡ n.memory → Does said counts before (Err fail) last
+      taken_back (Refused r) n last e same memory = (
+        by_exchange ∙ ap (λ (x : Outcome (SwapPlan × World)). x >>= answer) e.0,
+        (
+          same,
+          record {
+            world = world_same before (without_counts before last) same;
+            patches = subst (λ (s : MemoryState). HasRisen (counted_before r most).patches before.memory.patches s.patches) (sym memory)
+                (subst (λ (k : ℕ). HasRisen (counted_before r most).patches k n.memory.patches) (ap (λ (s : MemoryState). s.patches) aside.memory) e.1.1.patches);
+            maps = subst (λ (s : MemoryState). HasRisen (counted_before r most).maps before.memory.maps s.maps) (sym memory)
+                (subst (λ (k : ℕ). HasRisen (counted_before r most).maps k n.memory.maps) (ap (λ (s : MemoryState). s.maps) aside.memory) e.1.1.maps);
+          },
+        ),
+      )
+      taken_back OutOfMemory n last e same memory =
+          same_counted before last same
+          (ap (λ (s : MemoryState). s.patches) memory ∙ (patches_same m n e ∙ ap (λ (s : MemoryState). s.patches) aside.memory))
+          (ap (λ (s : MemoryState). s.maps) memory ∙ (maps_same m n e ∙ ap (λ (s : MemoryState). s.maps) aside.memory))
 
-      pub swap_done : (reply : Reply) (n : Machine) → HasExchanged files asked m begun o reply n → Does said (stacks_for words) before (Ok reply) n
+      pub swap_done : (reply : Reply) (n : Machine) → HasExchanged files asked m begun o reply n → Does said counts before (Ok reply) n
       swap_done reply n x = record {
         sound = x.swapped.sound;
         is = record {

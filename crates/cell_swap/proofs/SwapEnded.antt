@@ -10,7 +10,6 @@ use Rattle.cell_world.specs.Place.{page_table, start_of_run}
 use Rattle.cell_world.specs.SwapCommand.{Wanted, addresses_of, first_held_old, with_transfer}
 use Rattle.cell_world.specs.SwapTransfer.{Begin, addresses_in, transferred_by}
 use Rattle.cell_world.specs.Transfer.{Addresses, transfer}
-use Rattle.cell_world.specs.Undo.{AreBytes}
 use Rattle.cell_world.specs.World.{Cell, World}
 use Rattle.cell_world.specs.Names.{names_of}
 use Rattle.cell_world.specs.declared.refusal.Refusal.{Refusal}
@@ -24,7 +23,8 @@ use Rattle.cell_lemmas.proofs.Appended.{ok_same}
 use Rattle.cell_num.proofs.Elements.{In-All}
 use Rattle.cell_lemmas.specs.Loads.{Taken, placed_cells}
 use Rattle.cell_world.specs.Pages.{filled}
-use Rattle.cell_commit.specs.Commit.{IsLaidOut, all_mapped, field_patched, fields_patched}
+use Rattle.cell_world.specs.Coherent.{shape_of}
+use Rattle.cell_commit.specs.Commit.{all_mapped, field_patched, fields_patched}
 use Rattle.cell_commit.proofs.Mapping.{mapped_spare}
 use Rattle.cell_commit.proofs.Writing.{written_spare}
 use Rattle.cell_layout.specs.Placing.{extra_start}
@@ -39,7 +39,7 @@ use Rattle.cell_machine.specs.Same.{raised}
 use Rattle.cell_machine.specs.declared.machine.Machine.{Machine}
 use Rattle.cell_machine.specs.Machine.{IsSound, world_of}
 use Rattle.cell_mem.specs.Index.{IsLaid}
-use Rattle.cell_mem.specs.State.{HasWrites, MemoryState, begun_at, undone_at}
+use Rattle.cell_mem.specs.State.{HasWrites, MemoryState, before_in, begun_at}
 use Rattle.cell_place.specs.Space.{SpaceState}
 use Rattle.cell_routines.specs.Begins.{begin_as}
 use Rattle.cell_routines.specs.Placed.{entry_among, routines_among}
@@ -50,15 +50,15 @@ use Rattle.cell_xfer.specs.declared.carrying.Transfer.{Transfer}
 use Rattle.cell_swap.specs.declared.planning.Plan.{Plan}
 use Rattle.cell_swap.specs.declared.swapping.Ready.{Ready}
 use Rattle.cell_swap.specs.Back.{CanGoBack}
-use Rattle.cell_swap.specs.Before.{AreAsTheyWere, begun_in, suspended, with_undo}
+use Rattle.cell_swap.specs.Before.{AreAsTheyWere, begun_in}
 use Rattle.cell_swap.specs.Entering.{IsEntered, IsOpen}
-use Rattle.cell_swap.specs.Swapped.{CanFinish, ended}
+use Rattle.cell_swap.specs.Swapped.{CanFinish, HasCounted, ended}
 use Rattle.cell_swap.specs.Transferring.{CanRun, Gives, HasRun, IsGiven, new_rows, old_rows, pages_for, stacks_for, turns_in}
 use Rattle.cell_swap.proofs.AddressesSaid.{new_said, old_said}
 use Rattle.cell_swap.proofs.Began.{sources, v, wants}
 use Rattle.cell_swap.proofs.GoneBack.{sound, still, turns_left, whole}
 use Rattle.cell_swap.proofs.RoutinesRun.{room, sound_after, transfer_done, transfer_failed, unsealed_stack}
-use Rattle.cell_swap.proofs.Suspended.{committable_begun}
+use Rattle.cell_swap.proofs.Suspended.{committable_begun, outlook_again, suspended, whole_again, with_undo}
 use Rattle.cell_swap.proofs.SwapFinished.{HasAdded, added as is_added, cells_are, committable, fresh_is, has_added, linked, looked, maps_are, patches_are}
 
 -- a stack in the lowest free run
@@ -141,7 +141,7 @@ module _ {first : Machine} {old : List CellId} {r : Ready} (q : CanFinish first 
   fields_fit = omega (arith, enough)
 
   none_before : k.memory.undo ≡ None
-  none_before = ap (λ (s : MemoryState). s.undo) q.ready.same.memory ∙ q.is.ready.parts.undo
+  none_before = ap (λ (s : MemoryState). s.undo) q.ready.same.memory ∙ q.is.ready.undo
 
   pub can_commit : (patches : List FieldValue) (moves : List LinkRow) → patches ≡ r.plan.patches.items → moves ≡ r.plan.moves.items → IsCommittable first r.plan.staged r.prepared patches moves
   can_commit patches moves a b =
@@ -193,8 +193,7 @@ module _ {first : Machine} {old : List CellId} {r : Ready} (q : CanFinish first 
         let same = ap (λ (x : Plan). length x.staged.regions.items) q.ready.plan in
         omega (arith, all, fields, patches, regions, fits, same)
 
-    module _ (laid : IsLaidOut (all_mapped first.memory r.plan.staged.regions.items)) (bytes : AreBytes (all_mapped first.memory r.plan.staged.regions.items).regions)
-        (now_laid : IsLaid n.memory.base n.memory.regions (n.memory.base + 4096 * n.memory.pages)) where
+    module _ (now_laid : IsLaid n.memory.base n.memory.regions (n.memory.base + 4096 * n.memory.pages)) (kept : map shape_of (before_in n.memory) ≡ map shape_of n.memory.regions) where
       abbrev can_go_back : CanGoBack n r.links_before.items r.fresh
       can_go_back = record {
         before = m;
@@ -208,8 +207,6 @@ module _ {first : Machine} {old : List CellId} {r : Ready} (q : CanFinish first 
         count = r.writes;
         enough = fields_fit;
         added = added;
-        laid = subst (λ (y : Machine). IsLaidOut (all_mapped y.memory r.plan.staged.regions.items)) q.begun laid;
-        bytes = subst (λ (y : Machine). AreBytes (all_mapped y.memory r.plan.staged.regions.items).regions) q.begun bytes;
         links = links_then;
         fresh_are = refl;
       }
@@ -291,7 +288,9 @@ module _ {first : Machine} {old : List CellId} {r : Ready} (q : CanFinish first 
         is : with_transfer q.is.plan words budget ≡ Ok (world_of (suspended (record n { memory = s })))
 
       record Ran (result : Result (Unit {0}) Refusal) (s : MemoryState) : Type 0 where
-        back : undone_at s ≡ undone_at n.memory
+        back : before_in s ≡ before_in n.memory
+        rest : s ≡ record n.memory { regions = s.regions; undo = s.undo; maps = s.maps }
+        maps : s.maps ≡ raised n.memory.maps (stacks_for words)
         begun : is_some s.undo ≡ true
         done : result ≡ Ok tt → IsSecond s
         failed : (e : Refusal) → result ≡ Err e → with_transfer q.is.plan words budget ≡ Err e
@@ -304,13 +303,14 @@ module _ {first : Machine} {old : List CellId} {r : Ready} (q : CanFinish first 
         where
           none_ran : p.stack ≡ None → s ≡ n.memory → result ≡ Ok tt → Ran result s
           none_ran stack same ok = record {
-            back = ap undone_at same;
+            back = ap before_in same;
+            rest = subst (λ (x : MemoryState). x ≡ record n.memory { regions = x.regions; undo = x.undo; maps = x.maps }) (sym same) refl;
+            maps = none_mapped;
             begun = ap (λ (x : MemoryState). is_some x.undo) same ∙ begun_then;
             done = λ e. record {
               sound = subst (λ (x : MemoryState). IsSound (suspended (record n { memory = x }))) (sym same) sound_then;
               patches = ap (λ (x : MemoryState). x.patches) same;
-              maps = ap (λ (x : MemoryState). x.maps) same
-                  ∙ (sym (unraised n.memory.maps sound_then.maps) ∙ ap (raised n.memory.maps) (sym (stacks_none m.memory.base p.staged.space.taken words p.stack q.is.stack stack)));
+              maps = none_mapped;
               is = ap (λ (o : Option ℕ). elim o as (λ _. Outcome World) [ None ↦ Ok q.is.plan.linked | Some stack ↦ transferred_by words (transfer q.is.plan.linked stack (addresses_of q.is.plan) q.is.plan.routines budget) ]) (q.is.stack_is ∙ stack)
                   ∙ (ap (λ (w : World). let x : Outcome World = Ok w in x) (sym linked_is)
                   ∙ ap (λ (x : MemoryState). let y : Outcome World = Ok (world_of (suspended (record n { memory = x }))) in y) (sym same));
@@ -321,16 +321,25 @@ module _ {first : Machine} {old : List CellId} {r : Ready} (q : CanFinish first 
               unraised : (count : ℕ) → count ≤ 2 ^ 64 - 1 → raised count 0 ≡ count
               unraised count le = omega (arith, le)
 
+              none_mapped : s.maps ≡ raised n.memory.maps (stacks_for words)
+              none_mapped =
+                  ap (λ (x : MemoryState). x.maps) same
+                  ∙ (sym (unraised n.memory.maps sound_then.maps) ∙ ap (raised n.memory.maps) (sym (stacks_none m.memory.base p.staged.space.taken words p.stack q.is.stack stack)))
+
           some_ran : (t : Transfer) → IsGiven m old p words budget t → IsCarried n.memory t result s → Ran result s
           some_ran t given c =
               let x = c.done (old_names t given) (new_names t given) given.before given.after in
+              let one_mapped : s.maps ≡ raised n.memory.maps (stacks_for words) =
+              ap (λ (y : MemoryState). y.maps) c.rest ∙ ap (raised n.memory.maps) (sym (stacks_some m.memory.base p.staged.space.taken words p.stack t.stack q.is.stack given.stack)) in
               record {
                 back = c.back;
+                rest = subst (λ (k : ℕ). s ≡ record n.memory { regions = s.regions; undo = s.undo; maps = k }) (sym (ap (λ (y : MemoryState). y.maps) c.rest)) c.rest;
+                maps = one_mapped;
                 begun = c.begun;
                 done = λ e. record {
                   sound = sound_after n sound_then t.stack (run t given) (tables t given) t.budget t.routines.items s c.rest x.0;
                   patches = ap (λ (y : MemoryState). y.patches) c.rest;
-                  maps = ap (λ (y : MemoryState). y.maps) c.rest ∙ ap (raised n.memory.maps) (sym (stacks_some m.memory.base p.staged.space.taken words p.stack t.stack q.is.stack given.stack));
+                  maps = one_mapped;
                   is = with_is t given ∙ transfer_done n sound_then t.stack (run t given) (tables t given) t.budget t.routines.items s c.rest x.0 t.names.items result x.1 e;
                 };
                 failed = λ f e. with_is t given ∙ transfer_failed n sound_then t.stack (run t given) (tables t given) t.budget t.routines.items s c.rest x.0 t.names.items result x.1 f e;
@@ -340,29 +349,38 @@ module _ {first : Machine} {old : List CellId} {r : Ready} (q : CanFinish first 
           go None given has = none_ran given has.0 has.1
           go (Some t) given has = some_ran t given has
 
-      way_back : (s : MemoryState) → undone_at s ≡ undone_at n.memory → is_some s.undo ≡ true → IsOpen q (record n { memory = s })
-      way_back s undone begun = record { undo = record { added = n; can = can_go_back; laid = now_laid; like = refl; undone = undone; begun = begun }; leads = refl }
+      counted : (s : MemoryState) → s.patches ≡ n.memory.patches → s.maps ≡ raised n.memory.maps (stacks_for words) → HasCounted q (record n { memory = s })
+      counted s patches maps = record {
+        patches = patches ∙ patches_are m p q.is k r q.ready (suspended n) all_added;
+        maps = maps
+            ∙ (ap (λ (count : ℕ). raised count (stacks_for words)) (maps_are m p q.is k r q.ready (suspended n) all_added)
+            ∙ raised_more k.memory.maps (length (flat_map cell_shapes q.is.plan.fresh)) (stacks_for words));
+      }
+
+      way_back : (result : Result (Unit {0}) Refusal) (s : MemoryState) → Ran result s → IsOpen q (record n { memory = s })
+      way_back result s x = record {
+        undo = record { added = n; can = can_go_back; laid = now_laid; kept = kept; like = refl; rest = x.rest; gives_back = x.back; begun = x.begun };
+        leads = refl;
+        counted = counted s (ap (λ (y : MemoryState). y.patches) x.rest) x.maps;
+      }
 
       pub is_entered : (s : MemoryState) → HasRun n.memory r.transfer (Ok tt) s → IsEntered q r.plan.outlook (record n { memory = s })
       is_entered s has =
           let x : Ran (Ok tt) s = ran (Ok tt) s has in
           let second : IsSecond s = x.done refl in
           record {
-            way_back = way_back s x.back x.begun;
+            way_back = way_back (Ok tt) s x;
             entered = record {
-              sound = second.sound;
+              whole = whole_again (record n { memory = s }) second.sound;
               is = second.is;
               cells = cells_are m p q.is k r q.ready (suspended n) all_added ∙ ap (λ (cs : List Cell). (world_of m).cells ++ cs) (sym (fresh_is m p q.is k r q.ready));
               placed = (is_added m p q.is k r q.ready (suspended n) all_added).is.cells;
-              patches = second.patches ∙ patches_are m p q.is k r q.ready (suspended n) all_added;
-              maps = second.maps
-                  ∙ (ap (λ (count : ℕ). raised count (stacks_for words)) (maps_are m p q.is k r q.ready (suspended n) all_added)
-                  ∙ raised_more k.memory.maps (length (flat_map cell_shapes q.is.plan.fresh)) (stacks_for words));
+              counted = counted s second.patches second.maps;
             };
-            looked = looked m p q.is k r q.ready (suspended n) all_added (with_undo None s) second.sound;
+            looked = outlook_again (record n { memory = s }) r.plan.outlook (looked m p q.is k r q.ready (suspended n) all_added (with_undo None s) second.sound);
           }
 
       pub not_entered : (e : Refusal) (s : MemoryState) → HasRun n.memory r.transfer (Err e) s → (with_transfer q.is.plan words budget ≡ Err e) × IsOpen q (record n { memory = s })
       not_entered e s has =
           let x : Ran (Err e) s = ran (Err e) s has in
-          (x.failed e refl, way_back s x.back x.begun)
+          (x.failed e refl, way_back (Err e) s x)

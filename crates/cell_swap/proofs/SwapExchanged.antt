@@ -1,6 +1,6 @@
 -- The exchange by its plan, and by the last steps.
-use Rattle.std.proofs.Common.{◌≡◌, sym, ◌∙◌, ap, subst, arith, ℕ, ◌+◌, ◌*◌, ◌<◌, ◌^◌, List, length}
-use Rattle.std.specs.Prelude.{All, Err, IsErrAnd, IsTrue, MatchResult, Ok, Result, map, nat_lt}
+use Rattle.std.proofs.Common.{◌≡◌, refl, sym, ◌∙◌, ap, ap₂, subst, arith, ℕ, ◌+◌, ◌*◌, ◌<◌, ◌^◌, List, length}
+use Rattle.std.specs.Prelude.{flat_map, All, Err, IsErrAnd, IsTrue, MatchResult, Ok, Result, map, nat_lt}
 use Rattle.std.proofs.lemmas.Result.{err_from_is_err_and}
 use Rattle.cell_world.specs.declared.fail.Fail.{Fail}
 use Rattle.cell_world.specs.declared.fail.Fail.TheVariants.{Refused, OutOfMemory}
@@ -9,16 +9,21 @@ use Rattle.cell_world.specs.declared.reply.Reply.{Reply}
 use Rattle.cell_hold.specs.declared.roots.Root.{Root}
 use Rattle.cell_graph.specs.Moves.{moved}
 use Rattle.cell_machine.specs.declared.machine.Machine.{Machine}
-use Rattle.cell_machine.specs.Does.{new_runs, patched_by}
-use Rattle.cell_machine.specs.Machine.{world_of}
+use Rattle.cell_machine.specs.Does.{HasRisen, Most, cell_shapes, counted_before, new_runs, patched_by}
+use Rattle.cell_machine.specs.Machine.{AreParts, world_of}
 use Rattle.cell_machine.specs.Same.{raised}
-use Rattle.cell_machine.proofs.Same.{maps_same, patches_same}
+use Rattle.cell_machine.proofs.Same.{counts_same, maps_same, patches_same, world_same}
 use Rattle.cell_machine.proofs.Unchanged.{same_itself}
 use Rattle.cell_load.proofs.Ready.{as_many}
 use Rattle.cell_swap.specs.declared.asked.Asked.{Asked}
 use Rattle.cell_swap.specs.declared.planning.Plan.{Plan}
 use Rattle.cell_swap.specs.declared.swapping.Ready.{Ready}
-use Rattle.cell_swap.specs.Planning.{IsPlan, Plans}
+use Rattle.cell_swap.specs.Counted.{most_by}
+use Rattle.cell_swap.specs.Planning.{IsPlan, Plans, planned}
+use Rattle.cell_swap.proofs.Began.{parts}
+use Rattle.cell_swap.proofs.Late.{ended_late, risen, unrisen}
+use Rattle.cell_swap.proofs.SwapFinished.{fields_are}
+use Rattle.cell_world.specs.LoadCommand.{field_count}
 use Rattle.cell_num.specs.declared.ids.CellId.{CellId}
 use Rattle.cell_world.specs.Outcome.{Outcome, ◌>>=◌}
 use Rattle.cell_world.specs.SwapCommand.{Plan as SwapPlan, old_numbers}
@@ -26,7 +31,7 @@ use Rattle.cell_world.specs.declared.refusal.Refusal.{Refusal}
 use Rattle.cell_world.specs.declared.state.LinkRow.{LinkRow}
 use Rattle.cell_graph.specs.Links.{is_bound}
 use Rattle.cell_graph.specs.Moves.{AreApart}
-use Rattle.cell_machine.specs.Same.{IsSame}
+use Rattle.cell_machine.specs.Same.{IsSame, without_counts}
 use Rattle.cell_mem.specs.State.{MemoryState}
 use Rattle.cell_swap.specs.Before.{begun_in}
 use Rattle.cell_swap.specs.Swapped.{CanFinish, Exchanges, Finishes, HasBegun, HasExchanged, IsPlanned, IsReadyFor, ended, exchanged}
@@ -43,9 +48,9 @@ use Rattle.cell_space.specs.Joined.{placed_of}
 use Rattle.cell_world.specs.World.{Cell, World}
 use Rattle.cell_world.specs.declared.state.NewCell.{NewCell}
 
--- the same as what is the same
-pub then_same : (m k l : Machine) → IsSame m k → IsSame k l → IsSame m l
-then_same m k l a b = record {
+-- what is the same but for counts as what is the same
+counts_then : (m k l : Machine) → IsSame m k → IsSame k (without_counts k l) → IsSame m (without_counts m l)
+counts_then m k l a b = record {
   cells = b.cells ∙ a.cells;
   next = b.next ∙ a.next;
   swaps = b.swaps ∙ a.swaps;
@@ -53,19 +58,38 @@ then_same m k l a b = record {
   known = b.known ∙ a.known;
   space = b.space ∙ a.space;
   spare = b.spare;
-  memory = b.memory ∙ ap (λ (s : MemoryState). let x : MemoryState = record s { spare = b.spare } in x) a.memory;
+  memory = ap (counted m) b.memory ∙ ap (λ (s : MemoryState). let x : MemoryState = record s { spare = b.spare; patches = m.memory.patches; maps = m.memory.maps } in x) a.memory;
   sections = b.sections ∙ a.sections;
   rows = b.rows ∙ a.rows;
   tasks = b.tasks ∙ a.tasks;
 }
+  where
+    counted : Machine → MemoryState → MemoryState
+    counted m s = record s { patches = m.memory.patches; maps = m.memory.maps }
 
 module _ (files : List File) (asked : Asked) (m : Machine) (o : Options) (roots : List Root) (h : HasBegun files asked m roots) where
   abbrev after_plan : SwapPlan → Outcome (SwapPlan × World)
   after_plan plan = ended plan o o.strict >>= (λ second. Ok (plan, second))
 
   -- nothing is done
+  abbrev most : Most
+  most = most_by (planned files asked m h.begun o.reexport o.routines.now) (stacks_for o.routines.now)
+
+  here : AreParts m
+  here = parts files asked m h.begun
+
   pub unplanned : (fail : Fail) → Plans files asked m h.begun o.reexport o.routines.now roots (Err fail) → Exchanges files asked m h.begun o (Err fail) m
-  unplanned (Refused r) e = (ap (λ (x : Outcome SwapPlan). x >>= after_plan) e, same_itself m)
+  unplanned (Refused r) e = (
+    ap (λ (x : Outcome SwapPlan). x >>= after_plan) e,
+    (
+      counts_same m m (same_itself m),
+      record {
+        world = refl;
+        patches = unrisen (counted_before r most).patches m.memory.patches here.patches;
+        maps = unrisen (counted_before r most).maps m.memory.maps here.maps;
+      },
+    ),
+  )
   unplanned OutOfMemory e = same_itself m
 
   module _ (p : Plan) (is : IsPlan files asked m h.begun o.reexport o.routines.now roots p) where
@@ -141,7 +165,40 @@ module _ (files : List File) (asked : Asked) (m : Machine) (o : Options) (roots 
       }
 
       pub was_refused : (refusal : Refusal) (l : Machine) → Finishes can_finish o.strict (Err refusal) l → Exchanges files asked m h.begun o (Err (Refused refusal)) l
-      was_refused refusal l s = (by_plan ∙ ap (λ (x : Outcome World). x >>= (λ second. let y : Outcome (SwapPlan × World) = Ok (plan_is.plan, second) in y)) s.0, then_same m k l ready.same s.1)
+      was_refused refusal l s = (
+        by_plan ∙ ap (λ (x : Outcome World). x >>= (λ second. let y : Outcome (SwapPlan × World) = Ok (plan_is.plan, second) in y)) s.0,
+        (
+          back,
+          record {
+            world = world_same m (without_counts m l) back;
+            patches = subst (λ (x : Most). HasRisen x.patches m.memory.patches l.memory.patches) (sym late) (risen most.patches m.memory.patches l.memory.patches here.patches patched);
+            maps = subst (λ (x : Most). HasRisen x.maps m.memory.maps l.memory.maps) (sym late) (risen most.maps m.memory.maps l.memory.maps here.maps mapped);
+          },
+        ),
+      )
+        where
+          back : IsSame m (without_counts m l)
+          back = counts_then m k l ready.same s.1.same
+
+          late : counted_before refusal most ≡ most
+          late = ended_late most plan_is.plan o o.strict refusal s.0
+
+          most_is : most ≡ most_by (let x : Outcome SwapPlan = Ok plan_is.plan in x) (stacks_for o.routines.now)
+          most_is = ap (λ (x : Outcome SwapPlan). most_by x (stacks_for o.routines.now)) plan_is.is
+
+          fields : r.patched ≡ field_count plan_is.plan.fresh + length plan_is.plan.changed
+          fields = ready.patched ∙ ap₂ (λ (a b : ℕ). a + b) (sym (fields_are m p plan_is k r ready)) plan_is.count
+
+          patched : l.memory.patches ≡ raised m.memory.patches most.patches
+          patched =
+              s.1.patches
+              ∙ (ap₂ raised (patches_same m k ready.same) fields ∙ ap (λ (x : Most). raised m.memory.patches x.patches) (sym most_is))
+
+          mapped : l.memory.maps ≡ raised m.memory.maps most.maps
+          mapped =
+              s.1.maps
+              ∙ (ap (λ (count : ℕ). raised count (length (flat_map cell_shapes plan_is.plan.fresh) + stacks_for o.routines.now)) (maps_same m k ready.same)
+              ∙ ap (λ (x : Most). raised m.memory.maps x.maps) (sym most_is))
 
       pub was_finished : (said : Result Reply Refusal) (result : Result Reply Fail) (l : Machine) → MatchResult said (λ reply. result ≡ Ok reply) (λ refusal. IsErrAnd result (λ fail. fail ≡ Refused refusal)) → Finishes can_finish o.strict said l → Exchanges files asked m h.begun o result l
       was_finished (Ok reply) result l same s = rw same (was_exchanged reply l s)

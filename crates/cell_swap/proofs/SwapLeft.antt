@@ -76,8 +76,11 @@ module _ {first : Machine} {old : List CellId} {r : Ready} (q : CanFinish first 
     swept : IsSwept n [] removed l
     swept = let both = removes [] tried.read in record { free = refl; are = both.0; left = both.1 }
 
+    pub sound : IsSound n
+    sound = record { coherent = e.whole.coherent; parts = e.whole.parts; undo = tried.undo }
+
     gone : HasDone (next_purge (world_of n)) 0 n (PurgeDone removed) l
-    gone = purge_done n e.sound removed l swept
+    gone = purge_done n sound removed l swept
 
     purge_is : answer_in (purged (world_of n)) (PurgeDone (ids (garbage_of (world_of n)))) ≡ answer_in (world_of l) (PurgeDone removed)
     purge_is = ok_same (answer_in (purged (world_of n)) (PurgeDone (ids (garbage_of (world_of n))))) (answer_in (world_of l) (PurgeDone removed)) gone.is.step
@@ -94,7 +97,7 @@ module _ {first : Machine} {old : List CellId} {r : Ready} (q : CanFinish first 
     pub left_fit : length l.cells.items ≤ vec_capacity r.lists.detached
     left_fit =
         let here = ap length sound_left.joined.placed in
-        let there = ap length e.sound.joined.placed in
+        let there = ap length e.whole.joined.placed in
         let mapped = length-map (world_of l).cells placed_of in
         let mapped_there = length-map (world_of n).cells placed_of in
         let fewer = length-filter_le (λ (c : Cell). not (holds (garbage_of (world_of n)) c.id.0)) (world_of n).cells in

@@ -1,15 +1,14 @@
 -- The way back of a swap whose new cells were added.
 --     CanGoBack n back fresh     the new cells can be taken out of n, to which they were added, and fields and links of others are known as they were
---     CanUndo n back fresh       the same once routines have run
+--     CanUndo n back fresh       the same once routines have run, which may have mapped their stack
 use Rattle.std.specs.Prelude.{◌≡◌, ◌≤◌, ◌+◌, ◌*◌, ℕ, List, is_some, length, map, true}
+use Rattle.cell_world.specs.Coherent.{shape_of}
 use Rattle.cell_mem.specs.Index.{IsLaid}
-use Rattle.cell_mem.specs.State.{undone_at}
+use Rattle.cell_mem.specs.State.{before_in}
 use Rattle.cell_swap.specs.declared.swapping.Options.{Options}
 use Rattle.cell_num.specs.declared.ids.CellId.{CellId}
-use Rattle.cell_world.specs.Undo.{AreBytes}
 use Rattle.cell_world.specs.declared.state.LinkRow.{LinkRow}
 use Rattle.cell_commit.specs.Cells.{arrived}
-use Rattle.cell_commit.specs.Commit.{IsLaidOut, all_mapped}
 use Rattle.cell_graph.specs.Moves.{moved}
 use Rattle.cell_machine.specs.declared.machine.Machine.{Machine}
 use Rattle.cell_machine.specs.Staged.{IsCommitted}
@@ -33,16 +32,16 @@ pub record CanGoBack (n : Machine) (back : List LinkRow) (fresh : List CellId) :
   pub enough : length ready.plan.patches.items + length ready.plan.staged.fields.items ≤ count
   pub added : IsCommitted (begun_in room count) (memory_with (begun_in room count).memory ready.plan.staged.regions.items ready.plan.patches.items) (moved room.graph.rows ready.plan.moves.items)
       (map arrived ready.prepared.newcomers.items) ready.plan.staged n
-  pub laid : IsLaidOut (all_mapped (begun_in room count).memory ready.plan.staged.regions.items)
-  pub bytes : AreBytes (all_mapped (begun_in room count).memory ready.plan.staged.regions.items).regions
   pub links : AreAsTheyWere room.graph.rows ready.plan.moves.items back
   pub fresh_are : fresh ≡ ready.fresh
 
--- but for what routines wrote since, which an undo takes back
+-- what an undo gives back is what it was before the routines
 pub record CanUndo (n : Machine) (back : List LinkRow) (fresh : List CellId) : Type 0 where
   pub added : Machine
   pub can : CanGoBack added back fresh
   pub laid : IsLaid added.memory.base added.memory.regions (added.memory.base + 4096 * added.memory.pages)
+  pub kept : map shape_of (before_in added.memory) ≡ map shape_of added.memory.regions
   pub like : n ≡ record added { memory = n.memory }
-  pub undone : undone_at n.memory ≡ undone_at added.memory
+  pub rest : n.memory ≡ record added.memory { regions = n.memory.regions; undo = n.memory.undo; maps = n.memory.maps }
+  pub gives_back : before_in n.memory ≡ before_in added.memory
   pub begun : is_some n.memory.undo ≡ true

@@ -2,18 +2,16 @@
 --     CanEnter n plan prepared transfer   they are what is ready for n, in which an undo is begun
 --     IsOpen c n                          the way back is open in n, to the machine before the undo was begun
 --     HasEntered c n                      n is what the plan comes to in the definition, once its routines have run
---     Enters c result n                   the same but for the undo, which goes on, or the refusal of the routines
+--     Enters c result n                   the same while the undo goes on, or the refusal of the routines
 --     CanTry n old .. room                the same with the old cells, and room for all cells in a list
 --     Tries c strict result n             the machine after the routines, and which cells are kept in it, or the refusal
-use Rattle.std.specs.Prelude.{ℕ, ◌≡◌, ◌≤◌, ◌+◌, ◌++◌, Bool, List, [], Option, Result, Ok, Err, flat_map, length}
+use Rattle.std.specs.Prelude.{ℕ, ◌≡◌, ◌≤◌, ◌+◌, ◌++◌, Bool, List, [], Option, None, Result, Ok, Err, length}
 use Rattle.cell_num.specs.declared.ids.CellId.{CellId}
 use Rattle.cell_world.specs.SwapCommand.{with_transfer}
 use Rattle.cell_world.specs.declared.refusal.Refusal.{Refusal}
 use Rattle.cell_load.specs.declared.prepared.Prepared.{Prepared}
 use Rattle.cell_machine.specs.declared.machine.Machine.{Machine}
-use Rattle.cell_machine.specs.Does.{cell_shapes}
-use Rattle.cell_machine.specs.Machine.{IsSound, world_of}
-use Rattle.cell_machine.specs.Same.{raised}
+use Rattle.cell_machine.specs.Machine.{IsWhole, world_of}
 use Rattle.cell_unload.specs.declared.outlook.Outlook.{Outlook}
 use Rattle.cell_unload.specs.declared.survey.Survey.{Survey}
 use Rattle.cell_unload.specs.Sweep.{IsOutlook, IsSurvey}
@@ -21,9 +19,7 @@ use Rattle.cell_xfer.specs.declared.carrying.Transfer.{Transfer}
 use Rattle.cell_swap.specs.declared.planning.Plan.{Plan}
 use Rattle.cell_swap.specs.declared.swapping.Ready.{Ready}
 use Rattle.cell_swap.specs.Back.{CanUndo}
-use Rattle.cell_swap.specs.Before.{suspended}
-use Rattle.cell_swap.specs.Swapped.{CanFinish, ended}
-use Rattle.cell_swap.specs.Transferring.{stacks_for}
+use Rattle.cell_swap.specs.Swapped.{CanFinish, HasCounted, ended}
 
 -- `rest` has the other parts
 pub record CanEnter (n : Machine) (plan : Plan) (prepared : Prepared) (transfer : Option Transfer) : Type 0 where
@@ -34,21 +30,21 @@ pub record CanEnter (n : Machine) (plan : Plan) (prepared : Prepared) (transfer 
 pub record IsOpen {first : Machine} {old : List CellId} {r : Ready} (c : CanFinish first old r) (n : Machine) : Type 0 where
   pub undo : CanUndo n r.links_before.items r.fresh
   pub leads : undo.can.room ≡ c.room
+  pub counted : HasCounted c n
 
--- patches rise by the fields, maps by the regions of the new cells and the stack of the routines
 pub record HasEntered {first : Machine} {old : List CellId} {r : Ready} (c : CanFinish first old r) (n : Machine) : Type 0 where
-  pub sound : IsSound n
+  pub whole : IsWhole n
   pub is : with_transfer c.is.plan c.options.routines.now c.options.budget ≡ Ok (world_of n)
   pub cells : (world_of n).cells ≡ (world_of c.before).cells ++ c.is.plan.fresh
   pub placed : n.cells.items ≡ c.before.cells.items ++ c.plan_before.staged.cells.items
-  pub patches : n.memory.patches ≡ raised c.room.memory.patches r.patched
-  pub maps : n.memory.maps ≡ raised c.room.memory.maps (length (flat_map cell_shapes c.is.plan.fresh) + stacks_for c.options.routines.now)
+  pub counted : HasCounted c n
+  pub open counted use *
 
 -- holding is read from the outlook then
 pub record IsEntered {first : Machine} {old : List CellId} {r : Ready} (c : CanFinish first old r) (outlook : Outlook) (n : Machine) : Type 0 where
   pub way_back : IsOpen c n
-  pub entered : HasEntered c (suspended n)
-  pub looked : IsOutlook (suspended n) [] outlook
+  pub entered : HasEntered c n
+  pub looked : IsOutlook n [] outlook
 
 abbrev pub Enters : {first : Machine} {old : List CellId} {r : Ready} → CanFinish first old r → Result Outlook Refusal → Machine → Type 0
 Enters c (Ok outlook) n = IsEntered c outlook n
@@ -62,6 +58,7 @@ pub record CanTry (n : Machine) (old : List CellId) (plan : Plan) (prepared : Pr
 -- no undo goes on
 pub record HasTried {first : Machine} {old : List CellId} {r : Ready} (c : CanFinish first old r) (strict : Bool) (survey : Survey) (n : Machine) : Type 0 where
   pub entered : HasEntered c n
+  pub undo : n.memory.undo ≡ None
   pub read : IsSurvey n [] survey
   pub is : ended c.is.plan c.options strict ≡ Ok (world_of n)
 

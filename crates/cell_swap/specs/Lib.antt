@@ -5,4 +5,5 @@ pub mod Planning
 pub mod Swapped
 pub mod Back
 pub mod Before
+pub mod Counted
 pub mod Entering

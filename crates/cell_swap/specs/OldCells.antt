@@ -14,6 +14,7 @@ use Rattle.cell_space.specs.declared.cell.CellState.TheVariants.{Attached, Detac
 use Rattle.cell_space.specs.declared.cell.SpaceCell.{SpaceCell}
 use Rattle.cell_machine.specs.declared.machine.Machine.{Machine}
 use Rattle.cell_machine.specs.Machine.{IsSound}
+use Rattle.cell_machine.specs.Same.{without_counts}
 
 abbrev pub aside_where : ℕ → (ℕ → Bool) → SpaceCell → SpaceCell
 aside_where k p c = if p c.cell.0 then record c { state = Detached k } else c
@@ -44,9 +45,9 @@ pub record IsAside (before : Machine) (old : List CellId) (m : Machine) : Type 0
   pub rows : m.graph.rows ≡ before.graph.rows
   pub tasks : m.tasks ≡ before.tasks
 
--- the machine was sound before they were put aside
+-- the machine was sound before they were put aside; only counts may have risen since
 pub record CanReturn (m : Machine) (old : List CellId) : Type 0 where
   pub before : Machine
   pub sound : IsSound before
   pub there : AreThere before.spaces.cells old
-  pub aside : IsAside before old m
+  pub aside : IsAside before old (without_counts before m)

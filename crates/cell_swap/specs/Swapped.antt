@@ -3,15 +3,16 @@
 --     AreEmpty cells lists              the lists are empty, and each has room for so many cells
 --     IsReadyFor m old o p n r          r is the plan p for m with all that it takes, and n is m with room for it
 --     CanFinish n old r                 r is ready for n, in which an undo is begun, and these are the old cells
+--     HasCounted c n                    patches rose by the fields, maps by the regions of the new cells and the stack of the routines
 --     HasSwapped plan second stacks m reply n   the reply and the machine that the plan comes to in the definition, once its routines have run
 --     ended plan o strict               the machine after the routines, unless one fails or a strict swap is refused
---     Finishes c strict result l        the same, or the refusal, and the machine before the undo was begun
+--     Finishes c strict result l        the same, or the refusal, and but for counts the machine before the undo was begun
 --     exchanged .. o                    the plan and the machine after its routines, unless that is refused
 --     roots_without m aside             where holding begins in m but for these cells
 --     HasBegun files asked m roots      the old cells are put aside in m, and roots are where holding began but for them
---     Exchanges .. result n             the exchange was done, or the refusal, and the same machine
+--     Exchanges .. result n             the exchange was done, or the refusal, and but for counts the same machine
 --     unless_attached cell group        the cell, if a swap put it aside
-use Rattle.std.specs.Prelude.{ℕ, ◌≡◌, ◌≤◌, ◌+◌, Bool, List, [], ◌∷◌, ◌++◌, Option, Result, Ok, Err, flat_map, is_none, length, map, vec_capacity, if◌then◌else◌}
+use Rattle.std.specs.Prelude.{ℕ, ◌≡◌, ◌≤◌, ◌+◌, Bool, List, [], ◌∷◌, ◌++◌, Option, Some, Result, Ok, Err, flat_map, is_none, length, map, vec_capacity, if◌then◌else◌}
 use Rattle.cell_num.specs.declared.ids.CellId.{CellId}
 use Rattle.cell_world.specs.declared.fail.Fail.{Fail}
 use Rattle.cell_world.specs.declared.fail.Fail.TheVariants.{Refused, OutOfMemory}
@@ -24,9 +25,9 @@ use Rattle.cell_world.specs.UnloadCommand.{purged}
 use Rattle.cell_world.specs.declared.refusal.Refusal.{Refusal}
 use Rattle.cell_hold.specs.declared.roots.Root.{Root}
 use Rattle.cell_machine.specs.declared.machine.Machine.{Machine}
-use Rattle.cell_machine.specs.Does.{new_runs, patched_by}
+use Rattle.cell_machine.specs.Does.{LeavesParts, cell_shapes, new_runs, patched_by}
 use Rattle.cell_machine.specs.Machine.{IsSound, world_of}
-use Rattle.cell_machine.specs.Same.{IsSame, raised}
+use Rattle.cell_machine.specs.Same.{IsSame, raised, without_counts}
 use Rattle.cell_load.specs.Adding.{HasRoomFor, IsPrepared}
 use Rattle.cell_swap.specs.declared.asked.Asked.{Asked}
 use Rattle.cell_swap.specs.declared.planning.Plan.{Plan}
@@ -35,6 +36,7 @@ use Rattle.cell_swap.specs.declared.swapping.Ready.{Ready}
 use Rattle.cell_swap.specs.declared.swapping.Options.{Options}
 use Rattle.cell_swap.specs.Transferring.{Gives, stacks_for, turns_in}
 use Rattle.cell_swap.specs.Before.{AreAsTheyWere, begun_in}
+use Rattle.cell_swap.specs.Counted.{most_by}
 use Rattle.cell_unload.specs.Begun.{root_of, root_of_task}
 use Rattle.cell_swap.specs.Planning.{IsBegun, IsPlan, planned}
 
@@ -85,6 +87,10 @@ pub record CanFinish (n : Machine) (old : List CellId) (r : Ready) : Type 0 wher
   pub begun : n ≡ begun_in room r.writes
   pub olds : map (λ c. c.0) old ≡ old_numbers is.plan.wants
 
+pub record HasCounted {n : Machine} {old : List CellId} {r : Ready} (c : CanFinish n old r) (l : Machine) : Type 0 where
+  pub patches : l.memory.patches ≡ raised c.room.memory.patches r.patched
+  pub maps : l.memory.maps ≡ raised c.room.memory.maps (length (flat_map cell_shapes c.is.plan.fresh) + stacks_for c.options.routines.now)
+
 -- from the machine `second`, in which the routines have run
 pub record HasSwapped (plan : SwapPlan) (second : World) (stacks : ℕ) (m : Machine) (reply : Reply) (n : Machine) : Type 0 where
   pub sound : IsSound n
@@ -102,9 +108,14 @@ pub record HasFinished {n : Machine} {old : List CellId} {r : Ready} (c : CanFin
   pub is : ended c.is.plan c.options strict ≡ Ok second
   pub swapped : HasSwapped c.is.plan second (stacks_for c.options.routines.now) c.room reply l
 
+pub record HasUndone {n : Machine} {old : List CellId} {r : Ready} (c : CanFinish n old r) (l : Machine) : Type 0 where
+  pub same : IsSame c.room (without_counts c.room l)
+  pub counted : HasCounted c l
+  pub open counted use *
+
 abbrev pub Finishes : {n : Machine} {old : List CellId} {r : Ready} → CanFinish n old r → Bool → Result Reply Refusal → Machine → Type 0
 Finishes c strict (Ok reply) l = HasFinished c strict reply l
-Finishes c strict (Err refusal) l = (ended c.is.plan c.options strict ≡ Err refusal) × IsSame c.room l
+Finishes c strict (Err refusal) l = (ended c.is.plan c.options strict ≡ Err refusal) × HasUndone c l
 
 -- the plan, and the machine after its routines
 abbrev pub exchanged : (files : List File) (asked : Asked) (m : Machine) → IsBegun files asked m → Options → Outcome (SwapPlan × World)
@@ -119,7 +130,9 @@ pub record HasExchanged (files : List File) (asked : Asked) (m : Machine) (b : I
 
 abbrev pub Exchanges : (files : List File) (asked : Asked) (m : Machine) → IsBegun files asked m → Options → Result Reply Fail → Machine → Type 0
 Exchanges files asked m b o (Ok reply) n = HasExchanged files asked m b o reply n
-Exchanges files asked m b o (Err (Refused refusal)) n = (exchanged files asked m b o ≡ Err refusal) × IsSame m n
+Exchanges files asked m b o (Err (Refused refusal)) n =
+    (exchanged files asked m b o ≡ Err refusal)
+    × LeavesParts (Some (most_by (planned files asked m b o.reexport o.routines.now) (stacks_for o.routines.now))) refusal m n
 Exchanges files asked m b o (Err OutOfMemory) n = IsSame m n
 
 abbrev pub unless_attached : CellId → Option ℕ → List CellId

@@ -1,6 +1,7 @@
 //! The way back of a swap that is refused once its new cells are there. It takes no memory.
 
-ghost use Rattle.cell_machine.specs.Same.{IsSame};
+ghost use Rattle.std.specs.Prelude.{◌≡◌};
+ghost use Rattle.cell_machine.specs.Same.{IsSame, without_counts};
 ghost use Rattle.cell_swap.specs.Back.{CanUndo};
 
 use cell_commit::move_rows;
@@ -10,10 +11,12 @@ use cell_unload::take_away;
 use cell_world::LinkRow;
 
 /// Gives the fields and the links of other cells and all that routines wrote back, and takes the new
-/// cells away. `links_before` are the links as they were.
+/// cells away. `links_before` are the links as they were. What was patched and mapped counts.
 pub fn undo_new_cells(machine: &mut Machine, links_before: &[LinkRow], fresh: &[CellId])
     requires { CanUndo machine.old links_before.now fresh.now }
-    ensures { (c : CanUndo machine.old links_before.now fresh.now) → IsSame c.can.room machine.new }
+    ensures same { (c : CanUndo machine.old links_before.now fresh.now) → IsSame c.can.room (without_counts c.can.room machine.new) }
+    ensures patches { machine.new.memory.patches ≡ machine.old.memory.patches }
+    ensures maps { machine.new.memory.maps ≡ machine.old.memory.maps }
 {
     machine.memory.undo();
     machine.memory.laid_out();

@@ -35,6 +35,7 @@ fn enter(
     } = plan;
     commit(machine, staged, prepared, &patches, &moves);
     machine.memory.laid_out();
+    machine.memory.keeps_shapes();
     run_routines(&mut machine.memory, transfer)?;
     Ok(outlook)
 }
@@ -67,13 +68,11 @@ pub fn try_new_cells(
     ensures { (t : CanTry machine.old old.now plan prepared transfer (vec_capacity kept)) → Tries t.parts.can strict result machine.new }
 {
     let outlook = enter(machine, plan, prepared, transfer)?;
-    let undo = machine.memory.suspend_undo();
     let survey = Survey::read(machine, outlook, kept);
     if let Some(refusal) = first_held(machine, &survey, strict, old) {
-        machine.memory.resume_undo(undo);
         return Err(refusal);
     }
     // What was written stays.
-    drop(undo);
+    machine.memory.forget();
     Ok(survey)
 }

@@ -2,7 +2,7 @@
 
 ghost use Rattle.std.specs.Prelude.{◌≡◌, ◌==◌, ◌||◌, ◌&&◌, ℕ, Bool, List, Some, not, option_map};
 ghost use Rattle.cell_machine.specs.Machine.{IsSound};
-ghost use Rattle.cell_machine.specs.Same.{IsSame};
+ghost use Rattle.cell_machine.specs.Same.{IsSame, without_counts};
 ghost use Rattle.cell_space.specs.Named.{cell_numbered as numbered};
 ghost use Rattle.cell_space.specs.Spaces.{HasCell, HasDetached, HasNoRival};
 ghost use Rattle.cell_space.specs.declared.cell.CellState.TheVariants.{Attached};
@@ -54,7 +54,8 @@ fn reattach_one(spaces: &mut Spaces, cell: CellId)
 /// Attaches the cells again that the last swap put aside, which doesn't count then.
 pub fn reattach(machine: &mut Machine, old: &[CellId])
     requires { CanReturn machine.old old.now }
-    ensures { (r : CanReturn machine.old old.now) → IsSame r.before machine.new }
+    ensures same { (r : CanReturn machine.old old.now) → IsSame r.before (without_counts r.before machine.new) }
+    ensures memory { machine.new.memory ≡ machine.old.memory }
 {
     for cell in old {
         reattach_one(&mut machine.spaces, *cell);

@@ -12,7 +12,8 @@ ghost use Rattle.cell_world.specs.UnloadCommand.{detached_of};
 ghost use Rattle.cell_graph.specs.Links.{is_bound};
 ghost use Rattle.cell_graph.specs.Moves.{AreApart};
 ghost use Rattle.cell_swap.specs.Before.{AreAsTheyWere};
-ghost use Rattle.cell_swap.specs.Transferring.{AreOld, stacks_for, turns_in};
+ghost use Rattle.cell_swap.specs.Counted.{swap_counts};
+ghost use Rattle.cell_swap.specs.Transferring.{AreOld, turns_in};
 ghost use Rattle.cell_num.specs.Lists.{each_pair};
 ghost use Rattle.cell_placed.specs.Low.{IsLow};
 ghost use Rattle.cell_swap.specs.Swapped.{AreEmpty, CanFinish, Exchanges, Finishes, HasBegun, IsReadyFor, unless_attached};
@@ -161,7 +162,7 @@ impl Ready {
 
     /// Adds the new cells, has the others lead to them, runs the routines, and removes all cells that
     /// nobody keeps then. Where a routine fails, or the swap is strict and one of the old cells is kept,
-    /// that is the refusal, and the machine is as it was before the undo was begun.
+    /// that is the refusal, and but for counts the machine is as it was before the undo was begun.
     fn finish(self, machine: &mut Machine, strict: bool, old: &[CellId]) -> Result<Reply, Refusal>
         requires { CanFinish machine.old old.now self }
         ensures { (c : CanFinish machine.old old.now self) → Finishes c strict result machine.new }
@@ -275,7 +276,7 @@ pub fn swap(
     requires sound { IsSound machine.old }
     requires small { All (λ f. length f.bytes ≤ max_file_bytes) depot.now }
     requires some { 0 < length items.now }
-    ensures { Does (next_swap (map source_of depot.now) (world_of machine.old) items.now options.now.reexport options.now.strict options.now.routines.now options.now.budget) (stacks_for options.now.routines.now) machine.old result machine.new }
+    ensures { Does (next_swap (map source_of depot.now) (world_of machine.old) items.now options.now.reexport options.now.strict options.now.routines.now options.now.budget) (swap_counts (map source_of depot.now) (world_of machine.old) items.now options.now.reexport options.now.routines.now) machine.old result machine.new }
 {
     let asked = Asked::of(alloc, depot, machine, items)?;
     let roots = roots(alloc, machine, &asked.replaced)?;

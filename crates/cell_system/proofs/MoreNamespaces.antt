@@ -20,7 +20,7 @@ use Rattle.cell_space.specs.declared.cell.SpaceCell.{SpaceCell}
 use Rattle.cell_space.specs.Joined.{AreJoined, cells_of}
 use Rattle.cell_space.specs.Spaces.{namespace_named}
 use Rattle.cell_machine.specs.declared.machine.Machine.{Machine}
-use Rattle.cell_machine.specs.Does.{Does, HasDone}
+use Rattle.cell_machine.specs.Does.{Does, HasDone, no_stack}
 use Rattle.cell_machine.specs.Machine.{IsSound, field_bytes, keys_of, world_by, world_of}
 use Rattle.cell_machine.proofs.Counts.{counts_stand}
 use Rattle.cell_world.specs.Following.{FailsAs}
@@ -52,16 +52,16 @@ module _ (m : Machine) (name parent : List ℕ) where
   pub comes_to : (up : ℕ) → up_is ≡ Ok up → may_add m.spaces.namespaces name ≡ Ok tt → next_ns (world_of m) name parent ≡ done (Ns name) (with_namespace (world_of m) name up)
   comes_to up e k = bind_is up_is _ up _ e (both_pass _ _ (done (Ns name) (with_namespace (world_of m) name up)) k)
 
-  pub parent_failed : (fail : Fail) → FailsAs fail up_is → Does (next_ns (world_of m) name parent) 0 m (Err fail) m
+  pub parent_failed : (fail : Fail) → FailsAs fail up_is → Does (next_ns (world_of m) name parent) no_stack m (Err fail) m
   parent_failed (Refused refusal) e = (no_parent refusal e, same_itself m)
   parent_failed OutOfMemory e = same_itself m
 
-  pub check_failed : (up : ℕ) → up_is ≡ Ok up → (fail : Fail) → FailsAs fail (may_add m.spaces.namespaces name) → Does (next_ns (world_of m) name parent) 0 m (Err fail) m
+  pub check_failed : (up : ℕ) → up_is ≡ Ok up → (fail : Fail) → FailsAs fail (may_add m.spaces.namespaces name) → Does (next_ns (world_of m) name parent) no_stack m (Err fail) m
   check_failed up e (Refused refusal) k = (may_not up refusal e k, same_itself m)
   check_failed up e OutOfMemory k = same_itself m
 
-  pub memory_lacked : (fail : Fail) → fail ≡ OutOfMemory → Does (next_ns (world_of m) name parent) 0 m (Err fail) m
-  memory_lacked fail e = subst (λ (f : Fail). Does (next_ns (world_of m) name parent) 0 m (Err f) m) (sym e) (same_itself m)
+  pub memory_lacked : (fail : Fail) → fail ≡ OutOfMemory → Does (next_ns (world_of m) name parent) no_stack m (Err fail) m
+  memory_lacked fail e = subst (λ (f : Fail). Does (next_ns (world_of m) name parent) no_stack m (Err f) m) (sym e) (same_itself m)
 
 -- the machine whose namespaces alone are others
 module _ (old new : Machine) (sound : IsSound old) (name parent : List ℕ) (up : ℕ) (known : new.spaces.cells ≡ old.spaces.cells) (others : new ≡ record old { spaces = new.spaces })
@@ -97,10 +97,10 @@ module _ (old new : Machine) (sound : IsSound old) (name parent : List ℕ) (up 
       seals =
           ap (λ (m : Machine). m.memory.sealed) others
           ∙ (sound.seals ∙ ap (λ (m : Machine). seal_table m.memory.base (4096 * m.memory.pages) (field_bytes m.cells.items)) (sym others));
-      undo = ap (λ (m : Machine). m.memory.undo) others ∙ sound.undo;
       patches = subst (λ (m : Machine). m.memory.patches ≤ 2 ^ 64 - 1) (sym others) sound.patches;
       maps = subst (λ (m : Machine). m.memory.maps ≤ 2 ^ 64 - 1) (sym others) sound.maps;
     };
+    undo = ap (λ (m : Machine). m.memory.undo) others ∙ sound.undo;
   }
 
   pub has_namespace : HasDone (next_ns (world_of old) name parent) 0 old (Ns name) new

@@ -8,7 +8,7 @@ ghost use Rattle.cell_world.specs.Gather.{source_of};
 ghost use Rattle.cell_world.specs.Next.{outcome_of};
 ghost use Rattle.cell_machine.specs.Does.{Does};
 ghost use Rattle.cell_machine.specs.Machine.{IsSound, world_of};
-ghost use Rattle.cell_system.specs.Step.{stacks_of};
+ghost use Rattle.cell_system.specs.Step.{counts_of};
 
 use crate::Fail;
 use crate::namespaces::add_namespace;
@@ -33,7 +33,7 @@ pub fn answer(
     requires sound { IsSound machine.old }
     requires small { All (λ f. length f.bytes ≤ max_file_bytes) depot.now }
     requires apart { are_apart depot.now ≡ true }
-    ensures { Does (outcome_of (map source_of depot.now) (world_of machine.old) command.now) (stacks_of command.now) machine.old result machine.new }
+    ensures { Does (outcome_of (map source_of depot.now) (world_of machine.old) command.now) (counts_of (map source_of depot.now) (world_of machine.old) command.now) machine.old result machine.new }
 {
     match command {
         Command::Ns { name, parent } => add_namespace(alloc, machine, name.bytes(), parent.bytes()),

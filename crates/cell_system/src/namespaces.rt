@@ -3,7 +3,7 @@
 ghost use Rattle.std.specs.Prelude.{◌≡◌, IfOk};
 ghost use Rattle.cell_world.specs.declared.refusal.Refusal.TheVariants.{NameTaken};
 ghost use Rattle.cell_world.specs.Following.{Follows};
-ghost use Rattle.cell_machine.specs.Does.{Does};
+ghost use Rattle.cell_machine.specs.Does.{Does, no_stack};
 ghost use Rattle.cell_machine.specs.Machine.{IsSound, world_of};
 ghost use Rattle.cell_world.specs.NsCommand.{next_ns};
 ghost use Rattle.cell_system.specs.Namespaces.{may_add};
@@ -47,7 +47,7 @@ pub fn add_namespace(
     parent: &[u8],
 ) -> Result<Reply, Fail>
     requires { IsSound machine.old }
-    ensures { Does (next_ns (world_of machine.old) name.now parent.now) 0 machine.old result machine.new }
+    ensures { Does (next_ns (world_of machine.old) name.now parent.now) no_stack machine.old result machine.new }
 {
     let up = namespace(alloc, &machine.spaces, parent)?;
     check(alloc, &machine.spaces, name)?;

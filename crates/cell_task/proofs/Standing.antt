@@ -8,6 +8,7 @@ use Rattle.cell_world.specs.World.{Region, Task}
 use Rattle.cell_world.specs.Turn.{Turned, standing, with_task}
 use Rattle.cell_mem.specs.Index.{IsLaid}
 use Rattle.cell_mem.specs.State.{MemoryState, region_from, unmapped}
+use Rattle.cell_mem.specs.Undo.{with_unmapped}
 use Rattle.cell_task.specs.declared.task.Task.{Task as LiveTask}
 use Rattle.cell_task.specs.declared.turned.Turned.{Turned as Answer}
 use Rattle.cell_task.specs.State.{TasksState, live_in, seen_as}
@@ -55,14 +56,14 @@ module _ (s : TasksState) (m : MemoryState) (number : ℕ) (t : LiveTask) (laid 
 
 pub undo_stays : (s : TasksState) (m : MemoryState) (t : Task) (out : List ℕ) (answer : Answer) (s' : TasksState) (m' : MemoryState) (out' : List ℕ)
     → IsTurn s m t out answer s' m' out' → m.undo ≡ None → m'.undo ≡ None
-undo_stays s m t out answer s' m' out' turn none = ap (λ (k : MemoryState). k.undo) turn.memory ∙ go (turned_in s m t).state (turned_in s m t).world.regions ∙ none
+undo_stays s m t out answer s' m' out' turn none = ap (λ (k : MemoryState). k.undo) turn.memory ∙ go (turned_in s m t).state (turned_in s m t).world.regions
   where
     go : (state : TaskState) (regions : List Region)
         → (elim state as (λ _. MemoryState) [
           | IsReady ↦ record m { regions = regions }
           | IsDone code ↦ record (unmapped m t.stack) { regions = regions }
           | IsFault cause pc ↦ record m { regions = regions }
-        ]).undo ≡ m.undo
-    go IsReady regions = refl
-    go (IsDone code) regions = refl
-    go (IsFault cause pc) regions = refl
+        ]).undo ≡ None
+    go IsReady regions = none
+    go (IsDone code) regions = ap (with_unmapped t.stack) none
+    go (IsFault cause pc) regions = none

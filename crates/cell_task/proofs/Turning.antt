@@ -14,6 +14,7 @@ use Rattle.cell_hart.specs.Step.{seen_of}
 use Rattle.cell_hart.proofs.Sizes.{SameSizes, size_from, KeepsSizes, sizes_kept}
 use Rattle.cell_mem.specs.Index.{IsLaid}
 use Rattle.cell_mem.specs.State.{MemoryState, region_from, size_of, unmapped}
+use Rattle.cell_mem.specs.Undo.{with_unmapped}
 use Rattle.cell_task.specs.declared.task.Task.{Task as LiveTask}
 use Rattle.cell_task.specs.declared.task.TaskFault.{TaskFault}
 use Rattle.cell_task.specs.declared.turned.Turned.{Turned as Answer}
@@ -112,7 +113,7 @@ module _ (m : MemoryState) (t : LiveTask) (laid : IsLaid m.base m.regions (m.bas
   unmapped_after m1 start e =
       let n : MemoryState = record m { regions = moved.regions } in
       ap (λ (k : MemoryState). unmapped k start) e
-      ∙ ap (λ (size : ℕ). let k : MemoryState = record n { regions = without_region start moved.regions; sealed = filled m.sealed (start - m.base) size false; spare = m.spare + 1 } in k)
+      ∙ ap (λ (size : ℕ). let k : MemoryState = record n { regions = without_region start moved.regions; sealed = filled m.sealed (start - m.base) size false; spare = m.spare + 1; undo = with_unmapped start m.undo } in k)
       (size_again m n start (same_sizes start))
 
   module _ (s : TasksState) (number : ℕ) (u : LiveTask) (out out' : List ℕ) (answer : Answer) (r : IsRan moved answer t u out out') where

@@ -33,7 +33,7 @@ use Rattle.cell_unload.specs.Unmapped.{CanLeave, IsTabled, lost_starts, without_
 use Rattle.cell_unload.proofs.Leaving.{lost_apart, lost_there}
 use Rattle.cell_unload.proofs.Leftovers.{filter_equal, filter_flat, filter_mapped, holds_numbers}
 use Rattle.cell_unload.proofs.SealsLeft.{seals_after, table_long}
-use Rattle.cell_unload.proofs.Unmapping.{IsWell, regions_left, same_base, same_maps, same_pages, same_patches, same_undo}
+use Rattle.cell_unload.proofs.Unmapping.{IsWell, regions_left, same_base, same_maps, same_pages, same_patches, no_undo}
 
 abbrev pub numbers : List CellId → List ℕ
 numbers cells = map (λ c. c.0) cells
@@ -206,7 +206,7 @@ module _ (old : Machine) (sound : IsSound old) (cells : List CellId) where
       base = is.tabled.base;
       sections = is.sections ∙ (ap (sections_without cells) sound.sections ∙ (keys_left cells old.cells.items ∙ ap keys_of (sym is.left)));
       seals = seals_is;
-      undo = ap (λ (m : MemoryState). m.undo) is.memory ∙ (same_undo starts old.memory ∙ sound.undo);
+      undo = ap (λ (m : MemoryState). m.undo) is.memory ∙ no_undo starts old.memory sound.undo;
       patches = ap (λ (m : MemoryState). m.patches) is.memory ∙ same_patches starts old.memory;
       maps = ap (λ (m : MemoryState). m.maps) is.memory ∙ same_maps starts old.memory;
     }

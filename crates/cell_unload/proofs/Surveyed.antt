@@ -28,7 +28,7 @@ use Rattle.cell_hold.specs.Places.{HasTargets, has_section}
 use Rattle.cell_hold.specs.Roots.{AreCells, HasRoom, attached_by, claims_by, holding_by, named_by}
 use Rattle.cell_space.specs.Joined.{placed_of}
 use Rattle.cell_machine.specs.declared.machine.Machine.{Machine}
-use Rattle.cell_machine.specs.Machine.{IsSound, world_of}
+use Rattle.cell_machine.specs.Machine.{IsWhole, world_of}
 use Rattle.cell_unload.specs.declared.survey.Survey.{Survey}
 use Rattle.cell_unload.specs.Sweep.{IsSurvey, holding_in, refusal_of}
 use Rattle.cell_unload.proofs.Aside.{numbers_aside, sections_aside}
@@ -36,7 +36,7 @@ use Rattle.cell_unload.proofs.Aside.{numbers_aside, sections_aside}
 abbrev pub sections_of : Machine → List Placed
 sections_of m = flat_map placed_in (world_of m).cells
 
-module _ (m : Machine) (sound : IsSound m) where
+module _ (m : Machine) (sound : IsWhole m) where
   abbrev w : World
   w = world_of m
 

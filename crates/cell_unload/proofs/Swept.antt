@@ -21,7 +21,7 @@ use Rattle.cell_world.specs.declared.fail.Fail.TheVariants.{Refused, OutOfMemory
 use Rattle.cell_lemmas.proofs.PutAside.{aside_left, closed_aside, roots_aside}
 use Rattle.cell_lemmas.proofs.RemoveCoherent.{remove_coherent}
 use Rattle.cell_machine.specs.declared.machine.Machine.{Machine}
-use Rattle.cell_machine.specs.Does.{Does, HasDone, fresh_by, patched_by}
+use Rattle.cell_machine.specs.Does.{Does, HasDone, fresh_by, patched_by, no_stack}
 use Rattle.cell_machine.specs.Machine.{IsSound, world_of}
 use Rattle.cell_machine.proofs.Unchanged.{same_itself}
 use Rattle.cell_unload.specs.Sweep.{IsSwept, IsUnswept, aside_in, cells_numbered, holding_in}
@@ -59,10 +59,10 @@ module _ (old : Machine) (sound : IsSound old) (cells removed : List CellId) (ne
       base = swept.left.base;
       sections = swept.left.sections;
       seals = swept.left.seals;
-      undo = swept.left.undo;
       patches = subst (λ (n : ℕ). n ≤ 2 ^ 64 - 1) (sym swept.left.patches) sound.patches;
       maps = subst (λ (n : ℕ). n ≤ 2 ^ 64 - 1) (sym swept.left.maps) sound.maps;
     };
+    undo = swept.left.undo;
   }
 
   replied : ids (garbage_of aside) ≡ removed
@@ -99,13 +99,13 @@ module _ (w : World) (names : List CellName) where
 
 module _ (old : Machine) (sound : IsSound old) (names : List CellName) where
   -- a name that is no cell's
-  pub unload_unnamed : (fail : Fail) → FailsAs fail (cells_numbered (world_of old) names) → Does (next_unload (world_of old) names) 0 old (Err fail) old
+  pub unload_unnamed : (fail : Fail) → FailsAs fail (cells_numbered (world_of old) names) → Does (next_unload (world_of old) names) no_stack old (Err fail) old
   unload_unnamed (Refused refusal) e = (unload_refused (world_of old) names refusal e, same_itself old)
   unload_unnamed OutOfMemory e = same_itself old
 
   module _ (cells : List CellId) (named : cells_numbered (world_of old) names ≡ Ok (map (λ c. c.0) cells)) where
     -- a cell that is kept
-    pub unload_failed : (fail : Fail) (new : Machine) → IsUnswept old cells fail new → Does (next_unload (world_of old) names) 0 old (Err fail) new
+    pub unload_failed : (fail : Fail) (new : Machine) → IsUnswept old cells fail new → Does (next_unload (world_of old) names) no_stack old (Err fail) new
     unload_failed (Refused refusal) new s = (
       unload_goes_on (world_of old) names (map (λ c. c.0) cells) named
           ∙ ap (λ (o : Option Refusal). refused_by o >> done (UnloadDone (ids (garbage_of (aside_in old cells)))) (purged (aside_in old cells))) s.0,
@@ -126,7 +126,7 @@ module _ (old : Machine) (sound : IsSound old) where
   none_aside : aside_in old [] ≡ world_of old
   none_aside = ap (λ (cells : List Cell). record (world_of old) { cells = cells }) (In-fixed (put_aside (suc (world_of old).swaps) []) (world_of old).cells (λ c i. refl))
 
-  pub purge_failed : (fail : Fail) (new : Machine) → IsUnswept old [] fail new → Does (next_purge (world_of old)) 0 old (Err fail) new
+  pub purge_failed : (fail : Fail) (new : Machine) → IsUnswept old [] fail new → Does (next_purge (world_of old)) no_stack old (Err fail) new
   purge_failed (Refused refusal) new s = absurd (no_refusal (first_held (holding_in old []) []) refl s.0)
     where
       no_refusal : (o : Option Refusal) → o ≡ None → o ≡ Some refusal → ⊥

@@ -1,5 +1,5 @@
 -- What is left of a memory when several regions go.
-use Rattle.std.proofs.Common.{◌≡◌, refl, sym, ◌∙◌, ap, arith, ℕ, ◌+◌, ◌-◌, ◌*◌, ◌≤◌, ◌<◌, ◌⊎◌, inl, inr, Bool, true, false, not, true≢false, ◌&&◌, List, [], ◌∷◌, ◌++◌, length, get_or}
+use Rattle.std.proofs.Common.{◌≡◌, refl, sym, ◌∙◌, ap, arith, ℕ, ◌+◌, ◌-◌, ◌*◌, ◌≤◌, ◌<◌, ◌⊎◌, inl, inr, None, Bool, true, false, not, true≢false, ◌&&◌, List, [], ◌∷◌, ◌++◌, length, get_or}
 use Rattle.std.specs.Prelude.{◌==◌, filter, is_some}
 use Rattle.std.specs.List.{list_all}
 use Rattle.std.proofs.lemmas.Bool.{and_parts, cases_lt, eqb-true, eq-eqb}
@@ -9,6 +9,7 @@ use Rattle.cell_num.specs.Lists.{In, each_pair, holds}
 use Rattle.cell_num.proofs.Elements.{In-filtered, In-left, all-In, filter-In, filter_all, find_there, found-In, some_has}
 use Rattle.cell_mem.specs.Index.{IsLaid}
 use Rattle.cell_mem.specs.State.{MemoryState, region_from, size_of, unmapped}
+use Rattle.cell_mem.specs.Undo.{with_unmapped}
 use Rattle.cell_mem.proofs.Filling.{filled_above, filled_below, filled_inside, length-filled}
 use Rattle.cell_mem.proofs.Laid.{Lies, covers_from, covers_high, covers_low}
 use Rattle.cell_world.specs.Memory.{covers}
@@ -36,9 +37,9 @@ pub same_pages : (starts : List ℕ) (m : MemoryState) → (without_regions m st
 same_pages [] m = refl
 same_pages (s ∷ starts) m = same_pages starts (unmapped m s)
 
-pub same_undo : (starts : List ℕ) (m : MemoryState) → (without_regions m starts).undo ≡ m.undo
-same_undo [] m = refl
-same_undo (s ∷ starts) m = same_undo starts (unmapped m s)
+pub no_undo : (starts : List ℕ) (m : MemoryState) → m.undo ≡ None → (without_regions m starts).undo ≡ None
+no_undo [] m none = none
+no_undo (s ∷ starts) m none = no_undo starts (unmapped m s) (ap (with_unmapped s) none)
 
 pub same_patches : (starts : List ℕ) (m : MemoryState) → (without_regions m starts).patches ≡ m.patches
 same_patches [] m = refl

@@ -1,7 +1,7 @@
 //! What is read of a machine before cells go.
 
 ghost use Rattle.std.specs.Prelude.{◌≡◌, ◌≤◌, ◌<◌, ◌+◌, ◌++◌, [], List, length, map, vec_capacity, vec_len};
-ghost use Rattle.cell_machine.specs.Machine.{IsSound};
+ghost use Rattle.cell_machine.specs.Machine.{IsSound, IsWhole};
 ghost use Rattle.cell_num.specs.Lists.{holds};
 ghost use Rattle.cell_num.specs.declared.ids.CellId.{CellId as IdOfCell};
 ghost use Rattle.cell_world.specs.UnloadCommand.{first_held, garbage_of};
@@ -49,7 +49,7 @@ fn add_unless_next<'a>(cell: CellId, kept: &'a [CellId], into: &mut Vec<CellId>)
 impl Survey {
     /// Reads which cells are kept into a list that is empty and has room for all. This takes no memory.
     pub fn read(machine: &Machine, mut outlook: Outlook, mut cells: Vec<CellId>) -> Survey
-        requires sound { IsSound machine.now }
+        requires whole { IsWhole machine.now }
         requires outlook { SomeOutlook machine.now outlook }
         requires empty { cells.items ≡ [] }
         requires room { length machine.now.cells.items ≤ vec_capacity cells }

@@ -1,6 +1,6 @@
 //! `unload` and `purge`
 
-ghost use Rattle.cell_machine.specs.Does.{Does};
+ghost use Rattle.cell_machine.specs.Does.{Does, no_stack};
 ghost use Rattle.cell_machine.specs.Machine.{IsSound, world_of};
 ghost use Rattle.cell_world.specs.UnloadCommand.{next_purge, next_unload};
 
@@ -19,7 +19,7 @@ use std::alloc::Global;
 /// named cell that is kept, with its holder.
 pub fn unload(alloc: Global, machine: &mut Machine, names: &[CellName]) -> Result<Reply, Fail>
     requires { IsSound machine.old }
-    ensures { Does (next_unload (world_of machine.old) names.now) 0 machine.old result machine.new }
+    ensures { Does (next_unload (world_of machine.old) names.now) no_stack machine.old result machine.new }
 {
     let cells = named_cells(alloc, machine, names)?;
     let removed = sweep(alloc, machine, &cells)?;
@@ -31,7 +31,7 @@ pub fn unload(alloc: Global, machine: &mut Machine, names: &[CellName]) -> Resul
 /// Removes every cell that was put aside and that nobody keeps.
 pub fn purge(alloc: Global, machine: &mut Machine) -> Result<Reply, Fail>
     requires { IsSound machine.old }
-    ensures { Does (next_purge (world_of machine.old)) 0 machine.old result machine.new }
+    ensures { Does (next_purge (world_of machine.old)) no_stack machine.old result machine.new }
 {
     let removed = sweep(alloc, machine, &[])?;
     Ok(Reply::Purge {

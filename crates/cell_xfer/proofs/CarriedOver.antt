@@ -1,15 +1,14 @@
 -- Routines on a stack of their own: once the stack is gone again, an undo gives back what was there before.
-use Rattle.std.proofs.Common.{◌≡◌, refl, sym, ap, ap₂, subst, ◌∙◌, arith, ℕ, ◌+◌, ◌-◌, ◌*◌, ◌<◌, ◌≤◌, inl, inr, Bool, true, false, not, cond, List, [], ◌∷◌, ◌++◌, Option, Some, None, is_some, length, map}
-use Rattle.std.specs.Prelude.{All, Result, Err, find, nat_le, nat_lt, replicate, ◌==◌, ◌||◌}
+use Rattle.std.proofs.Common.{◌≡◌, refl, sym, ap, ap₂, subst, ◌∙◌, arith, ℕ, ◌+◌, ◌-◌, ◌*◌, ◌<◌, ◌≤◌, inl, inr, Bool, true, false, not, cond, List, [], ◌∷◌, Option, Some, None, is_some, length, map}
+use Rattle.std.specs.Prelude.{All, Result, Err, find, nat_le, nat_lt, option_map, replicate, unwrap_or, ◌==◌, ◌||◌}
 use Rattle.std.proofs.lemmas.Bool.{eqb-true, eq-eqb, leb-true}
-use Rattle.std.proofs.lemmas.List.{append_assoc, length-replicate}
+use Rattle.std.proofs.lemmas.List.{length-replicate}
 use Rattle.cell_num.specs.Lists.{each_pair, In}
 use Rattle.cell_world.specs.declared.refusal.Refusal.{Refusal}
 use Rattle.cell_world.specs.declared.transfer.Failure.{Failure}
-use Rattle.cell_world.specs.declared.transfer.Record.{Record}
 use Rattle.cell_world.specs.declared.transfer.Routine.{Routine}
 use Rattle.cell_world.specs.World.{Permission, Region, stack_size}
-use Rattle.cell_world.specs.Coherent.{ends_before, shape_of}
+use Rattle.cell_world.specs.Coherent.{Shape, ends_before, shape_of}
 use Rattle.cell_world.specs.Execute.{Seen}
 use Rattle.cell_world.specs.Layout.{permission_of}
 use Rattle.cell_world.specs.declared.layout.Class.TheVariants.{Writable}
@@ -19,20 +18,23 @@ use Rattle.cell_world.specs.Place.{with_region}
 use Rattle.cell_world.specs.SpawnCommand.{first_registers}
 use Rattle.cell_world.specs.Transfer.{Addresses, Transferred, is_success, routine_from, transferred}
 use Rattle.cell_world.specs.Turn.{without_region}
-use Rattle.cell_world.specs.Undo.{AreBytes, Write, journal_of, put_back, put_in, puts, record_of, undone}
-use Rattle.cell_num.proofs.Elements.{All-In, all-In, filter_all}
+use Rattle.cell_world.specs.Undo.{AreBytes, Write, journal_of, puts, record_of, undone}
+use Rattle.cell_num.proofs.Elements.{All-In, In-map, all-In, filter_all, map-In}
 use Rattle.cell_lemmas.proofs.Turns.{without_new}
-use Rattle.cell_lemmas.proofs.Undone.{In-with_region, undo_all, undo_shapes, undone_unmapped}
+use Rattle.cell_lemmas.proofs.Undone.{In-with_region, undo_all, undo_shapes, undone_start}
+use Rattle.cell_lemmas.specs.Undo.{undone_in}
 use Rattle.cell_hart.specs.Step.{seen_of}
 use Rattle.cell_mem.specs.Index.{IsLaid}
-use Rattle.cell_mem.specs.State.{MemoryState, mapped, one_more, region_from, size_of, undone_at, undone_by, unmapped, written_at}
-use Rattle.cell_mem.specs.Undo.{UndoState, noted, noted_in}
+use Rattle.cell_mem.specs.State.{MemoryState, before_in, mapped, one_more, region_from, size_of, unmapped, written_at}
+use Rattle.cell_mem.specs.Undo.{UndoState, mapped_in, with_mapped, with_unmapped}
+use Rattle.cell_mem.proofs.Undoing.{before_noted}
 use Rattle.cell_xfer.specs.Carried.{CanCarry, Carries, IsCarried, said, with_zeros}
 use Rattle.cell_xfer.specs.Named.{AnswersAs, addresses_as}
 use Rattle.cell_xfer.specs.Transfers.{Transfers, failure_of}
 use Rattle.cell_xfer.specs.Written.{HasWritten, all_written}
 use Rattle.cell_xfer.specs.declared.carrying.Transfer.{Transfer}
 use Rattle.cell_xfer.proofs.Answering.{answers_itself}
+use Rattle.cell_xfer.proofs.Writing.{still_begun as still_after}
 use Rattle.cell_mem.proofs.LaidApart.{laid_apart, lies_in, same_found, same_sizes}
 
 -- writes leave all but the regions and the undo, which notes them
@@ -44,38 +46,18 @@ rest_stays : (m : MemoryState) (xs : List Write) → all_written m xs ≡ record
 rest_stays m [] = refl
 rest_stays m (x ∷ xs) = rest_stays (written_at m x.addr x.width x.value) xs
 
--- an undo to which these records were added
-record Noted (u : UndoState) (records : List Record) (o : Option UndoState) : Type 0 where
-  after : UndoState
-  is : o ≡ Some after
-  journal : after.journal ≡ u.journal ++ records
-  patches : after.patches ≡ u.patches
-  maps : after.maps ≡ u.maps
+-- and what the undo gives back
+all_before : (m : MemoryState) (xs : List Write) → option_map (λ u. u.before) (all_written m xs).undo ≡ option_map (λ u. u.before) m.undo
+all_before m [] = refl
+all_before m (x ∷ xs) = all_before (written_at m x.addr x.width x.value) xs ∙ before_noted (record_of m.regions x) m.undo
 
-append_none : {X : Type 0} (xs : List X) → xs ++ [] ≡ xs
-append_none [] = refl
-append_none (x ∷ xs) = ap (λ ys. x ∷ ys) (append_none xs)
+before_unmapped : (start : ℕ) (o : Option UndoState) → option_map (λ u. u.before) (with_unmapped start o) ≡ option_map (without_region start) (option_map (λ u. u.before) o)
+before_unmapped start None = refl
+before_unmapped start (Some u) = refl
 
-all_noted : (m : MemoryState) (xs : List Write) (u : UndoState) → m.undo ≡ Some u → Noted u (journal_of m.regions xs) (all_written m xs).undo
-all_noted m [] u e = record { after = u; is = e; journal = sym (append_none u.journal); patches = refl; maps = refl }
-all_noted m (x ∷ xs) u e =
-    let y = record_of m.regions x in
-    let rest = all_noted (written_at m x.addr x.width x.value) xs (noted_in y u) (ap (noted y) e) in
-    record {
-      after = rest.after;
-      is = rest.is;
-      journal = rest.journal ∙ append_assoc u.journal (y ∷ []) (journal_of (put_in m.regions x) xs);
-      patches = rest.patches;
-      maps = rest.maps;
-    }
-
--- the last records go back first
-undone_then : (regions : List Region) (xs ys : List Record) → undone regions (xs ++ ys) ≡ undone (undone regions ys) xs
-undone_then regions [] ys = refl
-undone_then regions (x ∷ xs) ys = ap (λ rs. put_back rs x) (undone_then regions xs ys)
-
-undone_is : (m : MemoryState) (u : UndoState) → m.undo ≡ Some u → undone_at m ≡ undone_by m u
-undone_is m u e = ap (λ (o : Option UndoState). elim o as (λ _. MemoryState) [ None ↦ m | Some v ↦ undone_by m v ]) e
+begun_unmapped : (start : ℕ) (o : Option UndoState) → is_some (with_unmapped start o) ≡ is_some o
+begun_unmapped start None = refl
+begun_unmapped start (Some u) = refl
 
 some_of : {X : Type 0} (o : Option X) → is_some o ≡ true → (x : X) × (o ≡ Some x)
 some_of None e = absurd cc
@@ -94,7 +76,7 @@ module _ (m : MemoryState) (t : Transfer) (can : CanCarry m t) where
   abbrev pub mid : MemoryState
   mid = with_zeros m t.stack
 
-  module _ (laid : IsLaid mid.base mid.regions (mid.base + 4096 * mid.pages)) (bytes : AreBytes mid.regions) (after : MemoryState) (w : HasWritten mid after t.budget) where
+  module _ (kept : map shape_of (before_in m) ≡ map shape_of m.regions) (laid : IsLaid mid.base mid.regions (mid.base + 4096 * mid.pages)) (bytes : AreBytes mid.regions) (after : MemoryState) (w : HasWritten mid after t.budget) where
     elsewhere : (r : Region) → In r m.regions → (r.start == t.stack) ≡ false
     elsewhere r i = go (r.start == t.stack) refl
       where
@@ -166,32 +148,42 @@ module _ (m : MemoryState) (t : Transfer) (can : CanCarry m t) where
     begun : (u : UndoState) × (m.undo ≡ Some u)
     begun = some_of m.undo can.begun
 
-    notes : Noted begun.0 (journal_of mid.regions w.writes) (all_written mid w.writes).undo
-    notes = all_noted mid w.writes begun.0 begun.1
+    -- the stack, as an undo leaves it
+    abbrev stack_back : Region
+    stack_back = undone_in (record { start = t.stack; permission = permission_of Writable; bytes = replicate stack_size 0 }) begun.0.journal
 
-    undo_is : n.undo ≡ Some notes.after
-    undo_is = ap (λ (x : MemoryState). x.undo) w.made ∙ notes.is
+    begins_there : stack_back.start ≡ t.stack
+    begins_there = undone_start (record { start = t.stack; permission = permission_of Writable; bytes = replicate stack_size 0 }) begun.0.journal
+
+    mid_begun : mid.undo ≡ Some (mapped_in (record { start = t.stack; permission = permission_of Writable; bytes = replicate stack_size 0 }) begun.0)
+    mid_begun = ap (with_mapped (record { start = t.stack; permission = permission_of Writable; bytes = replicate stack_size 0 })) begun.1
+
+    -- no region that is given back starts where the stack does
+    saved_elsewhere : (r : Region) → In r begun.0.before → (r.start == t.stack) ≡ false
+    saved_elsewhere r i =
+        let shapes : map shape_of begun.0.before ≡ map shape_of m.regions = ap (λ (o : Option UndoState). map shape_of (unwrap_or (option_map (λ (u : UndoState). u.before) o) m.regions)) (sym begun.1) ∙ kept in
+        let d = In-map shape_of m.regions (shape_of r) (subst (λ (ss : List Shape). In (shape_of r) ss) shapes (map-In shape_of begun.0.before r i)) in
+        ap (λ (x : Shape). x.start == t.stack) d.2 ∙ elsewhere d.0 d.1
 
     pub still_begun : is_some n.undo ≡ true
-    still_begun = ap is_some undo_is
+    still_begun = begun_unmapped t.stack after.undo ∙ still_after mid after t.budget w (ap is_some mid_begun)
 
-    regions_back : undone n.regions notes.after.journal ≡ undone m.regions begun.0.journal
-    regions_back =
-        ap (undone n.regions) notes.journal
-        ∙ undone_then n.regions begun.0.journal (journal_of mid.regions w.writes)
-        ∙ ap (λ rs. undone rs begun.0.journal)
-        (undone_unmapped t.stack after.regions (journal_of mid.regions w.writes) ∙ (ap (without_region t.stack) given_back ∙ left_out))
+    saved_is : without_region t.stack (with_region stack_back begun.0.before) ≡ begun.0.before
+    saved_is =
+        without_new (λ r. not (r.start == t.stack)) stack_back begun.0.before (ap not (eq-eqb stack_back.start t.stack begins_there))
+        ∙ filter_all (λ r. not (r.start == t.stack)) begun.0.before (λ r i. ap not (saved_elsewhere r i))
 
-    abbrev by : MemoryState → List Region → ℕ → ℕ → MemoryState
-    by x regions patches maps = record x { regions = regions; undo = None; patches = patches; maps = maps }
+    saved_then : option_map (λ (u : UndoState). u.before) n.undo ≡ Some begun.0.before
+    saved_then =
+        before_unmapped t.stack after.undo
+        ∙ ap (option_map (without_region t.stack))
+        (ap (λ (x : MemoryState). option_map (λ (u : UndoState). u.before) x.undo) w.made ∙ (all_before mid w.writes ∙ ap (option_map (λ (u : UndoState). u.before)) mid_begun))
+        ∙ ap (λ (rs : List Region). Some rs) saved_is
 
-    pub goes_back : undone_at n ≡ undone_at m
+    pub goes_back : before_in n ≡ before_in m
     goes_back =
-        undone_is n notes.after undo_is
-        ∙ ap (λ (x : MemoryState). by x (undone n.regions notes.after.journal) notes.after.patches notes.after.maps) rest
-        ∙ ap (λ (rs : List Region). by m rs notes.after.patches notes.after.maps) regions_back
-        ∙ ap₂ (λ (p q : ℕ). by m (undone m.regions begun.0.journal) p q) notes.patches notes.maps
-        ∙ sym (undone_is m begun.0 begun.1)
+        ap (λ (o : Option (List Region)). unwrap_or o n.regions) saved_then
+        ∙ sym (ap (λ (o : Option UndoState). unwrap_or (option_map (λ (u : UndoState). u.before) o) m.regions) begun.1)
 
     module _ (result : Result (Unit {0}) Failure)
         (answer : (old new : List (List ℕ × ℕ)) → AnswersAs t.addresses.old old → AnswersAs t.addresses.new new → Transfers t.budget (record { old = addresses_as old; new = addresses_as new }) mid t.stack t.routines.items result after) where
@@ -230,7 +222,7 @@ has_name n a m stack routines f count e few =
 
 -- the same of a memory that is that one
 module _ (m : MemoryState) (t : Transfer) (can : CanCarry m t) (x : MemoryState) (e : x ≡ with_zeros m t.stack)
-    (laid : IsLaid x.base x.regions (x.base + 4096 * x.pages)) (bytes : AreBytes x.regions) (after : MemoryState) (w : HasWritten x after t.budget) (routines : List Routine) (r : routines ≡ t.routines.items) where
+    (kept : map shape_of (before_in m) ≡ map shape_of m.regions) (laid : IsLaid x.base x.regions (x.base + 4096 * x.pages)) (bytes : AreBytes x.regions) (after : MemoryState) (w : HasWritten x after t.budget) (routines : List Routine) (r : routines ≡ t.routines.items) where
   now_laid : IsLaid m.base (mid m t can).regions (m.base + 4096 * m.pages)
   now_laid = subst (λ (y : MemoryState). IsLaid y.base y.regions (y.base + 4096 * y.pages)) e laid
 
@@ -241,7 +233,7 @@ module _ (m : MemoryState) (t : Transfer) (can : CanCarry m t) (x : MemoryState)
   now_written = subst (λ (y : MemoryState). HasWritten y after t.budget) e w
 
   pub can_unmap : is_some (region_from after t.stack) ≡ true
-  can_unmap = stack_there m t can now_laid now_bytes after now_written
+  can_unmap = stack_there m t can kept now_laid now_bytes after now_written
 
   -- what the routines leave, with any rows that the tables answer as
   abbrev AreLeft : Result (Unit {0}) Failure → MemoryState → List Routine → Type 0
@@ -250,7 +242,7 @@ module _ (m : MemoryState) (t : Transfer) (can : CanCarry m t) (x : MemoryState)
 
   pub carried_over : (result : Result (Unit {0}) Failure) (given : Result (Unit {0}) Refusal) (left : MemoryState) → left ≡ unmapped after t.stack → AreLeft result x routines → given ≡ said t.names.items (failure_of result) → IsCarried m t given left
   carried_over result given left l answer f =
-      subst (λ (y : MemoryState). IsCarried m t given y) (sym l) (carried m t can now_laid now_bytes after now_written result (subst (λ (y : MemoryState). AreLeft result y t.routines.items) e (subst (λ (rs : List Routine). AreLeft result x rs) r answer)) given f)
+      subst (λ (y : MemoryState). IsCarried m t given y) (sym l) (carried m t can kept now_laid now_bytes after now_written result (subst (λ (y : MemoryState). AreLeft result y t.routines.items) e (subst (λ (rs : List Routine). AreLeft result x rs) r answer)) given f)
 
   pub one_failed : (f : Failure) → AreLeft (Err f) x routines → f.routine < length t.names.items
   one_failed f answer =

@@ -2,7 +2,7 @@
 --     with_zeros m start        the memory with a stack of zeros that starts there
 --     said names failure        the answer: the refusal has the name of the routine that failed
 --     CanCarry m t              there is room for the stack, writes are left for all turns, and the stack's bytes are those of a new one
---     IsCarried m t result n    the routines ran on the stack, which is gone again, and an undo gives back the memory of before
+--     IsCarried m t result n    the routines ran on the stack, which is gone again, and an undo gives back what it gave back before
 use Rattle.std.specs.Prelude.{◌≡◌, ◌-◌, ◌<◌, ℕ, All, List, Option, None, Some, Result, Ok, Err, is_some, true, false, [], length, replicate, slice_index_or}
 use Rattle.cell_world.specs.declared.refusal.Refusal.{Refusal}
 use Rattle.cell_world.specs.declared.refusal.Refusal.TheVariants.{Transfer as TransferRefused}
@@ -14,7 +14,7 @@ use Rattle.cell_world.specs.Transfer.{Transferred, transferred}
 use Rattle.cell_world.specs.Turn.{without_region}
 use Rattle.cell_world.specs.World.{stack_size}
 use Rattle.cell_hart.specs.Step.{seen_of}
-use Rattle.cell_mem.specs.State.{HasWrites, IsRoom, MemoryState, mapped, one_more, undone_at}
+use Rattle.cell_mem.specs.State.{HasWrites, IsRoom, MemoryState, before_in, mapped, one_more}
 use Rattle.cell_xfer.specs.declared.carrying.Transfer.{Transfer}
 use Rattle.cell_xfer.specs.Named.{AnswersAs, addresses_as}
 
@@ -37,7 +37,7 @@ abbrev pub Carries : Transferred → Transfer → Result (Unit {0}) Refusal → 
 Carries x t result n = (n.regions ≡ without_region t.stack x.regions) × (result ≡ said t.names.items x.failure)
 
 pub record IsCarried (m : MemoryState) (t : Transfer) (result : Result (Unit {0}) Refusal) (n : MemoryState) : Type 0 where
-  pub back : undone_at n ≡ undone_at m
+  pub back : before_in n ≡ before_in m
   pub begun : is_some n.undo ≡ true
   pub rest : n ≡ record m { regions = n.regions; undo = n.undo; maps = one_more m.maps }
   pub done : (old new : List (List ℕ × ℕ)) → AnswersAs t.addresses.old old → AnswersAs t.addresses.new new

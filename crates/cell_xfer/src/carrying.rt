@@ -50,6 +50,7 @@ pub fn carry_over(memory: &mut Memory, given: Transfer) -> Result<(), Refusal>
         zeros,
     } = given;
     memory.space();
+    memory.keeps_shapes();
     memory.map(stack, Perm::of(Class::Writable.permission()), zeros);
     memory.laid_out();
     memory.holds_bytes();

@@ -7,13 +7,13 @@ commit-requires c = can_commit c.requires.can _ _ c.deref.ensures.value c.deref-
 
 pub run_routines-requires : goal.run_routines-requires
 run_routines-requires c =
-    can_run c.requires.can _ _ _ c.deref.ensures.value c.deref-2.ensures.value c.commit.ensures.committed c.commit.ensures.laid c.commit.ensures.bytes c.laid_out.ensures
+    can_run c.requires.can _ _ _ c.deref.ensures.value c.deref-2.ensures.value c.commit.ensures.committed c.laid_out.ensures c.keeps_shapes.ensures
 
 pub returns-in_err-run_routines : goal.returns-in_err-run_routines
 returns-in_err-run_routines c e =
     let p = err_from_is_err_and c.from_residual.result c.from_residual.ensures.1 in
-    rw (p.1, p.2) (not_entered e.can _ _ _ c.deref.ensures.value c.deref-2.ensures.value c.commit.ensures.committed c.commit.ensures.laid c.commit.ensures.bytes c.laid_out.ensures _ _ c.in_err-run_routines.ensures)
+    rw (p.1, p.2) (not_entered e.can _ _ _ c.deref.ensures.value c.deref-2.ensures.value c.commit.ensures.committed c.laid_out.ensures c.keeps_shapes.ensures _ _ c.in_err-run_routines.ensures)
 
 pub returns : goal.returns
 returns c e =
-    is_entered e.can _ _ _ c.deref.ensures.value c.deref-2.ensures.value c.commit.ensures.committed c.commit.ensures.laid c.commit.ensures.bytes c.laid_out.ensures _ c.in_ok-run_routines.ensures
+    is_entered e.can _ _ _ c.deref.ensures.value c.deref-2.ensures.value c.commit.ensures.committed c.laid_out.ensures c.keeps_shapes.ensures _ c.in_ok-run_routines.ensures

@@ -1,6 +1,7 @@
 use Rattle.std.proofs.Common.{◌∙◌, ap, arith, ◌+◌, ◌-◌, ◌<◌, get_or, length}
 use Rattle.cell_num.specs.declared.ids.CellId.{CellId}
 use Rattle.cell_machine.specs.declared.machine.Machine.{Machine}
+use Rattle.cell_machine.specs.Same.{without_counts}
 use Rattle.cell_swap.proofs.OldRivals.{are_attached, no_rival}
 use Rattle.cell_swap.proofs.Returning.{has_state, left_next, none_left, put_none, put_same, still_aside, told}
 use Rattle.cell_swap.proofs.old_cells.reattach.Goals as goal
@@ -38,8 +39,11 @@ loop-cell-preserved c =
       others = ap (λ (m : Machine). record m { spaces = c.reattach_one.new.spaces }) c.loop-cell.invariant.others;
     }
 
-pub returns : goal.returns
-returns c r =
+pub returns-clause-memory : goal.returns-clause-memory
+returns-clause-memory c = ap (λ (x : Machine). x.memory) c.loop-cell.invariant.others
+
+pub returns-clause-same : goal.returns-clause-same
+returns-clause-same c r =
     let old = c.args.old.now in
     let place = c.loop-cell.cell-index in
     let same = c.loop-cell.invariant.others in
@@ -51,7 +55,7 @@ returns c r =
       known = put_none r.before.spaces.cells (r.before.swaps + 1) (still_aside old place) c.loop-cell.machine.spaces.cells (λ n. none_left old place n (omega arith)) (c.loop-cell.invariant.known r);
       space = ap (λ (x : Machine). x.space) same ∙ r.aside.space;
       spare = r.aside.spare;
-      memory = ap (λ (x : Machine). x.memory) same ∙ r.aside.memory;
+      memory = ap (λ (x : Machine). (without_counts r.before x).memory) same ∙ r.aside.memory;
       sections = ap (λ (x : Machine). x.graph.sections) same ∙ r.aside.sections;
       rows = ap (λ (x : Machine). x.graph.rows) same ∙ r.aside.rows;
       tasks = ap (λ (x : Machine). x.tasks) same ∙ r.aside.tasks;

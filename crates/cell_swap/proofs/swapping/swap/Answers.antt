@@ -1,6 +1,7 @@
 use Rattle.std.proofs.Common.{sym, ◌∙◌, ap, subst, List}
 use Rattle.std.proofs.lemmas.Result.{err_from_is_err_and}
 use Rattle.cell_num.specs.declared.ids.CellId.{CellId}
+use Rattle.cell_machine.specs.Same.{without_counts}
 use Rattle.cell_machine.proofs.Unchanged.{same_itself}
 use Rattle.cell_swap.specs.OldCells.{AreThere, CanReturn, IsAside}
 use Rattle.cell_swap.specs.Swapped.{HasBegun, roots_without}
@@ -63,7 +64,7 @@ returns c =
       before = m;
       sound = c.requires.sound;
       there = subst (AreThere m.spaces.cells) (sym c.deref-in-Err.ensures.value) (old_there c.args.depot.now m c.requires.sound c.args.items.now asked c.in_ok-asked.ensures);
-      aside = subst (λ (old : List CellId). IsAside m old c.exchange.new.machine) (sym c.deref-in-Err.ensures.value) (aside_same m asked.replaced.items c.put_aside.new.machine c.exchange.new.machine aside same);
+      aside = subst (λ (old : List CellId). IsAside m old (without_counts m c.exchange.new.machine)) (sym c.deref-in-Err.ensures.value) (aside_same m asked.replaced.items c.put_aside.new.machine c.exchange.new.machine aside same);
     } in
     taken_back c.args.depot.now m c.requires.sound c.args.items.now c.args.options.now asked c.in_ok-asked.ensures c.requires.small c.requires.some c.put_aside.new.machine aside c.in-Err.fail c.exchange.new.machine c.reattach.new.machine (c.in-Err.ensures h)
-    (c.reattach.ensures r)
+    (c.reattach.ensures.same r) c.reattach.ensures.memory

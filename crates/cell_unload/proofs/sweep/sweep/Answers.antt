@@ -18,6 +18,9 @@ returns-in_err-removed c =
     let p = err_from_is_err_and c.from_residual-in_err-removed.result c.from_residual-in_err-removed.ensures.1 in
     rw (p.1, p.2) (same_itself c.args.machine.now)
 
+pub read-survey-requires-clause-whole : goal.read-survey-requires-clause-whole
+read-survey-requires-clause-whole c = record { coherent = c.requires.coherent; parts = c.requires.parts }
+
 pub returns-in-Some : goal.returns-in-Some
 returns-in-Some c = (sym (c.in-Some.ensures c.args.aside.now (c.read-survey.ensures c.args.aside.now (c.in_ok-outlook.ensures {u = tt}))), same_itself c.args.machine.now)
 

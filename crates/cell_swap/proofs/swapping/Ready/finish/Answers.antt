@@ -1,8 +1,6 @@
-use Rattle.std.proofs.Common.{subst, []}
-use Rattle.cell_machine.specs.declared.machine.Machine.{Machine}
-use Rattle.cell_machine.specs.Same.{IsSame}
+use Rattle.std.proofs.Common.{[]}
 use Rattle.cell_swap.proofs.SwapLeft.{finished, left_fit, sound_left}
-use Rattle.cell_swap.proofs.Tried.{all_fit, parts, way_back}
+use Rattle.cell_swap.proofs.Tried.{all_fit, parts, was_undone, way_back, whole_sound}
 use Rattle.cell_swap.proofs.swapping.Ready.finish.Goals as goal
 
 pub try_new_cells-requires-clause-can : goal.try_new_cells-requires-clause-can
@@ -15,10 +13,10 @@ pub returns-in-Err : goal.returns-in-Err
 returns-in-Err c q =
     let tried = c.in-Err.ensures (parts q) in
     let back = way_back tried.1 c.deref.ensures.value c.as_slice.ensures in
-    (tried.0, subst (λ (k : Machine). IsSame k c.undo_new_cells.new.machine) back.leads (c.undo_new_cells.ensures back.undo))
+    (tried.0, was_undone tried.1 back.undo back.leads _ (c.undo_new_cells.ensures.same back.undo) c.undo_new_cells.ensures.patches c.undo_new_cells.ensures.maps)
 
 pub remove_unkept-requires-clause-sound : goal.remove_unkept-requires-clause-sound
-remove_unkept-requires-clause-sound c = (c.in-Ok.ensures (parts c.requires)).entered.sound
+remove_unkept-requires-clause-sound c = let tried = c.in-Ok.ensures (parts c.requires) in whole_sound tried
 
 pub remove_unkept-requires-clause-survey : goal.remove_unkept-requires-clause-survey
 remove_unkept-requires-clause-survey c = record { aside = []; is = (c.in-Ok.ensures (parts c.requires)).read }

@@ -12,13 +12,13 @@ use Rattle.cell_unload.proofs.survey.Survey.read.Goals as goal
 
 pub kept-requires-clause-targets : goal.kept-requires-clause-targets
 kept-requires-clause-targets c =
-    subst (λ (ps : List Placed). HasTargets c.args.machine.now.graph ps) (sym c.requires.outlook.is.sections) (has_targets c.args.machine.now c.requires.sound)
+    subst (λ (ps : List Placed). HasTargets c.args.machine.now.graph ps) (sym c.requires.outlook.is.sections) (has_targets c.args.machine.now c.requires.whole)
 
 pub kept-requires-clause-room : goal.kept-requires-clause-room
 kept-requires-clause-room c =
     subst (λ (rs : List Root). HasRoom c.args.outlook.places rs (vec_capacity c.args.cells)) (sym c.deref.ensures.value)
     (subst (λ (ps : List Placed). HasRoom ps c.args.outlook.roots.items (vec_capacity c.args.cells)) (sym c.requires.outlook.is.sections)
-    (cells_fit c.args.machine.now c.requires.sound c.args.outlook.roots.items c.requires.outlook.is.present (vec_capacity c.args.cells) c.requires.room))
+    (cells_fit c.args.machine.now c.requires.whole c.args.outlook.roots.items c.requires.outlook.is.present (vec_capacity c.args.cells) c.requires.room))
 
 pub returns : goal.returns
 returns c = λ aside look.
@@ -28,7 +28,7 @@ returns c = λ aside look.
     let numbers : List ℕ = numbers_of (world_of m).cells in
     let named : AreCells numbers places c.deref.result.now =
     subst (λ (rs : List Root). AreCells numbers places rs) (sym c.deref.ensures.value)
-    (subst (λ (ps : List Placed). AreCells numbers ps roots) (sym look.sections) (cells_named m c.requires.sound roots look.present)) in
+    (subst (λ (ps : List Placed). AreCells numbers ps roots) (sym look.sections) (cells_named m c.requires.whole roots look.present)) in
     record {
       outlook = record { sections = c.kept.ensures.places ∙ look.sections; attached = look.attached; claims = look.claims; present = look.present };
       kept =
