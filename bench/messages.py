@@ -260,6 +260,22 @@ def refusals():
     case(
         "transfer: budget", two | {"n#a.o": c(routine.format("", "for (;;) __asm__ volatile(\"\");"))},
         "load k a\nswap k/a=n#a.o transfer a::mv\n")
+    copy = "long d[{0}] N(a::d); long f(void) N(a::f); long f(void) {{ return {1}; }} "
+    mover = copy + (
+        "long mv(void) N(a::mv); long mv(void) {{ static const char name[] = \"a::d\"; long *old = old_place(name, 4); "
+        "for (long i = 0; i < {0}; i++) d[i] = old[i]; return 0; }}")
+    header = f'#include "{TOP}/examples/plugins/cells.h"\n'
+    for name, words in [("fine: copy of 128 KiB", 16 << 10), ("transfer: copy of 256 KiB", 32 << 10)]:
+        for compiler in [GCC, CLANG]:
+            two_sizes = {
+                "k#a.o": c(copy.format(words, 1), compiler=compiler),
+                "n#a.o": c(header + mover.format(words, 2), compiler=compiler)}
+            case(f"{name}, {compiler}", two_sizes, "load k a\nswap k/a=n#a.o transfer a::mv budget 100000\n")
+    state = header + "struct d { struct state state; } d CRATE(a, d) = { { 1, INSIDE } };\n"
+    begun = {
+        "k#a.o": c(state.replace("INSIDE", "1")),
+        "n#a.o": c(state.replace("INSIDE", "0") + "ROUTINE(a, mv, d, 1, struct d, old) { (void)old; return 0; }")}
+    case("transfer: a task is at the state", begun, "load k a\nswap k/a=n#a.o transfer a::mv\n")
     old = c(
         "long f(void) N(a::f); long g(void) N(a::g); long f(void) { return 1; } long g(void) { for (;;) __asm__ "
         "volatile(\"\"); }")

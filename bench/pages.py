@@ -10,6 +10,7 @@ A comment on a line of its own says what the fenced block behind it is. FOLDER i
 works on a copy of examples/ of its own, so that nothing which it makes there is seen by another one.
 
     <!-- run: WORDS -->             what `./cells WORDS` prints, as <!-- run: examples/swap script -->
+    <!-- tool: WORDS -->            what `tools/WORDS` prints, as <!-- tool: sweep examples/sweep script -->; CELLS names PROGRAM
     <!-- file: FOLDER/NAME -->      that file
     <!-- new: FOLDER/NAME -->       makes that file of the block, for the runs behind it
     <!-- more: FOLDER/NAME -->      puts the block behind what the file holds
@@ -21,7 +22,7 @@ Options stand behind the words, each after a semicolon, as <!-- run: examples/sw
     answers A to B, answers A       of a run, the answers to these lines of the script alone
     status N                        the run ends with this status
     without FOLDER/NAME             the file isn't there for this run
-    lines A to B, lines A           of a file, these lines alone
+    lines A to B, lines A           of a file, or of what a tool prints, these lines alone
 
 What a page doesn't show may stand in the comment itself, for `new`, `more` and `object`: the first line is without its ` -->`,
 then come the lines, and then a line `-->`.
@@ -41,7 +42,7 @@ import tempfile
 
 TOP = os.path.dirname(os.path.dirname(os.path.abspath(__file__)))
 PAGES = ["*.md", "docs/*.md", "examples/*/*.md"]
-COMPARED = ("run", "file")
+COMPARED = ("run", "tool", "file")
 MADE = ("new", "more", "object")
 KINDS = "|".join(COMPARED + MADE + ("copy",))
 MARK = re.compile(r"<!-- (%s): (.*?)( -->)?" % KINDS)
@@ -109,6 +110,12 @@ def answers(text, first, last):
     return b"".join(kept)
 
 
+def lines(text, told):
+    """The lines of a text that are asked for."""
+    first, last = told.get("lines", (1, sys.maxsize))
+    return b"".join(text.splitlines(keepends=True)[first - 1 : last])
+
+
 class Page:
     """A page, the folder that it works on, and the programs."""
 
@@ -134,10 +141,18 @@ class Page:
             raise Wrong(f"`./cells {words}` ends with status {done.returncode}")
         return answers(done.stdout, *told["answers"]) if "answers" in told else done.stdout
 
-    def lines(self, name, told):
-        first, last = told.get("lines", (1, sys.maxsize))
+    def printed(self, words, told):
+        """What a tool prints. A transcript that it reads may be made before, by `new`."""
+        name, *rest = words.split()
+        done = subprocess.run([os.path.join(TOP, "tools", name), *rest], cwd=self.folder, stdout=subprocess.PIPE,
+                              stdin=subprocess.DEVNULL, env=os.environ | {"CELLS": self.cells})
+        if done.returncode != told.get("status", 0):
+            raise Wrong(f"`tools/{words}` ends with status {done.returncode}")
+        return lines(done.stdout, told)
+
+    def text(self, name, told):
         with open(os.path.join(TOP, name), "rb") as file:
-            return b"".join(file.read().splitlines(keepends=True)[first - 1 : last])
+            return lines(file.read(), told)
 
     def copy(self, words):
         before, _, after = words.partition(" to ")
@@ -161,8 +176,10 @@ class Page:
         words, told = options(mark[2])
         if mark[1] == "run":
             return self.transcript(words, told)
+        if mark[1] == "tool":
+            return self.printed(words, told)
         if mark[1] == "file":
-            return self.lines(words, told)
+            return self.text(words, told)
         if mark[1] == "copy":
             return self.copy(words)
         return self.make(mark[1], words, block)

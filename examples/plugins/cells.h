@@ -30,4 +30,49 @@ static inline void yield(void)                      { cells_call(3, 0, 0); }
 static inline void *old_place(const char *name, unsigned long bytes) { return (void *)cells_call(4, (unsigned long)name, bytes); }
 static inline void *new_place(const char *name, unsigned long bytes) { return (void *)cells_call(5, (unsigned long)name, bytes); }
 
+/* State that a routine is to carry over begins with this head: which layout it has, 0 once a routine has taken it away, and how
+   many tasks are at it. One task alone may be at it: two that count at the same time could lose one of the counts. */
+struct state {
+    volatile unsigned long version, inside;
+};
+
+/* Begins what reads or writes the state. 0 where the state was taken away: then the caller has to call the new code. */
+static inline int enter(struct state *state)
+{
+    state->inside++;
+    if (state->version)
+        return 1;
+    state->inside--;
+    return 0;
+}
+
+static inline void leave(struct state *state)
+{
+    __asm__ volatile("" : : : "memory");
+    state->inside--;
+}
+
+/* The routine CRATE::ROUTINE, which takes the old cells' variable CRATE::NAME, of that TYPE, over where its layout is VERSION
+   and no task is at it. Behind the macro stands a body, in which OLD points to the variable; it answers 0 where it has
+   succeeded. Codes of its own are 1 where no old cell has the name, 2 for another version, 3 where a task is at the state. */
+#define ROUTINE(crate, routine, name, number, type, old)                                 \
+    static unsigned long crate##_##routine##_of(type *old);                              \
+    unsigned long crate##_##routine(unsigned long unused) CRATE(crate, routine);         \
+    unsigned long crate##_##routine(unsigned long unused)                                \
+    {                                                                                    \
+        static const char text[] = #crate "::" #name;                                    \
+        type *found = old_place(text, sizeof text - 1);                                  \
+        if (!found)                                                                      \
+            return 1;                                                                    \
+        if (found->state.version != number)                                              \
+            return 2;                                                                    \
+        if (found->state.inside)                                                         \
+            return 3;                                                                    \
+        unsigned long code = crate##_##routine##_of(found);                              \
+        if (code == 0)                                                                   \
+            found->state.version = 0;                                                    \
+        return code;                                                                     \
+    }                                                                                    \
+    static unsigned long crate##_##routine##_of(type *old)
+
 #endif
