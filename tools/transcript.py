@@ -1,6 +1,7 @@
 """What a transcript of `cells` says, for the tools beside this file; docs/COMMANDS.md has each line of it."""
 import os
 import re
+import signal
 import subprocess
 import sys
 from dataclasses import dataclass, field
@@ -174,14 +175,15 @@ def went(answer):
     return numbers(answer.rest) if answer.command in ("unload", "purge") else []
 
 
-def is_built():
-    """Whether ./cells has a program to run. Where a source has changed since, it takes its time nevertheless."""
-    return os.access(os.path.join(TOP, "crates", "cells", "out", "cells"), os.X_OK)
+def built_program():
+    """The program that CELLS names, or that ./build has built, or none."""
+    built = os.path.join(TOP, "crates", "cells", "out", "cells")
+    return os.environ.get("CELLS") or (built if os.access(built, os.X_OK) else None)
 
 
 def run(folder, script):
-    """Runs the program: what it wrote, and its status. CELLS names it, else it is ./cells."""
-    program = os.environ.get("CELLS") or os.path.join(TOP, "cells")
+    """Runs the program: what it wrote, and its status. Where none is built, ./cells takes its time."""
+    program = built_program() or os.path.join(TOP, "cells")
     try:
         done = subprocess.run([program, folder, script], stdin=subprocess.DEVNULL, stdout=subprocess.PIPE)
     except OSError as error:
@@ -189,6 +191,10 @@ def run(folder, script):
     return done.stdout.decode(errors="replace"), done.returncode
 
 
-def end(tool, what, wrong):
-    """Ends a tool that can't do what it was asked for."""
-    sys.exit(f"{tool}: {what}: {wrong}" if what else f"{tool}: {wrong}")
+def do(tool, name, work):
+    """Does a tool's work on a file of that name, or on standard input, and says what is wrong. A reader may end before it."""
+    signal.signal(signal.SIGPIPE, signal.SIG_DFL)
+    try:
+        work()
+    except Wrong as wrong:
+        sys.exit(f"{tool}: {name or 'standard input'}: {wrong}")
