@@ -1,16 +1,19 @@
 #!/usr/bin/env python3
 """Draws the machine at each `map` of a transcript.
 
-    tools/draw.py [-o PREFIX] [TRANSCRIPT]
+    tools/draw.py [-o PREFIX] [-s SCRIPT] [TRANSCRIPT]
 
 TRANSCRIPT is what `cells` has written, from standard input where it isn't given. For each `map` in it one drawing is
 written, PREFIX-L.svg, where L is the number of the `map`'s line; the names are printed. PREFIX is the transcript's name without
 its ending, or `machine`. It needs Graphviz: Debian's package graphviz.
 
 A drawing has a box for each namespace, and in it the cells with their sections that aren't empty: green where they are
-attached, grey and dashed where a swap has put them aside. Arrows are links from section to section, with their kinds; those of
-a cell to itself are left out. A dotted arrow leads from a cell that was put aside to the one in its place. A task points to the
-section where its pc is, and is red where it has faulted.
+attached, grey and dashed where a swap has put them aside. A namespace stands in the box of its parent where the script, a file
+that -s names, tells the parent; a transcript doesn't. Arrows are links from section to section, with their kinds; those of a
+cell to itself are left out. A dotted arrow leads from a cell that was put aside to the one in its place. A task points to the
+section where its pc is, and is red where it has faulted. A dashed cell says who is seen to hold it: tasks that began or stand in
+it, cells with a link into it, and whom an `E15` names; an address in a register or in data is seen by an `E15` alone. A cell
+whose `deps` weren't asked says so: its links may lack.
 
 Links come from `deps` and `users`, tasks from `tasks`. They are drawn where nothing between them and the `map` has changed
 them, before it or behind it. So the commands for one drawing stand together in the script, as
@@ -27,70 +30,15 @@ import os
 import re
 import shutil
 import subprocess
-import sys
 
-# What may follow an answer's number, and which commands change cells and links, or tasks.
-ANSWER = re.compile(r"(\d+) (?:ok (ns|load|spawn|step|run|kill|swap|unload|purge|find|map|tasks|deps|users|dump)\b|E\d+ )(.*)")
+import transcript
+from transcript import Wrong
+
 CHANGE_CELLS = {"load", "swap", "unload", "purge"}
 CHANGE_TASKS = {"spawn", "step", "run", "kill"}
-CELL = re.compile(r"  #(\d+) (\w+)/(\w+) (attached|detached (\d+)) (\S+)$")
-SECTION = re.compile(r"    (\d+) (rx|rw|ro) ([0-9a-f]+) (\d+)$")
-LINK = re.compile(r"  #(\d+)\.(\d+)\+[0-9a-f]+ (\w+) -> #(\d+)\.(\d+)$")
-TASK = re.compile(r"  t(\d+) (?:(ready) pc|(fault) (\S+) at) ([0-9a-f]+) root #(\d+)$")
-SWAP = re.compile(r" (\d+) new (.*) patched \d+ removed .* kept .*$")
 PERMISSIONS = {"rx": "code", "ro": "constants", "rw": "data"}
-
-Answer = collections.namedtuple("Answer", "line command rest below")
-Section = collections.namedtuple("Section", "number permission start size")
-Link = collections.namedtuple("Link", "user section kind target target_section")
-Task = collections.namedtuple("Task", "number cause pc root")
-
-
-class Wrong(Exception):
-    """What a person has to know instead of drawings."""
-
-
-class Cell:
-    def __init__(self, row):
-        self.number, self.namespace, self.stem, self.file = int(row[1]), row[2], row[3], row[6]
-        self.swap = row[5] and int(row[5])
-        self.sections = []
-
-    def has(self, address):
-        """The section in which an address lies, or none."""
-        return next((s for s in self.sections if s.start <= address < s.start + s.size), None)
-
-
-def parsed(pattern, number, text):
-    row = pattern.match(text)
-    if not row:
-        raise Wrong(f"line {number} of it is no line of a transcript: {text}")
-    return row
-
-
-def read(text):
-    """The answers of a transcript, each with the lines below it. A last line without its end was cut off."""
-    answers = []
-    for number, line in enumerate(text.split("\n")[:-1], 1):
-        if line.startswith("  ") and answers:
-            answers[-1].below.append((number, line))
-            continue
-        row = ANSWER.match(line)
-        if not row:
-            raise Wrong(f"it is no transcript: line {number} is neither an answer nor a part of one: {line[:80]}")
-        answers.append(Answer(int(row[1]), row[2], row[3], []))
-    return answers
-
-
-def cells_of(answer):
-    cells = []
-    for number, line in answer.below:
-        if line.startswith("    ") and cells:
-            row = parsed(SECTION, number, line)
-            cells[-1].sections.append(Section(int(row[1]), row[2], int(row[3], 16), int(row[4])))
-        else:
-            cells.append(Cell(parsed(CELL, number, line)))
-    return cells
+NAMESPACE = re.compile(r"[ \t]*ns[ \t]+(\w+)[ \t]+under[ \t]+(\w+)[ \t]*$")
+ATTACHED, ASIDE, READY, FAULT = ("#cfe8cf", "#3c763d"), ("#e4e4e4", "#777777"), ("#d9e8f6", "#31708f"), ("#f6d5d5", "#a94442")
 
 
 def around(answers, at, changes):
@@ -104,33 +52,36 @@ def around(answers, at, changes):
 
 
 def links_of(answers):
-    rows = {}
-    for answer in answers:
-        if answer.command in ("deps", "users"):
-            for number, line in answer.below:
-                row = parsed(LINK, number, line)
-                rows[line] = Link(int(row[1]), int(row[2]), row[3], int(row[4]), int(row[5]))
-    return rows.values()
+    return {link for answer in answers if answer.command in ("deps", "users") for link in transcript.links_of(answer)}
 
 
 def tasks_of(answers):
     told = [answer for answer in answers if answer.command == "tasks"]
-    rows = [parsed(TASK, number, line) for number, line in told[-1].below] if told else []
-    return [Task(int(row[1]), row[4], int(row[5], 16), int(row[6])) for row in rows]
+    return transcript.tasks_of(told[-1]) if told else []
 
 
-def cell_node(cell):
-    """A table: a head, and a row with a port for each section that isn't empty."""
-    head, edge = ("#cfe8cf", "#3c763d") if cell.swap is None else ("#e4e4e4", "#777777")
+def holders_of(cell, answers, links, tasks):
+    """Who is seen to hold a cell: tasks that began or stand in it, cells with a link into it, and what an `E15` names."""
+    holders = {f"t{task.number}" for task in tasks if task.root == cell.number or cell.has(task.pc)}
+    holders |= {f"#{link.user}" for link in links if link.target == cell.number != link.user}
+    told = (answer.rest.split() for answer in answers if answer.refusal == 15)
+    holders |= {words[2] for words in told if words[1] == f"#{cell.number}"}
+    return " ".join(sorted(holders)) or "nobody who is shown"
+
+
+def cell_node(cell, notes):
+    """A table: a head, a row with a port for each section that isn't empty, and one for each note."""
+    head, edge = ATTACHED if cell.swap is None else ASIDE
     state = "attached" if cell.swap is None else f"put aside by swap {cell.swap}"
+    small = '<tr><td{} align="left"><font point-size="{}">{}</font></td></tr>'
     rows = "".join(
-        f'<tr><td port="s{s.number}" align="left"><font point-size="10">{s.number} {PERMISSIONS[s.permission]} '
-        f'<font face="monospace">{s.start:x}</font>, {s.size} bytes</font></td></tr>'
-        for s in cell.sections if s.size)
+        small.format(f' port="s{s.number}"', 10, f'{s.number} {PERMISSIONS[s.permission]} <font face="monospace">{s.start:x}</font>, '
+                     f'{s.size} bytes') for s in cell.sections if s.size)
+    rows += "".join(small.format("", 9, f"<i>{html.escape(note)}</i>") for note in notes)
     style = ' style="dashed"' if cell.swap is not None else ""
     return (f'c{cell.number} [label=<<table border="1" color="{edge}" bgcolor="white" cellborder="0" cellspacing="0" '
-            f'cellpadding="4"{style}><tr><td port="head" bgcolor="{head}"><b>#{cell.number} {cell.stem}</b> {state}<br/>'
-            f'<font point-size="9" color="#555555">{html.escape(cell.file)}</font></td></tr>{rows}</table>>]')
+            f'cellpadding="4"{style}><tr><td port="head" bgcolor="{head}"><b>#{cell.number}&#160;{cell.stem}</b><br/>'
+            f'<font point-size="9" color="#555555">{state}, {html.escape(cell.file)}</font></td></tr>{rows}</table>>]')
 
 
 def link_edges(links, cells):
@@ -154,7 +105,7 @@ def task_lines(tasks, cells):
         cell, section = next(((c, c.has(task.pc)) for c in cells.values() if c.has(task.pc)), (None, None))
         state = f"fault {task.cause}" if task.cause else "ready"
         where = "" if cell else "\\nin no section"
-        fill, edge = ("#f6d5d5", "#a94442") if task.cause else ("#d9e8f6", "#31708f")
+        fill, edge = FAULT if task.cause else READY
         yield (f't{task.number} [shape=box, style="rounded,filled", fillcolor="{fill}", color="{edge}", '
                f'label="t{task.number} {state}\\npc {task.pc:x}{where}"]')
         if cell:
@@ -174,41 +125,72 @@ def replaced(cells, swaps):
                        f'constraint=false, label="swap {old.swap}"]')
 
 
-def drawing(answers, at, namespaces, swaps):
-    """The machine at one `map`, in the language of dot."""
-    cells = {cell.number: cell for cell in cells_of(answers[at])}
+def notes_of(cell, unchanged, links, tasks):
+    """What stands below the sections of a cell."""
+    asked = any(answer.command == "deps" and answer.rest.strip() == f"#{cell.number}" for answer in unchanged)
+    notes = [] if asked else [f"deps {cell.number} wasn't asked"]
+    return notes + ([f"held by {holders_of(cell, unchanged, links, tasks)}"] if cell.swap is not None else [])
+
+
+def clusters(nodes, parents, parent=None):
+    """The boxes of the namespaces whose parent is that one, each in the box of its parent."""
+    for namespace in sorted(name for name in nodes if parents.get(name) == parent):
+        yield (f'subgraph "cluster_{namespace}" {{ label="namespace {namespace}"; labeljust=l; style="rounded,filled"; '
+               'color="#bbbbbb"; fillcolor="#f8f8f4"; margin=14')
+        yield from nodes[namespace] or [f'"none_{namespace}" [label="no cells", fontcolor="#777777"]']
+        yield from clusters(nodes, parents, namespace)
+        yield "}"
+
+
+def legend():
+    """What the colours and lines mean."""
+    rows = [(ATTACHED[0], "attached"), (ASIDE[0], "put aside by a swap, and dashed"), (READY[0], "task that is ready: to its pc"),
+            (FAULT[0], "task that has faulted"), ("white", "arrow: link, with its kinds"),
+            ("white", "dashed arrow: to the task's root"), ("white", "dotted arrow: to the cell in its place")]
+    cells = "".join(f'<tr><td bgcolor="{colour}">&#160;&#160;&#160;</td><td align="left">{text}</td></tr>' for colour, text in rows)
+    return ('legend [label=<<table border="1" color="#bbbbbb" cellborder="0" cellspacing="3" cellpadding="1"><tr><td colspan="2" '
+            f'align="left"><b>legend</b></td></tr>{cells}</table>>, fontsize=9]')
+
+
+def drawing(answers, at, parents, swaps):
+    """The machine at one `map`, in the language of dot. `parents` has each namespace's parent, and none for the outermost."""
+    cells = {cell.number: cell for cell in transcript.cells_of(answers[at])}
     unchanged, standing = around(answers, at, CHANGE_CELLS), around(answers, at, CHANGE_TASKS)
-    missing = [text for text, commands, told in (
-        ("links", {"deps", "users"}, unchanged), ("tasks", {"tasks"}, standing)) if not any(a.command in commands for a in told)]
+    links, tasks = links_of(unchanged), tasks_of(standing)
     title = f"the map at line {answers[at].line} of the script"
-    if missing:
-        title += f"\\n{' and '.join(missing)} weren't asked for"
+    if not any(answer.command == "tasks" for answer in standing):
+        title += "\\ntasks weren't asked for"
     lines = ["rankdir=LR", 'fontname="sans-serif"', "fontsize=11", f'label="{title}"', "nodesep=0.35", "ranksep=0.9",
              'node [shape=plaintext, fontname="sans-serif", fontsize=11, margin=0.08]',
              'edge [fontname="sans-serif", fontsize=9, color="#444444", arrowsize=0.7]']
-    for namespace in sorted(namespaces | {cell.namespace for cell in cells.values()}):
-        lines.append(f'subgraph "cluster_{namespace}" {{ label="namespace {namespace}"; labeljust=l; style="rounded,filled"; '
-                     'color="#bbbbbb"; fillcolor="#f8f8f4"; margin=14')
-        inside = [cell_node(cell) for cell in cells.values() if cell.namespace == namespace]
-        lines += inside or [f'"none_{namespace}" [label="no cells", fontcolor="#777777"]']
-        lines.append("}")
-    lines += task_lines(tasks_of(standing), cells)
-    lines += link_edges(links_of(unchanged), cells)
+    nodes = {namespace: [] for namespace in parents.keys() | {cell.namespace for cell in cells.values()}}
+    for cell in cells.values():
+        nodes[cell.namespace].append(cell_node(cell, notes_of(cell, unchanged, links, tasks)))
+    lines += clusters(nodes, parents)
+    lines += task_lines(tasks, cells)
+    lines += link_edges(links, cells)
     lines += replaced(cells, swaps)
+    lines.append(legend())
     return "digraph machine {\n" + "\n".join(lines) + "\n}\n"
 
 
-def drawings(answers):
-    """The line of each `map`, and its drawing."""
-    namespaces, swaps = {"k"}, {}
+def parents_in(script):
+    """The parent of each namespace that a script adds."""
+    rows = (NAMESPACE.match(line) for line in script.split("\n"))
+    return {row[1]: row[2] for row in rows if row}
+
+
+def drawings(answers, told):
+    """The line of each `map`, and its drawing. `told` has parents of namespaces, which no transcript has."""
+    parents, swaps = {"k": None}, {}
     for at, answer in enumerate(answers):
         if answer.command == "ns":
-            namespaces.add(answer.rest.strip())
+            parents[answer.rest.strip()] = told.get(answer.rest.strip())
         elif answer.command == "swap":
-            row = SWAP.match(answer.rest)
-            swaps[int(row[1])] = [int(number) for number in re.findall(r"#(\d+)", row[2])]
+            row = transcript.parsed(transcript.SWAP, answer.at, answer.rest)
+            swaps[int(row[1])] = transcript.numbers(row[2])
         elif answer.command == "map":
-            yield answer.line, drawing(answers, at, set(namespaces), dict(swaps))
+            yield answer.line, drawing(answers, at, dict(parents), dict(swaps))
 
 
 def write(prefix, number, text):
@@ -219,29 +201,25 @@ def write(prefix, number, text):
     print(name)
 
 
+def draw(words):
+    prefix = words.prefix or (os.path.splitext(words.transcript)[0] if words.transcript else "machine")
+    if not shutil.which("dot"):
+        raise Wrong("there is no program dot: install Debian's package graphviz")
+    told = parents_in(transcript.read_file(words.script)) if words.script else {}
+    made = list(drawings(transcript.read(transcript.read_file(words.transcript)), told))
+    if not made:
+        raise Wrong("it has no answer to a `map`: put the command `map` in the script")
+    for line, text in made:
+        write(prefix, line, text)
+
+
 def main():
     parser = argparse.ArgumentParser(description=__doc__, formatter_class=argparse.RawDescriptionHelpFormatter)
     parser.add_argument("-o", dest="prefix", metavar="PREFIX")
+    parser.add_argument("-s", dest="script", metavar="SCRIPT")
     parser.add_argument("transcript", nargs="?", metavar="TRANSCRIPT")
     words = parser.parse_args()
-    name = words.transcript or "standard input"
-    prefix = words.prefix or (os.path.splitext(words.transcript)[0] if words.transcript else "machine")
-    try:
-        if not shutil.which("dot"):
-            raise Wrong("there is no program dot: install Debian's package graphviz")
-        try:
-            with open(words.transcript or 0, encoding="utf-8") as file:
-                made = list(drawings(read(file.read())))
-        except OSError as error:
-            raise Wrong(f"it can't be read: {error.strerror}") from None
-        except UnicodeDecodeError:
-            raise Wrong("it is no transcript: it isn't text") from None
-        if not made:
-            raise Wrong("it has no answer to a `map`: put the command `map` in the script")
-        for line, text in made:
-            write(prefix, line, text)
-    except Wrong as wrong:
-        sys.exit(f"draw.py: {name}: {wrong}")
+    transcript.do("draw.py", words.transcript, lambda: draw(words))
 
 
 if __name__ == "__main__":
