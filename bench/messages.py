@@ -186,6 +186,9 @@ def refusals():
     soft = "double n N(p::n) = 1.5; long go(long) N(p::go); long go(long x) { n = n * 2 + 4; return n; }"
     load("fine: soft float, brought", lambda file: with_libgcc(c(soft), file), "spawn k p::go 0\nrun 10000\n")
     load(
+        "fine: soft float of clang, brought", lambda file: with_libgcc(c(soft, compiler=CLANG), file),
+        "spawn k p::go 0\nrun 10000\n")
+    load(
         "missing: quotes", c("long go(long x) __asm__(\"\\\"p::go\\\"\"); long go(long x) { return x; }", compiler=CLANG),
         "spawn k p::go 0\n")
     load("missing: soft float", c("double go(double) N(p::go); double go(double x) { return x + 1; }"))
@@ -382,6 +385,30 @@ def objects():
             + "static inline __attribute__((noinline)) long twice(long x) { __asm__ volatile(\"\"); return 2 * x; } long "
             "go(long x) { return twice(x); }"))
     load("C++: new", cxx(cpp + "long *keep; long go(long x) { keep = new long(x); return 0; }"))
+    load("C++: delete", cxx("namespace { struct T { long n; }; } " + cpp + "long go(long x) { delete (T *)x; return 0; }"))
+    own_delete = "void operator delete(void *, unsigned long) noexcept {} namespace { struct T { long n; }; } "
+    load(
+        "fine: C++: delete of our own", cxx(own_delete + cpp + "long go(long x) { delete (T *)x; return 7; }"),
+        "spawn k p::go 0\nrun 100\n")
+    ends = (
+        "namespace { struct T { long n; T() : n(1) { __asm__ volatile(\"\"); } ~T() { __asm__ volatile(\"\"); } }; } "
+        + cpp + "long go(long x) { static T one; return one.n + x; }")
+    handle, exit = "void *__dso_handle; ", "int __cxa_atexit(void (*)(void *), void *, void *) { return 0; } "
+    for name, own in [("C++: destructor", ""), ("C++: destructor, handle", handle), ("fine: C++: destructor", handle + exit)]:
+        load(name, cxx(f'extern "C" {{ {own}}} ' + ends, PROFILE + " -fno-threadsafe-statics"), "")
+    pure = (
+        "namespace { struct B { virtual long f(long) BODY B(); }; __attribute__((noinline)) B::B() { __asm__ volatile(\"\" :: "
+        "\"r\"(this) : \"memory\"); } struct D : B { long f(long x) { return x + 1; } }; } extern \"C\" long go(long) "
+        "__asm__(NAME); long go(long x) { D d; B *p = &d; __asm__ volatile(\"\" : \"+r\"(p)); return p->f(x); }")
+    quoted = pure.replace("NAME", "\"\\\"p::go\\\"\"")
+    load("C++: pure virtual", cxx(quoted.replace("BODY", "= 0;"), PROFILE + " -fno-rtti"))
+    load(
+        "fine: C++: virtual with a body", cxx(quoted.replace("BODY", "{ __builtin_trap(); }"), PROFILE + " -fno-rtti"),
+        "spawn k p::go 4\nrun 100\n")
+    by_clang = pure.replace("NAME", "\"p::go\"").replace("BODY", "= 0;")
+    load(
+        "C++: pure virtual, clang",
+        lambda file: tool(f"{CLANG} -O2 -fno-exceptions -fno-rtti {PROFILE} -c", ".cc", by_clang, file))
     load("C++: throw", cxx(cpp + "long go(long x) { if (x > 3) throw 5; return x; }", PROFILE + " -fexceptions"))
     load("C++: without extern C", cxx("long go(long x) { return x; }"), more="spawn k go 1\n")
     anonymous = (

@@ -144,10 +144,11 @@ class Page:
     def printed(self, words, told):
         """What a tool prints. A transcript that it reads may be made before, by `new`."""
         name, *rest = words.split()
-        done = subprocess.run([os.path.join(TOP, "tools", name), *rest], cwd=self.folder, stdout=subprocess.PIPE,
+        done = subprocess.run([os.path.join(TOP, "tools", name), *rest], cwd=self.folder, capture_output=True,
                               stdin=subprocess.DEVNULL, env=os.environ | {"CELLS": self.cells})
         if done.returncode != told.get("status", 0):
-            raise Wrong(f"`tools/{words}` ends with status {done.returncode}")
+            said = done.stderr.decode(errors="replace").strip()
+            raise Wrong(f"`tools/{words}` ends with status {done.returncode}: {said}")
         return lines(done.stdout, told)
 
     def text(self, name, told):
