@@ -14,23 +14,17 @@ static unsigned long slot_of(unsigned long key)
 
 unsigned long map_put(unsigned long key, unsigned long value)
 {
-    if (!enter(&map_record.state))
-        return 1;
     unsigned long at = slot_of(key);
     map_record.used += map_record.keys[at] == 0;
     map_record.keys[at] = key;
     map_record.values[at] = value;
-    leave(&map_record.state);
-    return 0;
+    return !is_current(&map_record.state);
 }
 
 unsigned long map_get(unsigned long key, unsigned long *value)
 {
-    if (!enter(&map_record.state))
-        return 1;
     *value = map_record.values[slot_of(key)];
-    leave(&map_record.state);
-    return 0;
+    return !is_current(&map_record.state);
 }
 
 /* Puts each key of the old record into the new one. */

@@ -15,20 +15,14 @@ static unsigned long slot_of(unsigned long key)
 
 unsigned long map_put(unsigned long key, unsigned long value)
 {
-    if (!enter(&map_record.state))
-        return 1;
     unsigned long at = slot_of(key);
     map_record.slots[at].key = key;
     map_record.slots[at].value = value;
-    leave(&map_record.state);
-    return 0;
+    return !is_current(&map_record.state);
 }
 
 unsigned long map_get(unsigned long key, unsigned long *value)
 {
-    if (!enter(&map_record.state))
-        return 1;
     *value = map_record.slots[slot_of(key)].value;
-    leave(&map_record.state);
-    return 0;
+    return !is_current(&map_record.state);
 }

@@ -31,12 +31,21 @@ static inline void *old_place(const char *name, unsigned long bytes) { return (v
 static inline void *new_place(const char *name, unsigned long bytes) { return (void *)cells_call(5, (unsigned long)name, bytes); }
 
 /* State that a routine is to carry over begins with this head: which layout it has, 0 once a routine has taken it away, and how
-   many tasks are at it. One task alone may be at it: two that count at the same time could lose one of the counts. */
+   many tasks are between enter and leave. */
 struct state {
     volatile unsigned long version, inside;
 };
 
-/* Begins what reads or writes the state. 0 where the state was taken away: then the caller has to call the new code. */
+/* Behind what was read or written: whether a routine has not taken the state away by then. Where it has, the caller has to call
+   the new code, which does the same again. So this is for what may be done twice, as storing a value, and for many tasks. */
+static inline int is_current(struct state *state)
+{
+    __asm__ volatile("" : : : "memory");
+    return state->version != 0;
+}
+
+/* Around what has to be done once, as adding to a count. enter is 0 where a routine has taken the state away: then the caller
+   has to call the new code. One task alone may do so: two that count at the same time could lose one of the counts. */
 static inline int enter(struct state *state)
 {
     state->inside++;
@@ -52,9 +61,10 @@ static inline void leave(struct state *state)
     state->inside--;
 }
 
-/* The routine CRATE::ROUTINE, which takes the old cells' variable CRATE::NAME, of that TYPE, over where its layout is VERSION
-   and no task is at it. Behind the macro stands a body, in which OLD points to the variable; it answers 0 where it has
-   succeeded. Codes of its own are 1 where no old cell has the name, 2 for another version, 3 where a task is at the state. */
+/* The routine CRATE::ROUTINE, which takes the old cells' variable CRATE::NAME, of that TYPE, over where its layout is NUMBER
+   and no task is between enter and leave. Behind the macro stands a body, in which OLD points to the variable; it answers 0
+   where it has succeeded. Codes of its own are 1 where no old cell has the name, 2 for another version, 3 where a task is in
+   between. */
 #define ROUTINE(crate, routine, name, number, type, old)                                 \
     static unsigned long crate##_##routine##_of(type *old);                              \
     unsigned long crate##_##routine(unsigned long unused) CRATE(crate, routine);         \
