@@ -1,11 +1,12 @@
 #!/usr/bin/env python3
 """Draws the machine at each `map` of a transcript.
 
-    tools/draw.py [-o PREFIX] [-s SCRIPT] [TRANSCRIPT]
+    tools/draw.py [-o PREFIX] [-s SCRIPT] [--dot] [TRANSCRIPT]
 
 TRANSCRIPT is what `cells` has written, from standard input where it isn't given. For each `map` in it one drawing is
 written, PREFIX-L.svg, where L is the number of the `map`'s line; the names are printed. PREFIX is the transcript's name without
-its ending, or `machine`. It needs Graphviz: Debian's package graphviz.
+its ending, or `machine`. It needs Graphviz: Debian's package graphviz. With --dot it prints the drawings in Graphviz's language
+instead, and needs nothing.
 
 A drawing has a box for each namespace, and in it the cells with their sections that aren't empty: green where they are
 attached, grey and dashed where a swap has put them aside. A namespace stands in the box of its parent where the script, a file
@@ -75,8 +76,8 @@ def cell_node(cell, notes):
     state = "attached" if cell.swap is None else f"put aside by swap {cell.swap}"
     small = '<tr><td{} align="left"><font point-size="{}">{}</font></td></tr>'
     rows = "".join(
-        small.format(f' port="s{s.number}"', 10, f'{s.number} {PERMISSIONS[s.permission]} <font face="monospace">{s.start:x}</font>, '
-                     f'{s.size} bytes') for s in cell.sections if s.size)
+        small.format(f' port="s{s.number}"', 10, f'{s.number} {PERMISSIONS[s.permission]} <font face="monospace">{s.start:x}'
+                     f'</font>, {s.size} bytes') for s in cell.sections if s.size)
     rows += "".join(small.format("", 9, f"<i>{html.escape(note)}</i>") for note in notes)
     style = ' style="dashed"' if cell.swap is not None else ""
     return (f'c{cell.number} [label=<<table border="1" color="{edge}" bgcolor="white" cellborder="0" cellspacing="0" '
@@ -147,7 +148,8 @@ def legend():
     rows = [(ATTACHED[0], "attached"), (ASIDE[0], "put aside by a swap, and dashed"), (READY[0], "task that is ready: to its pc"),
             (FAULT[0], "task that has faulted"), ("white", "arrow: link, with its kinds"),
             ("white", "dashed arrow: to the task's root"), ("white", "dotted arrow: to the cell in its place")]
-    cells = "".join(f'<tr><td bgcolor="{colour}">&#160;&#160;&#160;</td><td align="left">{text}</td></tr>' for colour, text in rows)
+    row = '<tr><td bgcolor="{}">&#160;&#160;&#160;</td><td align="left">{}</td></tr>'
+    cells = "".join(row.format(*each) for each in rows)
     return ('legend [label=<<table border="1" color="#bbbbbb" cellborder="0" cellspacing="3" cellpadding="1"><tr><td colspan="2" '
             f'align="left"><b>legend</b></td></tr>{cells}</table>>, fontsize=9]')
 
@@ -203,20 +205,24 @@ def write(prefix, number, text):
 
 def draw(words):
     prefix = words.prefix or (os.path.splitext(words.transcript)[0] if words.transcript else "machine")
-    if not shutil.which("dot"):
+    if not words.dot and not shutil.which("dot"):
         raise Wrong("there is no program dot: install Debian's package graphviz")
     told = parents_in(transcript.read_file(words.script)) if words.script else {}
     made = list(drawings(transcript.read(transcript.read_file(words.transcript)), told))
     if not made:
         raise Wrong("it has no answer to a `map`: put the command `map` in the script")
     for line, text in made:
-        write(prefix, line, text)
+        if words.dot:
+            print(text, end="")
+        else:
+            write(prefix, line, text)
 
 
 def main():
     parser = argparse.ArgumentParser(description=__doc__, formatter_class=argparse.RawDescriptionHelpFormatter)
     parser.add_argument("-o", dest="prefix", metavar="PREFIX")
     parser.add_argument("-s", dest="script", metavar="SCRIPT")
+    parser.add_argument("--dot", action="store_true")
     parser.add_argument("transcript", nargs="?", metavar="TRANSCRIPT")
     words = parser.parse_args()
     transcript.do("draw.py", words.transcript, lambda: draw(words))
