@@ -1,7 +1,7 @@
 //! Which cells a load brings: from the nearest depot, the first need first; and what it is refused for.
 
 use crate::cases::try_script;
-use crate::sources::{NO_FILE, SourceFile, object_files};
+use crate::sources::{SourceFile, object_files};
 use cell_run::Status;
 use std::alloc::Global;
 use std::process::Abort;
@@ -11,7 +11,7 @@ use std::test::Fail;
 /// after the two answers.
 struct Case {
     script: &'static str,
-    files: [SourceFile; 4],
+    files: &'static [SourceFile],
     status: Status,
     text: &'static str,
 }
@@ -27,7 +27,7 @@ static CASES: [Case; 10] = [
     // The nearest depot brings the crate.
     Case {
         script: "load u a\nmap\n",
-        files: [
+        files: &[
             SourceFile {
                 name: "k#b.o",
                 source: BX,
@@ -40,7 +40,6 @@ static CASES: [Case; 10] = [
                 name: "u#b.o",
                 source: BX,
             },
-            NO_FILE,
         ],
         status: Status::Done,
         text: "3 ok load #1 #2 patched 1\n4 ok map\n  #1 u/a attached u#a.o\n    1 rx 10000000 8\n  #2 u/b attached u#b.o\n    1 rx 10001000 4\n",
@@ -48,7 +47,7 @@ static CASES: [Case; 10] = [
     // A sibling's depot is not looked at.
     Case {
         script: "load v a\nmap\n",
-        files: [
+        files: &[
             SourceFile {
                 name: "k#b.o",
                 source: BX,
@@ -61,7 +60,6 @@ static CASES: [Case; 10] = [
                 name: "v#a.o",
                 source: CALL_BX,
             },
-            NO_FILE,
         ],
         status: Status::Done,
         text: "3 ok load #1 #2 patched 1\n4 ok map\n  #1 v/a attached v#a.o\n    1 rx 10000000 8\n  #2 k/b attached k#b.o\n    1 rx 10001000 4\n",
@@ -69,7 +67,7 @@ static CASES: [Case; 10] = [
     // A sibling's cell provides nothing.
     Case {
         script: "load u b\nload v a\n",
-        files: [
+        files: &[
             SourceFile {
                 name: "u#b.o",
                 source: BX,
@@ -78,8 +76,6 @@ static CASES: [Case; 10] = [
                 name: "v#a.o",
                 source: CALL_BX,
             },
-            NO_FILE,
-            NO_FILE,
         ],
         status: Status::SomeRefused,
         text: "3 ok load #1 patched 0\n4 E9 missing b::x #2\n",
@@ -87,7 +83,7 @@ static CASES: [Case; 10] = [
     // A stem that a cell up the chain has, and a name that one down the chain has.
     Case {
         script: "load k a\nload u a\nload u b\nload k z\n",
-        files: [
+        files: &[
             SourceFile {
                 name: "k#a.o",
                 source: ".text\nret",
@@ -111,7 +107,7 @@ static CASES: [Case; 10] = [
     // Several files of the crate in the nearest depot.
     Case {
         script: "load u a\n",
-        files: [
+        files: &[
             SourceFile {
                 name: "k#b.o",
                 source: BX,
@@ -135,7 +131,7 @@ static CASES: [Case; 10] = [
     // Several files further up don't matter.
     Case {
         script: "load u a\nmap\n",
-        files: [
+        files: &[
             SourceFile {
                 name: "k#b-1.o",
                 source: BX,
@@ -159,7 +155,7 @@ static CASES: [Case; 10] = [
     // The file of the crate lacks the name. The number that the needing cell would have got is told.
     Case {
         script: "load u a\n",
-        files: [
+        files: &[
             SourceFile {
                 name: "k#b.o",
                 source: ".text\n.globl b::y\nb::y: ret",
@@ -168,8 +164,6 @@ static CASES: [Case; 10] = [
                 name: "u#a.o",
                 source: CALL_BX,
             },
-            NO_FILE,
-            NO_FILE,
         ],
         status: Status::SomeRefused,
         text: "3 E9 missing b::x #1\n",
@@ -177,22 +171,17 @@ static CASES: [Case; 10] = [
     // A name of no crate.
     Case {
         script: "load u a\n",
-        files: [
-            SourceFile {
-                name: "u#a.o",
-                source: ".text\ncall x",
-            },
-            NO_FILE,
-            NO_FILE,
-            NO_FILE,
-        ],
+        files: &[SourceFile {
+            name: "u#a.o",
+            source: ".text\ncall x",
+        }],
         status: Status::SomeRefused,
         text: "3 E9 missing x #1\n",
     },
     // The first need of the first cell first: c, b, and then d, which c needs.
     Case {
         script: "load k a\nmap\n",
-        files: [
+        files: &[
             SourceFile {
                 name: "k#a.o",
                 source: ".text\ncall c::x\ncall b::x",
@@ -216,7 +205,7 @@ static CASES: [Case; 10] = [
     // A present cell provides the name, and no file is looked for.
     Case {
         script: "load k b\nload u a\n",
-        files: [
+        files: &[
             SourceFile {
                 name: "k#b.o",
                 source: BX,
@@ -229,7 +218,6 @@ static CASES: [Case; 10] = [
                 name: "u#b.o",
                 source: BX,
             },
-            NO_FILE,
         ],
         status: Status::Done,
         text: "3 ok load #1 patched 0\n4 ok load #2 patched 1\n",
@@ -237,7 +225,7 @@ static CASES: [Case; 10] = [
 ];
 
 fn try_case(rt: &impl Abort, alloc: Global, case: &Case) -> Result<(), Fail> {
-    let files = object_files(alloc, &case.files)?;
+    let files = object_files(alloc, case.files)?;
     let script = format!(in alloc; "{NAMESPACES}{}", case.script)?;
     let wanted = format!(in alloc; "1 ok ns u\n2 ok ns v\n{}", case.text)?;
     try_script(

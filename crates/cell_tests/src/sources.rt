@@ -14,12 +14,6 @@ pub struct SourceFile {
     pub source: &'static str,
 }
 
-/// The file in a list that has room for more than there are.
-pub const NO_FILE: SourceFile = SourceFile {
-    name: "",
-    source: "",
-};
-
 /// Assembles a source, which is short.
 fn assemble_short(alloc: Global, source: &[u8]) -> Result<Object, AsmFail> {
     if source.len() > 1000 {
@@ -48,9 +42,7 @@ pub fn object_file(alloc: Global, file: &SourceFile) -> Result<ObjectFile, Fail>
 pub fn object_files(alloc: Global, sources: &[SourceFile]) -> Result<Vec<ObjectFile>, Fail> {
     let mut files = Vec::new(alloc);
     for source in sources {
-        if !source.name.is_empty() {
-            files.push(object_file(alloc, source)?)?;
-        }
+        files.push(object_file(alloc, source)?)?;
     }
     Ok(files)
 }
