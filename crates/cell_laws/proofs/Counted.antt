@@ -10,13 +10,12 @@ use Rattle.cell_num.specs.Lists.{each_pair, In}
 use Rattle.cell_world.specs.declared.reply.Reply.{Reply}
 use Rattle.cell_world.specs.Limits.{max_cells}
 use Rattle.cell_world.specs.World.{World, Cell}
-use Rattle.cell_world.specs.Answer.{Done, ids, numbers_of}
+use Rattle.cell_world.specs.Answer.{Done, ids, numbers_of, fresh_by}
 use Rattle.cell_world.specs.Coherent.{IsCoherent}
 use Rattle.cell_num.proofs.Elements.{In-all, In-map, all-In, all_push, filter_none, map_same, pairs-map, pairs_push}
 use Rattle.cell_num.proofs.Sublists.{map_filter}
 use Rattle.cell_lemmas.proofs.Relinked.{map_twice}
 use Rattle.cell_lemmas.proofs.Loads.{older}
-use Rattle.cell_machine.specs.Does.{fresh_by}
 use Rattle.cell_laws.specs.Counts.{removed_by}
 
 -- the reply says how many cells came and went, where there were so many and now are so many

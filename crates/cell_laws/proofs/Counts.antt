@@ -7,7 +7,7 @@ use Rattle.cell_num.specs.declared.ids.CellId.{CellId}
 use Rattle.cell_world.specs.declared.refusal.Many.TheVariants.{Namespaces, Tasks as ManyTasks, TaskNumbers}
 use Rattle.cell_world.specs.declared.refusal.Refusal.TheVariants.{NameTaken, NoEntry, TooMany, Unknown}
 use Rattle.cell_world.specs.World.{World, Cell}
-use Rattle.cell_world.specs.Answer.{Done, live_task, present_cell, space_of}
+use Rattle.cell_world.specs.Answer.{Done, live_task, present_cell, space_of, fresh_by}
 use Rattle.cell_world.specs.Coherent.{IsCoherent}
 use Rattle.cell_world.specs.DumpCommand.{next_dump}
 use Rattle.cell_world.specs.Gather.{Source}
@@ -23,12 +23,10 @@ use Rattle.cell_object.specs.Parts.{section_of}
 use Rattle.cell_lemmas.proofs.Appended.{ok_same}
 use Rattle.cell_lemmas.proofs.Outcomes.{bind_ok, then_ok}
 use Rattle.cell_lemmas.proofs.Commands.{run_cells, step_cells}
-use Rattle.cell_machine.specs.Does.{fresh_by}
 use Rattle.cell_laws.specs.Counts.{removed_by}
 use Rattle.cell_laws.proofs.Counted.{CountsCells}
-use Rattle.cell_laws.proofs.CountsLoad.{load_counts}
+use Rattle.cell_laws.proofs.CountsChange.{load_counts, swap_counts}
 use Rattle.cell_laws.proofs.CountsRemoval.{purge_counts, unload_counts}
-use Rattle.cell_laws.proofs.CountsSwap.{swap_counts}
 
 module _ (sources : List Source) (w : World) (h : IsCoherent w) (d : Done) where
   -- the reply names no cell, and there are those that there were
@@ -72,13 +70,13 @@ module _ (sources : List Source) (w : World) (h : IsCoherent w) (d : Done) where
 
   pub outcome_counts : (command : Command) → outcome_of sources w command ≡ Ok d → CountsCells w d
   outcome_counts (Ns name parent) e = ns_counts name parent e
-  outcome_counts (Load name stem) e = load_counts sources w name stem d h e
+  outcome_counts (Load name stem) e = load_counts sources w h name stem d e
   outcome_counts (Find name symbol) e = leaves _ (ok_same _ d (bind_ok (space_of w name) _ d e).2) refl refl refl
   outcome_counts (Spawn name symbol arg) e = spawn_counts name symbol arg e
   outcome_counts (Step task n) e = step_counts task n e
   outcome_counts (Run n) e = run_counts n e
   outcome_counts (Kill task) e = leaves _ (ok_same _ d (bind_ok (live_task w task) _ d e).2) refl refl refl
-  outcome_counts (Swap items reexport strict routines budget) e = swap_counts sources w items reexport strict routines budget d h e
+  outcome_counts (Swap items reexport strict routines budget) e = swap_counts sources w h items reexport strict routines budget d e
   outcome_counts (Unload cells) e = unload_counts w h d cells e
   outcome_counts Purge e = purge_counts w h d e
   outcome_counts Tasks e = leaves _ (ok_same _ d e) refl refl refl

@@ -11,7 +11,7 @@ mod CoverageExact
 mod Counted
 mod CountsLoad
 mod CountsRemoval
-mod CountsSwap
+mod CountsChange
 pub mod Counts
 mod FilesSound
 mod SwapAnswers

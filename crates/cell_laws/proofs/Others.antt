@@ -40,6 +40,7 @@ use Rattle.cell_laws.proofs.NextCoherent.{deps_same, users_same, outcome_coheren
 use Rattle.cell_lemmas.proofs.Settled.{found_now, mapped_same}
 use Rattle.cell_lemmas.proofs.FreshLinks.{grows}
 use Rattle.cell_lemmas.proofs.SwapReady.{one_number}
+use Rattle.cell_change_law.proofs.ByLoad.{load_is}
 
 module _ (w u : World) (h : IsCoherent w) (k : IsCoherent u) where
   -- where a cell is still present it is the one that it was
@@ -126,7 +127,7 @@ others_keep sources w command d other sound h e = go command other e
 
     go : (command : Command) → IsNoSwap command → outcome_of sources w command ≡ Ok d → KeepsTargets w d.world
     go (Ns name parent) o e = by_ns sources w h d k name parent e
-    go (Load name stem) o e = by_load sources w h d k sound name stem e
+    go (Load name stem) o e = by_load sources w h d k sound name stem (load_is sources sound w h name stem ∙ e)
     go (Find name symbol) o e = unchanged sources w h d k (find_same w name symbol d e)
     go (Spawn name symbol arg) o e = by_spawn sources w h d k name symbol arg e
     go (Step task n) o e = by_tasks sources w h d k (step_cells w task n d e)

@@ -1,8 +1,7 @@
 //! How many cells there are, by what replies say of them.
 
 ghost use Rattle.std.specs.Prelude.{◌≡◌, ◌+◌, ◌≤◌, List, length};
-ghost use Rattle.cell_machine.specs.Does.{fresh_by};
-ghost use Rattle.cell_world.specs.Answer.{done};
+ghost use Rattle.cell_world.specs.Answer.{done, fresh_by};
 ghost use Rattle.cell_world.specs.Coherent.{IsCoherent};
 ghost use Rattle.cell_world.specs.Gather.{Source};
 ghost use Rattle.cell_world.specs.Limits.{max_cells};

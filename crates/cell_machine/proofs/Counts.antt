@@ -4,12 +4,12 @@ use Rattle.std.specs.Prelude.{filter, flat_map}
 use Rattle.cell_num.specs.declared.ids.CellId.{CellId}
 use Rattle.cell_num.specs.Lists.{holds}
 use Rattle.cell_world.specs.declared.reply.Reply.{Reply}
-use Rattle.cell_world.specs.Answer.{Done, done}
+use Rattle.cell_world.specs.Answer.{Done, done, fresh_by}
 use Rattle.cell_world.specs.Outcome.{Outcome}
 use Rattle.cell_world.specs.World.{World, Cell}
 use Rattle.cell_machine.specs.declared.machine.Machine.{Machine}
 use Rattle.cell_machine.specs.Machine.{IsSound, world_of}
-use Rattle.cell_machine.specs.Does.{HasDone, cell_shapes, fresh_by, new_runs, patched_by}
+use Rattle.cell_machine.specs.Does.{HasDone, cell_shapes, new_runs, patched_by}
 
 none_of : (cells : List Cell) → filter (λ (c : Cell). holds [] c.id.0) cells ≡ []
 none_of [] = refl

@@ -9,7 +9,6 @@
 --     answer_in w reply             what only shows something leaves the machine
 --     Does said counts old result new     the same of a machine's parts, which are sound and but for room the same after a refusal
 use Rattle.std.specs.Prelude.{ℕ, ◌≡◌, ◌≤◌, ◌+◌, List, [], ◌∷◌, Option, Some, None, Result, Ok, Err, filter, flat_map, length, map}
-use Rattle.cell_num.specs.declared.ids.CellId.{CellId}
 use Rattle.cell_num.specs.Lists.{holds}
 use Rattle.cell_world.specs.declared.fail.Fail.{Fail}
 use Rattle.cell_world.specs.declared.fail.Fail.TheVariants.{Refused, OutOfMemory}
@@ -18,7 +17,7 @@ use Rattle.cell_world.specs.declared.refusal.Refusal.{Refusal}
 use Rattle.cell_world.specs.declared.refusal.Refusal.TheVariants.{Held, Transfer}
 use Rattle.cell_world.specs.declared.reply.Reply.{Reply}
 use Rattle.cell_world.specs.declared.reply.Reply.TheVariants.{Load, Swap}
-use Rattle.cell_world.specs.Answer.{Done, done}
+use Rattle.cell_world.specs.Answer.{Done, done, fresh_by}
 use Rattle.cell_world.specs.Coherent.{Shape, class_shape}
 use Rattle.cell_world.specs.Outcome.{Outcome}
 use Rattle.cell_world.specs.World.{World, Cell}
@@ -38,11 +37,6 @@ abbrev pub patched_by : Reply → ℕ
 patched_by (Load fresh patched) = patched
 patched_by (Swap number fresh patched removed kept) = patched
 patched_by _ = 0
-
-abbrev pub fresh_by : Reply → List CellId
-fresh_by (Load fresh patched) = fresh
-fresh_by (Swap number fresh patched removed kept) = fresh
-fresh_by _ = []
 
 -- a region for each class that has a section
 abbrev pub cell_shapes : Cell → List Shape

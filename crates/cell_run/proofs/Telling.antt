@@ -6,7 +6,8 @@ use Rattle.std.specs.Io.KnownBytes.{Appends}
 use Rattle.cell_io.specs.Written.{AppendsPartOf}
 use Rattle.cell_laws.specs.Counts.{removed_by}
 use Rattle.cell_laws.proofs.Counts.{outcome_counts}
-use Rattle.cell_machine.specs.Does.{Leaves, Most, State as MachineState, fresh_by}
+use Rattle.cell_world.specs.Answer.{fresh_by}
+use Rattle.cell_machine.specs.Does.{Leaves, Most, State as MachineState}
 use Rattle.cell_machine.specs.Same.{raised}
 use Rattle.cell_print.specs.Lines.{lines_of}
 use Rattle.cell_script.specs.declared.line.Line.{Line}

@@ -5,7 +5,8 @@
 --     status_by answers               how it ends
 use Rattle.std.specs.Prelude.{ℕ, ◌-◌, Bool, true, false, List, [], ◌∷◌, ◌++◌, Ok, Err, codes, fold, if◌then◌else◌, length}
 use Rattle.std.specs.Fmt.{decimal}
-use Rattle.cell_machine.specs.Does.{fresh_by, patched_by}
+use Rattle.cell_world.specs.Answer.{fresh_by}
+use Rattle.cell_machine.specs.Does.{patched_by}
 use Rattle.cell_machine.specs.Same.{raised}
 use Rattle.cell_laws.specs.Counts.{removed_by}
 use Rattle.cell_print.specs.Lines.{line, lines_of}

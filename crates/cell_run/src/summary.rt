@@ -2,7 +2,8 @@
 
 ghost use Rattle.std.specs.Prelude.{◌≡◌, Err, Ok, IfOk, length};
 ghost use Rattle.cell_laws.specs.Counts.{removed_by};
-ghost use Rattle.cell_machine.specs.Does.{fresh_by, patched_by};
+ghost use Rattle.cell_world.specs.Answer.{fresh_by};
+ghost use Rattle.cell_machine.specs.Does.{patched_by};
 ghost use Rattle.cell_world.specs.declared.refusal.Refusal.{Refusal};
 ghost use Rattle.cell_run.specs.Answered.{empty_summary, summary_line, with_answer};
 

@@ -13,7 +13,7 @@ use Rattle.cell_world.specs.declared.layout.Starts.{Starts}
 use Rattle.cell_world.specs.declared.refusal.Many.TheVariants.{Tasks as ManyTasks, TaskNumbers}
 use Rattle.cell_world.specs.declared.refusal.Refusal.TheVariants.{NoEntry, NoObject, TooMany}
 use Rattle.cell_world.specs.Answer.{Done, present_cell, space_of}
-use Rattle.cell_world.specs.Coherent.{IsCoherent}
+use Rattle.cell_world.specs.Coherent.{AreSound, IsCoherent}
 use Rattle.cell_world.specs.Fit.{first_misfit}
 use Rattle.cell_world.specs.Gather.{Source, append_cell, bring, depot_files, file_named, fresh_cells, new_cell, one_file}
 use Rattle.cell_world.specs.Layout.{places_in}
@@ -44,7 +44,10 @@ use Rattle.cell_lemmas.proofs.Second.{second_parts}
 use Rattle.cell_lemmas.proofs.SwapGathered.{IsWanted, wanted_all}
 use Rattle.cell_lemmas.proofs.SwapSteps.{Planned, Swapped, planned, swapped}
 use Rattle.cell_lemmas.proofs.Removals.{Removed, purge_removed, unload_removed}
+use Rattle.cell_change_law.proofs.ByLoad.{load_is}
+use Rattle.cell_change_law.proofs.BySwap.{swap_is}
 use Rattle.cell_system.specs.Readings.{AreRead, IsRead}
+use Rattle.cell_system.proofs.SwapSaid.{said_swap}
 
 abbrev pub Apart : List Source → Type 0
 Apart sources = each_pair (λ f g. not (equals f.name g.name)) sources ≡ true
@@ -214,19 +217,19 @@ module _ (sources : List Source) (apart : Apart sources) where
     by_users : (cell : ℕ) (d : Done) → next_users w cell ≡ Ok d → AreRead sources d.world
     by_users cell d e = let a = bind_ok (present_cell w cell) _ d e in unchanged d.world (ap (λ (x : Done). x.world) (ok_same _ d a.2))
 
-    pub outcome_read : (command : Command) → is_said command ≡ true → IsCoherent w → (d : Done) → outcome_of sources w command ≡ Ok d → AreRead sources d.world
-    outcome_read (Ns name parent) said c d e = by_ns name parent d e
-    outcome_read (Load name stem) said c d e = load_read w name stem d e read
-    outcome_read (Find name symbol) said c d e = unchanged d.world (find_same w name symbol d e)
-    outcome_read (Spawn name symbol arg) said c d e = by_spawn name symbol arg d e
-    outcome_read (Step task n) said c d e = by_tasks d.world (step_cells w task n d e)
-    outcome_read (Run n) said c d e = by_tasks d.world (run_cells w n d e)
-    outcome_read (Kill task) said c d e = by_tasks d.world (kill_cells w task d e)
-    outcome_read (Swap items reexport strict routines budget) said c d e = swap_read w c items reexport strict routines budget d e read
-    outcome_read (Unload cells) said c d e = by_removal d.world (unload_removed w cells d c e)
-    outcome_read Purge said c d e = by_removal d.world (purge_removed w d c e)
-    outcome_read Tasks said c d e = unchanged d.world (tasks_same w d e)
-    outcome_read (Deps cell) said c d e = by_deps cell d e
-    outcome_read (Users cell) said c d e = by_users cell d e
-    outcome_read Map said c d e = unchanged d.world (map_same w d e)
-    outcome_read (Dump cell section) said c d e = unchanged d.world (dump_same w cell section d e)
+    pub outcome_read : (command : Command) → AreSound sources → is_said command ≡ true → IsCoherent w → (d : Done) → outcome_of sources w command ≡ Ok d → AreRead sources d.world
+    outcome_read (Ns name parent) sound said c d e = by_ns name parent d e
+    outcome_read (Load name stem) sound said c d e = load_read w name stem d (load_is sources sound w c name stem ∙ e) read
+    outcome_read (Find name symbol) sound said c d e = unchanged d.world (find_same w name symbol d e)
+    outcome_read (Spawn name symbol arg) sound said c d e = by_spawn name symbol arg d e
+    outcome_read (Step task n) sound said c d e = by_tasks d.world (step_cells w task n d e)
+    outcome_read (Run n) sound said c d e = by_tasks d.world (run_cells w n d e)
+    outcome_read (Kill task) sound said c d e = by_tasks d.world (kill_cells w task d e)
+    outcome_read (Swap items reexport strict routines budget) sound said c d e = swap_read w c items reexport strict routines budget d (swap_is sources sound w c reexport strict routines budget items (said_swap items reexport strict routines budget said) ∙ e) read
+    outcome_read (Unload cells) sound said c d e = by_removal d.world (unload_removed w cells d c e)
+    outcome_read Purge sound said c d e = by_removal d.world (purge_removed w d c e)
+    outcome_read Tasks sound said c d e = unchanged d.world (tasks_same w d e)
+    outcome_read (Deps cell) sound said c d e = by_deps cell d e
+    outcome_read (Users cell) sound said c d e = by_users cell d e
+    outcome_read Map sound said c d e = unchanged d.world (map_same w d e)
+    outcome_read (Dump cell section) sound said c d e = unchanged d.world (dump_same w cell section d e)

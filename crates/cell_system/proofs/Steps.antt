@@ -1,6 +1,6 @@
 -- A command's answer, as the machine's parts give it, is the plain machine's.
-use Rattle.std.proofs.Common.{◌≡◌, refl, sym, ◌∙◌, ap, ap₂, subst, arith, ℕ, List, [], Option, None, Some, map}
-use Rattle.std.specs.Prelude.{Result, Ok, Err, decimal, not, true, unwrap_or}
+use Rattle.std.proofs.Common.{◌≡◌, ◌≤◌, ◌<◌, Bool, refl, sym, ◌∙◌, ap, ap₂, subst, arith, ℕ, List, [], length, Option, None, Some, map}
+use Rattle.std.specs.Prelude.{All, Result, Ok, Err, decimal, not, true, unwrap_or}
 use Rattle.cell_num.specs.Lists.{equals}
 use Rattle.cell_num.proofs.Elements.{pairs-map}
 use Rattle.cell_depot.specs.Files.{are_apart}
@@ -13,7 +13,7 @@ use Rattle.cell_world.specs.declared.refusal.Refusal.{Refusal}
 use Rattle.cell_world.specs.declared.refusal.Refusal.TheVariants.{Unknown}
 use Rattle.cell_world.specs.declared.reply.Reply.{Reply}
 use Rattle.cell_world.specs.declared.reply.Reply.TheVariants.{Dump as DumpDone}
-use Rattle.cell_world.specs.Answer.{Done, done, present_cell, space_of}
+use Rattle.cell_world.specs.Answer.{Done, done, present_cell, space_of, fresh_by}
 use Rattle.cell_world.specs.DumpCommand.{next_dump}
 use Rattle.cell_world.specs.FindCommand.{next_find}
 use Rattle.cell_world.specs.Following.{Follows}
@@ -28,12 +28,20 @@ use Rattle.cell_object.specs.Parts.{section_of}
 use Rattle.cell_world.specs.Target.{start_of}
 use Rattle.cell_world.specs.World.{World, Cell, key_of}
 use Rattle.cell_machine.specs.declared.machine.Machine.{Machine}
-use Rattle.cell_machine.specs.Does.{Answers, Counts, Does, Leaves, LeavesParts, Most, State as MachineState, answer_in, fresh_by, no_stack, patched_by, state_of as machine_state}
+use Rattle.cell_machine.specs.Does.{Answers, Counts, Does, Leaves, LeavesParts, Most, State as MachineState, answer_in, no_stack, patched_by, state_of as machine_state}
 use Rattle.cell_machine.specs.Machine.{IsSound, world_of}
 use Rattle.cell_machine.specs.Same.{IsSame}
 use Rattle.cell_machine.proofs.Counts.{counts_stand}
 use Rattle.cell_machine.proofs.Same.{maps_same, patches_same, sound_back, sound_same, world_back, world_same}
 use Rattle.cell_machine.proofs.Unchanged.{same_itself}
+use Rattle.cell_world.specs.declared.command.SwapItem.{SwapItem}
+use Rattle.cell_world.specs.Asked.{load_by_change, swap_by_change}
+use Rattle.cell_world.specs.LoadCommand.{next_load}
+use Rattle.cell_world.specs.SwapCommand.{next_swap}
+use Rattle.cell_change_law.proofs.ByLoad.{load_is}
+use Rattle.cell_change_law.proofs.BySwap.{swap_is}
+use Rattle.cell_load.proofs.Sources.{sources_sound}
+use Rattle.cell_world.specs.Limits.{max_file_bytes}
 use Rattle.cell_system.specs.Readings.{AreRead}
 use Rattle.cell_system.proofs.Readings.{outcome_read}
 use Rattle.cell_system.specs.Step.{IsStep, counts_of, state_of}
@@ -98,13 +106,23 @@ module _ (m : Machine) where
     same_read : world_of n ≡ world_of m → AreRead (map source_of files) (world_of m) → AreRead (map source_of files) (world_of n)
     same_read same read = subst (AreRead (map source_of files)) (sym same) read
 
-    pub still_read : (result : Result Reply Fail) → is_said command ≡ true → are_apart files ≡ true → IsSound m → AreRead (map source_of files) (world_of m)
+    pub still_read : (result : Result Reply Fail) → is_said command ≡ true → All (λ f. length f.bytes ≤ max_file_bytes) files → are_apart files ≡ true → IsSound m → AreRead (map source_of files) (world_of m)
         → Does said counts m result n → AreRead (map source_of files) (world_of n)
-    still_read (Ok reply) told apart sound read h =
-        outcome_read (map source_of files) (pairs-map (λ (f : Source) (g : Source). not (equals f.name g.name)) source_of files ∙ apart) (world_of m) read command told sound.coherent
+    still_read (Ok reply) told small apart sound read h =
+        outcome_read (map source_of files) (pairs-map (λ (f : Source) (g : Source). not (equals f.name g.name)) source_of files ∙ apart) (world_of m) read command (sources_sound files small) told sound.coherent
         (answer_in (world_of n) reply) h.is.step
-    still_read (Err (Refused refusal)) told apart sound read h = same_read (world_left counts.undone refusal n h.1) read
-    still_read (Err OutOfMemory) told apart sound read h = same_read (world_same m n h) read
+    still_read (Err (Refused refusal)) told small apart sound read h = same_read (world_left counts.undone refusal n h.1) read
+    still_read (Err OutOfMemory) told small apart sound read h = same_read (world_same m n h) read
+
+-- a load and a swap, by what the changes do that they ask for
+module _ (m : Machine) (sound : IsSound m) (files : List File) (small : All (λ f. length f.bytes ≤ max_file_bytes) files) (counts : Counts) (result : Result Reply Fail) (n : Machine) where
+  pub by_load : (ns stem : List ℕ) → Does (next_load (map source_of files) (world_of m) ns stem) counts m result n → Does (load_by_change (map source_of files) (world_of m) ns stem) counts m result n
+  by_load ns stem h = subst (λ (o : Outcome Done). Does o counts m result n) (load_is (map source_of files) (sources_sound files small) (world_of m) sound.coherent ns stem) h
+
+  pub by_swap : (items : List SwapItem) (reexport strict : Bool) (words : List (List ℕ)) (budget : ℕ) → 0 < length items
+      → Does (next_swap (map source_of files) (world_of m) items reexport strict words budget) counts m result n → Does (swap_by_change (map source_of files) (world_of m) items reexport strict words budget) counts m result n
+  by_swap items reexport strict words budget some h =
+      subst (λ (o : Outcome Done). Does o counts m result n) (swap_is (map source_of files) (sources_sound files small) (world_of m) sound.coherent reexport strict words budget items some) h
 
 module _ (m : Machine) (sound : IsSound m) where
   -- what is shown changes nothing

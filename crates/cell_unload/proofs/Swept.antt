@@ -5,7 +5,7 @@ use Rattle.cell_world.specs.declared.command.CellName.{CellName}
 use Rattle.cell_world.specs.declared.refusal.Refusal.{Refusal}
 use Rattle.cell_world.specs.declared.reply.Reply.{Reply}
 use Rattle.cell_world.specs.declared.reply.Reply.TheVariants.{Unload as UnloadDone, Purge as PurgeDone}
-use Rattle.cell_world.specs.Answer.{Done, done, ids, numbers_of}
+use Rattle.cell_world.specs.Answer.{Done, done, ids, numbers_of, fresh_by}
 use Rattle.cell_world.specs.Coherent.{IsCoherent}
 use Rattle.cell_world.specs.Kept.{holding_of}
 use Rattle.cell_world.specs.Outcome.{Outcome, ◌>>=◌, ◌>>◌, refused_by}
@@ -21,7 +21,7 @@ use Rattle.cell_world.specs.declared.fail.Fail.TheVariants.{Refused, OutOfMemory
 use Rattle.cell_lemmas.proofs.PutAside.{aside_left, closed_aside, roots_aside}
 use Rattle.cell_lemmas.proofs.RemoveCoherent.{remove_coherent}
 use Rattle.cell_machine.specs.declared.machine.Machine.{Machine}
-use Rattle.cell_machine.specs.Does.{Does, HasDone, fresh_by, patched_by, no_stack}
+use Rattle.cell_machine.specs.Does.{Does, HasDone, patched_by, no_stack}
 use Rattle.cell_machine.specs.Machine.{IsSound, world_of}
 use Rattle.cell_machine.proofs.Unchanged.{same_itself}
 use Rattle.cell_unload.specs.Sweep.{IsSwept, IsUnswept, aside_in, cells_numbered, holding_in}

@@ -36,6 +36,8 @@ pub mod Reexport
 pub mod Changed
 pub mod Torn
 pub mod SwapTransfer
+pub mod Change
+pub mod Asked
 pub mod SwapCommand
 pub mod Next
 pub mod Coherent

@@ -12,7 +12,7 @@ invariant_of-self c =
     let files = c.self.inside.depot in
     let m = c.self.inside.machine in (
       still_sound m (said_to (state_of files m) c.args.command.now) (counts_of (map source_of files) (world_of m) c.args.command.now) c.answer.result c.answer.new.machine c.self.invariant.0 c.answer.ensures,
-      still_read m files c.args.command.now c.answer.new.machine c.answer.result c.requires c.self.invariant.3 c.self.invariant.0 c.self.invariant.1 c.answer.ensures,
+      still_read m files c.args.command.now c.answer.new.machine c.answer.result c.requires c.self.invariant.2 c.self.invariant.3 c.self.invariant.0 c.self.invariant.1 c.answer.ensures,
       c.self.invariant.2,
       c.self.invariant.3,
     )

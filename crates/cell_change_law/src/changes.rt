@@ -1,0 +1,117 @@
+//! What every change of a coherent machine leaves, whatever it asks for.
+
+ghost use Rattle.std.specs.List.{list_all};
+ghost use Rattle.std.specs.Prelude.{ℕ, ◌≡◌, ◌<◌, ◌↔◌, length, false, true, [], IsTrue, List, ◌++◌, All, Option, suc, map, None, Some, Ok, is_none};
+ghost use Rattle.cell_num.specs.Lists.{holds, In};
+ghost use Rattle.cell_world.specs.Answer.{numbers_of};
+ghost use Rattle.cell_world.specs.Changed.{changed_fields, differs, first_changed_misfit, now_in};
+ghost use Rattle.cell_world.specs.Coherent.{AreSound, IsCoherent, IsReady};
+ghost use Rattle.cell_world.specs.Execute.{seen_in};
+ghost use Rattle.cell_world.specs.Fit.{first_misfit};
+ghost use Rattle.cell_world.specs.Gather.{Source};
+ghost use Rattle.cell_world.specs.Kept.{IsKept, holding_of};
+ghost use Rattle.cell_world.specs.Names.{Provider, chain, first_provider, needs_of, provider_of};
+ghost use Rattle.cell_world.specs.Place.{start_of_run};
+ghost use Rattle.cell_world.specs.Relink.{relink};
+ghost use Rattle.cell_world.specs.Target.{target_of};
+ghost use Rattle.cell_world.specs.Transfer.{after_turns};
+ghost use Rattle.cell_world.specs.UnloadCommand.{garbage_of, purged, put_aside};
+ghost use Rattle.cell_world.specs.World.{Cell, World, is_attached};
+ghost use Rattle.cell_lemmas.specs.Begins.{BeginsIn};
+ghost use Rattle.cell_lemmas.specs.Grown.{IsRegrown, links_from, with_changes};
+ghost use Rattle.cell_lemmas.specs.Kept.{KeepsFields, KeepsReadOnly, KeepsSealed, KeepsShapes};
+ghost use Rattle.cell_lemmas.specs.Linkable.{IsLinkable};
+ghost use Rattle.cell_lemmas.specs.Targets.{FollowsTargets, loses};
+ghost use Rattle.cell_world.specs.Change.{Change, Made, Plan, addresses_of, gather, made_by, make_change, new_since, old_of, plan_of, with_routines};
+ghost use Rattle.cell_change_law.specs.Sound.{HasCome, IsSound};
+
+/// Once the new cells have their places, the machine has grown by them, the replaced ones stand aside, and it can be linked;
+/// where what is new and what changes fits, it is ready for it.
+pub fn change_regrows()
+    ensures aside { (sources : List Source) (v : World) (c : Change) (w : World) → AreSound sources → IsCoherent v → IsSound sources v c → HasCome sources v c w →
+        All (λ d. now_in w d ≡ put_aside (suc v.swaps) (old_of c) d) v.cells }
+    ensures attached { (sources : List Source) (v : World) (c : Change) (w : World) → AreSound sources → IsCoherent v → IsSound sources v c → HasCome sources v c w →
+        IsTrue (list_all (λ d. is_attached d.standing) (new_since v w)) }
+    ensures regrown { (sources : List Source) (v : World) (c : Change) (w : World) → AreSound sources → IsCoherent v → IsSound sources v c → HasCome sources v c w → IsRegrown v w (new_since v w) }
+    ensures linkable { (sources : List Source) (v : World) (c : Change) (w : World) → AreSound sources → IsCoherent v → IsSound sources v c → HasCome sources v c w → IsLinkable w }
+    ensures ready { (sources : List Source) (v : World) (c : Change) (w : World) → AreSound sources → IsCoherent v → IsSound sources v c → HasCome sources v c w →
+        first_misfit w (new_since v w) ≡ None → first_changed_misfit v w v.cells ≡ None → IsReady w }
+{}
+
+/// Linking writes then the new cells' fields and those that change, and nothing else: an entry whose target doesn't differ names what it named. The fields that the change counts are these.
+pub fn change_writes_changes()
+    ensures writes { (sources : List Source) (v : World) (c : Change) (w : World) → AreSound sources → IsCoherent v → IsSound sources v c → HasCome sources v c w →
+        first_misfit w (new_since v w) ≡ None → first_changed_misfit v w v.cells ≡ None →
+        relink w ≡ record w { regions = map (with_changes v w (new_since v w)) w.regions; links = links_from w (map (now_in w) v.cells) ++ links_from w (new_since v w) } }
+    ensures counts { (sources : List Source) (v : World) (c : Change) (plan : Plan) → plan_of sources v c ≡ Ok plan → plan.changed ≡ changed_fields v plan.linked }
+    ensures others { (sources : List Source) (v : World) (c : Change) (plan : Plan) → AreSound sources → IsCoherent v → IsSound sources v c → plan_of sources v c ≡ Ok plan → FollowsTargets v plan.linked }
+{}
+
+/// The targets that differ then are those that were in a replaced cell and aren't any more.
+pub fn change_loses_targets()
+    ensures { (sources : List Source) (v : World) (c : Change) (plan : Plan) → AreSound sources → IsCoherent v → IsSound sources v c → plan_of sources v c ≡ Ok plan →
+        All (λ d. All (λ e. differs v plan.linked d e ≡ loses v plan.linked (old_of c) d e) d.object.entries) v.cells }
+{}
+
+/// A cell that a change leaves alone lacks a name exactly where a replaced cell provided it, and no new cell that it can see has it.
+pub fn coverage_of_change_is_exact()
+    ensures { (sources : List Source) (v : World) (c : Change) (g : World) → AreSound sources → IsCoherent v → IsSound sources v c → gather sources v c ≡ Ok g →
+        (d : Cell) → In d v.cells → holds (old_of c) d.id.0 ≡ false → (name : List ℕ) → In name (needs_of d.object) →
+        (is_none (provider_of g d name) ≡ true) ↔ ((p : Provider) × (provider_of v d name ≡ Some p) × (holds (old_of c) p.cell ≡ true) × (first_provider (chain v.namespaces d.ns) name (new_since v g) ≡ None)) }
+{}
+
+/// Each routine begins in a new cell, at a multiple of 4 with four bytes in an executable section.
+pub fn change_begins_in_new_cells()
+    ensures { (sources : List Source) (v : World) (c : Change) (plan : Plan) → AreSound sources → IsCoherent v → IsSound sources v c → plan_of sources v c ≡ Ok plan →
+        All (λ r. (d : Cell) × In d plan.fresh × BeginsIn d r.entry) plan.routines }
+{}
+
+/// The routines run on the lowest free run of the machine with the new cells linked, which after each of their turns is
+/// coherent but for that stack. They change bytes alone, and of these none that is sealed or stands in a region that isn't writable.
+pub fn routines_of_change_change_no_cell()
+    ensures stack { (sources : List Source) (v : World) (c : Change) (plan : Plan) → AreSound sources → IsCoherent v → IsSound sources v c → plan_of sources v c ≡ Ok plan →
+        (stack : ℕ) → plan.stack ≡ Some stack → start_of_run plan.linked 4 ≡ Ok stack }
+    ensures turns { (sources : List Source) (v : World) (c : Change) (plan : Plan) → AreSound sources → IsCoherent v → IsSound sources v c → plan_of sources v c ≡ Ok plan →
+        (n stack : ℕ) → plan.stack ≡ Some stack → IsCoherent (after_turns n plan.linked stack (addresses_of c plan) plan.routines) }
+    ensures none { (sources : List Source) (v : World) (c : Change) (plan : Plan) → c.routines ≡ [] → plan_of sources v c ≡ Ok plan → with_routines c plan ≡ Ok plan.linked }
+    ensures parts { (c : Change) (plan : Plan) (second : World) → with_routines c plan ≡ Ok second → record second { regions = plan.linked.regions } ≡ plan.linked }
+    ensures shapes { (sources : List Source) (v : World) (c : Change) (plan : Plan) (second : World) → AreSound sources → IsCoherent v → IsSound sources v c → plan_of sources v c ≡ Ok plan →
+        with_routines c plan ≡ Ok second → KeepsShapes plan.linked.regions second.regions }
+    ensures read_only { (sources : List Source) (v : World) (c : Change) (plan : Plan) (second : World) → AreSound sources → IsCoherent v → IsSound sources v c → plan_of sources v c ≡ Ok plan →
+        with_routines c plan ≡ Ok second → KeepsReadOnly plan.linked.regions second.regions }
+    ensures fields { (sources : List Source) (v : World) (c : Change) (plan : Plan) (second : World) → AreSound sources → IsCoherent v → IsSound sources v c → plan_of sources v c ≡ Ok plan →
+        with_routines c plan ≡ Ok second → KeepsFields plan.linked second }
+    ensures sealed { (sources : List Source) (v : World) (c : Change) (plan : Plan) (second : World) → AreSound sources → IsCoherent v → IsSound sources v c → plan_of sources v c ≡ Ok plan →
+        with_routines c plan ≡ Ok second → KeepsSealed (seen_in plan.linked) second.regions }
+{}
+
+/// With a plan and routines that end well, a strict change is accepted exactly where then nobody keeps a replaced cell, and one that isn't strict always. Either makes the same.
+pub fn strict_change_is_exact()
+    ensures strict { (sources : List Source) (v : World) (c : Change) (plan : Plan) (second : World) → AreSound sources → IsCoherent v → IsSound sources v c → plan_of sources v c ≡ Ok plan → with_routines c plan ≡ Ok second →
+        c.strict ≡ true → ((made : Made) × (make_change sources v c ≡ Ok made)) ↔ All (λ n. IsKept (holding_of second) n → ⊥) (old_of c) }
+    ensures other { (sources : List Source) (v : World) (c : Change) (plan : Plan) (second : World) → AreSound sources → IsCoherent v → IsSound sources v c → plan_of sources v c ≡ Ok plan → with_routines c plan ≡ Ok second →
+        c.strict ≡ false → make_change sources v c ≡ Ok (made_by c plan second) }
+    ensures is { (sources : List Source) (v : World) (c : Change) (plan : Plan) (second : World) (made : Made) → AreSound sources → IsCoherent v → IsSound sources v c → plan_of sources v c ≡ Ok plan → with_routines c plan ≡ Ok second →
+        make_change sources v c ≡ Ok made → made ≡ made_by c plan second }
+{}
+
+/// The last step is a purge of the machine after the routines, where cells were replaced, and else there is none.
+pub fn change_sweeps()
+    ensures purges { (c : Change) (plan : Plan) (second : World) → 0 < length (old_of c) → (made_by c plan second).world ≡ purged second }
+    ensures removed { (c : Change) (plan : Plan) (second : World) → 0 < length (old_of c) → (made_by c plan second).removed ≡ garbage_of second }
+    ensures none { (c : Change) (plan : Plan) (second : World) → old_of c ≡ [] → (made_by c plan second).world ≡ second }
+{}
+
+/// The machine is coherent when all is linked, after the routines, and when the cells have gone that nobody keeps.
+pub fn change_keeps_coherent()
+    ensures linked { (sources : List Source) (v : World) (c : Change) (plan : Plan) → AreSound sources → IsCoherent v → IsSound sources v c → plan_of sources v c ≡ Ok plan → IsCoherent plan.linked }
+    ensures run { (sources : List Source) (v : World) (c : Change) (plan : Plan) (second : World) → AreSound sources → IsCoherent v → IsSound sources v c → plan_of sources v c ≡ Ok plan →
+        with_routines c plan ≡ Ok second → IsCoherent second }
+    ensures made { (sources : List Source) (v : World) (c : Change) (made : Made) → AreSound sources → IsCoherent v → IsSound sources v c → make_change sources v c ≡ Ok made → IsCoherent made.world }
+{}
+
+/// At its end each entry of a cell that stays names what it named when all was linked.
+pub fn change_settles_targets()
+    ensures { (sources : List Source) (v : World) (c : Change) (plan : Plan) (made : Made) → AreSound sources → IsCoherent v → IsSound sources v c → plan_of sources v c ≡ Ok plan → make_change sources v c ≡ Ok made →
+        All (λ d. IsTrue (holds (numbers_of made.world.cells) d.id.0) → All (λ e. target_of made.world (now_in made.world d) e ≡ target_of plan.linked (now_in plan.linked d) e) d.object.entries) v.cells }
+{}

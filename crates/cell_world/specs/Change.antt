@@ -1,0 +1,168 @@
+-- What becomes of the machine when cells come, beside the others or in the place of some of them. A load is such a change, and a
+-- swap is one: a command says what it wants, and answers by what was made.
+--     Want, Change                   what is asked for
+--     replaced c                     the cells that others come in the place of
+--     set_aside w c                  w with these put aside, as a group of their own
+--     gather sources w c             and with the new cells, wanted ones and those that they need; not placed yet
+--     first_uncovered w c gathered   the first need of another cell that has lost its provider
+--     plan_of sources w c            all that is decided before anything changes, and the machine with the new cells linked
+--     with_routines c plan           that machine after the routines
+--     make_change sources w c        the machine after the change, or its first refusal
+use Rattle.std.specs.Prelude.{ℕ, suc, ◌+◌, nat_lt, Bool, false, not, ◌&&◌, List, [], ◌∷◌, ◌++◌, Option, Some, None, Ok, filter, filter_map, length, option_map, if◌then◌else◌}
+use Rattle.cell_num.specs.Lists.{holds}
+use Rattle.cell_world.specs.declared.refusal.Refusal.{Refusal}
+use Rattle.cell_world.specs.World.{World, Cell, is_ready}
+use Rattle.cell_world.specs.Relink.{relink}
+use Rattle.cell_world.specs.Place.{place_all}
+use Rattle.cell_world.specs.Gather.{Source, Need, append_cell, bring, fresh_cells, first_lack, missing}
+use Rattle.cell_world.specs.LoadCommand.{field_count}
+use Rattle.cell_world.specs.UnloadCommand.{detach, garbage_of, without_cells, first_held}
+use Rattle.cell_world.specs.Kept.{holding_of}
+use Rattle.cell_world.specs.Reexport.{Exchange, with_reexports}
+use Rattle.cell_world.specs.Changed.{FieldAt, changed_fields, first_changed_misfit}
+use Rattle.cell_world.specs.Torn.{first_torn}
+use Rattle.cell_world.specs.Fit.{first_misfit}
+use Rattle.cell_world.specs.declared.transfer.Routine.{Routine}
+use Rattle.cell_world.specs.Transfer.{Addresses, transfer}
+use Rattle.cell_world.specs.SwapTransfer.{begins_of, stack_for, routines_in, addresses_in, transferred_by}
+use Rattle.cell_world.specs.Outcome.{Outcome, ◌>>=◌, ◌>>◌, refused_by, each}
+use Rattle.cell_world.specs.Answer.{numbers_of}
+
+-- a cell that is to come: its file, its namespace, and the cell that it comes in the place of, if there is one
+pub record Want : Type 0 where
+  pub file : Source
+  pub ns : ℕ
+  pub replaces : Option Cell
+
+pub record Change : Type 0 where
+  pub wants : List Want
+  -- the new cells take on the names of the cells that they replace
+  pub reexport : Bool
+  -- none of the replaced cells may have to stay
+  pub strict : Bool
+  -- what runs once all is linked, and how many turns there are for all of it
+  pub routines : List (List ℕ)
+  pub budget : ℕ
+
+-- new cells beside the others, and no more
+abbrev pub adding : List Want → Change
+adding wants = record { wants = wants; reexport = false; strict = false; routines = []; budget = 0 }
+
+abbrev pub replaced : Change → List Cell
+replaced c = filter_map (λ want. want.replaces) c.wants
+
+abbrev pub old_of : Change → List ℕ
+old_of c = numbers_of (replaced c)
+
+-- where there are such cells, that is a swap, which is counted
+abbrev pub swapped_out : World → List ℕ → World
+swapped_out w [] = w
+swapped_out w (old ∷ more) = let k = suc w.swaps in record (detach k (old ∷ more) w) { swaps = k }
+
+abbrev pub set_aside : World → Change → World
+set_aside w c = swapped_out w (old_of c)
+
+abbrev pub append_want : World → Want → Outcome World
+append_want w want = append_cell w want.file want.ns
+
+-- the wanted cells are appended one after the other, so they have the numbers from the next one on
+abbrev pub exchange_at : ℕ → Option Cell → List Exchange
+exchange_at number None = []
+exchange_at number (Some old) = record { old = old; fresh = number } ∷ []
+
+abbrev pub exchanges_from : ℕ → List Want → List Exchange
+exchanges_from number [] = []
+exchanges_from number (want ∷ wants) = exchange_at number want.replaces ++ exchanges_from (suc number) wants
+
+abbrev pub with_names : ℕ → Change → World → World
+with_names from c w = if c.reexport then with_reexports w (exchanges_from from c.wants) else w
+
+abbrev pub gather : List Source → World → Change → Outcome World
+gather sources w c = do
+  appended ← each append_want (set_aside w c) c.wants
+  bring sources w.next_cell (with_names w.next_cell c appended)
+
+-- the cells that are new since w
+abbrev pub new_since : World → World → List Cell
+new_since w after = fresh_cells w.next_cell after
+
+-- neither new nor replaced
+abbrev pub is_bystander : World → Change → Cell → Bool
+is_bystander w c d = nat_lt d.id.0 w.next_cell && not (holds (old_of c) d.id.0)
+
+-- the replaced cells keep each other
+abbrev pub first_uncovered : World → Change → World → Option Need
+first_uncovered w c gathered = first_lack gathered (filter (is_bystander w c) gathered.cells)
+
+-- a change that nothing stands in the way of: the new cells, the fields of others that change, the machine with all of it linked,
+-- and the routines that run then, on the stack that starts there
+pub record Plan : Type 0 where
+  pub fresh : List Cell
+  pub changed : List FieldAt
+  pub linked : World
+  pub stack : Option ℕ
+  pub routines : List Routine
+
+-- In this order: the new cells; each other cell still has what it needs; the routines are there; there is room, for the new cells and
+-- then for the routines' stack; each entry of a new cell fits, and then each that changes; no task stands inside what changes
+abbrev pub plan_of : List Source → World → Change → Outcome Plan
+plan_of sources w c = do
+  gathered ← gather sources w c
+  refused_by (option_map missing (first_uncovered w c gathered))
+  begins ← begins_of (new_since w gathered) c.routines
+  placed ← place_all gathered (new_since w gathered)
+  stack ← stack_for placed c.routines
+  refused_by (first_misfit placed (new_since w placed))
+  refused_by (first_changed_misfit w placed w.cells)
+  refused_by (first_torn (changed_fields w placed) (filter is_ready w.tasks))
+  Ok (record {
+    fresh = new_since w placed;
+    changed = changed_fields w placed;
+    linked = relink placed;
+    stack = stack;
+    routines = routines_in placed begins;
+  })
+
+-- what the routines may ask for, in the change's order
+abbrev pub addresses_of : Change → Plan → Addresses
+addresses_of c plan = record { old = addresses_in (replaced c); new = addresses_in plan.fresh }
+
+abbrev pub with_routines : Change → Plan → Outcome World
+with_routines c plan =
+    elim plan.stack [
+      | None ↦ Ok plan.linked
+      | Some stack ↦ transferred_by c.routines (transfer plan.linked stack (addresses_of c plan) plan.routines c.budget)
+    ]
+
+abbrev pub first_held_old : Change → World → Option Refusal
+first_held_old c second = if c.strict then first_held (holding_of second) (old_of c) else None
+
+-- where cells were replaced, every cell goes that is put aside and that nobody keeps
+abbrev pub garbage_after : List ℕ → World → List ℕ
+garbage_after [] second = []
+garbage_after (old ∷ more) second = garbage_of second
+
+-- the new cells, how many fields were written, the cells that went, and the machine without them
+pub record Made : Type 0 where
+  pub fresh : List Cell
+  pub patched : ℕ
+  pub removed : List ℕ
+  pub world : World
+
+abbrev pub made_by : Change → Plan → World → Made
+made_by c plan second =
+    let removed = garbage_after (old_of c) second in
+    record {
+      fresh = plan.fresh;
+      patched = field_count plan.fresh + length plan.changed;
+      removed = removed;
+      world = without_cells second removed;
+    }
+
+-- Then the new cells are there. The routines end well, and no replaced cell is held where none may be
+abbrev pub make_change : List Source → World → Change → Outcome Made
+make_change sources w c = do
+  plan ← plan_of sources w c
+  second ← with_routines c plan
+  refused_by (first_held_old c second)
+  Ok (made_by c plan second)
