@@ -23,7 +23,7 @@ use cell_num::{RelKind, is_instruction, is_pcrel_hi20, is_stacking, kind_of, wid
 use cell_object::elf::{ROW_LEN, SHF_EXECINSTR};
 use cell_object::{Bind, Entry, Home, RelaRow, SectionHeader};
 
-/// Tries the rule of an entry's field, after which it begins in the section.
+/// Tries the rule of an entry's field, rule 22, after which it begins in the section.
 #[tactic(auto, using(crate::proofs::FieldLemmas::width_wide))]
 fn check_field(target: &SectionHeader, at: u64, offset: u64, kind: RelKind) -> Result<(), ReadFail>
     requires { target.now.sh_size ≤ 16777216 }
@@ -199,7 +199,7 @@ impl<'a> Table<'a> {
         }
     }
 
-    /// Tries the rule of an entry's symbol.
+    /// Tries the rule of an entry's symbol, rule 21.
     fn check_symbol(&self, at: u64, number: u32) -> Result<(), ReadFail>
         requires at { at < 2 ^ 63 }
         requires symbols { AreSymbols self.now.file.bytes.now self.now.symbols }
@@ -209,7 +209,7 @@ impl<'a> Table<'a> {
         refuse_where(absent || self.is_unusable(number), 21, at + 12)
     }
 
-    /// Tries the rule of fields that share a byte, after the entries before, whose fields are kept, and
+    /// Tries the rule of fields that share a byte, rule 23, after the entries before, whose fields are kept, and
     /// keeps the entry's field.
     fn check_clash(
         &self,
@@ -296,6 +296,7 @@ impl<'a> Table<'a> {
             return Ok(());
         }
         take_room(room)?;
+        // rule 20
         let Some(kind) = kind_of(row.r_type) else {
             return Err(ReadFail::BadObject {
                 rule: 20,

@@ -40,6 +40,7 @@ impl<'a> File<'a> {
         ensures same { IfOk result (λ file. file.bytes.now ≡ whole.now) }
     {
         let bytes = whole.as_slice();
+        // rule 1
         if (bytes.len() as u64) < HEADER_LEN {
             return Err(ReadFail::BadObject {
                 rule: 1,
@@ -49,8 +50,10 @@ impl<'a> File<'a> {
         check_identification(bytes)?;
         let header = file_header(bytes);
         check_kind(&header)?;
+        // rule 4
         refuse_where(header.e_flags != 0, 4, 48)?;
         check_counts(&header)?;
+        // rule 6
         if !ends_within(
             header.e_shoff,
             HEADER_LEN * u64::from(header.e_shnum),
@@ -110,6 +113,7 @@ impl<'a> File<'a> {
     }
 }
 
+/// The bytes by which an ELF file of this kind is known: rule 2.
 #[tactic(auto, using(crate::proofs::Rounds::rounds), unfolding(cell_object::specs::Header::rule_2_at))]
 fn check_identification(bytes: &[u8]) -> Result<(), ReadFail>
     requires { 64 ≤ length bytes.now }
@@ -121,6 +125,7 @@ fn check_identification(bytes: &[u8]) -> Result<(), ReadFail>
     Ok(())
 }
 
+/// A relocatable file for RISC-V: rule 3.
 #[tactic(auto, using(crate::proofs::Passing::passing))]
 fn check_kind(header: &FileHeader) -> Result<(), ReadFail>
     ensures { Passes result (checked (rule_3 header.now)) }
@@ -130,6 +135,7 @@ fn check_kind(header: &FileHeader) -> Result<(), ReadFail>
     refuse_where(header.e_version != EV_CURRENT, 3, 20)
 }
 
+/// The counts and sizes of the tables: rule 5.
 #[tactic(auto, using(crate::proofs::Passing::passing))]
 fn check_counts(header: &FileHeader) -> Result<(), ReadFail>
     ensures { Passes result (checked (rule_5 header.now)) }
@@ -139,7 +145,7 @@ fn check_counts(header: &FileHeader) -> Result<(), ReadFail>
     refuse_where(header.e_shnum == 0 || header.e_shnum > LAST_NUMBER, 5, 60)
 }
 
-/// The table of section names.
+/// The table of section names, which is there by rule 7.
 fn section_names<'a>(whole: &'a Shared, header: &FileHeader) -> Result<Strings<'a>, ReadFail>
     requires is { header.now ≡ header_of whole.now }
     requires inside { header.now.e_shoff + 64 * header.now.e_shnum ≤ length whole.now }

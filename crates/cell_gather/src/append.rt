@@ -64,6 +64,7 @@ impl<'a> Load<'a> {
         match self.depot.named(want.file.bytes()) {
             Some(file) => self.append(alloc, gathered, file, want.ns),
             None => {
+                // E1
                 let word = want.file.copy(alloc)?;
                 Err(Fail::Refused(Refusal::Unknown { word }))
             }

@@ -13,7 +13,7 @@ use cell_space::{Ahead, NameRows, Path};
 use cell_world::{Fail, Refusal};
 use std::alloc::Global;
 
-/// Refuses a name that a cell has.
+/// Refuses a name that a cell has: E8.
 fn refuse_taken(alloc: Global, name: &[u8], holder: Option<CellId>) -> Result<(), Fail>
     ensures { Follows (λ _. tt) result (refused_by (option_map (duplicate name.now) (option_map number_as holder))) }
 {

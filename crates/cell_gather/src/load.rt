@@ -36,7 +36,7 @@ impl<'a> Load<'a> {
         }
     }
 
-    /// Sees that there may be one more cell, where so many are new.
+    /// Sees that there may be one more cell, where so many are new, else E4.
     pub fn check_room(&self, fresh: usize) -> Result<(), Fail>
         requires { fresh ≤ max_cells }
         ensures { Follows (λ _. tt) result (room_now (length self.now.spaces.now.cells + fresh) (self.now.next + fresh)) }

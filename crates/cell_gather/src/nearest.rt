@@ -24,7 +24,7 @@ pub struct Near<'a> {
     pub file: &'a File,
 }
 
-/// A cell lacks a name, and nothing brings it.
+/// E9: a cell lacks a name, and nothing brings it.
 fn missing(alloc: Global, name: &[u8], needed_by: CellId) -> Result<Refusal, AllocError>
     ensures { IfOk result (λ refusal. refusal ≡ lacking name.now needed_by) }
 {
@@ -32,6 +32,7 @@ fn missing(alloc: Global, name: &[u8], needed_by: CellId) -> Result<Refusal, All
     Ok(Refusal::Missing { name, needed_by })
 }
 
+/// E6: more than one file may bring it.
 fn ambiguous(alloc: Global, one: &File, two: &File) -> Result<Refusal, AllocError>
     ensures { IfOk result (λ refusal. refusal ≡ Ambiguous one.now.name two.now.name) }
 {

@@ -12,7 +12,7 @@ use cell_object::Object;
 use cell_world::{Fail, File, Refusal};
 use std::alloc::Global;
 
-/// Why the file is not read.
+/// Why the file is not read: E7, or want of memory.
 fn read_failed(alloc: Global, file: &File, fail: ReadFail) -> Fail
     ensures { FailsToRead file.now fail result }
 {

@@ -11,7 +11,7 @@ use cell_num::Listed;
 use cell_world::{Fail, NewCell, Refusal, Target};
 use std::alloc::Global;
 
-/// The number of the entry at that place is outside its kind's range.
+/// E12: the number of the entry at that place is outside its kind's range.
 fn overflow(cell: &NewCell, entry: u32) -> Refusal
     requires { entry < length cell.now.object.entries }
     ensures { option_map (entry_overflow cell.now) (slice_get cell.now.object.entries entry) ≡ Some result }

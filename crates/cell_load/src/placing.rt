@@ -9,7 +9,7 @@ use cell_place::Space;
 use cell_world::{Fail, NewCell, Refusal};
 use std::alloc::Global;
 
-/// Why the cells have no places.
+/// Why the cells have no places: E11, or want of memory.
 fn place_failed(fail: PlaceFail) -> Fail
     ensures { PlaceFails fail result }
 {

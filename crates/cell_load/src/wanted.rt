@@ -17,6 +17,7 @@ use cell_num::Name;
 use cell_world::{Fail, File, Refusal};
 use std::alloc::{AllocError, Global};
 
+/// E5: the namespace has no file of the stem.
 fn no_object(alloc: Global, stem: &[u8]) -> Result<Refusal, AllocError>
     ensures { IfOk result (λ refusal. refusal ≡ NoFile stem.now) }
 {
@@ -24,6 +25,7 @@ fn no_object(alloc: Global, stem: &[u8]) -> Result<Refusal, AllocError>
     Ok(Refusal::NoObject { stem })
 }
 
+/// E6: it has more than one.
 fn ambiguous(alloc: Global, one: &File, two: &File) -> Result<Refusal, AllocError>
     ensures { IfOk result (λ refusal. refusal ≡ Ambiguous one.now.name two.now.name) }
 {

@@ -13,7 +13,7 @@ use cell_text::put_dec;
 use cell_world::{Fail, Refusal};
 use std::alloc::Global;
 
-/// The word names nothing.
+/// E1: the word names nothing.
 pub fn unknown(alloc: Global, word: &[u8]) -> Fail
     ensures { IsUnknown word.now result }
 {
@@ -23,7 +23,7 @@ pub fn unknown(alloc: Global, word: &[u8]) -> Fail
     }
 }
 
-/// The number names nothing.
+/// E1: the number names nothing.
 pub fn unknown_number(alloc: Global, number: u32) -> Fail
     ensures { IsUnknown (decimal number) result }
 {

@@ -18,7 +18,7 @@ use cell_space::{Ahead, CellState, Spaces};
 use cell_world::{Fail, NewCell, Refusal};
 use std::alloc::{AllocError, Global};
 
-/// The cell has lost a name.
+/// E9: the cell has lost a name.
 fn missing(alloc: Global, name: &Name, needed_by: CellId) -> Result<Refusal, AllocError>
     ensures { IfOk result (λ refusal. refusal ≡ Missing name.now needed_by) }
 {

@@ -15,6 +15,7 @@ use cell_num::Name;
 use cell_world::{Fail, NewCell, Refusal};
 use std::alloc::{AllocError, Global};
 
+/// E10: no routine can begin where the name is, or nobody has it.
 fn no_entry(alloc: Global, word: &Name) -> Result<Refusal, AllocError>
     ensures { IfOk result (λ refusal. refusal ≡ NoSuchEntry word.now) }
 {

@@ -65,6 +65,7 @@ fn find_entry(machine: &Machine, ns: u16, symbol: &[u8]) -> Option<Entry>
     entry_at(machine, target)
 }
 
+/// E10: no task can begin where the name is, or nobody provides it.
 fn no_entry(alloc: Global, symbol: &[u8]) -> Result<Refusal, AllocError>
     ensures { IfOk result (λ refusal. refusal ≡ NoSuchEntry symbol.now) }
 {

@@ -25,7 +25,7 @@ const READ_WRITE: Permission = Permission {
     exec: false,
 };
 
-/// Sees that one more task may come.
+/// Sees that one more task may come, else E4.
 fn check(tasks: &Tasks) -> Result<(), Fail>
     ensures { Follows (λ _. tt) result (may_start tasks.now) }
 {
@@ -44,6 +44,7 @@ fn check(tasks: &Tasks) -> Result<(), Fail>
     Ok(())
 }
 
+/// E11: no free run is long enough.
 fn exhausted(none: NoRun) -> Refusal
     ensures { result ≡ TooFull none.wanted none.largest }
 {

@@ -25,7 +25,7 @@ pub fn room(alloc: Global, turns: u32) -> Result<Vec<u8>, AllocError>
     Vec::with_capacity(alloc, MOST_OUT * turns as usize)
 }
 
-/// The task isn't faulted.
+/// The task isn't faulted, else E3.
 fn can_run(number: u32, task: &Task) -> Result<(), Fail>
     ensures { Follows (λ u. u) result (can_run_as (seen_as number task.now)) }
 {

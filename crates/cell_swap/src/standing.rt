@@ -43,6 +43,7 @@ fn ready_places(alloc: Global, tasks: &Tasks) -> Result<Vec<TaskPc>, AllocError>
     Ok(places)
 }
 
+/// E13: the task stands inside what a changed field is a part of.
 fn torn(torn: Torn) -> Refusal
     ensures { result ≡ Rattle.cell_plan.specs.Spans.refusal_of torn }
 {

@@ -14,7 +14,7 @@ use cell_space::Spaces;
 use cell_world::{Fail, MAX_NAMESPACES, Many, Refusal, Reply};
 use std::alloc::{AllocError, Global};
 
-/// The name is taken.
+/// E2: the name is taken.
 fn taken(alloc: Global, name: &[u8]) -> Result<Refusal, AllocError>
     ensures { IfOk result (λ refusal. refusal ≡ NameTaken name.now) }
 {
@@ -30,6 +30,7 @@ fn check(alloc: Global, spaces: &Spaces, name: &[u8]) -> Result<(), Fail>
     if spaces.find_ns(name).is_some() {
         return Err(Fail::Refused(taken(alloc, name)?));
     }
+    // E4
     if spaces.namespace_count() >= MAX_NAMESPACES as usize {
         return Err(Fail::Refused(Refusal::TooMany {
             kind: Many::Namespaces,

@@ -21,7 +21,7 @@ pub struct Survey {
     pub kept: Vec<CellId>,
 }
 
-/// The cell has to stay, by that holder.
+/// E15: the cell has to stay, by that holder.
 fn held(cell: CellId, holder: Holder) -> Refusal
     ensures { result ≡ Held cell holder }
 {

@@ -24,7 +24,7 @@ pub struct Transfer {
     pub zeros: Vec<u8>,
 }
 
-/// The refusal of a swap one of whose routines failed.
+/// E14: the refusal of a swap one of whose routines failed.
 fn refused(mut names: Vec<Name>, failure: Failure) -> Refusal
     requires { failure.routine < length names.items }
     ensures { result ≡ TransferRefused (slice_index_or names.items failure.routine []) failure.why }
