@@ -1,6 +1,6 @@
 //! What a commit is made of: regions are mapped, fields are written and sealed, sections are added,
 //! links are bound, and cells are attached.
-//! None of these calls takes memory or fails.
+//! None of these calls takes memory or fails. The commit itself, which makes them in order, is in `cell_load`.
 #![tactic(auto)]
 
 mod attach;

@@ -1,4 +1,5 @@
-//! The object files of a folder, found by namespace and stem and by name.
+//! The object files of a folder, found by namespace and stem and by name. They are bytes here: what they
+//! mean is read when a cell is to come of one (`cell_gather`).
 #![tactic(auto)]
 
 mod depot;

@@ -1,4 +1,5 @@
-//! Which cells a load brings: the wanted ones, and then whatever they need, from the nearest depot.
+//! Which cells a load or a swap brings: the wanted ones, and then whatever they need, from the nearest
+//! depot. They have no places yet, and the machine stays as it is.
 #![tactic(auto)]
 
 mod append;

@@ -1,5 +1,8 @@
-//! The sections that are present, and the links between them: two arenas, with two sorted lists of
-//! places beside them. Each is a type of its own, which counts what is looked at.
+//! Which sections are present, and the links between them. A section is a key here, its cell and its
+//! number, and a place in an arena: no bytes, which are in `cell_mem`, and no section of an object.
+//!
+//! Two arenas, with two sorted lists of places beside them. Each is a type of its own, which counts
+//! what is looked at.
 #![tactic(auto)]
 
 mod chains;

@@ -4,7 +4,7 @@ ghost use Rattle.std.specs.Prelude.{◌≡◌, ◌+◌, ◌<◌, ◌^◌, None, 
 
 use cell_num::SecKey;
 
-/// A section, the first link to it, and how many there are.
+/// A section by its key, the first link to it, and how many there are.
 #[derive(Clone, Copy, Debug, PartialEq, Eq)]
 pub struct Section {
     pub key: SecKey,

@@ -5,7 +5,8 @@ ghost use Rattle.cell_graph.specs.Weaks.{made_for, place_of};
 
 use cell_num::SecKey;
 
-/// A reference to a section that doesn't keep it: its place, and the section that stood there.
+/// A reference to a section that doesn't keep it: its place, and the section that stood there. It has
+/// nothing to do with WEAK symbols.
 #[derive(Clone, Copy, Debug)]
 pub struct Weak {
     key: SecKey,

@@ -1,4 +1,5 @@
-//! The cells that must stay, and who holds them.
+//! Which cells must stay, and who holds them, from sections, links, memory and the words of tasks. It
+//! takes nothing away: that is `cell_unload`.
 #![tactic(auto)]
 
 mod boxed;

@@ -1,5 +1,5 @@
-//! An object's image: how numbers stand in it; and, as contracts of functions with an empty body, its
-//! law, that what can be written is read again, and an example.
+//! An object's image, which `cell_elfw` writes: how numbers stand in it; and, as contracts of functions
+//! with an empty body, its law, that what can be written is read again, and an example.
 #![tactic(auto)]
 
 mod number;

@@ -1,5 +1,6 @@
 //! The laws over the definitions that the contracts of all other crates cite, in one place. Each is the contract of a
-//! public function with an empty body. Their lemmas are in the crates below, and no code stands on this crate.
+//! public function with an empty body. Their lemmas are in the crates below, and of code only
+//! `cell_run` stands on this crate. The laws of changes of cells are in `cell_change_law`.
 //!
 //! - `files`: what files are read as is sound; so what other laws ask of the sources of new cells holds of files
 //! - `coherence`: the machine begins coherent, and each command and each turn of a task keeps it so

@@ -1,4 +1,5 @@
-//! Where a new cell comes to stand, and what its pages hold before its fields are written.
+//! Where a new cell comes to stand, and what its pages hold before its fields are written. Places are
+//! found here: `cell_placed` looks at cells that have theirs.
 #![tactic(auto)]
 
 mod cells;

@@ -1,4 +1,5 @@
-//! What the fields of a cell hold.
+//! What the fields of a cell hold, as numbers, from what its entries name. What they name is found by
+//! `cell_target`; the links between sections are `cell_graph`.
 #![tactic(auto)]
 
 mod contents;

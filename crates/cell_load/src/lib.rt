@@ -1,5 +1,5 @@
-//! Loading: new cells are gathered, placed and linked beside the machine, and then added to it by a
-//! commit that takes no memory and can't fail.
+//! New cells, and the command `load`: they are gathered, placed and linked beside the machine, and then
+//! added to it by a commit that takes no memory and can't fail. A swap takes the same steps.
 #![tactic(auto)]
 
 mod add;

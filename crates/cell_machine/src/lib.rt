@@ -1,5 +1,5 @@
-//! The cells in memory: the parts of the machine, what holds of each one, what is found in it, and
-//! what a load has staged for it.
+//! The parts of the machine in one record: what holds of each machine, what is found in it, what has
+//! been staged for it, and how a command was answered. The commands are in the crates above.
 #![tactic(auto)]
 
 mod lookup;

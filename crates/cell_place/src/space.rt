@@ -8,8 +8,8 @@ use crate::search::{NoRun, Run, search};
 use std::alloc::{AllocError, Global};
 use std::marker::Model;
 
-/// The space: the address of its first page, and which pages are taken. No page below `first` is
-/// free. Contracts see a record of base and pages.
+/// The page table: the address of the first page, and which pages are taken. No page below `first` is
+/// free. Contracts see a record of base and pages. Namespaces are `Spaces` of `cell_space`.
 #[derive(Drop)]
 pub struct Space {
     base: u64,

@@ -1,4 +1,5 @@
-//! Placed cells: the one of a number, where its sections stand, and what its symbols are.
+//! Looks at cells that have their places: the one of a number, where its sections stand, and what its
+//! symbols are. It places none.
 #![tactic(auto)]
 
 mod cells;

@@ -1,4 +1,5 @@
-//! The commands that start tasks, give them turns, end them and show them.
+//! The commands that start tasks, give them turns, end them and show them. Turns go as the script says: no
+//! task is chosen here. What a turn does is `cell_task`.
 #![tactic(auto)]
 
 mod ending;

@@ -1,4 +1,5 @@
-//! Namespaces, the cells in them by stem and name, and who provides a name.
+//! Namespaces, and every cell in them, present or coming: what it is called, whether it is attached, and
+//! who provides a name. No memory: which pages are taken is `Space` of `cell_place`.
 #![tactic(auto)]
 
 mod ahead;

@@ -17,7 +17,7 @@ pub struct Affected<'a> {
 }
 
 impl<'a> Affected<'a> {
-    /// Goes over each link once.
+    /// Goes over the links into the old cells.
     pub fn of(
         alloc: Global,
         machine: &'a Machine,

@@ -1,4 +1,5 @@
-//! New cells in the place of old ones: first the whole decision, then steps that take no memory.
+//! The command `swap`, new cells in the place of old ones: first the whole decision, then steps that take no
+//! memory.
 #![tactic(auto)]
 
 mod affected;

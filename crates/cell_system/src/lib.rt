@@ -1,4 +1,5 @@
-//! The machine that runs: the cells in memory, and the commands.
+//! The machine that runs: the machine's parts with the object files, and the call that does one command
+//! by the crate of its kind. Of the commands only `ns` is done here.
 #![tactic(auto)]
 
 mod answer;

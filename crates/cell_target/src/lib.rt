@@ -1,5 +1,5 @@
-//! What each entry of a cell names, and where a name's provider has it: over the present cells and
-//! those of a load, which is not done yet.
+//! What each entry of a cell names, and where a name's provider has it: over the present cells and the
+//! new ones of a load or a swap, which is not done yet. What the field then holds is `cell_link`.
 #![tactic(auto)]
 
 mod cells;

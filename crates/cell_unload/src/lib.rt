@@ -1,4 +1,5 @@
-//! Which cells are kept, and taking away those that nobody keeps: first the whole decision, then steps that take no memory.
+//! Taking cells away, for `unload`, `purge` and swaps: first the whole decision, which cells the machine
+//! keeps by `cell_hold`, then steps that take no memory.
 #![tactic(auto)]
 
 mod holding;

@@ -1,5 +1,6 @@
-//! The machine: commands, replies, refusals and the shared parts of its state, and in `specs/` what
-//! each command makes of it.
+//! The machine as definitions: in `specs/` its state, and what each command makes of it. In code only
+//! what all crates speak of: commands, replies, refusals, limits and parts of the state. The machine
+//! that runs is `cell_machine` and the crates above it.
 #![tactic(auto)]
 
 mod command;

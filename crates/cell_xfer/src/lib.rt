@@ -1,4 +1,5 @@
-//! The transfer routines of a swap: their runs over the memory, and the names that they ask for.
+//! The transfer routines of a swap, which carry state over: their runs over the memory, and the names that
+//! they ask for. Where they begin is found in `cell_routines`.
 #![tactic(auto)]
 
 mod asking;
