@@ -1,0 +1,39 @@
+//! The object of a file as it is placed and linked. An entry of kind GOT_HI20 asks for the address of a slot that holds
+//! its symbol's address, so the object gets a section of such slots. There is no code yet.
+#![tactic(auto)]
+
+ghost use Rattle.std.specs.Prelude.{◌≡◌, ◌≤◌, ◌+◌, ◌*◌, ◌^◌, ℕ, Some, false, length, slice_get, take, true};
+ghost use Rattle.cell_num.specs.declared.kinds.RelKind.TheVariants.{PcrelHi20};
+ghost use Rattle.cell_object.specs.Parts.{section_of, symbol_at};
+ghost use Rattle.cell_object.specs.Sound.{IsSoundObject};
+ghost use Rattle.cell_object.specs.declared.object.Entry.{Entry as SomeEntry};
+ghost use Rattle.cell_object.specs.declared.object.Object.{Object as SomeObject};
+ghost use Rattle.cell_got.specs.Lower.{got_number, got_section, is_got, lower, slot_entry, slot_of, slot_symbol, slots_of};
+ghost use Rattle.cell_got.specs.Readable.{IsReadable};
+
+/// What is lowered is sound, as objects are that had no such entries.
+pub fn lowered_is_sound()
+    ensures { (object : SomeObject) → IsReadable object → IsSoundObject (lower object) }
+{}
+
+/// Sections, symbols and all entries that ask for no slot stand in the lowered object as they were, and in their places.
+pub fn lowered_keeps_rest()
+    ensures sections { (object : SomeObject) → take (length object.sections) (lower object).sections ≡ object.sections }
+    ensures symbols { (object : SomeObject) → take (length object.symbols) (lower object).symbols ≡ object.symbols }
+    ensures entries { (object : SomeObject) (i : ℕ) (e : SomeEntry) → slice_get object.entries i ≡ Some e → is_got e ≡ false → slice_get (lower object).entries i ≡ Some e }
+    ensures sites { (object : SomeObject) (i : ℕ) (e : SomeEntry) → slice_get object.entries i ≡ Some e → is_got e ≡ true →
+        slice_get (lower object).entries i
+        ≡ (let site : SomeEntry = record e { kind = PcrelHi20; symbol = length object.symbols + 1 + slot_of (slots_of object) e.symbol } in Some site) }
+{}
+
+/// Each slot has its symbol behind those of the object and its entry behind those of the object, and there are no more of either.
+/// What was read has few slots.
+pub fn slots_have_parts()
+    ensures symbols { (object : SomeObject) (k symbol : ℕ) → slice_get (slots_of object) k ≡ Some symbol →
+        slice_get (lower object).symbols (length object.symbols + k) ≡ Some (slot_symbol (got_number object) k) }
+    ensures entries { (object : SomeObject) (k symbol : ℕ) → slice_get (slots_of object) k ≡ Some symbol →
+        slice_get (lower object).entries (length object.entries + k) ≡ Some (slot_entry (got_number object) (k, symbol)) }
+    ensures symbol_count { (object : SomeObject) → length (lower object).symbols ≡ length object.symbols + length (slots_of object) }
+    ensures entry_count { (object : SomeObject) → length (lower object).entries ≡ length object.entries + length (slots_of object) }
+    ensures few { (object : SomeObject) → IsReadable object → length (slots_of object) ≤ 2 ^ 20 }
+{}
