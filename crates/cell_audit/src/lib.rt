@@ -1,0 +1,19 @@
+//! The audit of a dump: whether it is what a machine shows that is linked anew from the same files.
+#![tactic(auto)]
+
+ghost use Rattle.std.specs.Prelude.{◌≡◌, ℕ, List, Ok};
+ghost use Rattle.cell_world.specs.Gather.{Source};
+ghost use Rattle.cell_audit.specs.Audits.{IsFresh, IsReading, audit_of};
+ghost use Rattle.cell_audit.specs.Dumps.{Row, Text};
+
+mod fail;
+
+pub use fail::AuditFail;
+
+/// A dump is clean exactly where it has a reading and its lines are those of the machine that it describes, linked anew.
+pub fn clean_is_fresh()
+    ensures clean { (dump : List ℕ) (sources : List Source) → audit_of dump sources ≡ Ok tt →
+        (texts : List Text) × (rows : List Row) × IsReading dump sources texts rows × IsFresh sources texts rows }
+    ensures fresh { (dump : List ℕ) (sources : List Source) (texts : List Text) (rows : List Row) → IsReading dump sources texts rows → IsFresh sources texts rows →
+        audit_of dump sources ≡ Ok tt }
+{}
