@@ -4,9 +4,9 @@ mod Progress
 mod Worked
 mod Windows
 mod Laid
-mod Parts
-mod Fresh
-mod FreshSaid
+pub mod Parts
+pub mod Fresh
+pub mod FreshSaid
 mod CoverageExact
 mod Counted
 mod CountsLoad

@@ -1,0 +1,10 @@
+mod Contents
+mod Selected
+mod Describes
+mod Told
+mod Anew
+mod Stands
+mod Order
+mod Clean
+mod Transcript
+mod Spelled

@@ -1,0 +1,4 @@
+pub mod Anew
+pub mod Read
+pub mod Transcripts
+pub mod Spelled
