@@ -2,6 +2,7 @@
 --     command                the command that `clap` reads, by its own definition of simple commands
 --     arguments_of words     what is to be run, and the memory; none where the words are refused
 use Rattle.std.specs.Prelude.{◌≡◌, ℕ, ◌%◌, ◌≤◌, nat_le, Bool, true, ◌&&◌, ◌==◌, List, [], ◌∷◌, take, drop, Option, Some, None, option_and_then, option_map, if◌then◌else◌, bytes_eq, codes, Result, Ok, Err}
+use Rattle.cell_num.specs.Limits.{max_base, max_pages, min_base, min_pages, page_size}
 use Rattle.clap.specs.Words.{App, Kinds, Row, Rule, fault_of, first_of, matches_of, new_app, new_rule, with_rule}
 use Rattle.clap.specs.Simple.{new_shape}
 use Rattle.cell_num.specs.Lists.{where_true}
@@ -47,9 +48,9 @@ default_base = 0x1000_0000
 abbrev pub default_pages : ℕ
 default_pages = 1024
 
--- a multiple of 4096 in range
+-- a multiple of a page's size in range
 abbrev pub is_base : ℕ → Bool
-is_base n = n % 4096 == 0 && nat_le 0x1000 n && nat_le n 0x7ff_ffff_f000
+is_base n = n % page_size == 0 && nat_le min_base n && nat_le n max_base
 
 -- the base that the text spells: 0x, and the number in lower-case hex
 abbrev pub base_in : List ℕ → Option ℕ
@@ -57,7 +58,7 @@ base_in text = if bytes_eq (take 2 text) (codes "0x") then option_and_then (λ n
 
 -- the number of pages that the text spells in decimal
 abbrev pub pages_in : List ℕ → Option ℕ
-pages_in text = option_and_then (λ n. where_true (nat_le 16 n) n) (number_in 4096 text)
+pages_in text = option_and_then (λ n. where_true (nat_le min_pages n) n) (number_in max_pages text)
 
 -- how many crates the text spells: 1 to 400
 abbrev pub crates_in : List ℕ → Option ℕ
@@ -126,8 +127,8 @@ ReadsArguments (Err OutOfMemory) words = Unit {0}
 
 -- a memory that a machine may have
 pub record IsInRange (base pages : ℕ) : Type 0 where
-  pub aligned : base % 4096 ≡ 0
+  pub aligned : base % page_size ≡ 0
   pub low : 0x1000 ≤ base
   pub high : base ≤ 0x7ff_ffff_f000
   pub least : 16 ≤ pages
-  pub most : pages ≤ 4096
+  pub most : pages ≤ max_pages

@@ -1,10 +1,12 @@
 //! What a command line says.
 
 ghost use Rattle.std.specs.Prelude.{◌≡◌, ◌≤◌, ◌%◌, map, true, option_map, IfOk, IfSome, string_bytes};
+ghost use Rattle.cell_num.specs.Limits.{max_pages, min_pages};
 ghost use Rattle.clap.specs.Words.{first_of, found_of, rows_of};
 ghost use Rattle.cell_arguments.specs.Arguments.{is_base, base_in, pages_in, crates_in, seed_in, default_base, default_pages, value_or, arguments_of, arguments_in, generated, said, task_in, task_of, task_said, ReadsArguments, IsInRange, IsTask};
 
 use crate::command::matches_in;
+use cell_num::{MAX_BASE, MAX_PAGES, MIN_BASE, MIN_PAGES, PAGE_SIZE};
 use cell_text::{read_dec, read_hex};
 use clap::ArgMatches;
 use std::alloc::Global;
@@ -155,13 +157,13 @@ fn base_in(text: &[u8]) -> Option<u64>
 fn is_base(base: u64) -> bool
     ensures { result ≡ is_base base }
 {
-    base % 4096 == 0 && base >= 0x1000 && base <= 0x7ff_ffff_f000
+    base % PAGE_SIZE == 0 && base >= MIN_BASE && base <= MAX_BASE
 }
 
 fn pages_or_default(text: Option<&str>) -> Option<u32>
     ensures value { result ≡ value_or default_pages pages_in (option_map (λ t. t.now) text.entry) }
-    ensures low { IfSome result (λ pages. 16 ≤ pages) }
-    ensures high { IfSome result (λ pages. pages ≤ 4096) }
+    ensures low { IfSome result (λ pages. min_pages ≤ pages) }
+    ensures high { IfSome result (λ pages. pages ≤ max_pages) }
 {
     match text {
         Some(text) => pages_in(text.as_bytes()),
@@ -171,11 +173,11 @@ fn pages_or_default(text: Option<&str>) -> Option<u32>
 
 fn pages_in(text: &[u8]) -> Option<u32>
     ensures value { result ≡ pages_in text.now }
-    ensures low { IfSome result (λ pages. 16 ≤ pages) }
-    ensures high { IfSome result (λ pages. pages ≤ 4096) }
+    ensures low { IfSome result (λ pages. min_pages ≤ pages) }
+    ensures high { IfSome result (λ pages. pages ≤ max_pages) }
 {
-    match read_dec(text, 4096) {
-        Some(pages) if pages >= 16 => Some(pages as u32),
+    match read_dec(text, u64::from(MAX_PAGES)) {
+        Some(pages) if pages >= u64::from(MIN_PAGES) => Some(pages as u32),
         _ => None,
     }
 }

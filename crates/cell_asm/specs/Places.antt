@@ -2,6 +2,7 @@
 --     placed before n line      the line with its number, section and offset
 --     fault_at before line      the first of Section, Twice, Long that it has there
 use Rattle.std.specs.Prelude.{◌+◌, ◌-◌, ◌%◌, ◌==◌, ◌&&◌, ◌∷◌, ◌++◌, if◌then◌else◌}
+use Rattle.cell_num.specs.Limits.{max_section_bytes, max_stored_bytes}
 use Rattle.cell_asm.specs.Types.{ℕ, nat_lt, nat_le, Bool, true, false, not, List, [], map, Option, Some, None, is_none, filter, filter_map, flat_map, sum_by, count_by, length, list_any, equals, last, where_true, or_else, AsmKind, AsmKindSection as Section, Twice, Long, Part, Text, Rodata, Data, Bss, Code, Narrow, Target, TargetNamed as Name, TargetMade as Made, Mark, Statement, Nothing, StatementChoose as Choose, StatementGlobal as Global, StatementZeros as Zeros, StatementAlign as Align, Bytes, Line, Laid, Key, KeyNamed as Named, KeyMade, Label}
 
 abbrev pub is_same_part : Part → Part → Bool
@@ -124,8 +125,8 @@ is_twice before None = false
 is_twice before (Some name) = holds_key (labels before) (Named name)
 
 abbrev pub largest : Part → ℕ
-largest Bss = 16777216
-largest _ = 1048576
+largest Bss = max_section_bytes
+largest _ = max_stored_bytes
 
 abbrev pub is_long : Option Part → ℕ → Bool
 is_long None size = false

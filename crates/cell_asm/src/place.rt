@@ -13,13 +13,9 @@ use crate::reference::{Reference, put_references, put_upper};
 use crate::section::{Bodies, add_choice, end};
 use crate::statement::{Content, Label, Laid, Line, Part, Spot, Statement};
 use crate::text::Text;
+use cell_num::{MAX_SECTION_BYTES, MAX_STORED_BYTES};
 use std::alloc::{AllocError, Global};
 use std::collections::BTreeSet;
-
-/// How large `.bss` may be, and any other section.
-const LARGEST_BSS: u128 = 0x100_0000;
-
-const LARGEST: u128 = 0x10_0000;
 
 /// What the lines so far come to.
 #[derive(Drop)]
@@ -189,8 +185,8 @@ fn is_long(part: Option<Part>, size: u128) -> bool
     ensures { result ≡ long_of part size }
 {
     match part {
-        Some(Part::Bss) => size > LARGEST_BSS,
-        Some(_) => size > LARGEST,
+        Some(Part::Bss) => size > u128::from(MAX_SECTION_BYTES),
+        Some(_) => size > u128::from(MAX_STORED_BYTES),
         None => false,
     }
 }

@@ -7,6 +7,7 @@ use Rattle.std.specs.Io.KnownBytes.{Appends}
 use Rattle.cell_io.specs.Files.{File, folder, bytes_named}
 use Rattle.cell_io.specs.Written.{AppendsPartOf}
 use Rattle.cell_io.specs.Within.{within, ◌>>=◌}
+use Rattle.cell_num.specs.Limits.{max_source_bytes}
 use Rattle.cell_asm.specs.declared.kind.AsmKind.{AsmKind}
 use Rattle.cell_assemble.specs.declared.status.AsStatus.{AsStatus}
 use Rattle.cell_assemble.specs.declared.status.AsStatus.TheVariants as statuses
@@ -15,9 +16,9 @@ use Rattle.cell_assemble.specs.declared.status.Refusal.TheVariants.{TooManyNames
 use Rattle.cell_assemble.specs.SourceImage.{image_of_source}
 use Rattle.cell_assemble.specs.RefusalLine.{usage_line, refusal_line}
 
--- the bytes of the source, where its name is among these: at most 1048576
+-- the bytes of the source, where its name is among these: at most `max_source_bytes`
 abbrev pub source_among : List ℕ → List File → List (List ℕ) → Result (List ℕ) Refusal
-source_among source files names = if list_any (bytes_eq source) names then within 1048576 TooLong (bytes_named source files) else Err NoSource
+source_among source files names = if list_any (bytes_eq source) names then within max_source_bytes TooLong (bytes_named source files) else Err NoSource
 
 -- those of the source of that name in a folder, which has at most 65536 names
 unfoldable pub source_in : List ℕ → List File → Result (List ℕ) Refusal

@@ -1,6 +1,7 @@
 -- The line of a refusal.
 use Rattle.std.specs.Prelude.{ℕ, List, [], ◌∷◌, ◌++◌, codes}
 use Rattle.std.specs.Fmt.{decimal}
+use Rattle.cell_num.specs.Limits.{max_source_bytes}
 use Rattle.cell_asm.specs.declared.kind.AsmKind.{AsmKind}
 use Rattle.cell_asm.specs.declared.kind.AsmKind.TheVariants as kinds
 use Rattle.cell_assemble.specs.declared.status.Refusal.{Refusal}
@@ -23,7 +24,7 @@ usage_line = codes "usage: cellas DIR SOURCE" ++ 10 ∷ []
 abbrev pub refusal_text : List ℕ → Refusal → List ℕ
 refusal_text source TooManyNames = codes "too many names: limit " ++ decimal 65536
 refusal_text source NoSource = codes "no source " ++ source
-refusal_text source TooLong = codes "too long: limit " ++ decimal 1048576
+refusal_text source TooLong = codes "too long: limit " ++ decimal max_source_bytes
 refusal_text source (Fault line kind) = codes "line " ++ (decimal line ++ (codes ": " ++ kind_word kind))
 
 -- a line feed after it

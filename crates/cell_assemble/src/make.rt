@@ -4,13 +4,14 @@ ghost use Rattle.std.specs.Prelude.{◌≡◌, ◌≢◌, ◌≤◌, Err, length
 ghost use Rattle.cell_io.specs.Causes.{HasCause};
 ghost use Rattle.cell_io.specs.Files.{folder};
 ghost use Rattle.cell_io.specs.Within.{IfTold, Gives};
+ghost use Rattle.cell_num.specs.Limits.{max_source_bytes};
 ghost use Rattle.cell_assemble.specs.Assembling.{source_in, object_of, object_in};
 
 use crate::image::image_of_source;
-use crate::status::{MAX_NAMES, MAX_SOURCE_BYTES, Refusal};
+use crate::status::Refusal;
 use cell_asm::AsmFail;
 use cell_io::{Host, Stop, is_listed, list_within, read_within};
-use cell_num::Shared;
+use cell_num::{MAX_NAMES, MAX_SOURCE_BYTES, Shared};
 use std::alloc::Global;
 
 /// The bytes of the object of the source of that name in a folder.
@@ -38,7 +39,7 @@ fn source_in<H: Host>(
 ) -> Result<Vec<u8>, Stop<Refusal>>
     ensures bytes { IfTold (H.files host.old) (λ all.
         Gives (λ bytes. bytes.items) result (source_in source.now (folder dir.now all))) }
-    ensures short { IfOk result (λ bytes. length bytes.items ≤ 1048576) }
+    ensures short { IfOk result (λ bytes. length bytes.items ≤ max_source_bytes) }
     ensures files { H.files host.new ≡ H.files host.old }
     ensures cause { HasCause (H.faults host.old) (H.faults host.new) (IsErrOf result Stop.ReadFault) }
 {
@@ -51,7 +52,7 @@ fn source_in<H: Host>(
 
 /// The bytes of the object that a source is assembled to.
 fn object_of(alloc: Global, text: &[u8]) -> Result<Shared, Stop<Refusal>>
-    requires { length text.now ≤ 1048576 }
+    requires { length text.now ≤ max_source_bytes }
     ensures object { Gives (λ bytes. bytes) result (object_of text.now) }
     ensures no_fault { result ≢ Err Stop.ReadFault }
 {

@@ -3,8 +3,9 @@
 ghost use Rattle.std.specs.Prelude.{◌≡◌, IfOk};
 ghost use Rattle.cell_assemble.specs.RefusalLine.{kind_word, refusal_line};
 
-use crate::status::{MAX_NAMES, MAX_SOURCE_BYTES, Refusal};
+use crate::status::Refusal;
 use cell_asm::AsmKind;
+use cell_num::{MAX_NAMES, MAX_SOURCE_BYTES};
 use cell_text::put_dec;
 use std::alloc::{AllocError, Global};
 

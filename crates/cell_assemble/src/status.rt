@@ -5,12 +5,6 @@ ghost use Rattle.cell_assemble.specs.Assembling.{status_of};
 
 use cell_asm::AsmKind;
 
-/// The names that a folder may have.
-pub const MAX_NAMES: u32 = 65536;
-
-/// The bytes that a source may have.
-pub const MAX_SOURCE_BYTES: u32 = 1048576;
-
 /// Why there is no object, if nothing failed.
 #[derive(Clone, Copy, Debug, PartialEq, Eq)]
 pub enum Refusal {
@@ -31,7 +25,7 @@ pub enum AsStatus {
     NoSource,
     /// The folder has more than 65536 names.
     TooManyNames,
-    /// The source has more than 1048576 bytes.
+    /// The source has more bytes than it may have (`MAX_SOURCE_BYTES`).
     TooLong,
     /// The first line of the source that has a fault, from 1, and what is wrong with it.
     Fault { line: u32, kind: AsmKind },

@@ -1,4 +1,5 @@
 -- The audit of a dump.
+--     reading_of dump           the rows of the dump, or the fault of the first line that can't be read
 --     audit_of dump sources     whether the dump is clean, or the first fault: first what can't be read, then a cell without an
 --                               object, what can't stand where it is said to, what can't be linked, and what differs
 --     IsReading dump sources texts rows     none of these but the last holds of it
@@ -46,6 +47,12 @@ first_difference [] lines = None
 first_difference (t ∷ texts) [] = Some (Differs t.0 (drop 2 t.1) [])
 first_difference (t ∷ texts) (l ∷ lines) =
     if equals (drop 2 t.1) (line_text l) then first_difference texts lines else Some (Differs t.0 (drop 2 t.1) (line_text l))
+
+-- the rows of the dump
+abbrev pub reading_of : List ℕ → Audit (List Row)
+reading_of dump = do
+  texts ← found (dump_in dump) (Unreadable 0)
+  readable (rows_in texts)
 
 abbrev pub audit_of : List ℕ → List Source → Audit (Unit {0})
 audit_of dump sources = do

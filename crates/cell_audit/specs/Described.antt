@@ -10,7 +10,8 @@ use Rattle.cell_object.specs.declared.object.Object.{Object}
 use Rattle.cell_object.specs.declared.object.Section.{Section as ObjectSection}
 use Rattle.cell_world.specs.Gather.{Source, file_named}
 use Rattle.cell_world.specs.Target.{start_of}
-use Rattle.cell_world.specs.World.{World, Cell, Alias, Standing, Attached, Detached}
+use Rattle.cell_world.specs.World.{World, Cell, Alias, Standing}
+use Rattle.cell_world.specs.declared.state.Standing.TheVariants.{Attached, Detached}
 use Rattle.cell_world.specs.declared.state.Namespace.{Namespace}
 use Rattle.cell_world.specs.declared.state.SecPlace.{SecPlace}
 use Rattle.cell_dumped.specs.declared.line.DumpLine.{DumpLine}

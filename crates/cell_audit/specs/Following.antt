@@ -4,7 +4,7 @@
 use Rattle.std.specs.Prelude.{ℕ, ◌%◌, ◌==◌, nat_lt, nat_le, Bool, true, false, not, ◌&&◌, List, Option, Some, None, length, filter, filter_map, is_none, codes, unwrap_or, option_map, bytes_eq, if◌then◌else◌}
 use Rattle.std.specs.List.{list_all}
 use Rattle.cell_num.specs.Lists.{last}
-use Rattle.cell_world.specs.Limits.{max_cells, max_cell_number, max_namespaces, max_base, max_pages, min_base, min_pages}
+use Rattle.cell_num.specs.Limits.{max_cells, max_cell_number, max_namespaces, max_base, max_pages, min_base, min_pages}
 use Rattle.cell_dumped.specs.declared.line.DumpLine.{DumpLine}
 use Rattle.cell_dumped.specs.declared.line.DumpLine.TheVariants.{Space, Ns, Cell, Place, Alias, Link, Provider, Content, End}
 

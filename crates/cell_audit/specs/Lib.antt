@@ -1,6 +1,13 @@
 pub mod Following
 pub mod Dumps
+pub mod Known
 pub mod Described
 pub mod Placing
 pub mod Linking
 pub mod Audits
+pub mod Told
+pub mod Within
+pub mod Written
+pub mod Kept
+pub mod Reader
+pub mod Outcome

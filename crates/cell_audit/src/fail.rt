@@ -1,6 +1,9 @@
 //! Why an audit isn't clean.
 
+ghost use Rattle.std.specs.Prelude.{◌≡◌};
+
 use cell_num::Name;
+use std::alloc::AllocError;
 
 /// The first line of the dump with a fault, by its number in the file.
 #[derive(Drop)]
@@ -16,4 +19,14 @@ pub enum AuditFail {
     /// The line, without the spaces before it, and what would stand there after linking anew.
     Differs { line: u32, held: Name, fresh: Name },
     OutOfMemory,
+}
+
+impl From<AllocError> for AuditFail {
+    ghost use Rattle.cell_audit.specs.declared.fail.AuditFail.TheVariants.{OutOfMemory};
+
+    ghost from_gives = { λ _ e. e ≡ OutOfMemory };
+
+    fn from(_error: AllocError) -> AuditFail {
+        AuditFail::OutOfMemory
+    }
 }

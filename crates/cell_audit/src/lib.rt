@@ -6,9 +6,21 @@ ghost use Rattle.cell_world.specs.Gather.{Source};
 ghost use Rattle.cell_audit.specs.Audits.{IsFresh, IsReading, audit_of};
 ghost use Rattle.cell_audit.specs.Dumps.{Row, Text};
 
+mod dump;
 mod fail;
+mod kept;
+mod order;
+mod read;
+mod row;
+mod told_bytes;
+mod written;
 
+pub use dump::Lines;
 pub use fail::AuditFail;
+pub use kept::WrittenDump;
+pub use read::read_dump;
+pub use told_bytes::Told;
+pub use written::{WrittenAlias, WrittenCell, WrittenPlace};
 
 /// A dump is clean exactly where it has a reading and its lines are those of the machine that it describes, linked anew.
 pub fn clean_is_fresh()

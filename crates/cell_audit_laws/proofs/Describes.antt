@@ -20,7 +20,8 @@ use Rattle.cell_world.specs.Coherent.{IsCoherent, is_known_cell, is_placed}
 use Rattle.cell_world.specs.Gather.{Source, file_named}
 use Rattle.cell_world.specs.Names.{definitions_of}
 use Rattle.cell_world.specs.Target.{start_of}
-use Rattle.cell_world.specs.World.{World, Cell, Alias, Standing, Attached, Detached}
+use Rattle.cell_world.specs.World.{World, Cell, Alias, Standing}
+use Rattle.cell_world.specs.declared.state.Standing.TheVariants.{Attached, Detached}
 use Rattle.cell_world.specs.MapCommand.{group_of}
 use Rattle.cell_world.specs.declared.state.Namespace.{Namespace}
 use Rattle.cell_world.specs.declared.state.SecPlace.{SecPlace}

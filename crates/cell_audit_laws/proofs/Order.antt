@@ -5,7 +5,7 @@ use Rattle.std.specs.List.{cons_option, flat_map, list_all}
 use Rattle.std.proofs.lemmas.Bool.{and_parts, and_from, eqb-true, eq-eqb, le-leb, leb-true, lt-ltb, ltb-true}
 use Rattle.std.proofs.lemmas.Bool.Decides.{nat_tests}
 use Rattle.std.proofs.lemmas.List.{append-nil}
-use Rattle.std.proofs.lemmas.List.Elements.{filter-append, filter_map-append}
+use Rattle.std.proofs.lemmas.List.Elements.{filter_map-append}
 use Rattle.cell_num.specs.Lists.{In, each_pair, equals, last, numbered, numbered_from}
 use Rattle.cell_num.proofs.Elements.{All-In, all-In, In-all, In-filtered, In-flat_map, In-map, In-numbered}
 use Rattle.cell_num.proofs.Sublists.{all-append}
@@ -22,6 +22,7 @@ use Rattle.cell_dumped.specs.Lines.{alias_line, cell_lines, dump_lines, held_in,
 use Rattle.cell_dumped.specs.declared.line.DumpLine.{DumpLine}
 use Rattle.cell_dumped.specs.declared.line.DumpLine.TheVariants.{Space, Ns, Cell as CellLine, Place, Alias as AliasLine, Link, Provider, Content, End}
 use Rattle.cell_dumped.specs.declared.line.Part.{Part}
+use Rattle.cell_audit.proofs.Knowing.{count_more, last_is}
 use Rattle.cell_audit.specs.Following.{cell_number, goes_on, goes_on_after, rank_of, is_below, is_cell, is_in_order, is_ns, is_root, may_follow, ns_count}
 use Rattle.cell_audit_laws.proofs.Anew.{known-In}
 
@@ -33,11 +34,6 @@ Follows before (l ∷ lines) = (may_follow before l ≡ true) × Follows (before
 follow_on : (before xs ys : List DumpLine) → Follows before xs → Follows (before ++ xs) ys → Follows before (xs ++ ys)
 follow_on before [] ys f g = subst (λ (b : List DumpLine). Follows b ys) (append-nil before) g
 follow_on before (x ∷ xs) ys f g = (f.0, follow_on (before ++ x ∷ []) xs ys f.1 (subst (λ (b : List DumpLine). Follows b ys) (sym (append_assoc before (x ∷ []) xs)) g))
-
-last_is : (xs : List DumpLine) (x : DumpLine) → last (xs ++ x ∷ []) ≡ Some x
-last_is [] x = refl
-last_is (y ∷ []) x = refl
-last_is (y ∷ z ∷ xs) x = last_is (z ∷ xs) x
 
 -- what is known of the lines before
 pub record Has (before : List DumpLine) (top spaces : ℕ) (numbers : List ℕ) : Type 0 where
@@ -56,13 +52,6 @@ has_higher before top more spaces numbers le h = record {
   cell_count = h.cell_count;
 }
 
-one_count : (p : DumpLine → Bool) (before : List DumpLine) (l : DumpLine) → length (filter p (before ++ l ∷ [])) ≡ length (filter p before) + cond (p l) 1 0
-one_count p before l = ap length (filter-append p before (l ∷ [])) ∙ (length-append (filter p before) (filter p (l ∷ [])) ∙ ap (λ (n : ℕ). length (filter p before) + n) (go (p l)))
-  where
-    go : (b : Bool) → length (cond b (l ∷ []) []) ≡ cond b 1 0
-    go true = refl
-    go false = refl
-
 one_number : (before : List DumpLine) (l : DumpLine) → filter_map cell_number (before ++ l ∷ []) ≡ filter_map cell_number before ++ cons_option (cell_number l) []
 one_number before l = filter_map-append cell_number before (l ∷ [])
 
@@ -72,9 +61,9 @@ has_more : (before : List DumpLine) (top spaces : ℕ) (numbers : List ℕ) (l :
 has_more before top spaces numbers l h le n c k = record {
   some = let e = length-append before (l ∷ []) in omega (arith, e);
   groups = all-append (λ l. nat_le (rank_of l) top) before (l ∷ []) h.groups (and_from (nat_le (rank_of l) top) true (le-leb (rank_of l) top le) refl);
-  count = one_count is_ns before l ∙ (ap (λ (b : Bool). length (filter is_ns before) + cond b 1 0) n ∙ (let e = h.count in omega (arith, e)));
+  count = count_more is_ns before l ∙ (ap (λ (b : Bool). length (filter is_ns before) + cond b 1 0) n ∙ (let e = h.count in omega (arith, e)));
   cells = one_number before l ∙ (ap (λ (o : Option ℕ). filter_map cell_number before ++ cons_option o []) k ∙ (append-nil (filter_map cell_number before) ∙ h.cells));
-  cell_count = one_count is_cell before l ∙ (ap (λ (b : Bool). length (filter is_cell before) + cond b 1 0) c ∙ (let e = h.cell_count in omega (arith, e)));
+  cell_count = count_more is_cell before l ∙ (ap (λ (b : Bool). length (filter is_cell before) + cond b 1 0) c ∙ (let e = h.cell_count in omega (arith, e)));
 }
 
 in_order : (before : List DumpLine) (top spaces : ℕ) (numbers : List ℕ) → Has before top spaces numbers → 2 ≤ top → 0 < spaces → is_in_order before top ≡ true
@@ -187,9 +176,9 @@ module _ (spaces : ℕ) (pos : 0 < spaces) where
       let more : Has (before ++ own ∷ []) 2 spaces (numbers ++ c.id.0 ∷ []) = record {
         some = let e = length-append before (own ∷ []) in omega (arith, e);
         groups = all-append (λ l. nat_le (rank_of l) 2) before (own ∷ []) h.groups refl;
-        count = one_count is_ns before own ∙ (let e = h.count in omega (arith, e));
+        count = count_more is_ns before own ∙ (let e = h.count in omega (arith, e));
         cells = one_number before own ∙ ap (λ (ns : List ℕ). ns ++ c.id.0 ∷ []) h.cells;
-        cell_count = one_count is_cell before own ∙ (let e = h.cell_count in let f = length-append numbers (c.id.0 ∷ []) in omega (arith, e, f));
+        cell_count = count_more is_cell before own ∙ (let e = h.cell_count in let f = length-append numbers (c.id.0 ∷ []) in omega (arith, e, f));
       } in
       let here : GoesOn (before ++ own ∷ []) c.id.0 false = ap (λ (o : Option DumpLine). unwrap_or (option_map (goes_on c.id.0 false) o) false) (last_is before own) ∙ eq-eqb c.id.0 c.id.0 refl in
       let places = places_follow c c.object.sections (before ++ own ∷ []) (numbers ++ c.id.0 ∷ []) more here in
@@ -235,9 +224,9 @@ spaces_follow (x ∷ xs) before k h few good =
     let more : Has (before ++ l ∷ []) 1 (suc k) [] = record {
       some = let e = length-append before (l ∷ []) in omega (arith, e);
       groups = all-append (λ l. nat_le (rank_of l) 1) before (l ∷ []) h.groups refl;
-      count = one_count is_ns before l ∙ (let e = h.count in omega (arith, e));
+      count = count_more is_ns before l ∙ (let e = h.count in omega (arith, e));
       cells = one_number before l ∙ (append-nil (filter_map cell_number before) ∙ h.cells);
-      cell_count = one_count is_cell before l ∙ (let e = h.cell_count in omega (arith, e));
+      cell_count = count_more is_cell before l ∙ (let e = h.cell_count in omega (arith, e));
     } in
     let rest = spaces_follow xs (before ++ l ∷ []) (suc k) more (omega (arith, few)) (λ p i. good p (inr i)) in
     let n : suc k + length xs ≡ k + suc (length xs) = omega arith in

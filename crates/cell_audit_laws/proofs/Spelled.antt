@@ -7,9 +7,11 @@ use Rattle.std.proofs.lemmas.List.{length-take}
 use Rattle.std.proofs.lemmas.Option.{slice_get_within}
 use Rattle.cell_num.specs.Lists.{In, numbered, numbered_from, upto}
 use Rattle.cell_num.proofs.Elements.{All-In, all-In, any-Has, found-In, get-In, In-All, In-append, In-filtered, filter-Passes, In-flat_map, In-map, In-numbered, In-right}
-use Rattle.cell_object.specs.Parts.{is_defined, is_global, section_of, symbol_at}
-use Rattle.cell_object.specs.Sound.{is_known_bind, is_plain_sort, is_sound_home, is_sound_section, is_sound_symbol, is_zero}
+use Rattle.cell_object.specs.Parts.{is_defined, is_global, is_local, section_of, symbol_at}
+use Rattle.cell_object.specs.Sound.{is_plain_sort, is_sound_home, is_sound_section, is_sound_symbol, is_zero}
 use Rattle.cell_object.specs.Symbols.{is_global_name}
+use Rattle.cell_object.specs.declared.object.Bind.{Bind}
+use Rattle.cell_object.specs.declared.object.Bind.TheVariants.{Local, Global, Weak}
 use Rattle.cell_object.specs.declared.object.Home.{Home}
 use Rattle.cell_object.specs.declared.object.Home.TheVariants.{Undef, Abs, Inside, Elsewhere}
 use Rattle.cell_object.specs.declared.object.Section.{Section as ObjectSection}
@@ -23,7 +25,8 @@ use Rattle.cell_world.specs.MapCommand.{group_of}
 use Rattle.cell_world.specs.Names.{definitions_of, is_definition, names_of, provider_for}
 use Rattle.cell_world.specs.Relink.{link_of, link_to, links_of}
 use Rattle.cell_world.specs.Target.{own_target, provided_target, start_of, target_of}
-use Rattle.cell_world.specs.World.{World, Cell, Alias, Region, Standing, Attached, Detached, cell_of}
+use Rattle.cell_world.specs.World.{World, Cell, Alias, Region, Standing, cell_of}
+use Rattle.cell_world.specs.declared.state.Standing.TheVariants.{Attached, Detached}
 use Rattle.cell_world.specs.declared.reply.Found.{Found}
 use Rattle.cell_world.specs.declared.state.LinkRow.{LinkRow}
 use Rattle.cell_world.specs.declared.state.Namespace.{Namespace}
@@ -132,7 +135,7 @@ module _ (w : World) (h : IsCoherent w) (spelled : IsSpelled w) where
       whole = all-In (is_sound_symbol c.object) c.object.symbols (object_sound w h.ready.objects c i).symbols s m
 
       home : is_sound_home c.object s (Inside n) ≡ true
-      home = subst (λ (x : Home). is_sound_home c.object s x ≡ true) e (and_parts (is_known_bind s.bind) (is_sound_home c.object s s.home) (and_parts (is_known_bind s.bind && is_sound_home c.object s s.home) (not (is_global s.bind) || is_global_name s.name && is_plain_sort s.sort) whole).0).1
+      home = subst (λ (x : Home). is_sound_home c.object s x ≡ true) e (and_parts (is_sound_home c.object s s.home) (is_local s.bind || is_global_name s.name && is_plain_sort s.sort) whole).0
 
       size_small : (t : ObjectSection) → In t c.object.sections → t.size ≤ 16777216
       size_small t j =
@@ -167,11 +170,16 @@ module _ (w : World) (h : IsCoherent w) (spelled : IsSpelled w) where
   named_well : (c : Cell) → In c w.cells → (a : Alias) → In a (names_of c) → is_global_name a.name ≡ true
   named_well c i a m = go (In-append (definitions_of c.object) c.aliases a m)
     where
+      unlocal : (b : Bind) → is_global b ≡ true → is_local b ≡ false
+      unlocal Local e = absurd (true≢false (sym e))
+      unlocal Global e = refl
+      unlocal Weak e = absurd (true≢false (sym e))
+
       of_symbol : (s : Symbol) → is_sound_symbol c.object s ≡ true → is_definition s ≡ true → is_global_name s.name ≡ true
       of_symbol s sound defines =
           let g = (and_parts (is_global s.bind) (is_defined s.home) defines).0 in
-          let k = (and_parts (is_known_bind s.bind && is_sound_home c.object s s.home) (not (is_global s.bind) || is_global_name s.name && is_plain_sort s.sort) sound).1 in
-          (and_parts (is_global_name s.name) (is_plain_sort s.sort) (ap (λ (b : Bool). not b || is_global_name s.name && is_plain_sort s.sort) (sym g) ∙ k)).0
+          let k = (and_parts (is_sound_home c.object s s.home) (is_local s.bind || is_global_name s.name && is_plain_sort s.sort) sound).1 in
+          (and_parts (is_global_name s.name) (is_plain_sort s.sort) (ap (λ (b : Bool). b || is_global_name s.name && is_plain_sort s.sort) (sym (unlocal s.bind g)) ∙ k)).0
 
       go : In a (definitions_of c.object) ⊎ In a c.aliases → is_global_name a.name ≡ true
       go (inl j) =

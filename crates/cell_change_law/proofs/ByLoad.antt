@@ -1,18 +1,16 @@
 -- A load is the change that adds the one cell of its file.
-use Rattle.std.proofs.Common.{◌≡◌, ◌<◌, refl, sym, ◌∙◌, ap, subst, arith, inl, inr, ℕ, ◌+◌, true, List, [], ◌∷◌, length, Option, None, Ok, Err}
-use Rattle.std.specs.Prelude.{filter, option_map}
+use Rattle.std.proofs.Common.{◌≡◌, ◌<◌, refl, sym, ◌∙◌, ap, subst, inl, inr, ℕ, ◌+◌, true, List, [], ◌∷◌, length, Option, None, Ok, Err}
+use Rattle.std.specs.Prelude.{option_map}
 use Rattle.cell_num.specs.Lists.{equals, In}
-use Rattle.cell_world.specs.declared.refusal.Refusal.{Refusal}
 use Rattle.cell_world.specs.declared.refusal.Refusal.TheVariants.{Unknown, NoObject}
 use Rattle.cell_world.specs.declared.reply.Reply.TheVariants.{Load as LoadDone}
-use Rattle.cell_world.specs.World.{World, Cell, Task, is_attached, is_ready}
+use Rattle.cell_world.specs.World.{World, Cell, is_attached}
 use Rattle.cell_world.specs.Names.{namespace_named}
 use Rattle.cell_world.specs.Relink.{relink}
 use Rattle.cell_world.specs.Place.{place_all}
 use Rattle.cell_world.specs.Gather.{Need, Source, append_cell, bring, depot_files, one_file, fresh_cells, missing}
-use Rattle.cell_world.specs.Fit.{first_misfit}
-use Rattle.cell_world.specs.Changed.{FieldAt, changed_fields, first_changed_misfit}
-use Rattle.cell_world.specs.Torn.{first_torn}
+use Rattle.cell_world.specs.Changed.{changed_fields}
+use Rattle.cell_world.specs.Linking.{link_refusal}
 use Rattle.cell_world.specs.LoadCommand.{field_count, link_fresh, next_load}
 use Rattle.cell_world.specs.Outcome.{Outcome, ◌>>=◌, ◌>>◌, refused_by}
 use Rattle.cell_world.specs.Answer.{Done, done, ids, numbers_of, space_of}
@@ -24,20 +22,16 @@ use Rattle.cell_lemmas.proofs.Outcomes.{bind_ok, found_ok}
 use Rattle.cell_world.specs.Change.{Want, Change, Plan, Made, adding, gather, first_uncovered, with_routines, first_held_old, made_by, make_change, old_of}
 use Rattle.cell_change_law.specs.Sound.{HasCome, IsSound}
 use Rattle.cell_world.specs.Asked.{load_by_change}
-use Rattle.cell_change_law.proofs.Added.{adding_covered, adding_fits, adding_changes_none}
+use Rattle.cell_change_law.proofs.Added.{adding_covered}
 use Rattle.cell_change_law.proofs.Ending.{without_none}
 use Rattle.cell_change_law.proofs.Outcomes.{bind_same, bind_bind, then_same, then_bind, then_none}
 
-pub none_torn : (tasks : List Task) → first_torn [] tasks ≡ None
-none_torn [] = refl
-none_torn (t ∷ tasks) = none_torn tasks
-
 module _ (sources : List Source) (sound : AreSound sources) (w : World) (h : IsCoherent w) (name stem : List ℕ) where
   module _ (ns : ℕ) (file : Source) (there : space_of w name ≡ Ok ns) (one : one_file (depot_files sources name stem) (NoObject stem) ≡ Ok file) where
-    abbrev asked : Change
+    abbrev pub asked : Change
     asked = adding (record { file = file; ns = ns; replaces = None } ∷ [])
 
-    good : IsSound sources w asked
+    pub good : IsSound sources w asked
     good = record {
       files = In-All (λ (want : Want). In want.file sources) asked.wants (λ want i. go want i);
       spaces = In-All (λ (want : Want). want.ns < length w.namespaces) asked.wants (λ want i. space want i);
@@ -64,43 +58,23 @@ module _ (sources : List Source) (sound : AreSound sources) (w : World) (h : IsC
     plan_at placed = record { fresh = fresh_cells w.next_cell placed; changed = changed_fields w placed; linked = relink placed; stack = None; routines = [] }
 
     abbrev misfits : World → Outcome Plan
-    misfits placed =
-        refused_by (first_misfit placed (fresh_cells w.next_cell placed)) >> (refused_by (first_changed_misfit w placed w.cells) >> (refused_by (first_torn (changed_fields w placed) (filter is_ready w.tasks)) >> Ok (plan_at placed)))
+    misfits placed = refused_by (link_refusal w placed) >> Ok (plan_at placed)
 
-    ended : (placed : World) → changed_fields w placed ≡ [] → done (LoadDone (ids (numbers_of (fresh_cells w.next_cell placed))) (field_count (fresh_cells w.next_cell placed))) (relink placed) ≡ (run (plan_at placed) >>= answer)
-    ended placed none =
-        let same : field_count (fresh_cells w.next_cell placed) ≡ field_count (fresh_cells w.next_cell placed) + length (changed_fields w placed) = omega (arith, ap (λ (fs : List FieldAt). length fs) none) in
-        ap (λ n. done (LoadDone (ids (numbers_of (fresh_cells w.next_cell placed))) n) (relink placed)) same
-        ∙ ap (λ (u : World). done (LoadDone (ids (numbers_of (fresh_cells w.next_cell placed))) (field_count (fresh_cells w.next_cell placed) + length (changed_fields w placed))) u) (sym (without_none (relink placed)))
+    abbrev linked_then : World → Outcome Done
+    linked_then placed =
+        refused_by (link_refusal w placed)
+        >> done (LoadDone (ids (numbers_of (fresh_cells w.next_cell placed))) (field_count (fresh_cells w.next_cell placed) + length (changed_fields w placed))) (relink placed)
 
-    module _ (g : World) (gathering : gather sources w asked ≡ Ok g) where
-      place_same : (placed : World) → place_all g (fresh_cells w.next_cell g) ≡ Ok placed
-          → (refused_by (first_misfit placed (fresh_cells w.next_cell placed)) >> done (LoadDone (ids (numbers_of (fresh_cells w.next_cell placed))) (field_count (fresh_cells w.next_cell placed))) (relink placed))
-          ≡ ((misfits placed >>= run) >>= answer)
-      place_same placed placing =
-          then_same (first_misfit placed (fresh_cells w.next_cell placed)) _ _ (λ fit. fitting fit)
-          ∙ sym (ap (λ (o : Outcome Made). o >>= answer) (then_bind (first_misfit placed (fresh_cells w.next_cell placed)) rest run) ∙ then_bind (first_misfit placed (fresh_cells w.next_cell placed)) (rest >>= run) answer)
-        where
-          torn : Option Refusal
-          torn = first_torn (changed_fields w placed) (filter is_ready w.tasks)
+    ended : (placed : World) → linked_then placed ≡ ((misfits placed >>= run) >>= answer)
+    ended placed =
+        then_same (link_refusal w placed) _ _ (λ e. ap (λ (u : World). done (LoadDone (ids (numbers_of (fresh_cells w.next_cell placed))) (field_count (fresh_cells w.next_cell placed) + length (changed_fields w placed))) u) (sym (without_none (relink placed))))
+        ∙ sym (ap (λ (o : Outcome Made). o >>= answer) (then_bind (link_refusal w placed) (Ok (plan_at placed)) run) ∙ then_bind (link_refusal w placed) (run (plan_at placed)) answer)
 
-          rest : Outcome Plan
-          rest = refused_by (first_changed_misfit w placed w.cells) >> (refused_by torn >> Ok (plan_at placed))
-
-          fitting : first_misfit placed (fresh_cells w.next_cell placed) ≡ None
-              → done (LoadDone (ids (numbers_of (fresh_cells w.next_cell placed))) (field_count (fresh_cells w.next_cell placed))) (relink placed) ≡ ((rest >>= run) >>= answer)
-          fitting fit =
-              let none : changed_fields w placed ≡ [] = adding_changes_none sources sound w h asked good refl g gathering placed placing fit in
-              let untorn : torn ≡ None = ap (λ (fs : List FieldAt). first_torn fs (filter is_ready w.tasks)) none ∙ none_torn (filter is_ready w.tasks) in
-              ended placed none
-              ∙ sym (ap (λ (o : Outcome Plan). (o >>= run) >>= answer) (then_none (first_changed_misfit w placed w.cells) (refused_by torn >> Ok (plan_at placed)) (adding_fits sources sound w h asked good refl g gathering placed placing)
-              ∙ then_none torn (Ok (plan_at placed)) untorn))
-
-      gather_same : link_fresh w.next_cell g ≡ (((refused_by (option_map missing (first_uncovered w asked g)) >> (place_all g (fresh_cells w.next_cell g) >>= misfits)) >>= run) >>= answer)
-      gather_same =
-          bind_same (place_all g (fresh_cells w.next_cell g)) _ _ place_same
-          ∙ sym (ap (λ (o : Outcome Plan). (o >>= run) >>= answer) (then_none (option_map missing (first_uncovered w asked g)) _ (ap (λ (o : Option Need). option_map missing o) (adding_covered sources sound w h asked good refl g gathering)))
-          ∙ (ap (λ (o : Outcome Made). o >>= answer) (bind_bind (place_all g (fresh_cells w.next_cell g)) misfits run) ∙ bind_bind (place_all g (fresh_cells w.next_cell g)) (λ placed. misfits placed >>= run) answer))
+    gather_same : (g : World) → gather sources w asked ≡ Ok g → link_fresh w g ≡ (((refused_by (option_map missing (first_uncovered w asked g)) >> (place_all g (fresh_cells w.next_cell g) >>= misfits)) >>= run) >>= answer)
+    gather_same g gathering =
+        bind_same (place_all g (fresh_cells w.next_cell g)) _ _ (λ placed e. ended placed)
+        ∙ sym (ap (λ (o : Outcome Plan). (o >>= run) >>= answer) (then_none (option_map missing (first_uncovered w asked g)) _ (ap (λ (o : Option Need). option_map missing o) (adding_covered sources sound w h asked good refl g gathering)))
+        ∙ (ap (λ (o : Outcome Made). o >>= answer) (bind_bind (place_all g (fresh_cells w.next_cell g)) misfits run) ∙ bind_bind (place_all g (fresh_cells w.next_cell g)) (λ placed. misfits placed >>= run) answer))
 
     abbrev after : World → Outcome Plan
     after g = refused_by (option_map missing (first_uncovered w asked g)) >> (place_all g (fresh_cells w.next_cell g) >>= misfits)
@@ -112,13 +86,13 @@ module _ (sources : List Source) (sound : AreSound sources) (w : World) (h : IsC
     peel (Ok x) = ap (λ (o : Outcome Made). o >>= answer) (bind_bind (brought x) after run) ∙ bind_bind (brought x) (λ g. after g >>= run) answer
     peel (Err r) = refl
 
-    load_same : (append_cell w file ns >>= (λ appended. bring sources w.next_cell appended >>= (λ gathered. link_fresh w.next_cell gathered))) ≡ (make_change sources w asked >>= answer)
+    load_same : (append_cell w file ns >>= (λ appended. bring sources w.next_cell appended >>= (λ gathered. link_fresh w gathered))) ≡ (make_change sources w asked >>= answer)
     load_same =
         bind_same (append_cell w file ns) _ _ (λ x e. bind_same (brought x) _ _ (λ g b. gather_same g (ap (λ (o : Outcome World). (o >>= Ok) >>= brought) e ∙ b)))
         ∙ sym (peel (append_cell w file ns))
 
   abbrev linked : World → Outcome Done
-  linked appended = bring sources w.next_cell appended >>= (λ gathered. link_fresh w.next_cell gathered)
+  linked appended = bring sources w.next_cell appended >>= (λ gathered. link_fresh w gathered)
 
   pub load_is : next_load sources w name stem ≡ load_by_change sources w name stem
   load_is =

@@ -7,13 +7,12 @@ use Rattle.cell_num.specs.Lists.{holds, In}
 use Rattle.cell_world.specs.declared.command.SwapItem.{SwapItem}
 use Rattle.cell_world.specs.declared.refusal.Refusal.{Refusal}
 use Rattle.cell_world.specs.declared.refusal.Refusal.TheVariants.{Unknown}
-use Rattle.cell_world.specs.World.{World, Cell, is_attached, is_of_group, is_ready}
+use Rattle.cell_world.specs.World.{World, Cell, is_attached, is_of_group}
 use Rattle.cell_world.specs.Relink.{relink}
 use Rattle.cell_world.specs.Place.{place_all}
 use Rattle.cell_world.specs.Gather.{Need, Source, bring, file_named, first_lack, fresh_cells, missing}
-use Rattle.cell_world.specs.Fit.{first_misfit}
-use Rattle.cell_world.specs.Changed.{changed_fields, first_changed_misfit}
-use Rattle.cell_world.specs.Torn.{first_torn}
+use Rattle.cell_world.specs.Changed.{changed_fields}
+use Rattle.cell_world.specs.Linking.{link_refusal}
 use Rattle.cell_world.specs.LoadCommand.{field_count}
 use Rattle.cell_world.specs.Kept.{holding_of}
 use Rattle.cell_world.specs.Reexport.{Exchange, with_reexports}
@@ -55,13 +54,6 @@ numbers_are (x ∷ wants) = ap (λ (ns : List ℕ). x.old.id.0 ∷ ns) (numbers_
 exchanges_are : (from : ℕ) (wants : List Wanted) → exchanges_from from (map replacing wants) ≡ exchanges_then from wants
 exchanges_are from [] = refl
 exchanges_are from (x ∷ wants) = ap (λ (xs : List Exchange). record { old = x.old; fresh = from } ∷ xs) (exchanges_are (suc from) wants)
-
--- three tests, and what comes behind them
-thrice : {X Y : Type 0} (a b c : Option Refusal) (x : Outcome X) (f : X → Outcome Y) → ((refused_by a >> (refused_by b >> (refused_by c >> x))) >>= f) ≡ (refused_by a >> (refused_by b >> (refused_by c >> (x >>= f))))
-thrice (Some r) b c x f = refl
-thrice None (Some r) c x f = refl
-thrice None None (Some r) x f = refl
-thrice None None None x f = refl
 
 -- two rows of steps that begin alike and end alike
 module _ {X Y Z M : Type 0} (k : X → Outcome Z) (run : Y → Outcome M) (answer : M → Outcome Z) where
@@ -212,14 +204,10 @@ module _ (sources : List Source) (sound : AreSound sources) (w : World) (h : IsC
           ∙ ap (λ (o : Outcome World). o >>= (λ second. refused_by (held_then strict second plan_then) >> done (reply_then plan_then second) (purged second))) routines_same))
 
       abbrev misfits : Outcome Plan
-      misfits = refused_by (first_misfit placed (fresh_cells w.next_cell placed)) >> (refused_by (first_changed_misfit w placed w.cells) >> (refused_by (first_torn (changed_fields w placed) (filter is_ready w.tasks)) >> Ok plan_now))
+      misfits = refused_by (link_refusal w placed) >> Ok plan_now
 
       leaf : (plan_placed w placed wants begins stack >>= run_then) ≡ ((misfits >>= run) >>= answer)
-      leaf =
-          thrice (first_misfit placed (fresh_cells w.next_cell placed)) (first_changed_misfit w placed w.cells) (first_torn (changed_fields w placed) (filter is_ready w.tasks)) (Ok plan_then) run_then
-          ∙ (ap (λ (o : Outcome Done). refused_by (first_misfit placed (fresh_cells w.next_cell placed)) >> (refused_by (first_changed_misfit w placed w.cells) >> (refused_by (first_torn (changed_fields w placed) (filter is_ready w.tasks)) >> o))) ends_same
-          ∙ sym (ap (λ (o : Outcome Made). o >>= answer) (thrice (first_misfit placed (fresh_cells w.next_cell placed)) (first_changed_misfit w placed w.cells) (first_torn (changed_fields w placed) (filter is_ready w.tasks)) (Ok plan_now) run)
-          ∙ thrice (first_misfit placed (fresh_cells w.next_cell placed)) (first_changed_misfit w placed w.cells) (first_torn (changed_fields w placed) (filter is_ready w.tasks)) (run plan_now) answer))
+      leaf = then_through run_then run answer (link_refusal w placed) (Ok plan_then) (Ok plan_now) ends_same
 
     stack_same : (placed : World) (begins : List Begin) → ((stack_for placed words >>= plan_placed w placed wants begins) >>= run_then) ≡ (((stack_for placed words >>= misfits placed begins) >>= run) >>= answer)
     stack_same placed begins = bind_through run_then run answer (stack_for placed words) (plan_placed w placed wants begins) (misfits placed begins) (λ stack e. leaf placed begins stack)

@@ -6,7 +6,7 @@ use Rattle.std.proofs.lemmas.Bool.{eqb-true, eq-eqb, ltb-true}
 use Rattle.std.proofs.lemmas.List.{map-append, length-map}
 use Rattle.cell_num.specs.Lists.{equals, In}
 use Rattle.cell_world.specs.World.{World, Cell, Alias, cell_of, is_attached}
-use Rattle.cell_world.specs.Names.{clash_name, names_of, definitions_of, base_name}
+use Rattle.cell_world.specs.Names.{clash_name, names_of, definitions_of, weak_symbol_named, base_name}
 use Rattle.cell_world.specs.Gather.{Source, append_cell, bring, first_lack, fresh_cells}
 use Rattle.cell_world.specs.Reexport.{symbol_of_one, successor_of, heir_of, take_on, Exchange, with_reexports}
 use Rattle.cell_world.specs.Outcome.{each}
@@ -36,12 +36,14 @@ one_In [] s h = cc
 one_In (a ∷ []) s h = (a, inl refl, cc)
 one_In (a ∷ b ∷ rest) s h = cc
 
-heir_parts : (u : World) (c : Cell) (name : List ℕ) (s : ℕ) → heir_of u c name ≡ Some s → (clash_name u c.ns name ≡ None) × (successor_of c name ≡ Some s)
-heir_parts u c name s h = go (clash_name u c.ns name) refl h
+heir_parts : (u : World) (c : Cell) (name : List ℕ) (s : ℕ) → heir_of u c name ≡ Some s → (clash_name u c.ns name ≡ None) × (successor_of c name ≡ Some s) × (weak_symbol_named c name ≡ None)
+heir_parts u c name s h = go (weak_symbol_named c name) refl (clash_name u c.ns name) refl h
   where
-    go : (o : Option ℕ) → clash_name u c.ns name ≡ o → elim o as (λ _. Option ℕ) [ None ↦ successor_of c name | Some holder ↦ None ] ≡ Some s → (clash_name u c.ns name ≡ None) × (successor_of c name ≡ Some s)
-    go None e k = (e, k)
-    go (Some n) e k = cc
+    go : (x : Option ℕ) → weak_symbol_named c name ≡ x → (o : Option ℕ) → clash_name u c.ns name ≡ o → cond (is_some x) None (elim o as (λ _. Option ℕ) [ None ↦ successor_of c name | Some holder ↦ None ]) ≡ Some s
+        → (clash_name u c.ns name ≡ None) × (successor_of c name ≡ Some s) × (weak_symbol_named c name ≡ None)
+    go (Some n) f o e k = cc
+    go None f None e k = (e, k, f)
+    go None f (Some n) e k = cc
 
 heir_own : (c : Cell) (name : List ℕ) (s : ℕ) → successor_of c name ≡ Some s → list_any (λ d. d.symbol == s) (definitions_of c.object) ≡ true
 heir_own c name s h =
@@ -98,7 +100,7 @@ module _ (v : World) (known : list_all (is_known_cell v) v.cells ≡ true) (floo
       with_symbol symbol c =
           let p = heir_parts u c.0 old.name symbol c.2 in (
             (
-              renamed_ranks number (record { name = old.name; symbol = symbol }) u g.0.0 c.0 c.1 (new_attached u g.0.1 number c.0 h c.1) p.0 (heir_own c.0 old.name symbol p.1),
+              renamed_ranks number (record { name = old.name; symbol = symbol }) u g.0.0 c.0 c.1 (new_attached u g.0.1 number c.0 h c.1) p.0 p.2 (heir_own c.0 old.name symbol p.1),
               renamed_extends u number (record { name = old.name; symbol = symbol }) h g.0.1,
             ),
             g.1,

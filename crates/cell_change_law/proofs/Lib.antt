@@ -1,14 +1,19 @@
 mod Gathering
 mod Placing
+mod Planning
+mod Answered
+mod Torn
 pub mod Steps
 mod Added
 pub mod Ending
 mod Outcomes
 pub mod ByLoad
 pub mod BySwap
+pub mod Asking
 mod Lost
+mod Plain
 pub mod Settled
 mod Begins
 mod Strict
 mod Uncovered
-mod Elsewhere
+mod Untouched

@@ -1,23 +1,20 @@
 -- The machine with a change's new cells in their places is ready to be linked, where what is new and what changes fits.
-use Rattle.std.proofs.Common.{◌≡◌, refl, sym, ◌∙◌, ap, subst, arith, ℕ, suc, ◌+◌, ◌≤◌, inl, inr, Bool, true, false, cond, not, ◌&&◌, List, [], ◌∷◌, ◌++◌, map, length, true≢false, Option, Some, None, Ok}
-use Rattle.std.specs.Prelude.{find, filter, is_some, is_none, unwrap_or, nat_lt, ◌==◌}
+use Rattle.std.proofs.Common.{◌≡◌, refl, sym, ◌∙◌, ap, subst, arith, ℕ, suc, ◌+◌, ◌≤◌, Bool, true, false, not, List, ◌++◌, length, Option, None, Ok}
+use Rattle.std.specs.Prelude.{filter, is_some, unwrap_or, nat_lt, ◌==◌}
 use Rattle.std.specs.List.{list_all}
-use Rattle.std.proofs.lemmas.Bool.{and_from, eqb-true, eq-eqb, leb-true}
+use Rattle.std.proofs.lemmas.Bool.{and_from, eqb-true, leb-true}
 use Rattle.cell_num.specs.Lists.{holds, In}
-use Rattle.cell_object.specs.declared.object.Entry.{Entry}
-use Rattle.cell_world.specs.World.{World, Cell, Standing, Attached, Detached, cell_of, is_attached, is_of_group}
+use Rattle.cell_world.specs.World.{World, Cell, Standing, cell_of, is_attached, is_of_group}
+use Rattle.cell_world.specs.declared.state.Standing.TheVariants.{Attached, Detached}
 use Rattle.cell_world.specs.Names.{needs_of, provider_of, provider_for}
-use Rattle.cell_world.specs.Field.{Bound, is_at, fits, misfit_of}
-use Rattle.cell_world.specs.Relink.{bound_entries}
 use Rattle.cell_world.specs.Place.{place_all}
 use Rattle.cell_world.specs.Gather.{Source, first_lack, fresh_cells}
-use Rattle.cell_world.specs.Fit.{first_misfit, overflow_at}
-use Rattle.cell_world.specs.Changed.{now_in, differs, is_changed, changed_misfit, first_changed_misfit}
+use Rattle.cell_world.specs.Fit.{first_misfit}
+use Rattle.cell_world.specs.Changed.{now_in, first_changed_misfit}
 use Rattle.cell_world.specs.Coherent.{AreSound, IsReady, IsCoherent, is_known_cell, is_sound_standing, is_supplied, is_fitting}
 use Rattle.cell_lemmas.specs.Linkable.{IsLinkable}
-use Rattle.cell_num.proofs.Elements.{all-In, In-all, All-In, In-All, In-left, In-map, map-In, filter-In, none-In, unfound-In, map_same, some_has, none_is, or_else_parts}
+use Rattle.cell_num.proofs.Elements.{Has, all-In, In-all, All-In, In-All, In-left, In-map, map-In, filter-In, map_same, some_has}
 use Rattle.cell_lemmas.proofs.Known.{known_parts, named}
-use Rattle.cell_lemmas.proofs.Appended.{unmapped}
 use Rattle.cell_lemmas.proofs.Attach.{Grows, provider_grown}
 use Rattle.cell_lemmas.proofs.Supplied.{none_lacking}
 use Rattle.cell_lemmas.proofs.Gathered.{Ranks, Extends}
@@ -31,29 +28,11 @@ use Rattle.cell_lemmas.proofs.Present.{some_same}
 use Rattle.cell_lemmas.proofs.Targets.{In-find}
 use Rattle.cell_lemmas.proofs.KeptPaths.{holds-In}
 use Rattle.cell_lemmas.specs.Grown.{HasAttached, IsRegrown}
-use Rattle.cell_lemmas.proofs.Values.{bind}
-use Rattle.cell_lemmas.proofs.Unchanged.{named_in, bound_is, bound_now, fits_same}
+use Rattle.cell_lemmas.proofs.ChangedFits.{cell_fits}
 use Rattle.cell_lemmas.proofs.Detached.{put, put_same, put_out, own_needs}
 use Rattle.cell_world.specs.Change.{Change, replaced, old_of, gather, is_bystander, first_uncovered}
 use Rattle.cell_change_law.specs.Sound.{IsSound}
 use Rattle.cell_change_law.proofs.Gathering.{at, base_world, all_gathered, swaps_below}
-
-not_fits : (b : Bool) → not b ≡ false → b ≡ true
-not_fits true e = refl
-not_fits false e = absurd (true≢false e)
-
-both_false : (a b : Bool) → (a && b) ≡ false → a ≡ true → b ≡ false
-both_false true b h k = h
-both_false false b h k = absurd (true≢false (sym k))
-
-unfound_all : {X : Type 0} (p : X → Bool) (xs : List X) → ((x : X) → In x xs → p x ≡ false) → find p xs ≡ None
-unfound_all p [] f = refl
-unfound_all p (x ∷ xs) f = ap (λ b. cond b (Some x) (find p xs)) (f x (inl refl)) ∙ unfound_all p xs (λ y i. f y (inr i))
-
-no_changed_misfit : (v w : World) (cells : List Cell) → first_changed_misfit v w cells ≡ None → (c : Cell) → In c cells → changed_misfit v w c ≡ None
-no_changed_misfit v w [] e c i = absurd i
-no_changed_misfit v w (d ∷ cells) e c (inl q) = subst (λ (x : Cell). changed_misfit v w x ≡ None) (sym q) (or_else_parts _ _ e).0
-no_changed_misfit v w (d ∷ cells) e c (inr i) = no_changed_misfit v w cells (or_else_parts _ _ e).1 c i
 
 -- the numbers that are put aside are those of attached cells, and the group is a new one
 module _ (v : World) (h : IsCoherent v) where
@@ -142,9 +121,9 @@ module _ (sources : List Source) (sound : AreSound sources) (v : World) (h : IsC
 
         one : (name : List ℕ) → In name (needs_of c.object) → is_some (provider_of w (moved c) name) ≡ true
         one name j =
-            let had = some_has (provider_of v c name) (all-In (λ n. is_some (provider_of v c n)) (needs_of c.object) (all-In (is_supplied v) v.cells h.ready.supplied c i) name j) in
-            ap is_some (provider_grown base w grows (moved c).standing (moved c).ns there name had.0
-            (own_needs v (named v h) (suc v.swaps) ns (new_group v h) set_attached c i e name ∙ had.1))
+            let had : Has (provider_of v c name) = some_has (provider_of v c name) (all-In (λ n. is_some (provider_of v c n)) (needs_of c.object) (all-In (is_supplied v) v.cells h.ready.supplied c i) name j) in
+            let has : Has (provider_of w (moved c) name) = provider_grown base w grows (moved c).standing (moved c).ns there name (own_needs v (named v h) (suc v.swaps) ns (new_group v h) set_attached c i e name had) in
+            ap is_some has.1
 
     -- and a bystander has what it needs
     bystander_supplied : (c : Cell) → In c v.cells → holds ns c.id.0 ≡ false → is_supplied w (moved c) ≡ true
@@ -186,43 +165,10 @@ module _ (sources : List Source) (sound : AreSound sources) (v : World) (h : IsC
       starts = base_regrown.starts;
     }
 
-    -- an entry that names what it named fits
-    pub unchanged_fits : (c : Cell) → In c v.cells → (e : Entry) → In e c.object.entries → differs v w c e ≡ false
-        → fits (now_in w c).placed (bound_entries w (now_in w c)) (bind (named_in w (now_in w c)) e) ≡ true
-    unchanged_fits c i e j same =
-        fits_same v w (fresh_cells v.next_cell w) h.ready change_linkable change_regrown c i e same
-        ∙ not_fits _ (unfound-In (λ (x : Bound). not (fits c.placed (bound_entries v c) x)) (bound_entries v c)
-        (none_is (misfit_of c.placed (bound_entries v c)) (all-In (is_fitting v) v.cells h.ready.fitting c i)) (bind (named_in v c) e)
-        (subst (λ (xs : List Bound). In (bind (named_in v c) e) xs) (sym (bound_is v c))
-        (map-In (bind (named_in v c)) c.object.entries e j)))
-
     -- what changes fits, and so does what doesn't
     module _ (fit : first_changed_misfit v w v.cells ≡ None) where
-      entry_fits : (c : Cell) → In c v.cells → (e : Entry) → In e c.object.entries
-          → fits (now_in w c).placed (bound_entries w (now_in w c)) (bind (named_in w (now_in w c)) e) ≡ true
-      entry_fits c i e j = go (is_changed v w c e) refl
-        where
-          itself : is_at e e ≡ true
-          itself = and_from (e.section == e.section) (e.offset == e.offset) (eq-eqb e.section e.section refl) (eq-eqb e.offset e.offset refl)
-
-          go : (a : Bool) → is_changed v w c e ≡ a → fits (now_in w c).placed (bound_entries w (now_in w c)) (bind (named_in w (now_in w c)) e) ≡ true
-          go true q = not_fits _ (both_false (is_changed v w c e) _
-              (unfound-In (λ (x : Bound). is_changed v w c x.entry && not (fits (now_in w c).placed (bound_entries w (now_in w c)) x)) (bound_entries w (now_in w c))
-              (unmapped (overflow_at (now_in w c)) _ (no_changed_misfit v w v.cells fit c i)) (bind (named_in w (now_in w c)) e)
-              (subst (λ (xs : List Bound). In (bind (named_in w (now_in w c)) e) xs) (sym (bound_now v w (fresh_cells v.next_cell w) h.ready change_linkable change_regrown c i))
-              (map-In (bind (named_in w (now_in w c))) c.object.entries e j))) q)
-          go false q =
-              unchanged_fits c i e j
-              (both_false (is_at e e) (differs v w c e) (none-In (λ (x : Entry). is_at e x && differs v w c x) c.object.entries q e j) itself)
-
-      cell_fits : (c : Cell) → In c v.cells → is_fitting w (now_in w c) ≡ true
-      cell_fits c i = ap is_none (ap (find (λ (x : Bound). not (fits (now_in w c).placed (bound_entries w (now_in w c)) x))) (bound_now v w (fresh_cells v.next_cell w) h.ready change_linkable change_regrown c i)
-          ∙ unfound_all (λ (x : Bound). not (fits (now_in w c).placed (bound_entries w (now_in w c)) x)) (map (bind (named_in w (now_in w c))) c.object.entries)
-          (λ x m. let e = In-map (bind (named_in w (now_in w c))) c.object.entries x m in
-          subst (λ (y : Bound). not (fits (now_in w c).placed (bound_entries w (now_in w c)) y) ≡ false) (sym e.2) (ap not (entry_fits c i e.0 e.1))))
-
       fitting : (z : Cell) → In z base.cells → is_fitting w z ≡ true
-      fitting z m = let c = In-map moved v.cells z m in subst (λ (x : Cell). is_fitting w x ≡ true) (now_is c.0 c.1 ∙ sym c.2) (cell_fits c.0 c.1)
+      fitting z m = let c = In-map moved v.cells z m in subst (λ (x : Cell). is_fitting w x ≡ true) (now_is c.0 c.1 ∙ sym c.2) (cell_fits v w (fresh_cells v.next_cell w) h.ready change_linkable change_regrown fit c.0 c.1)
 
       pub change_ready : first_misfit w (fresh_cells v.next_cell w) ≡ None → IsReady w
       change_ready new_fit =

@@ -8,6 +8,8 @@ use Rattle.cell_world.specs.Gather.{Source, missing, fresh_cells}
 use Rattle.cell_world.specs.Fit.{first_misfit}
 use Rattle.cell_world.specs.Changed.{changed_fields, first_changed_misfit}
 use Rattle.cell_world.specs.Torn.{first_torn}
+use Rattle.cell_world.specs.Linking.{link_refusal}
+use Rattle.cell_num.proofs.Elements.{or_else_parts}
 use Rattle.cell_world.specs.SwapTransfer.{Begin, begins_of, stack_for, routines_in}
 use Rattle.cell_world.specs.Outcome.{refused_by}
 use Rattle.cell_world.specs.Coherent.{AreSound, IsReady, IsCoherent}
@@ -47,9 +49,9 @@ planned sources v asked plan e =
     let m = bind_ok (begins_of (fresh_cells v.next_cell b.0) asked.routines) _ plan c.2 in
     let d = bind_ok (place_all b.0 (fresh_cells v.next_cell b.0)) _ plan m.2 in
     let s = bind_ok (stack_for d.0 asked.routines) _ plan d.2 in
-    let f = then_ok (refused_by (first_misfit d.0 (fresh_cells v.next_cell d.0))) _ plan s.2 in
-    let g = then_ok (refused_by (first_changed_misfit v d.0 v.cells)) _ plan f.2 in
-    let i = then_ok (refused_by (first_torn (changed_fields v d.0) (filter is_ready v.tasks))) _ plan g.2 in
+    let i = then_ok (refused_by (link_refusal v d.0)) _ plan s.2 in
+    let f = or_else_parts (first_misfit d.0 (fresh_cells v.next_cell d.0)) _ (refused_ok _ i.0 i.1) in
+    let g = or_else_parts (first_changed_misfit v d.0 v.cells) (first_torn (changed_fields v d.0) (filter is_ready v.tasks)) f.1 in
     record {
       gathered = b.0;
       world = d.0;
@@ -60,9 +62,9 @@ planned sources v asked plan e =
       begin_all = m.1;
       placing = d.1;
       stack_free = s.1;
-      new_fit = refused_ok _ f.0 f.1;
-      changed_fit = refused_ok _ g.0 g.1;
-      untorn = refused_ok _ i.0 i.1;
+      new_fit = f.0;
+      changed_fit = g.0;
+      untorn = g.1;
       is = ok_same _ plan i.2;
     }
 

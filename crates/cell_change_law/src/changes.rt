@@ -1,29 +1,55 @@
 //! What every change of a coherent machine leaves, whatever it asks for.
 
 ghost use Rattle.std.specs.List.{list_all};
-ghost use Rattle.std.specs.Prelude.{ℕ, ◌≡◌, ◌<◌, ◌↔◌, length, false, true, [], IsTrue, List, ◌++◌, All, Option, suc, map, None, Some, Ok, is_none};
+ghost use Rattle.std.specs.Prelude.{ℕ, ◌≡◌, ◌<◌, ◌↔◌, length, false, true, [], IsTrue, List, ◌++◌, All, Option, suc, map, filter, None, Some, Ok, Err, is_none};
+ghost use Rattle.cell_num.specs.declared.ids.CellId.{CellId};
 ghost use Rattle.cell_num.specs.Lists.{holds, In};
 ghost use Rattle.cell_world.specs.Answer.{numbers_of};
 ghost use Rattle.cell_world.specs.Changed.{changed_fields, differs, first_changed_misfit, now_in};
 ghost use Rattle.cell_world.specs.Coherent.{AreSound, IsCoherent, IsReady};
 ghost use Rattle.cell_world.specs.Execute.{seen_in};
 ghost use Rattle.cell_world.specs.Fit.{first_misfit};
-ghost use Rattle.cell_world.specs.Gather.{Source};
+ghost use Rattle.cell_world.specs.Gather.{Need, Source, missing};
 ghost use Rattle.cell_world.specs.Kept.{IsKept, holding_of};
-ghost use Rattle.cell_world.specs.Names.{Provider, chain, first_provider, needs_of, provider_of};
+ghost use Rattle.cell_world.specs.Linking.{link_refusal};
+ghost use Rattle.cell_world.specs.Names.{needs_of, provider_of};
 ghost use Rattle.cell_world.specs.Place.{start_of_run};
 ghost use Rattle.cell_world.specs.Relink.{relink};
+ghost use Rattle.cell_world.specs.SwapTransfer.{Begin, begins_of, routines_in, stack_for};
 ghost use Rattle.cell_world.specs.Target.{target_of};
+ghost use Rattle.cell_world.specs.Torn.{first_torn};
 ghost use Rattle.cell_world.specs.Transfer.{after_turns};
 ghost use Rattle.cell_world.specs.UnloadCommand.{garbage_of, purged, put_aside};
-ghost use Rattle.cell_world.specs.World.{Cell, World, is_attached};
+ghost use Rattle.cell_world.specs.World.{Cell, World, is_attached, is_ready};
+ghost use Rattle.cell_world.specs.declared.refusal.Refusal.{Refusal};
+ghost use Rattle.cell_world.specs.declared.refusal.Refusal.TheVariants.{Torn};
+ghost use Rattle.cell_world.specs.declared.state.Target.{Target};
 ghost use Rattle.cell_lemmas.specs.Begins.{BeginsIn};
 ghost use Rattle.cell_lemmas.specs.Grown.{IsRegrown, links_from, with_changes};
 ghost use Rattle.cell_lemmas.specs.Kept.{KeepsFields, KeepsReadOnly, KeepsSealed, KeepsShapes};
+ghost use Rattle.cell_lemmas.specs.Left.{IsFree, IsUnreached, LeavesFields, LeavesTargets};
 ghost use Rattle.cell_lemmas.specs.Linkable.{IsLinkable};
-ghost use Rattle.cell_lemmas.specs.Targets.{FollowsTargets, loses};
-ghost use Rattle.cell_world.specs.Change.{Change, Made, Plan, addresses_of, gather, made_by, make_change, new_since, old_of, plan_of, with_routines};
+ghost use Rattle.cell_lemmas.specs.Lost.{IsLost};
+ghost use Rattle.cell_lemmas.specs.Firm.{firm_target};
+ghost use Rattle.cell_lemmas.specs.Targets.{FollowsTargets, is_target_in};
+ghost use Rattle.cell_world.specs.Change.{Change, Made, Plan, addresses_of, first_uncovered, gather, made_by, make_change, new_since, old_of, plan_of, set_aside, with_routines};
+ghost use Rattle.cell_change_law.specs.Answered.{HasAnswered, IsOfPlaced};
 ghost use Rattle.cell_change_law.specs.Sound.{HasCome, IsSound};
+
+/// A need of another cell that has lost its provider refuses the change. Once the new cells have their places, and the routines a stack, what stands
+/// in the way of linking decides; and a plan, an entry that doesn't fit and a task that stands inside what changes are answered then alone. Such a
+/// task is the first one inside a field that changes.
+pub fn refusals_decide()
+    ensures uncovered { (sources : List Source) (v : World) (c : Change) (g : World) (need : Need) → gather sources v c ≡ Ok g → first_uncovered v c g ≡ Some need → plan_of sources v c ≡ Err (missing need) }
+    ensures refused { (sources : List Source) (v : World) (c : Change) (w : World) (p : HasCome sources v c w) (begins : List Begin) (stack : Option ℕ) (refusal : Refusal) →
+        begins_of (new_since v p.gathered) c.routines ≡ Ok begins → stack_for w c.routines ≡ Ok stack → link_refusal v w ≡ Some refusal → plan_of sources v c ≡ Err refusal }
+    ensures planned { (sources : List Source) (v : World) (c : Change) (w : World) (p : HasCome sources v c w) (begins : List Begin) (stack : Option ℕ) →
+        begins_of (new_since v p.gathered) c.routines ≡ Ok begins → stack_for w c.routines ≡ Ok stack → link_refusal v w ≡ None →
+        plan_of sources v c ≡ Ok (record { fresh = new_since v w; changed = changed_fields v w; linked = relink w; stack = stack; routines = routines_in w begins }) }
+    ensures answered { (sources : List Source) (v : World) (c : Change) → IsOfPlaced (plan_of sources v c) → HasAnswered sources v c }
+    ensures torn { (sources : List Source) (v : World) (c : Change) (task : ℕ) (cell : CellId) (section offset : ℕ) → plan_of sources v c ≡ Err (Torn task cell section offset) →
+        (w : World) × HasCome sources v c w × (first_torn (changed_fields v w) (filter is_ready v.tasks) ≡ Some (Torn task cell section offset)) }
+{}
 
 /// Once the new cells have their places, the machine has grown by them, the replaced ones stand aside, and it can be linked;
 /// where what is new and what changes fits, it is ready for it.
@@ -47,17 +73,22 @@ pub fn change_writes_changes()
     ensures others { (sources : List Source) (v : World) (c : Change) (plan : Plan) → AreSound sources → IsCoherent v → IsSound sources v c → plan_of sources v c ≡ Ok plan → FollowsTargets v plan.linked }
 {}
 
-/// The targets that differ then are those that were in a replaced cell and aren't any more.
+/// Each target of another cell that was in a replaced cell differs then, and of all others only such as no strong holder and not the cell's
+/// own object gave; of the replaced cells' own entries only such do. That is so as soon as the new cells have their places, whatever is answered then.
 pub fn change_loses_targets()
-    ensures { (sources : List Source) (v : World) (c : Change) (plan : Plan) → AreSound sources → IsCoherent v → IsSound sources v c → plan_of sources v c ≡ Ok plan →
-        All (λ d. All (λ e. differs v plan.linked d e ≡ loses v plan.linked (old_of c) d e) d.object.entries) v.cells }
+    ensures lost { (sources : List Source) (v : World) (c : Change) (w : World) → AreSound sources → IsCoherent v → IsSound sources v c → HasCome sources v c w →
+        All (λ d. All (λ e. holds (old_of c) d.id.0 ≡ false → is_target_in (old_of c) (target_of v d e) ≡ true → differs v w d e ≡ true) d.object.entries) v.cells }
+    ensures firm { (sources : List Source) (v : World) (c : Change) (w : World) → AreSound sources → IsCoherent v → IsSound sources v c → HasCome sources v c w →
+        All (λ d. All (λ e. (t : Target) → firm_target v d e ≡ Some t → is_target_in (old_of c) (Some t) ≡ false → differs v w d e ≡ false) d.object.entries) v.cells }
+    ensures own { (sources : List Source) (v : World) (c : Change) (w : World) → AreSound sources → IsCoherent v → IsSound sources v c → HasCome sources v c w →
+        All (λ d. IsTrue (holds (old_of c) d.id.0) → All (λ e. (t : Target) → firm_target v d e ≡ Some t → differs v w d e ≡ false) d.object.entries) v.cells }
 {}
 
-/// A cell that a change leaves alone lacks a name exactly where a replaced cell provided it, and no new cell that it can see has it.
+/// A cell that a change leaves alone lacks a name exactly where a replaced cell provided it, with those put aside no other cell holds it weakly for it, and no new cell that it can see has it.
 pub fn coverage_of_change_is_exact()
     ensures { (sources : List Source) (v : World) (c : Change) (g : World) → AreSound sources → IsCoherent v → IsSound sources v c → gather sources v c ≡ Ok g →
         (d : Cell) → In d v.cells → holds (old_of c) d.id.0 ≡ false → (name : List ℕ) → In name (needs_of d.object) →
-        (is_none (provider_of g d name) ≡ true) ↔ ((p : Provider) × (provider_of v d name ≡ Some p) × (holds (old_of c) p.cell ≡ true) × (first_provider (chain v.namespaces d.ns) name (new_since v g) ≡ None)) }
+        (is_none (provider_of g d name) ≡ true) ↔ IsLost v (set_aside v c) (old_of c) (new_since v g) d name }
 {}
 
 /// Each routine begins in a new cell, at a multiple of 4 with four bytes in an executable section.
@@ -114,4 +145,19 @@ pub fn change_keeps_coherent()
 pub fn change_settles_targets()
     ensures { (sources : List Source) (v : World) (c : Change) (plan : Plan) (made : Made) → AreSound sources → IsCoherent v → IsSound sources v c → plan_of sources v c ≡ Ok plan → make_change sources v c ≡ Ok made →
         All (λ d. IsTrue (holds (numbers_of made.world.cells) d.id.0) → All (λ e. target_of made.world (now_in made.world d) e ≡ target_of plan.linked (now_in plan.linked d) e) d.object.entries) v.cells }
+{}
+
+/// The cells that go at the end of a change that replaces cells are exactly the detached ones that nobody keeps once its routines have run. Then
+/// every cell that is left is kept, nothing leads into one that went, and what is left names and holds what it did.
+pub fn change_removes_free_cells()
+    ensures left { (sources : List Source) (v : World) (c : Change) (plan : Plan) (second : World) → AreSound sources → IsCoherent v → IsSound sources v c → plan_of sources v c ≡ Ok plan → with_routines c plan ≡ Ok second →
+        0 < length (old_of c) → (d : Cell) → In d (made_by c plan second).world.cells ↔ (In d second.cells × (IsFree second d → ⊥)) }
+    ensures kept { (sources : List Source) (v : World) (c : Change) (plan : Plan) (second : World) → AreSound sources → IsCoherent v → IsSound sources v c → plan_of sources v c ≡ Ok plan → with_routines c plan ≡ Ok second →
+        0 < length (old_of c) → All (λ d. IsKept (holding_of (made_by c plan second).world) d.id.0) (made_by c plan second).world.cells }
+    ensures unreached { (sources : List Source) (v : World) (c : Change) (plan : Plan) (second : World) → AreSound sources → IsCoherent v → IsSound sources v c → plan_of sources v c ≡ Ok plan → with_routines c plan ≡ Ok second →
+        0 < length (old_of c) → All (λ d. holds (numbers_of (made_by c plan second).world.cells) d.id.0 ≡ false → IsUnreached second (made_by c plan second).world d) second.cells }
+    ensures targets { (sources : List Source) (v : World) (c : Change) (plan : Plan) (second : World) → AreSound sources → IsCoherent v → IsSound sources v c → plan_of sources v c ≡ Ok plan → with_routines c plan ≡ Ok second →
+        0 < length (old_of c) → LeavesTargets second (made_by c plan second).world }
+    ensures fields { (sources : List Source) (v : World) (c : Change) (plan : Plan) (second : World) → AreSound sources → IsCoherent v → IsSound sources v c → plan_of sources v c ≡ Ok plan → with_routines c plan ≡ Ok second →
+        0 < length (old_of c) → LeavesFields second (made_by c plan second).world }
 {}

@@ -3,8 +3,8 @@
 //!
 //! - `askings`: a load and a swap are changes that they ask for
 //! - `changes`: a change keeps the machine coherent, writes what is new and what changes, and settles every target
-//! - `adding`: where no cell is replaced, nobody loses a need, no field of another cell changes, and no cell goes
-//! - `finding`: how the fields that change are found
+//! - `adding`: where no cell is replaced, nobody loses a need, and nothing changes that is firm
+//! - `finding`: how the fields that change are found: by cells that entries lead into, and by WEAK symbols
 #![tactic(auto)]
 
 pub mod adding;

@@ -9,7 +9,7 @@ use Rattle.cell_num.specs.declared.ids.SecKey.{SecKey}
 use Rattle.cell_world.specs.declared.state.Namespace.{Namespace}
 use Rattle.cell_world.specs.World.{key_of}
 use Rattle.cell_space.specs.Spaces.{IsFree, SpacesState}
-use Rattle.cell_space.specs.declared.cell.CellState.TheVariants.{Attached}
+use Rattle.cell_world.specs.declared.state.Standing.TheVariants.{Attached}
 use Rattle.cell_space.specs.declared.cell.SpaceCell.{SpaceCell}
 use Rattle.cell_commit.specs.declared.sections.CellSections.{CellSections}
 use Rattle.cell_commit.specs.declared.attach.Newcomer.{Newcomer}

@@ -4,6 +4,7 @@
 --     fields_patched m fields   m with each field written
 --     AreRoom m regions         there is room for each region, once those before it are mapped
 use Rattle.std.specs.Prelude.{◌≡◌, ◌+◌, ◌*◌, true, List, [], ◌∷◌, length, fold, map, is_some}
+use Rattle.cell_num.specs.Limits.{page_size}
 use Rattle.cell_num.specs.Bits.{bytes_of}
 use Rattle.cell_world.specs.World.{Region}
 use Rattle.cell_world.specs.Relink.{Patch}
@@ -48,4 +49,4 @@ patches_from fields = map patch_from fields
 
 -- whole pages in the space, ascending and apart
 abbrev pub IsLaidOut : MemoryState → Type 0
-IsLaidOut m = IsLaid m.base m.regions (m.base + 4096 * m.pages)
+IsLaidOut m = IsLaid m.base m.regions (m.base + page_size * m.pages)

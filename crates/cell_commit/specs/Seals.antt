@@ -4,6 +4,7 @@
 --     spans_of fields                the fields' bytes
 use Rattle.std.specs.Prelude.{ℕ, ◌+◌, ◌*◌, ◌≤◌, nat_le, nat_lt, Bool, ◌&&◌, List, map}
 use Rattle.std.specs.List.{list_any}
+use Rattle.cell_num.specs.Limits.{page_size}
 use Rattle.cell_num.specs.Lists.{upto}
 use Rattle.cell_link.specs.declared.value.FieldValue.{FieldValue}
 
@@ -22,4 +23,4 @@ spans_of fields = map span_of fields
 
 -- all bytes of the field are in the space
 abbrev pub IsInSpace : ℕ → ℕ → FieldValue → Type 0
-IsInSpace base pages f = (base ≤ f.addr) × (f.addr + f.width ≤ base + 4096 * pages)
+IsInSpace base pages f = (base ≤ f.addr) × (f.addr + f.width ≤ base + page_size * pages)

@@ -1,6 +1,7 @@
 //! What mapping and writing add, part by part. Each law is the contract of a function that changes nothing.
 
 ghost use Rattle.std.specs.Prelude.{◌≡◌, ◌+◌, ◌-◌, ◌*◌, ◌^◌, ◌++◌, All, fold, length, map, min};
+ghost use Rattle.cell_num.specs.Limits.{page_size};
 ghost use Rattle.cell_world.specs.Place.{with_region};
 ghost use Rattle.cell_world.specs.Relink.{patched};
 ghost use Rattle.cell_commit.specs.Commit.{IsMapped, all_mapped, fields_written, patches_from};
@@ -31,9 +32,9 @@ pub fn writing_adds(memory: &Memory, fields: &[FieldValue])
 
 /// The bytes of the fields are sealed, and those that were.
 pub fn writing_seals(memory: &Memory, spans: &[(u64, u64)], fields: &[FieldValue])
-    requires spans { memory.now.sealed ≡ seal_table memory.now.base (4096 * memory.now.pages) spans.now }
+    requires spans { memory.now.sealed ≡ seal_table memory.now.base (page_size * memory.now.pages) spans.now }
     requires mapped { All (IsMapped memory.now) fields.now }
-    ensures { (fields_written memory.now fields.now).sealed ≡ seal_table memory.now.base (4096 * memory.now.pages) (spans.now ++ spans_of fields.now) }
+    ensures { (fields_written memory.now fields.now).sealed ≡ seal_table memory.now.base (page_size * memory.now.pages) (spans.now ++ spans_of fields.now) }
 {
     memory.laid_out();
 }

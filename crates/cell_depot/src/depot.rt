@@ -2,7 +2,7 @@
 
 ghost use Rattle.std.specs.Prelude.{◌≡◌, ◌<◌, ◌≤◌, true, IfOk, All, Some, find, length, option_map, slice_get};
 ghost use Rattle.std.specs.List.{list_all};
-ghost use Rattle.cell_world.specs.Limits.{max_file_bytes, max_files};
+ghost use Rattle.cell_num.specs.Limits.{max_file_bytes, max_files};
 ghost use Rattle.cell_depot.specs.Files.{are_apart, has_name};
 ghost use Rattle.cell_depot.specs.ObjectName.{is_object_name};
 ghost use Rattle.cell_depot.specs.Found.{Finds};

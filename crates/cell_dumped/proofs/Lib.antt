@@ -1,3 +1,7 @@
 pub mod Says
 pub mod Feeds
-mod Written
+pub mod Written
+pub mod Around
+mod Pairs
+mod Long
+mod Counts

@@ -14,7 +14,8 @@ use Rattle.cell_world.specs.MapCommand.{group_of}
 use Rattle.cell_world.specs.Memory.{read}
 use Rattle.cell_world.specs.Names.{names_of, provider_for}
 use Rattle.cell_world.specs.Target.{provided_target, start_of}
-use Rattle.cell_world.specs.World.{World, Cell, Alias, Attached, is_attached}
+use Rattle.cell_world.specs.World.{World, Cell, Alias, is_attached}
+use Rattle.cell_world.specs.declared.state.Standing.TheVariants.{Attached}
 use Rattle.cell_dumped.specs.declared.line.DumpLine.{DumpLine}
 use Rattle.cell_dumped.specs.declared.line.DumpLine.TheVariants.{Space, Ns, Cell as CellLine, Place, Alias as AliasLine, Link, Provider, Content, End}
 use Rattle.cell_dumped.specs.declared.line.Part.{Part}

@@ -1,4 +1,4 @@
-//! The dump of the whole machine, line by line: the lines, and their text.
+//! The dump of the whole machine, line by line: the lines, their text, and the reader of a line.
 #![tactic(auto)]
 
 ghost use Rattle.std.specs.Prelude.{◌≡◌, ℕ, List, Some};
@@ -7,9 +7,16 @@ ghost use Rattle.cell_dumped.specs.Readings.{line_said};
 ghost use Rattle.cell_dumped.specs.Texts.{line_text};
 ghost use Rattle.cell_dumped.specs.Writable.{IsWritable};
 
+mod content;
 mod line;
+mod read;
+mod word;
+mod write;
 
 pub use line::{DumpLine, Part};
+pub use read::read_line;
+pub use word::read_number;
+pub use write::put_line;
 
 /// What a line is written as says the line.
 pub fn text_says_line()

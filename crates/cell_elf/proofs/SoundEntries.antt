@@ -11,8 +11,6 @@ use Rattle.cell_object.specs.declared.headers.SectionHeader.{SectionHeader}
 use Rattle.cell_object.specs.declared.object.Object.{Object}
 use Rattle.cell_object.specs.declared.object.Symbol.{Symbol}
 use Rattle.cell_object.specs.declared.object.Entry.{Entry}
-use Rattle.cell_object.specs.declared.object.Bind.{Bind}
-use Rattle.cell_object.specs.declared.object.Bind.TheVariants.{Local, Global, Weak}
 use Rattle.cell_object.specs.declared.object.Home.{Home}
 use Rattle.cell_object.specs.declared.object.Home.TheVariants.{Undef, Abs, Inside, Elsewhere}
 use Rattle.cell_object.specs.declared.object.Fill.TheVariants.{Prog, Note}
@@ -21,9 +19,9 @@ use Rattle.cell_object.specs.Header.{file_header, section_header}
 use Rattle.cell_object.specs.Sections.{is_alloc, is_nobits, is_note, has_flag}
 use Rattle.cell_object.specs.Symbols.{symbols_of}
 use Rattle.cell_object.specs.Relocations.{rela_row, entry_count, entry_of, entries_below, is_unplaced, is_unusable, is_unusable_symbol, symbol_total, relocations_rules, entries_of, is_label, is_label_symbol, has_label, is_unpaired, pairs_rules}
-use Rattle.cell_object.specs.Parts.{is_global, is_local, section_of, symbol_at, label_of, high_of}
+use Rattle.cell_object.specs.Parts.{is_local, section_of, symbol_at, label_of, high_of}
 use Rattle.cell_object.specs.Reads.{object_of, fill_of}
-use Rattle.cell_object.specs.Sound.{is_zero, is_known_bind, is_sound_home, is_sound_symbol, is_nameable, is_sound_entry_in, is_known_kind, is_sound_entry}
+use Rattle.cell_object.specs.Sound.{is_zero, is_sound_home, is_sound_symbol, is_nameable, is_sound_entry_in, is_known_kind, is_sound_entry}
 use Rattle.cell_num.specs.Lists.{In}
 use Rattle.cell_num.proofs.Elements.{In-all, all-In, any-Has, found-In, find_there, get-In}
 use Rattle.cell_num.proofs.Ranges.{In-range}
@@ -61,22 +59,16 @@ in_section file e from there loaded kept field =
     rw (section_found file e.section from there loaded)
     (and_grouped (not (is_zero (fill_of h))) (nat_le (e.offset + width_of e.kind) h.sh_size) (not (is_instruction e.kind) || has_flag 4 h && (e.offset % 4 == 0)) (not_zero h kept) (field_of h.sh_size (e.offset + width_of e.kind) (is_instruction e.kind) (has_flag 4 h) (e.offset % 4 == 0) field))
 
-symbol_parts : (a b c : Bool) → (a && b && c) ≡ true → (a ≡ true) × (b ≡ true)
-symbol_parts true true c e = (refl, refl)
-symbol_parts true false c e = absurd cc
-symbol_parts false b c e = absurd cc
-
-global_of : (bind : Bind) → is_known_bind bind ≡ true → (is_local bind && true) ≡ false → is_global bind ≡ true
-global_of Local known placed = absurd cc
-global_of Global known placed = refl
-global_of Weak known placed = absurd cc
+unlocal : (local : Bool) → (local && true) ≡ false → not local ≡ true
+unlocal true placed = absurd cc
+unlocal false placed = refl
 
 -- a sound symbol that entries can use is one that they may name
-nameable : (object : Object) (s : Symbol) (home : Home) → is_known_bind s.bind ≡ true → is_sound_home object s home ≡ true → (is_local s.bind && is_unplaced home) ≡ false → is_nameable s home ≡ true
-nameable object s Undef known sound placed = global_of s.bind known placed
-nameable object s Abs known sound placed = refl
-nameable object s (Inside n) known sound placed = refl
-nameable object s Elsewhere known sound placed = absurd (clash (is_global s.bind) (global_of s.bind known placed) sound)
+nameable : (object : Object) (s : Symbol) (home : Home) → is_sound_home object s home ≡ true → (is_local s.bind && is_unplaced home) ≡ false → is_nameable s home ≡ true
+nameable object s Undef sound placed = unlocal (is_local s.bind) placed
+nameable object s Abs sound placed = refl
+nameable object s (Inside n) sound placed = refl
+nameable object s Elsewhere sound placed = absurd (clash (is_local s.bind) sound (unlocal (is_local s.bind) placed))
   where
     clash : (b : Bool) → b ≡ true → not b ≡ true → ⊥
     clash true g n = cc
@@ -101,8 +93,7 @@ named object (suc n) sound usable =
     go None is usable = absurd cc
     go (Some s) is usable =
         let one = all-In (is_sound_symbol object) object.symbols sound s (get-In object.symbols n s is) in
-        let parts = symbol_parts (is_known_bind s.bind) (is_sound_home object s s.home) _ one in
-        nameable object s s.home parts.0 parts.1 usable
+        nameable object s s.home (and_parts (is_sound_home object s s.home) _ one).0 usable
 
 -- the label of an entry, in a section
 pub record IsLabel (object : Object) (section j : ℕ) (entries : List Entry) : Type 0 where

@@ -17,6 +17,7 @@ use Rattle.cell_object.specs.Sections.{sections_rules}
 use Rattle.cell_object.specs.Symbols.{symtab_rules, symbols_rules, symbols_of}
 use Rattle.cell_object.specs.Relocations.{is_rela, is_for_loaded, rela_row, entry_count, entry_of_kind, entry_of, entries_below, relocations_rules, section_entries, entries_of, pairs_rules}
 use Rattle.cell_object.specs.Reads.{broken, loaded_sections, object_of}
+use Rattle.cell_object.specs.Parts.{has_no_weak}
 use Rattle.cell_object.specs.Sound.{IsSoundObject}
 use Rattle.cell_file.specs.declared.fail.ReadFail.{ReadFail}
 use Rattle.cell_file.specs.Outcome.{Passes}
@@ -25,7 +26,7 @@ use Rattle.cell_num.proofs.Ranges.{length-range}
 use Rattle.cell_file.proofs.Passing.{gives_object}
 use Rattle.cell_elf.proofs.Tables.{section_entries_loaded, section_entries_other}
 use Rattle.cell_elf.proofs.SoundSections.{yes_or_no, in_range, numbers_rise, sections_sound}
-use Rattle.cell_elf.proofs.SoundSymbols.{symbols_sound, names_sound}
+use Rattle.cell_elf.proofs.SoundSymbols.{symbols_plain, symbols_sound, names_sound}
 use Rattle.cell_elf.proofs.SoundEntries.{entries_sound}
 use Rattle.cell_elf.proofs.SoundApart.{entries_apart}
 
@@ -62,6 +63,14 @@ object_sound file passed =
       entries = entries_sound file rows relocations.0 relocations.1;
       apart = entries_apart file relocations.0;
     }
+
+-- no object is read that has a WEAK symbol
+pub object_plain : (file : List ℕ) → checked (broken file) ≡ Ok tt → has_no_weak (object_of file) ≡ true
+object_plain file passed =
+    let header = checked-both (header_rules file) (sections_rules file ++ (symtab_rules file ++ (symbols_rules file ++ (relocations_rules file ++ pairs_rules file)))) passed in
+    let sections = checked-both (sections_rules file) (symtab_rules file ++ (symbols_rules file ++ (relocations_rules file ++ pairs_rules file))) header.1 in
+    let symtab = checked-both (symtab_rules file) (symbols_rules file ++ (relocations_rules file ++ pairs_rules file)) sections.1 in
+    symbols_plain file (checked-both (symbols_rules file) (relocations_rules file ++ pairs_rules file) symtab.1).0
 
 entry_short : (h : SectionHeader) (r : RelaRow) (o : Option RelKind) → length (entry_of_kind h r o) ≤ 1
 entry_short h r None = omega arith

@@ -2,6 +2,7 @@
 
 ghost use Rattle.std.specs.Prelude.{◌≡◌, ℕ, ◌+◌, ◌≤◌, ◌<◌, ◌^◌, length, IfOk, OnOk, Ok, true, false, ◌++◌, ◌∷◌, None, [], ◌-◌, option_map, slice_get};
 ghost use Rattle.std.specs.List.{flat_map};
+ghost use Rattle.cell_num.specs.Limits.{max_section_bytes};
 ghost use Rattle.cell_object.specs.Bytes.{checked, between};
 ghost use Rattle.cell_object.specs.Header.{section_header};
 ghost use Rattle.cell_object.specs.Sections.{sections_rules};
@@ -26,7 +27,7 @@ use cell_object::{Bind, Entry, Home, RelaRow, SectionHeader};
 /// Tries the rule of an entry's field, rule 22, after which it begins in the section.
 #[tactic(auto, using(crate::proofs::FieldLemmas::width_wide))]
 fn check_field(target: &SectionHeader, at: u64, offset: u64, kind: RelKind) -> Result<(), ReadFail>
-    requires { target.now.sh_size ≤ 16777216 }
+    requires { target.now.sh_size ≤ max_section_bytes }
     ensures rules { Passes result (checked (rule_22 target.now at offset kind)) }
     ensures offset { OnOk result (offset < target.now.sh_size) }
 {
@@ -87,7 +88,7 @@ pub struct Table<'a> {
     ghost inside: { header.sh_offset + header.sh_size ≤ length file.bytes.now },
     ghost for_section: { header.sh_info < 65536 },
     ghost target_is: { target ≡ section_header file.bytes.now header.sh_info },
-    ghost small: { target.sh_size ≤ 16777216 },
+    ghost small: { target.sh_size ≤ max_section_bytes },
 }
 
 impl<'a> Table<'a> {

@@ -1,30 +1,24 @@
 -- Bringing one cell, as the definitions say it of a machine and as the spaces do.
-use Rattle.std.proofs.Common.{◌≡◌, refl, sym, ◌∙◌, ap, ℕ, Bool, true, false, List, [], ◌∷◌, map}
+use Rattle.std.proofs.Common.{◌≡◌, refl, ◌∙◌, ap, ℕ, Bool, true, false, List, [], ◌∷◌, map}
 use Rattle.std.specs.Prelude.{Option, Some, None, Ok, Err, not, ◌&&◌, ◌||◌}
-use Rattle.std.specs.List.{list_any}
 use Rattle.cell_num.specs.Lists.{holds, equals}
 use Rattle.cell_world.specs.declared.refusal.Refusal.{Refusal}
 use Rattle.cell_world.specs.declared.state.Namespace.{Namespace}
 use Rattle.cell_world.specs.World.{World, Cell, is_attached}
-use Rattle.cell_world.specs.Names.{chain, crate_of}
+use Rattle.cell_world.specs.Names.{chain, crate_of, has_stem_by, of_cell}
 use Rattle.cell_world.specs.Gather as gather
 use Rattle.cell_world.specs.Gather.{Source, Need, depot_files, name_of_ns, one_file, nearest_file, bring_one, append_cell, missing}
 use Rattle.cell_world.specs.Outcome.{Outcome, ◌>>=◌, ◌>>◌, need, found}
-use Rattle.cell_space.specs.declared.cell.CellState.TheVariants.{Attached as IsAttached}
 use Rattle.cell_space.specs.Machine.{called}
-use Rattle.cell_space.specs.Named.{is_in}
 use Rattle.cell_space.specs.Spaces.{SpacesState}
-use Rattle.cell_space.proofs.Machines as machines
 use Rattle.cell_gather.specs.Choosing.{one_in, here_or, nearest_now, space_name, lacking, choose_now}
-use Rattle.cell_gather.specs.Gathering.{IsOf}
+use Rattle.cell_gather.specs.Gathering.{HasSpaces}
 use Rattle.cell_space.specs.Ahead.{has_stem_in}
 
-any_called : (spaces stem : List ℕ) (cells : List Cell)
-    → list_any (λ c. is_attached c.standing && holds spaces c.ns && equals c.stem stem) cells ≡ has_stem_in spaces stem (map called cells)
+any_called : (spaces stem : List ℕ) (cells : List Cell) → has_stem_by of_cell spaces stem cells ≡ has_stem_in spaces stem (map called cells)
 any_called spaces stem [] = refl
 any_called spaces stem (c ∷ cells) =
-    ap (λ b. b && holds spaces c.ns && equals c.stem stem || list_any (λ d. is_attached d.standing && holds spaces d.ns && equals d.stem stem) cells) (sym (machines.attached c.standing))
-    ∙ ap (λ b. is_in IsAttached (called c) && holds spaces c.ns && equals c.stem stem || b) (any_called spaces stem cells)
+    ap (λ b. is_attached c.standing && holds spaces c.ns && equals c.stem stem || b) (any_called spaces stem cells)
 
 abbrev pub source_or : Refusal → Option (ℕ × Source) → Outcome (ℕ × Source)
 source_or lack o = found o lack
@@ -40,7 +34,7 @@ here lack ns [] rest more e = e
 here lack ns (f ∷ []) rest more e = refl
 here lack ns (f ∷ g ∷ files) rest more e = refl
 
-module _ (sources : List Source) (s : SpacesState) (next : ℕ) (u : World) (is : IsOf s next u) where
+module _ (sources : List Source) (s : SpacesState) (next : ℕ) (u : World) (is : HasSpaces s next u) where
   name_is : (ns : ℕ) → name_of_ns u ns ≡ space_name s.namespaces ns
   name_is ns = ap (λ (spaces : List Namespace). space_name spaces ns) is.namespaces
 

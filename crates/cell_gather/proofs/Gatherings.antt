@@ -7,8 +7,8 @@ use Rattle.cell_num.specs.declared.ids.CellId.{CellId}
 use Rattle.cell_world.specs.declared.file.File.{File}
 use Rattle.cell_world.specs.Gather.{source_of, bring, grown}
 use Rattle.cell_world.specs.Outcome.{Outcome, each}
-use Rattle.cell_world.specs.World.{World, Alias, Cell, Standing, Attached, attached}
-use Rattle.cell_space.specs.declared.cell.CellState.TheVariants.{Attached as IsAttached}
+use Rattle.cell_world.specs.World.{World, Alias, Cell, Standing, attached}
+use Rattle.cell_world.specs.declared.state.Standing.TheVariants.{Attached}
 use Rattle.cell_space.specs.declared.cell.SpaceCell.{SpaceCell}
 use Rattle.cell_space.specs.Joined.{placed_of}
 use Rattle.cell_space.specs.Named.{is_in, is_numbered}
@@ -94,4 +94,4 @@ pub have_old : (s : SpacesState) (wants : List Want) → All (λ want. ForSome w
 have_old s wants all = λ k d lt. weaker (all k d lt)
   where
     weaker : {o : Option CellId} → ForSome o (λ id. HasDetached s id.0) → ForSome o (λ id. HasCell s id.0)
-    weaker h = λ id e. found_of_both (is_numbered id.0) (λ c. not (is_in IsAttached c)) s.cells (h id e)
+    weaker h = λ id e. found_of_both (is_numbered id.0) (λ c. not (is_in Attached c)) s.cells (h id e)

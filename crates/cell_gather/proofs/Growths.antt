@@ -1,20 +1,24 @@
 -- One more new cell.
-use Rattle.std.proofs.Common.{◌≡◌, refl, sym, ◌∙◌, ap, arith, ℕ, zero, suc, ◌+◌, ◌<◌, ◌≤◌, List, [], ◌∷◌, ◌++◌, get_or, length, map, append-nil, append_assoc, length-append}
-use Rattle.std.specs.Prelude.{Some, slice_get}
+use Rattle.std.proofs.Common.{◌≡◌, refl, sym, ◌∙◌, ap, subst, arith, ℕ, zero, suc, ◌+◌, ◌<◌, ◌≤◌, List, [], ◌∷◌, ◌++◌, get_or, length, map, append-nil, append_assoc, length-append}
+use Rattle.std.specs.Prelude.{IsTrue, Some, slice_get}
 use Rattle.std.proofs.lemmas.List.{length-map, map-append}
 use Rattle.std.proofs.lemmas.List.Elements.{All-push, All-same, All-weaker}
 use Rattle.cell_num.specs.declared.ids.CellId.{CellId}
+use Rattle.cell_num.specs.Lists.{In}
+use Rattle.cell_num.proofs.Elements.{All-In, In-All, map-In}
+use Rattle.cell_object.specs.Parts.{has_no_weak}
 use Rattle.cell_world.specs.declared.state.NewCell.{NewCell}
 use Rattle.cell_world.specs.Coherent.{IsLoadable}
 use Rattle.cell_world.specs.Names.{definitions_of}
-use Rattle.cell_world.specs.World.{Alias, Cell, Attached as IsAttached, attached}
-use Rattle.cell_space.specs.declared.cell.CellState.TheVariants.{Attached}
+use Rattle.cell_world.specs.World.{Alias, Cell, attached}
+use Rattle.cell_world.specs.declared.state.Standing.TheVariants.{Attached}
 use Rattle.cell_space.specs.declared.cell.SpaceCell.{SpaceCell}
 use Rattle.cell_space.specs.Joined.{placed_of}
 use Rattle.cell_space.specs.Machine.{called}
 use Rattle.cell_space.specs.Spaces.{SpacesState}
 use Rattle.cell_space.proofs.Joined.{cells_are, joined_by}
 use Rattle.cell_gather.specs.declared.gathering.Gathered.{Gathered}
+use Rattle.cell_gather.specs.Gathering.{HaveNoWeak}
 use Rattle.cell_gather.specs.Growing.{IsGrowing, new_of}
 
 -- the row of a cell in the spaces
@@ -30,6 +34,12 @@ one_longer xs x = let l = length-append xs (x ∷ []) in omega arith
 -- each place has its cell
 pub as_many : (spaces : SpacesState) (next : ℕ) (g : Gathered) → IsGrowing spaces next g → length g.cells.items ≡ length (new_of g)
 as_many spaces next g growing = ap length (sym growing.joined.placed) ∙ length-map (new_of g) placed_of
+
+-- no new cell has a WEAK symbol
+pub new_no_weak : (spaces : SpacesState) (next : ℕ) (g : Gathered) → IsGrowing spaces next g → HaveNoWeak (new_of g)
+new_no_weak spaces next g growing =
+    In-All (λ (c : Cell). IsTrue (has_no_weak c.object)) (new_of g) (λ c i.
+    (All-In (λ (p : NewCell). IsLoadable p.object) g.cells.items growing.loadable c.placed (subst (λ (ps : List NewCell). In c.placed ps) growing.joined.placed (map-In placed_of (new_of g) c i))).plain)
 
 -- the new cell of the place
 pub cell_there : (spaces : SpacesState) (next : ℕ) (g : Gathered) → IsGrowing spaces next g → (place : ℕ) (p : NewCell) → place < length (new_of g) → p ≡ get_or g.cells.items place p
@@ -89,7 +99,7 @@ module _ (spaces : SpacesState) (next : ℕ) (old new : Gathered) (c : NewCell) 
             ∙ ap (λ (row : SpaceCell). spaces.cells ++ (map called cs ++ row ∷ [])) (row_is c names named)
             ∙ ap (λ (all : List SpaceCell). spaces.cells ++ all) (sym (map-append called cs (attached c ∷ [])) ∙ ap (map called) (sym one_more));
         joined = joined_by with_one new.cells.items new.ahead.fresh items_are fresh_are;
-        attached = All-same (λ (d : Cell). d.standing ≡ IsAttached) (new_of new) with_one one_more (All-push (λ (d : Cell). d.standing ≡ IsAttached) cs (attached c) growing.attached refl);
+        attached = All-same (λ (d : Cell). d.standing ≡ Attached) (new_of new) with_one one_more (All-push (λ (d : Cell). d.standing ≡ Attached) cs (attached c) growing.attached refl);
         loadable = All-same (λ (d : NewCell). IsLoadable d.object) new.cells.items (old.cells.items ++ c ∷ []) cells (All-push (λ (d : NewCell). IsLoadable d.object) old.cells.items c growing.loadable loadable);
         inside = All-same (λ (d : Cell). d.ns < length spaces.namespaces) (new_of new) with_one one_more (All-push (λ (d : Cell). d.ns < length spaces.namespaces) cs (attached c) growing.inside there);
         above = All-same (λ (d : Cell). next ≤ d.id.0) (new_of new) with_one one_more (All-push (λ (d : Cell). next ≤ d.id.0) cs (attached c) growing.above (omega (arith, number)));

@@ -4,10 +4,9 @@ use Rattle.std.specs.Prelude.{Option, Some, None, ◌||◌, find, is_some, optio
 use Rattle.std.proofs.lemmas.List.Elements.{filter-append}
 use Rattle.std.proofs.lemmas.Slice.Eq.{bytes_eq-Decides}
 use Rattle.cell_num.specs.Lists.{equals, or_else}
-use Rattle.cell_world.specs.Names.{base_name}
+use Rattle.cell_world.specs.Names.{base_name, has_name, symbol_in}
 use Rattle.cell_world.specs.Reexport.{symbol_of_one}
 use Rattle.cell_world.specs.World.{Alias}
-use Rattle.cell_space.specs.Rows.{has_name, symbol_in}
 use Rattle.cell_gather.specs.declared.heirs.Heirs.{Heirs}
 use Rattle.cell_gather.specs.Renaming.{AreHeirs, are_several, first_symbol, of_base}
 

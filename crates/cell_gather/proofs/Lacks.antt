@@ -1,21 +1,24 @@
 -- The first need that lacks a provider.
-use Rattle.std.proofs.Common.{◌≡◌, refl, sym, ◌∙◌, ap, subst, arith, ℕ, zero, suc, ◌<◌, ◌≤◌, Bool, true, false, cond, List, [], ◌∷◌, ◌++◌, length, map}
-use Rattle.std.specs.Prelude.{Option, Some, None, All, not, filter, is_some, is_none, slice_get, nat_le}
+use Rattle.std.proofs.Common.{◌≡◌, refl, sym, ◌∙◌, ap, subst, arith, ℕ, zero, suc, ◌<◌, ◌≤◌, ◌⊎◌, inl, inr, Bool, true, false, cond, List, [], ◌∷◌, ◌++◌, length, map}
+use Rattle.std.specs.Prelude.{Option, Some, None, All, IsTrue, not, filter, is_some, is_none, slice_get, nat_le}
 use Rattle.std.proofs.lemmas.Bool.Decides.{nat_tests}
 use Rattle.std.proofs.lemmas.List.Elements.{All-head, All-tail, All-same, filter-append}
 use Rattle.cell_num.specs.declared.ids.CellId.{CellId}
-use Rattle.cell_num.specs.Lists.{first, or_else}
+use Rattle.cell_num.specs.Lists.{first, or_else, In}
+use Rattle.cell_num.proofs.Elements.{All-In, In-append}
+use Rattle.cell_object.specs.Parts.{has_no_weak}
 use Rattle.cell_world.specs.declared.state.Namespace.{Namespace}
-use Rattle.cell_world.specs.World.{World, Cell, Standing, Attached as IsAttached}
+use Rattle.cell_world.specs.World.{World, Cell, Standing}
+use Rattle.cell_world.specs.declared.state.Standing.TheVariants.{Attached}
 use Rattle.cell_world.specs.Names.{Provider, chain, needs_of, provider_of, provider_for as provider_as}
 use Rattle.cell_world.specs.Gather.{Need, lacks_of, first_lack, fresh_cells, grown}
-use Rattle.cell_space.specs.declared.cell.CellState.TheVariants.{Attached}
 use Rattle.cell_space.specs.declared.cell.SpaceCell.{SpaceCell}
 use Rattle.cell_space.specs.Machine.{called}
 use Rattle.cell_space.specs.Named.{provider_for}
 use Rattle.cell_space.specs.Spaces.{SpacesState}
-use Rattle.cell_space.proofs.Machines.{attached_provider-called}
-use Rattle.cell_gather.specs.Gathering.{IsOf}
+use Rattle.cell_space.proofs.Machines.{strong_provider-called}
+use Rattle.cell_lemmas.proofs.Plain.{strong_alone}
+use Rattle.cell_gather.specs.Gathering.{HaveNoWeak, IsOf}
 use Rattle.cell_gather.specs.Growing.{IsProvided, IsSupplied, AreSupplied, IsNext}
 use Rattle.cell_gather.proofs.Worlds.{grown_is}
 
@@ -99,7 +102,7 @@ all_fresh next (c ∷ cells) all =
     ∙ ap (λ cs. c ∷ cs) (all_fresh next cells (All-tail (λ (d : Cell). next ≤ d.id.0) c cells all))
 
 module _ (spaces : SpacesState) (next : ℕ) (given : All (λ c. c.cell.0 < next) spaces.cells) (cells : List Cell) (above : All (λ c. next ≤ c.id.0) cells)
-    (on : All (λ c. c.standing ≡ IsAttached) cells) (w : World) (is : IsOf spaces next w) where
+    (on : All (λ c. c.standing ≡ Attached) cells) (no_weak : HaveNoWeak cells) (w : World) (is : IsOf spaces next w) where
   pub fresh_are : fresh_cells next (grown w cells) ≡ cells
   fresh_are =
       filter-append (λ (c : Cell). nat_le next c.id.0) w.cells cells
@@ -109,27 +112,35 @@ module _ (spaces : SpacesState) (next : ℕ) (given : All (λ c. c.cell.0 < next
   abbrev provided : ℕ → List ℕ → Option Provider
   provided ns name = provider_for (chain spaces.namespaces ns) Attached name (spaces.cells ++ map called cells)
 
-  provider_is : (c : Cell) → c.standing ≡ IsAttached → (name : List ℕ) → provider_of (grown w cells) c name ≡ provided c.ns name
+  none_weak : (c : Cell) → In c (grown w cells).cells → has_no_weak c.object ≡ true
+  none_weak c i = go (In-append w.cells cells c i)
+    where
+      go : In c w.cells ⊎ In c cells → has_no_weak c.object ≡ true
+      go (inl j) = All-In (λ (d : Cell). IsTrue (has_no_weak d.object)) w.cells is.no_weak c j
+      go (inr j) = All-In (λ (d : Cell). IsTrue (has_no_weak d.object)) cells no_weak c j
+
+  provider_is : (c : Cell) → c.standing ≡ Attached → (name : List ℕ) → provider_of (grown w cells) c name ≡ provided c.ns name
   provider_is c here name =
-      let of = grown_is spaces next w is cells in
+      let of = grown_is spaces next w is.has cells in
       ap (λ (s : Standing). provider_as (grown w cells) s c.ns name) here
-      ∙ attached_provider-called (grown w cells) c.ns name
+      ∙ strong_alone (grown w cells) none_weak Attached c.ns name
+      ∙ strong_provider-called (grown w cells) c.ns name Attached
       ∙ ap (λ (sp : List Namespace). provider_for (chain sp c.ns) Attached name (map called (grown w cells).cells)) of.namespaces
       ∙ ap (λ (cs : List SpaceCell). provider_for (chain spaces.namespaces c.ns) Attached name cs) of.cells
 
   abbrev lacking : Cell → List ℕ → Bool
   lacking c name = is_none (provider_of (grown w cells) c name)
 
-  lacking_is : (c : Cell) → c.standing ≡ IsAttached → (name : List ℕ) → lacking c name ≡ not (is_some (provided c.ns name))
+  lacking_is : (c : Cell) → c.standing ≡ Attached → (name : List ℕ) → lacking c name ≡ not (is_some (provided c.ns name))
   lacking_is c here name = ap (λ (o : Option Provider). is_none o) (provider_is c here name) ∙ none_not (provided c.ns name)
 
-  not_lacking : (c : Cell) → c.standing ≡ IsAttached → (list : List (List ℕ)) → All (IsProvided spaces cells c.ns) list → All (λ name. lacking c name ≡ false) list
+  not_lacking : (c : Cell) → c.standing ≡ Attached → (list : List (List ℕ)) → All (IsProvided spaces cells c.ns) list → All (λ name. lacking c name ≡ false) list
   not_lacking c here list all = λ k d lt. lacking_is c here _ ∙ ap not (all k d lt)
 
   abbrev need_of : Cell → List ℕ → Need
   need_of c name = record { cell = c; name = name }
 
-  supplied_none : (c : Cell) → c.standing ≡ IsAttached → IsSupplied spaces cells c → first (lacks_of (grown w cells) c) ≡ None
+  supplied_none : (c : Cell) → c.standing ≡ Attached → IsSupplied spaces cells c → first (lacks_of (grown w cells) c) ≡ None
   supplied_none c here all = none_first (lacking c) (need_of c) (needs_of c.object) (not_lacking c here (needs_of c.object) all)
 
   -- the need whose turn it is
@@ -140,13 +151,13 @@ module _ (spaces : SpacesState) (next : ℕ) (given : All (λ c. c.cell.0 < next
       let lacks : lacking c name ≡ true = lacking_is c n.turn.on name ∙ ap (λ (m : ℕ). not (is_some (provided m name))) n.turn.ns_is ∙ ap not none in
       let before : All (λ m. lacking c m ≡ false) n.before = not_lacking c n.turn.on n.before (subst (λ (m : ℕ). All (IsProvided spaces cells m) n.before) (sym n.turn.ns_is) n.provided) in
       ap (first_lack (grown w cells)) fresh_are
-      ∙ lacks_at (grown w cells) cells place c (need_of c name) (λ k d lt at. supplied_none d (at_slice (λ x. x.standing ≡ IsAttached) cells k d on at) (n.turn.supplied k d lt at)) n.turn.at
+      ∙ lacks_at (grown w cells) cells place c (need_of c name) (λ k d lt at. supplied_none d (at_slice (λ x. x.standing ≡ Attached) cells k d on at) (n.turn.supplied k d lt at)) n.turn.at
       (ap (λ list. first (map (need_of c) (filter (lacking c) list))) n.turn.needs_are ∙ passes_first (lacking c) (need_of c) n.before name n.after before lacks)
 
   pub no_lack : (n : ℕ) → length cells ≤ n → AreSupplied spaces cells n → first_lack (grown w cells) (fresh_cells next (grown w cells)) ≡ None
   no_lack n le all =
       ap (first_lack (grown w cells)) fresh_are
-      ∙ lacks_nowhere (grown w cells) cells (λ k d at. let lt = inside cells k d at in supplied_none d (at_slice (λ x. x.standing ≡ IsAttached) cells k d on at) (all k d (omega (arith, lt, le)) at))
+      ∙ lacks_nowhere (grown w cells) cells (λ k d at. let lt = inside cells k d at in supplied_none d (at_slice (λ x. x.standing ≡ Attached) cells k d on at) (all k d (omega (arith, lt, le)) at))
     where
       inside : (list : List Cell) (k : ℕ) (d : Cell) → slice_get list k ≡ Some d → k < length list
       inside [] k d e = absurd (cc e)

@@ -6,7 +6,7 @@ use Rattle.cell_num.specs.Lists.{numbered_from}
 use Rattle.cell_object.specs.declared.object.Object.{Object}
 use Rattle.cell_object.specs.declared.object.Symbol.{Symbol}
 use Rattle.cell_object.specs.Reads.{reads}
-use Rattle.cell_elf.proofs.Soundness.{object_sound, few_entries}
+use Rattle.cell_elf.proofs.Soundness.{object_plain, object_sound, few_entries}
 use Rattle.cell_elf.proofs.LoadableCounts.{few_symbols, reads_passed}
 use Rattle.cell_world.specs.Coherent.{IsLoadable}
 use Rattle.cell_world.specs.Names.{is_definition, definitions_of}
@@ -19,6 +19,7 @@ loadable bytes o small e =
       sound = object_sound bytes p.0;
       symbols = few_symbols bytes p.0 small;
       entries = few_entries bytes p.0 small;
+      plain = object_plain bytes p.0;
     })
 
 abbrev defines : ℕ × Symbol → Bool

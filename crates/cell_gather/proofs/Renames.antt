@@ -7,11 +7,11 @@ use Rattle.cell_world.specs.declared.state.NewCell.{NewCell}
 use Rattle.cell_world.specs.Coherent.{IsLoadable}
 use Rattle.cell_world.specs.Names.{definitions_of}
 use Rattle.cell_world.specs.Reexport.{successor_of, with_alias}
-use Rattle.cell_world.specs.World.{Alias, Cell, Standing, Attached}
-use Rattle.cell_space.specs.declared.cell.CellState.TheVariants.{Attached as IsAttached}
+use Rattle.cell_world.specs.World.{Alias, Cell, Standing}
+use Rattle.cell_world.specs.declared.state.Standing.TheVariants.{Attached}
 use Rattle.cell_space.specs.declared.cell.SpaceCell.{SpaceCell}
 use Rattle.cell_space.specs.Joined.{placed_of}
-use Rattle.cell_space.specs.Machine.{called, state_of}
+use Rattle.cell_space.specs.Machine.{called}
 use Rattle.cell_space.specs.Named.{LacksName, cell_numbered, clash_name, is_in, is_state, with_name}
 use Rattle.cell_space.specs.Spaces.{SpacesState}
 use Rattle.cell_space.proofs.Joined.{cells_are, joined_by}
@@ -32,7 +32,7 @@ standing_by false a c = refl
 
 called_by : (b : Bool) (a : Alias) (c : Cell) → called (cond b (record c { aliases = c.aliases ++ a ∷ [] }) c) ≡ cond b (record (called c) { names = (called c).names ++ a ∷ [] }) (called c)
 called_by true a c =
-    ap (λ (names : List Alias). let s : SpaceCell = record { cell = c.id; ns = c.ns; stem = c.stem; state = state_of c.standing; names = names } in s)
+    ap (λ (names : List Alias). let s : SpaceCell = record { cell = c.id; ns = c.ns; stem = c.stem; state = c.standing; names = names } in s)
     (sym (append_assoc (definitions_of c.object) c.aliases (a ∷ [])))
 called_by false a c = refl
 
@@ -53,7 +53,7 @@ module _ (n : ℕ) (a : Alias) where
 
   -- what holds by the place alone
   module _ (P : NewCell → Type 0) where
-    all_by_place : (cells : List Cell) → All (λ c. P c.placed) cells → All (λ c. P c.placed) (map (with_alias n a) cells)
+    pub all_by_place : (cells : List Cell) → All (λ c. P c.placed) cells → All (λ c. P c.placed) (map (with_alias n a) cells)
     all_by_place cells all =
         All-map (λ (c : Cell). P c.placed) (with_alias n a) cells
         (All-weaker (λ (c : Cell). P c.placed) (λ (c : Cell). P (with_alias n a c).placed) (λ c p. subst P (sym (placed_same c)) p) cells all)
@@ -170,7 +170,7 @@ module _ (spaces : SpacesState) (next : ℕ) (old : Gathered) (growing : IsGrowi
       free_by (clash_name spaces.namespaces new.cell.ns name (spaces.cells ++ map called (new_of old))) (successor_of new.cell name) symbol (sym e ∙ some)
       in
       let found = numbered_called (new_of old) n new.cell new.found in
-      let on : is_in IsAttached (called new.cell) ≡ true = ap (λ (s : Standing). is_state IsAttached (state_of s)) (found_standing (new_of old) n new.cell growing.attached new.found) in
+      let on : is_in Attached (called new.cell) ≡ true = ap (λ (s : Standing). is_state Attached s) (found_standing (new_of old) n new.cell growing.attached new.found) in
       subst (λ (cells : List SpaceCell). LacksName cells n name) growing.joined.called
       (lacks_free spaces.namespaces new.cell.ns (subst (λ m. m < length spaces.namespaces) (sym new.ns_is) there) name spaces.cells (map called (new_of old)) free n (called new.cell) found refl on)
 

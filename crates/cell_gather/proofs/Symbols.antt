@@ -5,11 +5,13 @@ use Rattle.std.specs.List.{list_all}
 use Rattle.std.proofs.lemmas.List.{drop_more, drop_all}
 use Rattle.cell_num.specs.Lists.{numbered_from, each_pair, equals}
 use Rattle.cell_object.specs.declared.object.Symbol.{Symbol}
-use Rattle.cell_object.specs.Parts.{is_global, is_defined}
+use Rattle.cell_object.specs.declared.object.Bind.{Bind}
+use Rattle.cell_object.specs.declared.object.Bind.TheVariants.{Local, Global, Weak}
+use Rattle.cell_object.specs.Parts.{is_global, is_local, is_defined}
 use Rattle.cell_object.specs.Sound.{may_both_be}
 use Rattle.cell_world.specs.World.{Alias}
-use Rattle.cell_world.specs.Names.{is_definition}
-use Rattle.cell_space.specs.Rows.{has_name, are_apart}
+use Rattle.cell_world.specs.Names.{is_definition, has_name}
+use Rattle.cell_space.specs.Rows.{are_apart}
 use Rattle.cell_gather.specs.Appending.{definitions_from}
 
 -- what passes a test among numbered symbols
@@ -77,12 +79,12 @@ both true c e f = f
 both false c e f = absurd (cc e)
 
 -- two definitions have two names
-two_names : (ga da gb db same : Bool) → (ga && da) ≡ true → (gb && db) ≡ true → not (ga && gb && same) ≡ true → not same ≡ true
-two_names true true true true same a b e = e
-two_names true false gb db same a b e = absurd (cc a)
-two_names false da gb db same a b e = absurd (cc a)
-two_names true true true false same a b e = absurd (cc b)
-two_names true true false db same a b e = absurd (cc b)
+two_names : (a b : Bind) (da db same : Bool) → (is_global a && da) ≡ true → (is_global b && db) ≡ true → (is_local a || is_local b || not same) ≡ true → not same ≡ true
+two_names Global Global da db same d e may = may
+two_names Global Local da db same d e may = absurd (cc e)
+two_names Global Weak da db same d e may = absurd (cc e)
+two_names Local b da db same d e may = absurd (cc d)
+two_names Weak b da db same d e may = absurd (cc d)
 
 abbrev differs : Alias → Alias → Bool
 differs a b = not (equals a.name b.name)
@@ -91,7 +93,7 @@ module _ (a : ℕ) (s : Symbol) (here : is_definition s ≡ true) where
   one_differs : (b : Bool) (n : ℕ) (t : Symbol) (rest : List (ℕ × Symbol)) → is_definition t ≡ b → may_both_be s t ≡ true → list_all (differs (as_alias (a, s))) (map as_alias rest) ≡ true
       → list_all (differs (as_alias (a, s))) (map as_alias (cond b ((n, t) ∷ rest) rest)) ≡ true
   one_differs true n t rest is may all =
-      both (not (equals s.name t.name)) _ (two_names (is_global s.bind) (is_defined s.home) (is_global t.bind) (is_defined t.home) (equals s.name t.name) here is may) all
+      both (not (equals s.name t.name)) _ (two_names s.bind t.bind (is_defined s.home) (is_defined t.home) (equals s.name t.name) here is may) all
   one_differs false n t rest is may all = all
 
   all_differ : (n : ℕ) (symbols : List Symbol) → list_all (may_both_be s) symbols ≡ true → list_all (differs (as_alias (a, s))) (definitions_from n symbols) ≡ true

@@ -15,7 +15,7 @@ use Rattle.cell_world.specs.declared.refusal.Refusal.TheVariants.{TooMany}
 use Rattle.cell_world.specs.declared.refusal.Many.TheVariants.{Cells, CellNumbers}
 use Rattle.cell_world.specs.declared.state.NewCell.{NewCell}
 use Rattle.cell_world.specs.Gather.{source_of, stem_of_file, object_in, duplicate}
-use Rattle.cell_world.specs.Limits.{max_cells, max_cell_number}
+use Rattle.cell_num.specs.Limits.{max_cells, max_cell_number}
 use Rattle.cell_world.specs.Names.{is_definition, is_used, definitions_of}
 use Rattle.cell_world.specs.Outcome.{Outcome, ◌>>=◌, ◌>>◌, need, refused_by}
 use Rattle.cell_world.specs.World.{Alias}

@@ -11,9 +11,9 @@ use Rattle.cell_world.specs.Coherent.{IsLoadable}
 use Rattle.cell_world.specs.Gather.{source_of, bring_within, grown}
 use Rattle.cell_world.specs.Names.{needs_of, chain}
 use Rattle.cell_world.specs.Outcome.{Outcome}
-use Rattle.cell_world.specs.Limits.{max_cells}
-use Rattle.cell_world.specs.World.{World, Cell, Attached}
-use Rattle.cell_space.specs.declared.cell.CellState.TheVariants.{Attached as IsAttached}
+use Rattle.cell_num.specs.Limits.{max_cells}
+use Rattle.cell_world.specs.World.{World, Cell}
+use Rattle.cell_world.specs.declared.state.Standing.TheVariants.{Attached}
 use Rattle.cell_space.specs.Joined.{AreJoined, cells_of}
 use Rattle.cell_space.specs.Machine.{called}
 use Rattle.cell_space.specs.Named.{provider_for}
@@ -77,7 +77,7 @@ Leads files spaces next old (Err OutOfMemory) new = Unit {0}
 -- a name has a provider
 abbrev pub IsProvided : SpacesState → List Cell → ℕ → List ℕ → Type 0
 IsProvided spaces cells ns name =
-    is_some (provider_for (chain spaces.namespaces ns) IsAttached name (spaces.cells ++ map called cells)) ≡ true
+    is_some (provider_for (chain spaces.namespaces ns) Attached name (spaces.cells ++ map called cells)) ≡ true
 
 abbrev pub IsSupplied : SpacesState → List Cell → Cell → Type 0
 IsSupplied spaces cells c = All (IsProvided spaces cells c.ns) (needs_of c.object)

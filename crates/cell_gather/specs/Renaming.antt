@@ -5,12 +5,11 @@
 --     renamed_now s n cells wants    the same for all names of the cells that are replaced
 use Rattle.std.specs.Prelude.{◌≡◌, ℕ, suc, ◌==◌, Bool, true, false, List, [], ◌∷◌, ◌++◌, Option, Some, None, filter, find, fold, map, option_and_then, option_map}
 use Rattle.cell_num.specs.Lists.{equals, first}
-use Rattle.cell_world.specs.Names.{base_name, definitions_of}
+use Rattle.cell_world.specs.Names.{base_name, definitions_of, has_name, symbol_in}
 use Rattle.cell_world.specs.Reexport.{successor_of, with_alias}
 use Rattle.cell_world.specs.World.{Alias, Cell}
 use Rattle.cell_space.specs.Machine.{called}
 use Rattle.cell_space.specs.Named.{cell_numbered, clash_name}
-use Rattle.cell_space.specs.Rows.{has_name, symbol_in}
 use Rattle.cell_space.specs.Spaces.{SpacesState}
 use Rattle.cell_gather.specs.declared.heirs.Heirs.{Heirs}
 use Rattle.cell_gather.specs.declared.want.Want.{Want}

@@ -2,7 +2,7 @@
 
 ghost use Rattle.std.specs.Prelude.{◌≡◌, ◌<◌, ◌≤◌, ◌+◌, ◌++◌, ◌∷◌, [], OnOk, All, length, map};
 ghost use Rattle.cell_world.specs.Gather.{source_of, append_cell, grown};
-ghost use Rattle.cell_world.specs.Limits.{max_cells, max_file_bytes};
+ghost use Rattle.cell_num.specs.Limits.{max_cells, max_file_bytes};
 ghost use Rattle.cell_world.specs.Outcome.{each};
 ghost use Rattle.cell_world.specs.World.{attached};
 ghost use Rattle.cell_gather.specs.Gathering.{append_wanted};

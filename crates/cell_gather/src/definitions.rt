@@ -3,7 +3,7 @@
 ghost use Rattle.std.specs.Prelude.{◌≡◌, ◌<◌, ◌^◌, ◌++◌, ◌∷◌, [], IfOk, OnOk, false, true, length};
 ghost use Rattle.cell_num.specs.Lists.{each_pair};
 ghost use Rattle.cell_object.specs.Sound.{may_both_be};
-ghost use Rattle.cell_space.specs.Rows.{has_name};
+ghost use Rattle.cell_world.specs.Names.{has_name};
 ghost use Rattle.cell_world.specs.Coherent.{IsLoadable};
 ghost use Rattle.cell_gather.specs.Appending.{definitions_from};
 ghost use Rattle.cell_world.specs.Names.{is_definition as definition, definitions_of};

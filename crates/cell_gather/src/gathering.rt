@@ -2,7 +2,7 @@
 
 ghost use Rattle.std.specs.Prelude.{◌≡◌, ◌<◌, ◌≤◌, All, length};
 ghost use Rattle.std.specs.Option.{ForSome};
-ghost use Rattle.cell_world.specs.Limits.{max_file_bytes};
+ghost use Rattle.cell_num.specs.Limits.{max_file_bytes};
 ghost use Rattle.cell_space.specs.Spaces.{HasDetached};
 ghost use Rattle.cell_gather.specs.Gathering.{Gathers};
 

@@ -2,14 +2,15 @@
 
 ghost use Rattle.std.specs.Prelude.{◌≡◌, ◌<◌, ◌≤◌, ◌+◌, All, length};
 ghost use Rattle.cell_gather.specs.Appending.{room_now};
-ghost use Rattle.cell_world.specs.Limits.{max_cells, max_file_bytes};
+ghost use Rattle.cell_num.specs.Limits.{max_cells, max_file_bytes};
 ghost use Rattle.cell_world.specs.Following.{Follows};
 ghost use Rattle.cell_gather.specs.Growing.{new_of, IsGrowing};
 
 use crate::Gathered;
 use cell_depot::Depot;
+use cell_num::{MAX_CELL_NUMBER, MAX_CELLS};
 use cell_space::{Ahead, Spaces};
-use cell_world::{Fail, MAX_CELL_NUMBER, MAX_CELLS, Many, Refusal};
+use cell_world::{Fail, Many, Refusal};
 use std::alloc::Global;
 
 /// The files, the present cells, how many they are, and the number of the next cell.

@@ -1,7 +1,7 @@
 //! The file that brings a name.
 
 ghost use Rattle.std.specs.Prelude.{◌≡◌, ◌<◌, ◌≤◌, IfOk, IfSome, length, map, option_map};
-ghost use Rattle.cell_world.specs.Limits.{max_file_bytes};
+ghost use Rattle.cell_num.specs.Limits.{max_file_bytes};
 ghost use Rattle.cell_world.specs.Gather.{source_of, depot_files};
 ghost use Rattle.cell_world.specs.Names.{chain};
 ghost use Rattle.cell_gather.specs.Choosing.{choose_now, nearest_now, one_in, space_name, lacking};

@@ -4,7 +4,7 @@ ghost use Rattle.std.specs.Prelude.{◌≡◌, ◌<◌, ◌+◌, ◌++◌, OnOk,
 ghost use Rattle.cell_world.specs.Gather.{source_of, bring, grown};
 ghost use Rattle.cell_world.specs.Names.{chain};
 ghost use Rattle.cell_space.specs.Named.{provider_for};
-ghost use Rattle.cell_space.specs.declared.cell.CellState.TheVariants.{Attached};
+ghost use Rattle.cell_world.specs.declared.state.Standing.TheVariants.{Attached};
 ghost use Rattle.cell_space.specs.Machine.{called};
 ghost use Rattle.cell_gather.specs.Growing.{new_of, HavePlain, AreSupplied, Ends, IsGrowing, IsNext, IsProvided, IsTurnOf, Leads};
 

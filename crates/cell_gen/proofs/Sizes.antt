@@ -12,7 +12,7 @@ use Rattle.cell_assemble.specs.SourceImage.{image_of_source}
 use Rattle.cell_asm.specs.declared.kind.AsmKind.{AsmKind}
 use Rattle.cell_world.specs.declared.file.File.{File}
 use Rattle.cell_world.specs.declared.command.Command.TheVariants.{Purge}
-use Rattle.cell_world.specs.Limits.{max_file_bytes}
+use Rattle.cell_num.specs.Limits.{max_file_bytes}
 use Rattle.cell_script.specs.Script.{are_said}
 use Rattle.cell_script.proofs.Said.{script_said}
 use Rattle.cell_text.specs.Text.{lines_in}

@@ -7,8 +7,8 @@ use crate::draws::{Draws, Three};
 use crate::text::{put_name, write_source};
 use cell_asm::AsmFail;
 use cell_assemble::image_of_source;
-use cell_num::{Name, Shared};
-use cell_world::{File, MAX_FILE_BYTES};
+use cell_num::{MAX_FILE_BYTES, Name, Shared};
+use cell_world::File;
 use std::alloc::{AllocError, Global};
 
 /// The files of so many crates, two for each.

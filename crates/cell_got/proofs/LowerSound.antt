@@ -21,8 +21,8 @@ use Rattle.cell_object.specs.declared.object.Symbol.{Symbol}
 use Rattle.cell_object.specs.declared.object.Entry.{Entry}
 use Rattle.cell_object.specs.declared.object.Home.{Home}
 use Rattle.cell_object.specs.declared.object.Home.TheVariants.{Undef, Abs, Inside, Elsewhere}
-use Rattle.cell_object.specs.Parts.{is_global, section_of, symbol_at, label_of, high_of, inside_of}
-use Rattle.cell_object.specs.Sound.{IsSoundObject, is_sound_section, is_known_bind, is_known_kind, is_sound_home, is_sound_symbol, is_nameable, is_sound_entry_in, is_sound_entry, may_share, may_both_be, is_plain_sort}
+use Rattle.cell_object.specs.Parts.{is_local, section_of, symbol_at, label_of, high_of, inside_of}
+use Rattle.cell_object.specs.Sound.{IsSoundObject, is_sound_section, is_known_kind, is_sound_home, is_sound_symbol, is_nameable, is_sound_entry_in, is_sound_entry, may_share, may_both_be, is_plain_sort}
 use Rattle.cell_object.specs.Symbols.{is_global_name}
 use Rattle.cell_got.specs.Lower.{is_got, slots_of, slot_of, got_number, got_section, slot_symbol, slot_entry, lowered_entry, with_slots, lower_by, lower}
 use Rattle.cell_got.specs.Readable.{IsReadable, plain, plain_entry}
@@ -112,13 +112,13 @@ module _ (o : Object) (sound : IsSoundObject (plain o)) (slots : List ℕ) (n : 
 
   old_symbol : (s : Symbol) → In s o.symbols → is_sound_symbol new s ≡ true
   old_symbol s i =
-      let k = three (is_known_bind s.bind) (is_sound_home (plain o) s s.home) (not (is_global s.bind) || is_global_name s.name && is_plain_sort s.sort) (all-In (is_sound_symbol (plain o)) o.symbols sound.symbols s i) in
-      rw (k.0, old_home s s.home k.1, k.2) refl
+      let k = and_parts (is_sound_home (plain o) s s.home) (is_local s.bind || is_global_name s.name && is_plain_sort s.sort) (all-In (is_sound_symbol (plain o)) o.symbols sound.symbols s i) in
+      rw (old_home s s.home k.0, k.1) refl
 
   slot_sound : (k : ℕ) → k < length slots → is_sound_symbol new (slot_symbol n k) ≡ true
   slot_sound k h =
       let a : nat_le (8 * k) (8 * length slots) ≡ true = grind (arith, nat_tests, h) in
-      ap (λ (r : Option Section). true && unwrap_or (option_map (λ section. nat_le (8 * k) section.size) r) false && true) new_section ∙ rw a refl
+      ap (λ (r : Option Section). unwrap_or (option_map (λ section. nat_le (8 * k) section.size) r) false && true) new_section ∙ rw a refl
 
   -- symbols
   pub symbol_stays : (j : ℕ) (s : Symbol) → symbol_at o j ≡ Some s → symbol_at new j ≡ Some s
@@ -314,7 +314,7 @@ module _ (o : Object) (sound : IsSoundObject (plain o)) (slots : List ℕ) (n : 
       and_from (list_all (may_both_be (slot_symbol n k)) (map (slot_symbol n) ks)) (each_pair may_both_be (map (slot_symbol n) ks))
       (In-all (may_both_be (slot_symbol n k)) (map (slot_symbol n) ks) (λ y i. refl)) (slots_local ks)
 
-  local_last : (b c : Bool) → not (b && false && c) ≡ true
+  local_last : (b c : Bool) → (b || true || c) ≡ true
   local_last true c = refl
   local_last false c = refl
 
@@ -324,7 +324,7 @@ module _ (o : Object) (sound : IsSoundObject (plain o)) (slots : List ℕ) (n : 
       across : (x y : Symbol) → In x o.symbols → In y (map (slot_symbol n) (upto (length slots))) → may_both_be x y ≡ true
       across x y i j =
           let from = In-map (slot_symbol n) (upto (length slots)) y j in
-          subst (λ (z : Symbol). may_both_be x z ≡ true) (sym from.2) (local_last (is_global x.bind) _)
+          subst (λ (z : Symbol). may_both_be x z ≡ true) (sym from.2) (local_last (is_local x.bind) _)
 
   pub slots_sound : IsSoundObject new
   slots_sound = record {

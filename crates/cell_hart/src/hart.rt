@@ -1,6 +1,7 @@
 //! The hart.
 
 ghost use Rattle.std.specs.Prelude.{◌≡◌, ◌+◌, ◌%◌, ◌<◌, ◌^◌, true, slice_index};
+ghost use Rattle.cell_num.specs.Limits.{stack_size};
 ghost use Rattle.cell_mem.specs.State.{HasWrites, is_width};
 ghost use Rattle.cell_num.specs.Bits.{wrap};
 ghost use Rattle.cell_world.specs.SpawnCommand.{first_registers as registers_of};
@@ -10,10 +11,7 @@ use crate::causes::{load_cause, store_cause};
 use crate::stop::Stop;
 use cell_isa::{Access, Insn, Op, access, address, aim, decode, is_taken, result};
 use cell_mem::Memory;
-use cell_num::{Cause, sign_extend};
-
-/// The bytes of a stack.
-pub const STACK_SIZE: u64 = 16384;
+use cell_num::{Cause, STACK_SIZE, sign_extend};
 
 /// The pc, which is the address of the instruction to come, and x0 to x31; x0 is 0.
 #[derive(Drop)]
@@ -41,7 +39,7 @@ fn extended(with_sign: bool, width: u8, value: u64) -> u64
 
 /// All are 0 but x2, 16 bytes below the stack's end, and x10.
 fn first_registers(arg: u64, stack: u64) -> [u64; 32]
-    requires { stack + 16384 < 2 ^ 64 }
+    requires { stack + stack_size < 2 ^ 64 }
     ensures { result ≡ registers_of arg stack }
 {
     let mut x = [0u64; 32];
@@ -57,7 +55,7 @@ impl Hart {
     /// A hart at its first instruction, with an argument in x10 and a stack, which is named by its
     /// first address.
     pub fn begin(entry: u64, arg: u64, stack: u64) -> Hart
-        requires { stack + 16384 < 2 ^ 64 }
+        requires { stack + stack_size < 2 ^ 64 }
         ensures pc { result.pc ≡ entry }
         ensures x { result.x ≡ registers_of arg stack }
     {

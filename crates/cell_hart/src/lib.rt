@@ -6,5 +6,5 @@ mod causes;
 mod hart;
 mod stop;
 
-pub use hart::{Hart, STACK_SIZE};
+pub use hart::Hart;
 pub use stop::Stop;

@@ -26,7 +26,7 @@ use Rattle.cell_object.specs.Symbols.{is_global_name, defines}
 use Rattle.cell_object.specs.Relocations.{is_unusable, is_unplaced, is_clash, has_label, is_label}
 use Rattle.cell_object.specs.ImageParts.{entries_for}
 use Rattle.cell_object.specs.Sound as sound
-use Rattle.cell_object.specs.Sound.{IsSoundObject, is_sound_section, is_sound_symbol, is_sound_home, is_known_bind, is_plain_sort, is_nameable, is_sound_entry, is_sound_entry_in, is_known_kind, may_share, may_both_be}
+use Rattle.cell_object.specs.Sound.{IsSoundObject, is_sound_section, is_sound_symbol, is_sound_home, is_plain_sort, is_nameable, is_sound_entry, is_sound_entry_in, is_known_kind, may_share, may_both_be}
 use Rattle.cell_object.specs.Writable.{is_file, IsStorableSection, IsWritable}
 use Rattle.cell_num.proofs.Elements.{all-In, In-none, any-In, any-Has, find_there, get-In, filter-In, In-filtered, filter-Passes}
 use Rattle.cell_num.proofs.Sublists.{pairs-filter}
@@ -111,37 +111,41 @@ section_ruled k s h st =
 
 -- SYMBOLS
 
-plain_sorted : (global good : Bool) (sort : Sort) → (not global || good && is_plain_sort sort) ≡ true → (global && (is_section sort || is_file sort)) ≡ false
-plain_sorted false good sort h = refl
-plain_sorted true good sorts.NoType h = refl
-plain_sorted true good sorts.Object h = refl
-plain_sorted true good sorts.Func h = refl
-plain_sorted true true sorts.Section h = absurd (true≢false (sym h))
-plain_sorted true false sorts.Section h = absurd (true≢false (sym h))
-plain_sorted true true sorts.File h = absurd (true≢false (sym h))
-plain_sorted true false sorts.File h = absurd (true≢false (sym h))
+plain_sorted : (b : Bind) (good : Bool) (sort : Sort) → (is_local b || good && is_plain_sort sort) ≡ true → (is_global b && (is_section sort || is_file sort)) ≡ false
+plain_sorted Local good sort h = refl
+plain_sorted Weak good sort h = refl
+plain_sorted Global good sorts.NoType h = refl
+plain_sorted Global good sorts.Object h = refl
+plain_sorted Global good sorts.Func h = refl
+plain_sorted Global true sorts.Section h = absurd (true≢false (sym h))
+plain_sorted Global false sorts.Section h = absurd (true≢false (sym h))
+plain_sorted Global true sorts.File h = absurd (true≢false (sym h))
+plain_sorted Global false sorts.File h = absurd (true≢false (sym h))
 
-local_of : (b : Bind) → is_known_bind b ≡ true → not (is_global b) ≡ true → is_local b ≡ true
-local_of Local h n = refl
-local_of Global h n = absurd (true≢false (sym n))
-local_of Weak h n = absurd (true≢false (sym h))
+not_global : (b : Bind) → is_local b ≡ true → is_global b ≡ false
+not_global Local h = refl
+not_global Global h = absurd (true≢false (sym h))
+not_global Weak h = refl
 
-well_named : (global good taken plain : Bool) → (not global || good && plain) ≡ true → (global ≡ true → taken ≡ false) → (global && (not good || taken)) ≡ false
-well_named false good taken plain h t = refl
-well_named true true taken plain h t = t refl
-well_named true false taken plain h t = absurd (true≢false (sym h))
+well_named : (b : Bind) (good taken plain : Bool) → (is_local b || good && plain) ≡ true → (is_global b ≡ true → taken ≡ false) → (is_global b && (not good || taken)) ≡ false
+well_named Local good taken plain h t = refl
+well_named Weak good taken plain h t = refl
+well_named Global true taken plain h t = t refl
+well_named Global false taken plain h t = absurd (true≢false (sym h))
 
-other_name : (a b same : Bool) → not (a && b && same) ≡ true → b ≡ true → (a && same) ≡ false
-other_name true true same h g = not_true same h
-other_name true false same h g = absurd (true≢false (sym g))
-other_name false b same h g = refl
+other_name : (a b : Bind) (same : Bool) → (is_local a || is_local b || not same) ≡ true → is_global b ≡ true → (is_global a && same) ≡ false
+other_name Local b same h g = refl
+other_name Weak b same h g = refl
+other_name Global Global same h g = not_true same h
+other_name Global Local same h g = absurd (true≢false (sym g))
+other_name Global Weak same h g = absurd (true≢false (sym g))
 
 -- ENTRIES
 
 nameable_placed : (s : Symbol) (h : Home) → is_nameable s h ≡ true → (is_local s.bind && is_unplaced h) ≡ false
 nameable_placed s Undef h = go s.bind h
   where
-    go : (b : Bind) → is_global b ≡ true → (is_local b && true) ≡ false
+    go : (b : Bind) → not (is_local b) ≡ true → (is_local b && true) ≡ false
     go Local h = absurd (true≢false (sym h))
     go Global h = refl
     go Weak h = refl
@@ -260,33 +264,32 @@ module _ (object : Object) (w : IsWritable object) where
       let there : slice_get object.sections n ≡ Some some.0 = subst (λ (i : ℕ). slice_get object.sections i ≡ Some some.0) place at.1 in
       some.1 ∙ sym there ∙ e
 
-  home_ruled : (s : Symbol) (h : Home) → is_known_bind s.bind ≡ true → is_sound_home object s h ≡ true → IsWritableHome object.sections s.bind s.value h
-  home_ruled s Undef known h = tt
-  home_ruled s Abs known h = local_of s.bind known h
-  home_ruled s (Inside n) known h = within (section_of object n) refl h
+  home_ruled : (s : Symbol) (h : Home) → is_sound_home object s h ≡ true → IsWritableHome object.sections s.bind s.value h
+  home_ruled s Undef h = tt
+  home_ruled s Abs h = h
+  home_ruled s (Inside n) h = within (section_of object n) refl h
     where
       within : (o : Option Section) → section_of object n ≡ o → unwrap_or (option_map (λ section. nat_le s.value section.size) o) false ≡ true → IsWithin object.sections n s.value
       within None e h = absurd (true≢false (sym h))
       within (Some section) e h =
           let at = placed n section e in record { section = section; low = at.0; there = at.1; value_inside = le_of s.value section.size h }
-  home_ruled s Elsewhere known h = not_true (is_global s.bind) h
+  home_ruled s Elsewhere h = not_global s.bind h
 
   symbol_ruled : (k : ℕ) (s : Symbol) → slice_get object.symbols k ≡ Some s → IsWritableSymbol object k s
   symbol_ruled k s e =
       let st = w.symbols k s e in
       let h : is_sound_symbol object s ≡ true = all-In (is_sound_symbol object) object.symbols w.sound.symbols s (get-In object.symbols k s e) in
-      let named = and_parts (is_known_bind s.bind && is_sound_home object s s.home) (not (is_global s.bind) || is_global_name s.name && is_plain_sort s.sort) h in
-      let homed = and_parts (is_known_bind s.bind) (is_sound_home object s s.home) named.0 in
+      let named = and_parts (is_sound_home object s s.home) (is_local s.bind || is_global_name s.name && is_plain_sort s.sort) h in
       record {
         name = st.name;
         first = st.first;
         last = st.last;
-        sort = plain_sorted (is_global s.bind) (is_global_name s.name) s.sort named.1;
+        sort = plain_sorted s.bind (is_global_name s.name) s.sort named.1;
         filed = st.filed;
-        home = home_ruled s s.home homed.0 homed.1;
-        named = well_named (is_global s.bind) (is_global_name s.name) (defines (take k object.symbols) s.name) (is_plain_sort s.sort) named.1
+        home = home_ruled s s.home named.0;
+        named = well_named s.bind (is_global_name s.name) (defines (take k object.symbols) s.name) (is_plain_sort s.sort) named.1
             (λ global. In-none (λ x. is_global x.bind && bytes_eq x.name s.name) (take k object.symbols)
-            (λ x i. other_name (is_global x.bind) (is_global s.bind) (bytes_eq x.name s.name) (pairs_before may_both_be object.symbols k x s w.sound.names e i) global));
+            (λ x i. other_name x.bind s.bind (bytes_eq x.name s.name) (pairs_before may_both_be object.symbols k x s w.sound.names e i) global));
         value = st.value;
         size = st.size;
       }

@@ -8,7 +8,7 @@ use Rattle.std.specs.BTreeSet.{insert_key}
 use Rattle.std.specs.declared.result.Result.{Result}
 use Rattle.std.proofs.lemmas.List.Elements.{All-nil, All-head, All-tail, All-filter, All-contains_itself}
 use Rattle.std.proofs.lemmas.Map.Views.{All-insert_key}
-use Rattle.cell_world.specs.Limits.{max_names, max_files, max_script_bytes}
+use Rattle.cell_num.specs.Limits.{max_names, max_files, max_script_bytes}
 use Rattle.cell_world.specs.declared.file.File.{File}
 use Rattle.cell_input.specs.declared.take.Input.{Input}
 use Rattle.cell_io.specs.declared.stop.Stop.{Stop}

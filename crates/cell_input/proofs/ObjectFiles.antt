@@ -11,7 +11,7 @@ use Rattle.std.proofs.lemmas.List.{drop_more}
 use Rattle.std.specs.Prelude.{All, Contains}
 use Rattle.std.proofs.lemmas.List.Elements.{All-head, All-same, All-rest, All-append, All-cons, All-nil}
 use Rattle.std.proofs.Math.Seq.{take-length}
-use Rattle.cell_world.specs.Limits.{max_file_bytes}
+use Rattle.cell_num.specs.Limits.{max_file_bytes}
 use Rattle.cell_io.specs.Files.{File as HostFile, names_in, folder}
 use Rattle.cell_world.specs.declared.file.File.{File}
 use Rattle.std.specs.declared.result.Result.{Result}

@@ -10,7 +10,7 @@ use Rattle.std.specs.Cmp.Lexicographic.{slice_cmp}
 use Rattle.std.specs.BTreeSet.{insert_key}
 use Rattle.std.proofs.lemmas.Bool.{and_parts, eqb-true, ltb-true}
 use Rattle.std.proofs.lemmas.Bool.Decides.{nat_tests}
-use Rattle.cell_world.specs.Limits.{max_files, max_file_bytes}
+use Rattle.cell_num.specs.Limits.{max_files, max_file_bytes}
 use Rattle.cell_num.specs.Lists.{each_pair, is_before}
 use Rattle.cell_depot.specs.ObjectName.{is_object_name}
 use Rattle.cell_world.specs.declared.file.File.{File}

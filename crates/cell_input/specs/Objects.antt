@@ -1,7 +1,7 @@
 -- The object files among the names of a folder.
 use Rattle.std.specs.Prelude.{ℕ, ◌≡◌, ◌≤◌, true, All, List, [], filter, fold, length}
 use Rattle.std.specs.List.{list_all}
-use Rattle.cell_world.specs.Limits.{max_files, max_file_bytes}
+use Rattle.cell_num.specs.Limits.{max_files, max_file_bytes}
 use Rattle.cell_num.specs.Lists.{each_pair, is_before}
 use Rattle.std.specs.Ordering.{nat_cmp}
 use Rattle.std.specs.Cmp.Lexicographic.{slice_cmp}

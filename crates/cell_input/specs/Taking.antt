@@ -2,7 +2,7 @@
 --     input_from script files      the object files and the commands, or the first refusal
 use Rattle.std.specs.Prelude.{ℕ, ◌+◌, nat_lt, List, [], ◌∷◌, length, map, if◌then◌else◌, bytes_eq, Result, Ok, Err}
 use Rattle.std.specs.List.{list_any}
-use Rattle.cell_world.specs.Limits.{max_names, max_files, max_file_bytes, max_all_bytes, max_script_bytes}
+use Rattle.cell_num.specs.Limits.{max_names, max_files, max_file_bytes, max_all_bytes, max_script_bytes}
 use Rattle.cell_io.specs.Files.{File as HostFile, bytes_named}
 use Rattle.cell_io.specs.Within.{within, ◌>>=◌}
 use Rattle.cell_world.specs.declared.file.File.{File}

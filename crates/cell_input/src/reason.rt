@@ -1,6 +1,6 @@
 //! Why there is nothing to work on.
 
-use cell_world::{MAX_ALL_BYTES, MAX_FILE_BYTES, MAX_FILES, MAX_NAMES, MAX_SCRIPT_BYTES};
+use cell_num::{MAX_ALL_BYTES, MAX_FILE_BYTES, MAX_FILES, MAX_NAMES, MAX_SCRIPT_BYTES};
 
 /// What there is too much of.
 #[derive(Clone, Copy, Debug, PartialEq, Eq)]

@@ -4,7 +4,7 @@ ghost use Rattle.std.specs.Prelude.{◌≡◌, ◌≢◌, ◌≤◌, ◌^◌, �
 ghost use Rattle.cell_io.specs.Causes.{HasCause};
 ghost use Rattle.cell_io.specs.Files.{names_in, bytes_in, folder};
 ghost use Rattle.cell_io.specs.Within.{IfTold, Gives};
-ghost use Rattle.cell_world.specs.Limits.{max_all_bytes, max_file_bytes};
+ghost use Rattle.cell_num.specs.Limits.{max_all_bytes, max_file_bytes};
 ghost use Rattle.cell_script.specs.Script.{are_said};
 ghost use Rattle.cell_input.specs.Objects.{AreObjectFiles, AreObjects, objects_of};
 ghost use Rattle.cell_input.specs.Taking.{listing, objects_among, bytes_after, file_after, files_after, commands_of, input_from};
@@ -14,9 +14,11 @@ use crate::reason::{
     FILE_TOO_LONG, FILES_TOO_LONG, Reason, SCRIPT_TOO_LONG, TOO_MANY_FILES, TOO_MANY_NAMES,
 };
 use cell_io::{Host, Stop, is_listed, list_within, read_within};
-use cell_num::{Listed, Name, Shared};
+use cell_num::{
+    Listed, MAX_ALL_BYTES, MAX_FILE_BYTES, MAX_FILES, MAX_NAMES, MAX_SCRIPT_BYTES, Name, Shared,
+};
 use cell_script::{Script, ScriptFail, read_script};
-use cell_world::{File, MAX_ALL_BYTES, MAX_FILE_BYTES, MAX_FILES, MAX_NAMES, MAX_SCRIPT_BYTES};
+use cell_world::File;
 use std::alloc::{AllocError, Global};
 use std::collections::BTreeSet;
 

@@ -8,9 +8,9 @@ use Rattle.std.proofs.lemmas.List.{length-map}
 use Rattle.std.proofs.lemmas.List.Elements.{filter-append}
 use Rattle.cell_num.specs.Lists.{each_pair, In}
 use Rattle.cell_world.specs.declared.reply.Reply.{Reply}
-use Rattle.cell_world.specs.Limits.{max_cells}
+use Rattle.cell_num.specs.Limits.{max_cells}
 use Rattle.cell_world.specs.World.{World, Cell}
-use Rattle.cell_world.specs.Answer.{Done, ids, numbers_of, fresh_by}
+use Rattle.cell_world.specs.Answer.{Done, fresh_by, ids, numbers_of}
 use Rattle.cell_world.specs.Coherent.{IsCoherent}
 use Rattle.cell_num.proofs.Elements.{In-all, In-map, all-In, all_push, filter_none, map_same, pairs-map, pairs_push}
 use Rattle.cell_num.proofs.Sublists.{map_filter}

@@ -7,11 +7,11 @@ use Rattle.cell_num.specs.declared.ids.CellId.{CellId}
 use Rattle.cell_world.specs.declared.refusal.Many.TheVariants.{Namespaces, Tasks as ManyTasks, TaskNumbers}
 use Rattle.cell_world.specs.declared.refusal.Refusal.TheVariants.{NameTaken, NoEntry, TooMany, Unknown}
 use Rattle.cell_world.specs.World.{World, Cell}
-use Rattle.cell_world.specs.Answer.{Done, live_task, present_cell, space_of, fresh_by}
+use Rattle.cell_world.specs.Answer.{Done, fresh_by, live_task, present_cell, space_of}
 use Rattle.cell_world.specs.Coherent.{IsCoherent}
 use Rattle.cell_world.specs.DumpCommand.{next_dump}
 use Rattle.cell_world.specs.Gather.{Source}
-use Rattle.cell_world.specs.Limits.{max_namespaces, max_tasks, max_task_number}
+use Rattle.cell_num.specs.Limits.{max_namespaces, max_tasks, max_task_number}
 use Rattle.cell_world.specs.Names.{namespace_named}
 use Rattle.cell_world.specs.Next.{outcome_of}
 use Rattle.cell_world.specs.NsCommand.{next_ns}

@@ -10,7 +10,7 @@ use Rattle.cell_world.specs.Asked.{load_by_change, swap_by_change, wants_of}
 use Rattle.cell_world.specs.Change.{Change, Made, Plan, Want, adding, append_want, exchanges_from, garbage_after, gather, make_change, old_of, set_aside, swapped_out, with_names}
 use Rattle.cell_world.specs.Coherent.{IsCoherent}
 use Rattle.cell_world.specs.Gather.{Source, depot_files, fresh_cells, one_file}
-use Rattle.cell_world.specs.Limits.{max_cells}
+use Rattle.cell_num.specs.Limits.{max_cells}
 use Rattle.cell_world.specs.Names.{names_of}
 use Rattle.cell_world.specs.Outcome.{each}
 use Rattle.cell_world.specs.Reexport.{heir_of, take_on, with_alias, with_reexports}

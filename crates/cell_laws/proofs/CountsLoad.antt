@@ -5,7 +5,7 @@ use Rattle.std.proofs.lemmas.List.{length-map, map-append}
 use Rattle.cell_world.specs.World.{World, Cell}
 use Rattle.cell_world.specs.Answer.{numbers_of}
 use Rattle.cell_world.specs.Gather.{Source, append_cell, bring, new_cell}
-use Rattle.cell_world.specs.Limits.{max_cells}
+use Rattle.cell_num.specs.Limits.{max_cells}
 use Rattle.cell_world.specs.Place.{place_all, place_cell}
 use Rattle.cell_lemmas.proofs.Appended.{Appended, append_ok}
 use Rattle.cell_lemmas.proofs.Brought.{brought}

@@ -7,10 +7,10 @@ use Rattle.cell_object.specs.Bytes.{Broken}
 use Rattle.cell_object.specs.Reads.{reads}
 use Rattle.cell_object.specs.Sound.{IsSoundObject}
 use Rattle.cell_elf.proofs.LoadableCounts.{few_symbols, reads_passed}
-use Rattle.cell_elf.proofs.Soundness.{few_entries, object_sound}
+use Rattle.cell_elf.proofs.Soundness.{few_entries, object_plain, object_sound}
 use Rattle.cell_world.specs.Coherent.{AreSound, IsLoadable, IsLoadableReading}
 use Rattle.cell_world.specs.Gather.{Source, source_of}
-use Rattle.cell_world.specs.Limits.{max_file_bytes}
+use Rattle.cell_num.specs.Limits.{max_file_bytes}
 use Rattle.cell_world.specs.declared.file.File.{File}
 
 module _ (bytes : List ℕ) (object : Object) where
@@ -20,7 +20,7 @@ module _ (bytes : List ℕ) (object : Object) where
   pub reading_loadable : length bytes ≤ max_file_bytes → reads bytes ≡ Ok object → IsLoadable object
   reading_loadable small e =
       let p = reads_passed bytes object e in
-      subst IsLoadable p.1 (record { sound = object_sound bytes p.0; symbols = few_symbols bytes p.0 small; entries = few_entries bytes p.0 small })
+      subst IsLoadable p.1 (record { sound = object_sound bytes p.0; symbols = few_symbols bytes p.0 small; entries = few_entries bytes p.0 small; plain = object_plain bytes p.0 })
 
 loadable_or_broken : (bytes : List ℕ) (r : Result Object Broken) → length bytes ≤ max_file_bytes → reads bytes ≡ r → IsLoadableReading r
 loadable_or_broken bytes (Ok object) small e = reading_loadable bytes object small e

@@ -7,12 +7,9 @@ mod Laid
 pub mod Parts
 pub mod Fresh
 pub mod FreshSaid
-mod CoverageExact
 mod Counted
 mod CountsLoad
 mod CountsRemoval
 mod CountsChange
 pub mod Counts
 mod FilesSound
-mod SwapAnswers
-mod SwapChanges

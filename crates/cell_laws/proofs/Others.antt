@@ -1,4 +1,4 @@
--- A command that is no swap changes no target of a cell that stays.
+-- A command that brings no cells changes no target of a cell that stays.
 use Rattle.std.proofs.Common.{◌≡◌, refl, sym, ◌∙◌, ap, subst, ℕ, List, map, Ok}
 use Rattle.std.specs.Prelude.{All, IsTrue, length, nat_le, nat_lt}
 use Rattle.cell_num.specs.Lists.{holds, In}
@@ -9,38 +9,31 @@ use Rattle.cell_world.specs.declared.refusal.Many.TheVariants.{Tasks as ManyTask
 use Rattle.cell_world.specs.declared.refusal.Refusal.TheVariants.{NoEntry, TooMany}
 use Rattle.cell_world.specs.declared.state.Namespace.{Namespace}
 use Rattle.cell_world.specs.World.{World, Cell}
-use Rattle.cell_world.specs.Gather.{Source, bring, fresh_cells}
-use Rattle.cell_world.specs.Fit.{first_misfit}
-use Rattle.cell_world.specs.LoadCommand.{append_named, next_load}
+use Rattle.cell_world.specs.Gather.{Source}
 use Rattle.cell_world.specs.NsCommand.{next_ns}
-use Rattle.cell_world.specs.Place.{place_all, start_of_run}
+use Rattle.cell_world.specs.Place.{start_of_run}
 use Rattle.cell_world.specs.SpawnCommand.{entry_named, next_spawn}
 use Rattle.cell_world.specs.Target.{target_of}
 use Rattle.cell_world.specs.Changed.{now_in}
-use Rattle.cell_world.specs.Outcome.{found, need, refused_by}
+use Rattle.cell_world.specs.Outcome.{found, need}
 use Rattle.cell_world.specs.Answer.{Done, numbers_of, space_of}
 use Rattle.cell_world.specs.Next.{outcome_of}
 use Rattle.cell_world.specs.Coherent.{AreSound, IsCoherent}
-use Rattle.cell_lemmas.specs.Grown.{HasAttached}
 use Rattle.cell_lemmas.proofs.Appended.{ok_same}
-use Rattle.cell_num.proofs.Elements.{In-All, All-In, In-left, In-map, In-filtered}
-use Rattle.cell_lemmas.proofs.LoadGrown.{load_attached}
+use Rattle.cell_num.proofs.Elements.{In-All, All-In, In-map, In-filtered}
 use Rattle.cell_lemmas.proofs.NamespaceAdded.{Added, ns_ok}
 use Rattle.cell_lemmas.proofs.NextCoherent.{dump_same, find_same, map_same}
 use Rattle.cell_lemmas.proofs.Outcomes.{bind_ok, then_ok}
-use Rattle.cell_lemmas.proofs.Spaces.{space_grows}
-use Rattle.cell_lemmas.proofs.Supplied.{same_target}
+use Rattle.cell_lemmas.proofs.Spaces.{stands_there, target_stays}
 use Rattle.cell_lemmas.specs.Kept.{KeepsCells}
 use Rattle.cell_lemmas.proofs.Commands.{step_cells, run_cells, kill_cells, tasks_same}
 use Rattle.cell_lemmas.proofs.KeptPaths.{holds-In}
 use Rattle.cell_lemmas.proofs.Removals.{Removed, removed_targets, purge_removed, unload_removed}
-use Rattle.cell_laws.specs.Commands.{HasItems, IsNoSwap}
+use Rattle.cell_laws.specs.Commands.{BringsNoCells}
 use Rattle.cell_laws.specs.KeepsTargets.{KeepsTargets}
 use Rattle.cell_laws.proofs.NextCoherent.{deps_same, users_same, outcome_coherent}
 use Rattle.cell_lemmas.proofs.Settled.{found_now, mapped_same}
-use Rattle.cell_lemmas.proofs.FreshLinks.{grows}
 use Rattle.cell_lemmas.proofs.SwapReady.{one_number}
-use Rattle.cell_change_law.proofs.ByLoad.{load_is}
 
 module _ (w u : World) (h : IsCoherent w) (k : IsCoherent u) where
   -- where a cell is still present it is the one that it was
@@ -78,19 +71,7 @@ module _ (sources : List Source) (w : World) (h : IsCoherent w) (d : Done) (k : 
       let a : Added w name d.world = ns_ok w name parent d e in
       kept_by w d.world h k (λ c i s. subst (λ (v : World). In c v.cells) a.is i) (λ c i j x m.
       subst (λ (v : World). target_of v c x ≡ target_of w c x) a.is
-      (same_target w _ (space_grows w h.ready.spaces name a.parent) h.ready.cell_order h.ready.cells h.ready.objects h.ready.supplied c i x m))
-
-  by_load : AreSound sources → (name stem : List ℕ) → next_load sources w name stem ≡ Ok d → KeepsTargets w d.world
-  by_load sound name stem e =
-      let a = bind_ok (append_named sources w name stem) _ d e in
-      let b = bind_ok (bring sources w.next_cell a.0) _ d a.2 in
-      let p = bind_ok (place_all b.0 (fresh_cells w.next_cell b.0)) _ d b.2 in
-      let f = then_ok (refused_by (first_misfit p.0 (fresh_cells w.next_cell p.0))) _ d p.2 in
-      let is = ap (λ (x : Done). x.world) (ok_same _ d f.2) in
-      let a : HasAttached w p.0 (fresh_cells w.next_cell p.0) = load_attached sources w name stem a.0 b.0 sound h.ready a.1 b.1 p.0 p.1 in
-      kept_by w d.world h k (λ c i s. subst (λ (v : World). In c v.cells) is (subst (λ (cs : List Cell). In c cs) (sym a.cells) (In-left w.cells (fresh_cells w.next_cell p.0) c i)))
-      (λ c i j x m. subst (λ (v : World). target_of v c x ≡ target_of w c x) is
-      (same_target w p.0 (grows w p.0 (fresh_cells w.next_cell p.0) a) h.ready.cell_order h.ready.cells h.ready.objects h.ready.supplied c i x m))
+      (target_stays w h.ready.spaces name a.parent c (stands_there w h.ready.spaces name a.parent h.ready.cells c i) x))
 
   by_spawn : (name symbol : List ℕ) (arg : ℕ) → next_spawn w name symbol arg ≡ Ok d → KeepsTargets w d.world
   by_spawn name symbol arg e =
@@ -102,32 +83,15 @@ module _ (sources : List Source) (w : World) (h : IsCoherent w) (d : Done) (k : 
       let is = ap (λ (x : Done). x.world) (ok_same _ d stack.2) in
       same_kept w d.world h k (ap (λ (v : World). v.cells) (sym is)) (ap (λ (v : World). v.namespaces) (sym is))
 
-pub others_keep : (sources : List Source) (w : World) (command : Command) (d : Done) → IsNoSwap command → AreSound sources → (h : IsCoherent w) → outcome_of sources w command ≡ Ok d → KeepsTargets w d.world
+pub others_keep : (sources : List Source) (w : World) (command : Command) (d : Done) → BringsNoCells command → AreSound sources → (h : IsCoherent w) → outcome_of sources w command ≡ Ok d → KeepsTargets w d.world
 others_keep sources w command d other sound h e = go command other e
   where
-    some_items : (command : Command) → IsNoSwap command → HasItems command
-    some_items (Ns name parent) o = tt
-    some_items (Load name stem) o = tt
-    some_items (Find name symbol) o = tt
-    some_items (Spawn name symbol arg) o = tt
-    some_items (Step task n) o = tt
-    some_items (Run n) o = tt
-    some_items (Kill task) o = tt
-    some_items (Swap items reexport strict routines budget) o = absurd o
-    some_items (Unload cells) o = tt
-    some_items Purge o = tt
-    some_items Tasks o = tt
-    some_items (Deps cell) o = tt
-    some_items (Users cell) o = tt
-    some_items Map o = tt
-    some_items (Dump cell section) o = tt
-
     k : IsCoherent d.world
-    k = outcome_coherent sources w command (some_items command other) sound h d e
+    k = outcome_coherent sources w command sound h d e
 
-    go : (command : Command) → IsNoSwap command → outcome_of sources w command ≡ Ok d → KeepsTargets w d.world
+    go : (command : Command) → BringsNoCells command → outcome_of sources w command ≡ Ok d → KeepsTargets w d.world
     go (Ns name parent) o e = by_ns sources w h d k name parent e
-    go (Load name stem) o e = by_load sources w h d k sound name stem (load_is sources sound w h name stem ∙ e)
+    go (Load name stem) o e = absurd o
     go (Find name symbol) o e = unchanged sources w h d k (find_same w name symbol d e)
     go (Spawn name symbol arg) o e = by_spawn sources w h d k name symbol arg e
     go (Step task n) o e = by_tasks sources w h d k (step_cells w task n d e)

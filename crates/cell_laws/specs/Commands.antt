@@ -1,14 +1,9 @@
--- What the grammar of commands gives besides their types.
---     HasItems command      a swap has an item
---     IsNoSwap command      it is a command of another kind
-use Rattle.std.specs.Prelude.{◌<◌, length}
+-- Commands by what they do.
+--     BringsNoCells command   it is neither a load nor a swap
 use Rattle.cell_world.specs.declared.command.Command.{Command}
-use Rattle.cell_world.specs.declared.command.Command.TheVariants.{Swap}
+use Rattle.cell_world.specs.declared.command.Command.TheVariants.{Load, Swap}
 
-abbrev pub HasItems : Command → Type 0
-HasItems (Swap items reexport strict routines budget) = 0 < length items
-HasItems _ = Unit {0}
-
-abbrev pub IsNoSwap : Command → Type 0
-IsNoSwap (Swap items reexport strict routines budget) = ⊥
-IsNoSwap _ = Unit {0}
+abbrev pub BringsNoCells : Command → Type 0
+BringsNoCells (Load ns stem) = ⊥
+BringsNoCells (Swap items reexport strict routines budget) = ⊥
+BringsNoCells _ = Unit {0}

@@ -1,4 +1,4 @@
--- What a command that isn't a swap leaves.
+-- What a command that brings no cells leaves.
 use Rattle.std.specs.Prelude.{◌≡◌, IsTrue, All}
 use Rattle.cell_num.specs.Lists.{holds}
 use Rattle.cell_world.specs.World.{World}

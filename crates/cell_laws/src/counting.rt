@@ -4,7 +4,7 @@ ghost use Rattle.std.specs.Prelude.{◌≡◌, ◌+◌, ◌≤◌, List, length}
 ghost use Rattle.cell_world.specs.Answer.{done, fresh_by};
 ghost use Rattle.cell_world.specs.Coherent.{IsCoherent};
 ghost use Rattle.cell_world.specs.Gather.{Source};
-ghost use Rattle.cell_world.specs.Limits.{max_cells};
+ghost use Rattle.cell_num.specs.Limits.{max_cells};
 ghost use Rattle.cell_world.specs.Next.{outcome_of};
 ghost use Rattle.cell_world.specs.World.{World};
 ghost use Rattle.cell_world.specs.declared.command.Command.{Command};

@@ -6,7 +6,7 @@ ghost use Rattle.cell_object.specs.Sound.{IsSoundObject};
 ghost use Rattle.cell_object.specs.declared.object.Object.{Object};
 ghost use Rattle.cell_world.specs.Coherent.{AreSound, IsLoadable};
 ghost use Rattle.cell_world.specs.Gather.{source_of};
-ghost use Rattle.cell_world.specs.Limits.{max_file_bytes};
+ghost use Rattle.cell_num.specs.Limits.{max_file_bytes};
 ghost use Rattle.cell_world.specs.declared.file.File.{File};
 
 /// Whatever the bytes of a file are, the object that they are read as is sound; and that of a file within the limit has few enough symbols and entries for a cell. So of every list of such files, as a folder has them, what the laws ask of their objects holds.

@@ -13,7 +13,6 @@
 //! - `transfer`: what the routines of a swap may touch
 //! - `undo`: what going back by the records of all writes gives back
 //! - `removal`: which cells are kept, who holds them, which are left, and that nothing leads into one that went
-//! - `swaps`: what a swap plans, and when it is accepted
 //! - `counting`: how many cells there are, by what replies say of them
 #![tactic(auto)]
 
@@ -25,7 +24,6 @@ pub mod presence;
 pub mod relinking;
 pub mod removal;
 pub mod room;
-pub mod swaps;
 pub mod targets;
 pub mod transfer;
 pub mod turns;

@@ -1,6 +1,7 @@
 //! What there is in a machine that can be linked: what entries and links name, and where cells lie.
 
 ghost use Rattle.std.specs.Prelude.{◌+◌, ◌*◌, ◌<◌, ◌≤◌, All};
+ghost use Rattle.cell_num.specs.Limits.{page_size};
 ghost use Rattle.cell_num.specs.Kinds.{width_of};
 ghost use Rattle.cell_world.specs.Coherent.{IsCoherent, IsReady};
 ghost use Rattle.cell_world.specs.Field.{place_of};
@@ -28,5 +29,5 @@ pub fn links_join_present()
 pub fn cells_lie_in_regions()
     ensures sections { (w : World) → IsLinkable w → All (λ c. All (λ s. 0 < s.size → IsInside w (start_of c.placed s.number) s.size) c.object.sections) w.cells }
     ensures fields { (w : World) → IsLinkable w → All (λ c. All (λ e. IsInside w (place_of c.placed e) (width_of e.kind)) c.object.entries) w.cells }
-    ensures places { (w : World) → IsLinkable w → All (λ c. All (λ p. (w.base ≤ p.start) × (p.start ≤ w.base + 4096 * w.pages)) c.places) w.cells }
+    ensures places { (w : World) → IsLinkable w → All (λ c. All (λ p. (w.base ≤ p.start) × (p.start ≤ w.base + page_size * w.pages)) c.places) w.cells }
 {}

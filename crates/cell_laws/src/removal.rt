@@ -6,13 +6,11 @@ ghost use Rattle.cell_world.specs.Answer.{Done, numbers_of};
 ghost use Rattle.cell_world.specs.Coherent.{AreSound, IsCoherent};
 ghost use Rattle.cell_world.specs.Gather.{Source};
 ghost use Rattle.cell_world.specs.Kept.{Holding, IsKept, holder_in, holding_of, kept_in};
-ghost use Rattle.cell_world.specs.SwapCommand.{next_swap};
 ghost use Rattle.cell_world.specs.UnloadCommand.{first_held, garbage_of, named_cells, next_purge, next_unload, put_aside, without_cells};
 ghost use Rattle.cell_world.specs.World.{Cell, World};
 ghost use Rattle.cell_world.specs.declared.command.CellName.{CellName};
 ghost use Rattle.cell_world.specs.declared.command.SwapItem.{SwapItem};
 ghost use Rattle.cell_lemmas.specs.Left.{IsFree, IsUnreached, LeavesFields, with_aside};
-ghost use Rattle.cell_lemmas.specs.Swapping.{HasSwapped};
 
 /// The kept cells that are computed are those that a path keeps, in the order of all cells.
 pub fn kept_is_by_paths()
@@ -39,40 +37,32 @@ pub fn unload_is_removal()
         d.world ≡ without_cells w (garbage_of (with_aside w cells)) }
 {}
 
-/// The cells that go are exactly the detached ones that nobody keeps. For `unload` those that it names count as detached; of a swap they are looked for when its routines have run.
+/// The cells that go are exactly the detached ones that nobody keeps. For `unload` those that it names count as detached.
 pub fn removed_are_free()
     ensures garbage { (w : World) → IsCoherent w → All (λ c. IsTrue (holds (garbage_of w) c.id.0) ↔ IsFree w c) w.cells }
     ensures purge { (w : World) (d : Done) → IsCoherent w → next_purge w ≡ Ok d →
         (c : Cell) → In c d.world.cells ↔ (In c w.cells × (IsFree w c → ⊥)) }
     ensures unload { (w : World) (names : List CellName) (cells : List Cell) (d : Done) → IsCoherent w → named_cells w names ≡ Ok cells → next_unload w names ≡ Ok d →
         (c : Cell) → In c d.world.cells ↔ (In c w.cells × (IsFree (with_aside w cells) (put_aside (suc w.swaps) (numbers_of cells) c) → ⊥)) }
-    ensures swap { (sources : List Source) (w : World) (items : List SwapItem) (reexport strict : Bool) (words : List (List ℕ)) (budget : ℕ) (d : Done) → AreSound sources → IsCoherent w → 0 < length items →
-        (s : HasSwapped sources w items reexport strict words budget d) → (c : Cell) → In c d.world.cells ↔ (In c s.second.cells × (IsFree s.second c → ⊥)) }
 {}
 
-/// After an accepted `unload`, `purge` or swap every cell that is present is kept.
+/// After an accepted `unload` or `purge` every cell that is present is kept.
 pub fn all_left_are_kept()
     ensures purge { (w : World) (d : Done) → IsCoherent w → next_purge w ≡ Ok d → All (λ c. IsKept (holding_of d.world) c.id.0) d.world.cells }
     ensures unload { (w : World) (names : List CellName) (d : Done) → IsCoherent w → next_unload w names ≡ Ok d →
         All (λ c. IsKept (holding_of d.world) c.id.0) d.world.cells }
-    ensures swap { (sources : List Source) (w : World) (items : List SwapItem) (reexport strict : Bool) (words : List (List ℕ)) (budget : ℕ) (d : Done) → AreSound sources → IsCoherent w → 0 < length items → next_swap sources w items reexport strict words budget ≡ Ok d →
-        All (λ c. IsKept (holding_of d.world) c.id.0) d.world.cells }
 {}
 
-/// After an accepted `unload`, `purge` or swap nothing leads into a cell that went: no link, no aligned word of a writable section of a cell that is present, and no word of a live task.
+/// After an accepted `unload` or `purge` nothing leads into a cell that went: no link, no aligned word of a writable section of a cell that is present, and no word of a live task.
 pub fn nothing_leads_to_removed()
     ensures purge { (w : World) (d : Done) → IsCoherent w → next_purge w ≡ Ok d →
         All (λ c. holds (numbers_of d.world.cells) c.id.0 ≡ false → IsUnreached w d.world c) w.cells }
     ensures unload { (w : World) (names : List CellName) (d : Done) → IsCoherent w → next_unload w names ≡ Ok d →
         All (λ c. holds (numbers_of d.world.cells) c.id.0 ≡ false → IsUnreached w d.world c) w.cells }
-    ensures swap { (sources : List Source) (w : World) (items : List SwapItem) (reexport strict : Bool) (words : List (List ℕ)) (budget : ℕ) (d : Done) → AreSound sources → IsCoherent w → 0 < length items →
-        (s : HasSwapped sources w items reexport strict words budget d) → All (λ c. holds (numbers_of d.world.cells) c.id.0 ≡ false → IsUnreached s.second d.world c) s.second.cells }
 {}
 
 /// Removing cells changes no byte of a field of a cell that stays.
 pub fn removing_keeps_fields()
     ensures unload { (w : World) (names : List CellName) (d : Done) → IsCoherent w → next_unload w names ≡ Ok d → LeavesFields w d.world }
     ensures purge { (w : World) (d : Done) → IsCoherent w → next_purge w ≡ Ok d → LeavesFields w d.world }
-    ensures swap { (sources : List Source) (w : World) (items : List SwapItem) (reexport strict : Bool) (words : List (List ℕ)) (budget : ℕ) (d : Done) → AreSound sources → IsCoherent w → 0 < length items →
-        (s : HasSwapped sources w items reexport strict words budget d) → LeavesFields s.second d.world }
 {}

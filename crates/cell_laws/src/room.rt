@@ -2,6 +2,7 @@
 
 ghost use Rattle.std.specs.List.{list_all};
 ghost use Rattle.std.specs.Prelude.{ℕ, ◌≡◌, ◌+◌, ◌*◌, ◌<◌, ◌≤◌, IsTrue, All, true, Some, Ok, length};
+ghost use Rattle.cell_num.specs.Limits.{page_size};
 ghost use Rattle.cell_num.specs.Lists.{each_pair};
 ghost use Rattle.cell_object.specs.declared.object.Object.{Object};
 ghost use Rattle.cell_world.specs.Coherent.{ends_before, is_in_space};
@@ -13,7 +14,7 @@ ghost use Rattle.cell_lemmas.specs.Clear.{IsClear};
 
 /// A region of n whole pages from a page on takes these pages of the table, and no others change.
 pub fn region_fills_table()
-    ensures { (w : World) (r : Region) (page : ℕ) (n : ℕ) → r.start ≡ w.base + 4096 * page → length r.bytes ≡ 4096 * n → page + n ≤ w.pages
+    ensures { (w : World) (r : Region) (page : ℕ) (n : ℕ) → r.start ≡ w.base + page_size * page → length r.bytes ≡ page_size * n → page + n ≤ w.pages
         → page_table (record w { regions = with_region r w.regions }) ≡ filled (page_table w) page n true }
 {}
 
@@ -21,7 +22,7 @@ pub fn region_fills_table()
 pub fn lowest_run_is_clear()
     ensures inside { (w : World) (n : ℕ) (page : ℕ) → 0 < n → lowest_run (page_table w) n ≡ Some page → page + n ≤ w.pages }
     ensures clear { (w : World) (n : ℕ) (page : ℕ) → 0 < n → lowest_run (page_table w) n ≡ Some page → IsTrue (list_all (is_in_space w) w.regions)
-        → All (IsClear (w.base + 4096 * page) (4096 * n)) w.regions }
+        → All (IsClear (w.base + page_size * page) (page_size * n)) w.regions }
 {}
 
 /// Where a class of a new cell is placed, all regions are whole pages in the space and apart from each other, as before.

@@ -5,6 +5,7 @@
 --     TakesPages, TakesRun, TakesRuns, FindsExtra    a run, the runs are taken in the space, or an extra one is found, or there is none
 --     Places space object ..       a new cell's places and regions, and the space with them
 use Rattle.std.specs.Prelude.{◌≡◌, ℕ, ◌/◌, ◌==◌, if◌then◌else◌, Bool, List, Option, Some, None, Result, Ok, Err, ◌≤◌, length, max}
+use Rattle.cell_num.specs.Limits.{page_size}
 use Rattle.cell_num.specs.Pages.{rounded_to_page}
 use Rattle.cell_object.specs.declared.object.Object.{Object}
 use Rattle.cell_world.specs.declared.refusal.Refusal.TheVariants.{Exhausted}
@@ -21,7 +22,7 @@ use Rattle.cell_layout.specs.declared.placement.PlaceFail.TheVariants.{NoRoom, O
 
 -- whole pages, at least one
 abbrev pub pages_by : ℕ → ℕ
-pages_by end = max 4096 (rounded_to_page end) / 4096
+pages_by end = max page_size (rounded_to_page end) / page_size
 
 -- a class without a section takes no run
 abbrev pub taken_by : ℕ → List Bool → Option ℕ → Outcome Taken

@@ -4,12 +4,10 @@ ghost use Rattle.std.specs.Prelude.{◌≡◌, ◌++◌, ◌<◌, ◌≤◌, ◌
 ghost use Rattle.cell_world.specs.Layout.{gap as gap_of, own_bytes, laid_out, to_pages, image_of};
 ghost use Rattle.cell_layout.specs.Layout.{in_class};
 
+use cell_num::PAGE_SIZE;
 use cell_object::{Fill, Section};
 use cell_world::Class;
 use std::alloc::{AllocError, Global};
-
-/// The bytes of a page.
-pub const PAGE: u16 = 4096;
 
 /// How many bytes are missing from `n` to the next multiple of an alignment.
 pub fn gap(n: u64, align: u16) -> u64
@@ -58,8 +56,8 @@ fn lacking(image: &[u8]) -> u64
     ensures small { result < 2 ^ 33 }
 {
     match image {
-        [] => u64::from(PAGE),
-        _ => gap(image.len() as u64, PAGE),
+        [] => PAGE_SIZE,
+        _ => gap(image.len() as u64, PAGE_SIZE as u16),
     }
 }
 

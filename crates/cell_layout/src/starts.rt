@@ -5,11 +5,9 @@ ghost use Rattle.cell_layout.specs.Layout.{IsSmall, AreSmall};
 ghost use Rattle.cell_layout.specs.Placing.{pages_by, FindsExtra, TakesPages, TakesRun, TakesRuns};
 
 use crate::layout::Ends;
+use cell_num::PAGE_SIZE;
 use cell_place::{NoRun, Space};
 use cell_world::Starts;
-
-/// The bytes of a page.
-const PAGE: u64 = 4096;
 
 /// The pages of a run whose sections end there: at least one.
 fn pages_for(end: u64) -> u32
@@ -17,7 +15,7 @@ fn pages_for(end: u64) -> u32
     ensures pages { result ≡ pages_by end }
     ensures some { 0 < result }
 {
-    end.div_ceil(PAGE).max(1) as u32
+    end.div_ceil(PAGE_SIZE).max(1) as u32
 }
 
 /// Takes the lowest free run of so many pages, and tells where it starts.

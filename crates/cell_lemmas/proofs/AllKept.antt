@@ -7,7 +7,8 @@ use Rattle.cell_num.specs.Lists.{holds, In}
 use Rattle.cell_world.specs.declared.command.CellName.{CellName}
 use Rattle.cell_world.specs.declared.state.LinkRow.{LinkRow}
 use Rattle.cell_world.specs.declared.state.Placed.{Placed}
-use Rattle.cell_world.specs.World.{World, Cell, Task, Detached, is_attached}
+use Rattle.cell_world.specs.World.{World, Cell, Task, is_attached}
+use Rattle.cell_world.specs.declared.state.Standing.TheVariants.{Detached}
 use Rattle.cell_world.specs.Answer.{Done, numbers_of}
 use Rattle.cell_world.specs.Kept.{Holding, Claim, IsKept, holding_of, claim_of, placed_in, reaches, is_held_directly, is_claimed_by, is_inside, is_word_in, has_word_in, has_link_to, words_inside, writable_words}
 use Rattle.cell_world.specs.UnloadCommand.{without_cells, garbage_of, purged, put_aside, detach, next_unload, next_purge}

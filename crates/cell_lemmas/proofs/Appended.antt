@@ -1,5 +1,5 @@
 -- A cell that is appended keeps the rule of names, the numbers of cells and the limits.
-use Rattle.std.proofs.Common.{◌≡◌, refl, sym, ◌∙◌, subst, ℕ, suc, ◌⊎◌, inl, inr, Bool, true, false, cond, not, ◌&&◌, ◌||◌, List, [], ◌∷◌, ◌++◌, map, length, true≢false, Option, Some, None, Result, Ok, Err}
+use Rattle.std.proofs.Common.{◌≡◌, refl, sym, ◌∙◌, ap, subst, ℕ, suc, ◌⊎◌, inl, inr, Bool, true, false, cond, not, ◌&&◌, ◌||◌, List, [], ◌∷◌, ◌++◌, map, length, true≢false, Option, Some, None, Result, Ok, Err}
 use Rattle.std.specs.Prelude.{filter, option_map, nat_lt, nat_le}
 use Rattle.std.specs.List.{list_any, list_all}
 use Rattle.std.proofs.lemmas.Bool.{and_parts, and_from, cases_Bool}
@@ -8,17 +8,20 @@ use Rattle.std.proofs.lemmas.Slice.Eq.{bytes_eq-Decides}
 use Rattle.cell_object.specs.declared.object.Object.{Object}
 use Rattle.cell_object.specs.declared.object.Symbol.{Symbol}
 use Rattle.cell_object.specs.Bytes.{Broken}
-use Rattle.cell_object.specs.Parts.{is_global}
+use Rattle.cell_object.specs.declared.object.Bind.{Bind}
+use Rattle.cell_object.specs.declared.object.Bind.TheVariants.{Local, Global, Weak}
+use Rattle.cell_object.specs.Parts.{is_global, is_local, is_weak, is_defined}
 use Rattle.cell_object.specs.Sound.{IsSoundObject, may_both_be}
 use Rattle.cell_world.specs.declared.refusal.Refusal.TheVariants.{BadObject, TooMany}
 use Rattle.cell_world.specs.declared.refusal.Many.TheVariants.{Cells, CellNumbers}
 use Rattle.cell_num.specs.Lists.{equals, holds, holds_name, numbered_from, each_pair, In}
 use Rattle.cell_world.specs.World.{World, Cell, Alias, is_attached}
-use Rattle.cell_world.specs.Names.{chain, rivals, clash_stem, clash_name, has_name, names_of, definitions_of, is_definition, are_on_one_path}
+use Rattle.cell_world.specs.Names.{chain, rivals, clash_stem, clash_name, has_name, names_of, definitions_of, weak_definitions_of, is_definition, is_weak_definition, are_on_one_path}
 use Rattle.cell_world.specs.Gather.{Source, stem_of_file, clash_among, duplicate, object_in, new_cell, append_cell}
 use Rattle.cell_world.specs.Outcome.{Outcome, need, refused_by}
 use Rattle.cell_world.specs.Coherent.{all_names, may_both_stand, has_each_name_once}
-use Rattle.cell_num.proofs.Elements.{none-In, In-none, unfound-In, filter-In, In-map, pairs_push, all_push, or_else_parts}
+use Rattle.cell_num.proofs.Elements.{none-In, In-none, unfound-In, filter-In, In-filtered, filter-Passes, In-map, In-numbered, get-In, pairs-In, pairs_push, all_push, or_else_parts}
+use Rattle.cell_num.proofs.Sublists.{pairs-append}
 use Rattle.cell_lemmas.proofs.Outcomes.{bind_ok, then_ok, need_ok, refused_ok}
 
 abbrev pub with_new : World → Source → ℕ → Object → World
@@ -106,7 +109,7 @@ module _ (w : World) (f : Source) (ns : ℕ) (w' : World) (app : Appended w f ns
       apart x d i j =
           equals_swap x.name d.name
           (none-In (λ (y : Alias). equals y.name d.name) (names_of a)
-          (unfound-In (λ c. has_name c d.name) (rivals w ns) (unmapped (λ c. c.id.0) _ (unclashed w ns (definitions_of app.object) app.names d j)) a k) x i)
+          (unfound-In (λ c. has_name (names_of c) d.name) (rivals w ns) (unmapped (λ c. c.id.0) _ (unclashed w ns (definitions_of app.object) app.names d j)) a k) x i)
 
       each_name : (n : List ℕ) → In n (all_names a) → holds_name (all_names new) n ≡ false
       each_name n i =
@@ -121,38 +124,94 @@ module _ (w : World) (f : Source) (ns : ℕ) (w' : World) (app : Appended w f ns
       stand_from (is_attached a.standing) true (are_on_one_path w.namespaces a.ns ns) (equals a.stem (stem_of_file f.name)) (list_any (holds_name (all_names new)) (all_names a))
       (λ t p. let r : In a (rivals w ns) = rival-In a k t (or_swap (holds (chain w.namespaces a.ns) ns) (holds (chain w.namespaces ns) a.ns) p) in (no_stem a r, no_name a r))
 
-abbrev Names : ℕ → List Symbol → List (List ℕ)
-Names i symbols = map (λ (a : Alias). a.name) (map (λ (p : ℕ × Symbol). record { name = p.1.name; symbol = p.0 }) (filter (λ p. is_definition p.1) (numbered_from i symbols)))
+unlike : (a b e : Bool) → a ≡ false → b ≡ false → (a || b || not e) ≡ true → not e ≡ true
+unlike false false e x y h = h
+unlike true b e x y h = absurd (true≢false x)
+unlike false true e x y h = absurd (true≢false y)
 
-unlike_names : (ga gb d e : Bool) → ga ≡ true → (gb && d) ≡ true → not (ga && gb && e) ≡ true → not e ≡ true
-unlike_names true true d true x y h = h
-unlike_names true true d false x y h = refl
-unlike_names true false d e x y h = absurd (true≢false (sym y))
-unlike_names false gb d e x y h = absurd (true≢false (sym x))
+-- the names of symbols that pass a test which no LOCAL passes
+module _ (p : Symbol → Bool) where
+  abbrev Names : ℕ → List Symbol → List (List ℕ)
+  Names i symbols = map (λ (a : Alias). a.name) (map (λ (q : ℕ × Symbol). record { name = q.1.name; symbol = q.0 }) (filter (λ q. p q.1) (numbered_from i symbols)))
 
-unlike_all : (s : Symbol) → is_global s.bind ≡ true → (symbols : List Symbol) (i : ℕ) → list_all (may_both_be s) symbols ≡ true → list_all (λ n. not (equals s.name n)) (Names i symbols) ≡ true
-unlike_all s g [] i h = refl
-unlike_all s g (t ∷ rest) i h = go (is_definition t) refl (unlike_all s g rest (suc i) k.1)
+  -- each is that of such a symbol
+  name_of : (symbols : List Symbol) (i : ℕ) (n : List ℕ) → In n (Names i symbols) → (s : Symbol) × In s symbols × (p s ≡ true) × (n ≡ s.name)
+  name_of symbols i n k =
+      let a = In-map (λ (a : Alias). a.name) (map (λ (q : ℕ × Symbol). record { name = q.1.name; symbol = q.0 }) (filter (λ q. p q.1) (numbered_from i symbols))) n k in
+      let q = In-map (λ (q : ℕ × Symbol). let x : Alias = record { name = q.1.name; symbol = q.0 } in x) (filter (λ q. p q.1) (numbered_from i symbols)) a.0 a.1 in
+      let g = In-numbered symbols i q.0 (In-filtered (λ (x : ℕ × Symbol). p x.1) (numbered_from i symbols) q.0 q.1) in
+      (q.0.1, get-In symbols g.0 q.0.1 g.1, filter-Passes (λ (x : ℕ × Symbol). p x.1) (numbered_from i symbols) q.0 q.1, a.2 ∙ ap (λ (x : Alias). x.name) q.2)
+
+  module _ (unlocal : (s : Symbol) → p s ≡ true → is_local s.bind ≡ false) where
+    unlike_all : (s : Symbol) → is_local s.bind ≡ false → (symbols : List Symbol) (i : ℕ) → list_all (may_both_be s) symbols ≡ true → list_all (λ n. not (equals s.name n)) (Names i symbols) ≡ true
+    unlike_all s g [] i h = refl
+    unlike_all s g (t ∷ rest) i h = go (p t) refl (unlike_all s g rest (suc i) k.1)
+      where
+        k : (may_both_be s t ≡ true) × (list_all (may_both_be s) rest ≡ true)
+        k = and_parts (may_both_be s t) (list_all (may_both_be s) rest) h
+
+        go : (b : Bool) → p t ≡ b → list_all (λ n. not (equals s.name n)) (Names (suc i) rest) ≡ true
+            → list_all (λ n. not (equals s.name n)) (map (λ (a : Alias). a.name) (map (λ (q : ℕ × Symbol). record { name = q.1.name; symbol = q.0 }) (cond b ((i, t) ∷ filter (λ q. p q.1) (numbered_from (suc i) rest)) (filter (λ q. p q.1) (numbered_from (suc i) rest))))) ≡ true
+        go false e r = r
+        go true e r = and_from _ _ (unlike (is_local s.bind) (is_local t.bind) (equals s.name t.name) g (unlocal t e) k.0) r
+
+    distinct_names : (symbols : List Symbol) (i : ℕ) → each_pair may_both_be symbols ≡ true → each_pair (λ a b. not (equals a b)) (Names i symbols) ≡ true
+    distinct_names [] i h = refl
+    distinct_names (s ∷ rest) i h = go (p s) refl (distinct_names rest (suc i) k.1)
+      where
+        k : (list_all (may_both_be s) rest ≡ true) × (each_pair may_both_be rest ≡ true)
+        k = and_parts (list_all (may_both_be s) rest) (each_pair may_both_be rest) h
+
+        go : (b : Bool) → p s ≡ b → each_pair (λ a b. not (equals a b)) (Names (suc i) rest) ≡ true
+            → each_pair (λ a b. not (equals a b)) (map (λ (a : Alias). a.name) (map (λ (q : ℕ × Symbol). record { name = q.1.name; symbol = q.0 }) (cond b ((i, s) ∷ filter (λ q. p q.1) (numbered_from (suc i) rest)) (filter (λ q. p q.1) (numbered_from (suc i) rest))))) ≡ true
+        go false e r = r
+        go true e r = and_from _ _ (unlike_all s (unlocal s e) rest (suc i) k.0) r
+
+global_unlocal : (s : Symbol) → is_definition s ≡ true → is_local s.bind ≡ false
+global_unlocal s e = go s.bind (and_parts (is_global s.bind) (is_defined s.home) e).0
   where
-    k : (may_both_be s t ≡ true) × (list_all (may_both_be s) rest ≡ true)
-    k = and_parts (may_both_be s t) (list_all (may_both_be s) rest) h
+    go : (b : Bind) → is_global b ≡ true → is_local b ≡ false
+    go Local h = absurd (true≢false (sym h))
+    go Global h = refl
+    go Weak h = refl
 
-    go : (b : Bool) → is_definition t ≡ b → list_all (λ n. not (equals s.name n)) (Names (suc i) rest) ≡ true
-        → list_all (λ n. not (equals s.name n)) (map (λ (a : Alias). a.name) (map (λ (p : ℕ × Symbol). record { name = p.1.name; symbol = p.0 }) (cond b ((i, t) ∷ filter (λ p. is_definition p.1) (numbered_from (suc i) rest)) (filter (λ p. is_definition p.1) (numbered_from (suc i) rest))))) ≡ true
-    go false e r = r
-    go true e r = and_from _ _ (unlike_names (is_global s.bind) (is_global t.bind) _ (equals s.name t.name) g e k.0) r
-
-pub distinct_names : (symbols : List Symbol) (i : ℕ) → each_pair may_both_be symbols ≡ true → each_pair (λ a b. not (equals a b)) (Names i symbols) ≡ true
-distinct_names [] i h = refl
-distinct_names (s ∷ rest) i h = go (is_definition s) refl (distinct_names rest (suc i) k.1)
+weak_unlocal : (s : Symbol) → is_weak_definition s ≡ true → is_local s.bind ≡ false
+weak_unlocal s e = go s.bind (and_parts (is_weak s.bind) (is_defined s.home) e).0
   where
-    k : (list_all (may_both_be s) rest ≡ true) × (each_pair may_both_be rest ≡ true)
-    k = and_parts (list_all (may_both_be s) rest) (each_pair may_both_be rest) h
+    go : (b : Bind) → is_weak b ≡ true → is_local b ≡ false
+    go Local h = absurd (true≢false (sym h))
+    go Global h = refl
+    go Weak h = refl
 
-    go : (b : Bool) → is_definition s ≡ b → each_pair (λ a b. not (equals a b)) (Names (suc i) rest) ≡ true
-        → each_pair (λ a b. not (equals a b)) (map (λ (a : Alias). a.name) (map (λ (p : ℕ × Symbol). record { name = p.1.name; symbol = p.0 }) (cond b ((i, s) ∷ filter (λ p. is_definition p.1) (numbered_from (suc i) rest)) (filter (λ p. is_definition p.1) (numbered_from (suc i) rest))))) ≡ true
-    go false e r = r
-    go true e r = and_from _ _ (unlike_all s (and_parts (is_global s.bind) _ e).0 rest (suc i) k.0) r
+not_both_binds : (s : Symbol) → is_weak_definition s ≡ true → is_definition s ≡ true → ⊥
+not_both_binds s e f = go s.bind (and_parts (is_weak s.bind) (is_defined s.home) e).0 (and_parts (is_global s.bind) (is_defined s.home) f).0
+  where
+    go : (b : Bind) → is_weak b ≡ true → is_global b ≡ true → ⊥
+    go Local h k = true≢false (sym h)
+    go Global h k = true≢false (sym h)
+    go Weak h k = true≢false (sym k)
+
+-- a WEAK definition and a GLOBAL one have different names
+weak_apart : (symbols : List Symbol) → each_pair may_both_be symbols ≡ true → (n m : List ℕ) → In n (Names is_weak_definition 1 symbols) → In m (Names is_definition 1 symbols) → not (equals n m) ≡ true
+weak_apart symbols h n m i j = go (pairs-In may_both_be symbols h x.0 y.0 x.1 y.1)
+  where
+    x : (s : Symbol) × In s symbols × (is_weak_definition s ≡ true) × (n ≡ s.name)
+    x = name_of is_weak_definition symbols 1 n i
+
+    y : (s : Symbol) × In s symbols × (is_definition s ≡ true) × (m ≡ s.name)
+    y = name_of is_definition symbols 1 m j
+
+    named : not (equals x.0.name y.0.name) ≡ true → not (equals n m) ≡ true
+    named e = ap (λ (v : List ℕ). not (equals v m)) x.3 ∙ (ap (λ (v : List ℕ). not (equals x.0.name v)) y.3 ∙ e)
+
+    unnot : (b : Bool) → not b ≡ true → b ≡ false
+    unnot true e = absurd (true≢false (sym e))
+    unnot false e = refl
+
+    go : (x.0 ≡ y.0) ⊎ ((may_both_be x.0 y.0 ≡ true) ⊎ (may_both_be y.0 x.0 ≡ true)) → not (equals n m) ≡ true
+    go (inl e) = absurd (not_both_binds x.0 x.2 (subst (λ (s : Symbol). is_definition s ≡ true) (sym e) y.2))
+    go (inr (inl e)) = named (unlike (is_local x.0.bind) (is_local y.0.bind) (equals x.0.name y.0.name) (weak_unlocal x.0 x.2) (global_unlocal y.0 y.2) e)
+    go (inr (inr e)) = named (ap not (equals_swap y.0.name x.0.name (unnot (equals y.0.name x.0.name) (unlike (is_local y.0.bind) (is_local x.0.bind) (equals y.0.name x.0.name) (global_unlocal y.0 y.2) (weak_unlocal x.0 x.2) e))))
 
 module _ (w : World) (f : Source) (ns : ℕ) (w' : World) (app : Appended w f ns w') where
   -- within the new cell a name stands once
@@ -161,8 +220,9 @@ module _ (w : World) (f : Source) (ns : ℕ) (w' : World) (app : Appended w f ns
     where
       own : has_each_name_once (new_cell w ns f app.object) ≡ true
       own =
-          subst (λ l. each_pair (λ a b. not (equals a b)) (map (λ (a : Alias). a.name) l) ≡ true) (sym (append-nil (definitions_of app.object)))
-          (distinct_names app.object.symbols 1 s.names)
+          subst (λ l. each_pair (λ a b. not (equals a b)) (map (λ (a : Alias). a.name) (weak_definitions_of app.object) ++ map (λ (a : Alias). a.name) l) ≡ true) (sym (append-nil (definitions_of app.object)))
+          (pairs-append (λ a b. not (equals a b)) (map (λ (a : Alias). a.name) (weak_definitions_of app.object)) (map (λ (a : Alias). a.name) (definitions_of app.object))
+          (distinct_names is_weak_definition weak_unlocal app.object.symbols 1 s.names) (distinct_names is_definition global_unlocal app.object.symbols 1 s.names) (weak_apart app.object.symbols s.names))
 
   -- the rule of names goes on to hold
   pub append_names : each_pair (may_both_stand w) w.cells ≡ true → each_pair (may_both_stand w') w'.cells ≡ true

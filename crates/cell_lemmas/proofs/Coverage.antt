@@ -12,13 +12,13 @@ use Rattle.cell_world.specs.Target.{target_of}
 use Rattle.cell_world.specs.Relink.{link_of, link_to}
 use Rattle.cell_world.specs.Gather.{Need, first_lack, lacks_of}
 use Rattle.cell_world.specs.Coherent.{IsCoherent, is_known_cell, is_supplied}
-use Rattle.cell_num.proofs.Elements.{all-In, none-In, some_has, filter_none}
+use Rattle.cell_num.proofs.Elements.{Has, all-In, none-In, some_has, filter_none}
 use Rattle.cell_lemmas.proofs.Attach.{Grows, provider_grown}
 use Rattle.cell_lemmas.proofs.Known.{known_parts, named}
 use Rattle.cell_lemmas.proofs.NeedsLeft.{Names, need_named, target_is}
 use Rattle.cell_lemmas.proofs.Lookups.{filter_map-In, has_place}
 use Rattle.cell_lemmas.proofs.TargetsLeft.{IsFree, provider_free}
-use Rattle.cell_lemmas.proofs.Detached.{without, other_provider}
+use Rattle.cell_lemmas.proofs.Detached.{other_provider}
 use Rattle.cell_lemmas.proofs.SetAside.{aside}
 use Rattle.cell_lemmas.proofs.SwapReady.{new_group}
 
@@ -52,11 +52,11 @@ module _ (v : World) (h : IsCoherent v) (old : List ℕ)
     still : (name : List ℕ) (j : In name (needs_of c.object)) → provider_of base c name ≡ Some (had name j).0
     still name j =
         let q = had name j in
-        other_provider v (named v h) (suc v.swaps) old (new_group v h) set_attached c.ns name c.standing (new_group v h c i)
-        ∙ (ap (without old) q.1 ∙ ap (λ b. cond b None (Some q.0)) (provider_apart name j q.0 q.1))
+        other_provider v (named v h) (suc v.swaps) old (new_group v h) set_attached c.ns name c.standing (new_group v h c i) (Some q.0) q.1
+        (λ p e. let s : q.0 ≡ p = cc in subst (λ (x : Provider). holds old x.cell ≡ false) s (provider_apart name j q.0 q.1))
 
     pub lacks_nothing : (w : World) → Grows base w → (name : List ℕ) → In name (needs_of c.object) → is_none (provider_of w c name) ≡ false
-    lacks_nothing w g name j = ap is_none (provider_grown base w g c.standing c.ns there name (had name j).0 (still name j))
+    lacks_nothing w g name j = let p : Has (provider_of w c name) = provider_grown base w g c.standing c.ns there name ((had name j).0, still name j) in ap is_none p.1
 
 -- cells that lack nothing can be passed over
 pub lacks_among : (w : World) (p : Cell → Bool) (cells : List Cell) → ((c : Cell) → In c cells → p c ≡ false → (name : List ℕ) → In name (needs_of c.object) → is_none (provider_of w c name) ≡ false)

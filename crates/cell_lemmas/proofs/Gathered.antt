@@ -6,8 +6,9 @@ use Rattle.std.proofs.lemmas.Bool.{ltb-true, lt-ltb, leb-true, le-leb}
 use Rattle.std.proofs.lemmas.List.{append-nil}
 use Rattle.cell_object.specs.declared.object.Object.{Object}
 use Rattle.cell_num.specs.Lists.{each_pair, In}
-use Rattle.cell_world.specs.Limits.{max_cells, max_cell_number}
-use Rattle.cell_world.specs.World.{World, Cell, Standing, Attached, Detached, is_attached}
+use Rattle.cell_num.specs.Limits.{max_cells, max_cell_number}
+use Rattle.cell_world.specs.World.{World, Cell, Standing, is_attached}
+use Rattle.cell_world.specs.declared.state.Standing.TheVariants.{Attached, Detached}
 use Rattle.cell_world.specs.Names.{chain}
 use Rattle.cell_world.specs.Gather.{Source, new_cell, append_cell, first_lack, fresh_cells, bring}
 use Rattle.cell_world.specs.Coherent.{IsLoadable, IsLoadableReading, AreSound, may_both_stand, has_each_name_once, is_known_cell, is_sound_standing}

@@ -6,7 +6,8 @@ use Rattle.cell_object.specs.declared.object.Entry.{Entry}
 use Rattle.cell_world.specs.declared.state.LinkRow.{LinkRow}
 use Rattle.cell_world.specs.declared.state.NewCell.{NewCell}
 use Rattle.cell_world.specs.declared.state.Target.{Target}
-use Rattle.cell_world.specs.World.{World, Cell, Attached}
+use Rattle.cell_world.specs.World.{World, Cell}
+use Rattle.cell_world.specs.declared.state.Standing.TheVariants.{Attached}
 use Rattle.cell_world.specs.Target.{target_of}
 use Rattle.cell_world.specs.Relink.{link_to, link_of}
 use Rattle.cell_world.specs.Changed.{now_in, differs}

@@ -1,17 +1,14 @@
--- An accepted load keeps the machine coherent.
+-- Once new cells have their places the machine can be linked, and is ready for it where all fits.
 use Rattle.std.proofs.Common.{◌≡◌, ◌<◌, refl, sym, ◌∙◌, ap, subst, arith, ℕ, ◌⊎◌, inl, inr, true, false, List, ◌++◌, map, None, Ok}
 use Rattle.std.specs.Prelude.{filter, flat_map, nat_lt, nat_le}
 use Rattle.std.specs.List.{list_all}
 use Rattle.std.proofs.lemmas.Bool.{ltb-true, leb-true, cases_Bool}
 use Rattle.std.proofs.lemmas.List.Elements.{filter-append}
 use Rattle.cell_world.specs.World.{World, Cell, is_attached}
-use Rattle.cell_world.specs.Relink.{relink}
 use Rattle.cell_world.specs.Place.{place_all}
-use Rattle.cell_world.specs.Gather.{Source, first_lack, fresh_cells}
+use Rattle.cell_world.specs.Gather.{first_lack, fresh_cells}
 use Rattle.cell_world.specs.Fit.{first_misfit}
-use Rattle.cell_world.specs.Answer.{Done}
-use Rattle.cell_world.specs.LoadCommand.{next_load}
-use Rattle.cell_world.specs.Coherent.{AreSound, IsReady, IsCoherent, is_known_cell, is_supplied, is_fitting}
+use Rattle.cell_world.specs.Coherent.{IsReady, is_known_cell, is_supplied, is_fitting}
 use Rattle.cell_lemmas.specs.Linkable.{IsLinkable}
 use Rattle.cell_num.specs.Lists.{In}
 use Rattle.cell_num.proofs.Elements.{all-In, In-right, filter_all, filter_none}
@@ -21,11 +18,9 @@ use Rattle.cell_lemmas.proofs.Places.{Spaced}
 use Rattle.cell_lemmas.proofs.Renamed.{bare, all_bare}
 use Rattle.cell_lemmas.proofs.PlacedAll.{Placed, all_placed}
 use Rattle.cell_lemmas.proofs.NewPlaced.{Adds, AllPlaced, new_placed, shapes_of}
-use Rattle.cell_lemmas.proofs.Ready.{grown, linkable_after, ready_after, IsBase, ready_base, append_same}
-use Rattle.cell_lemmas.proofs.Loaded.{Loaded, load_ok}
-use Rattle.cell_lemmas.proofs.Relinks.{coherent_relinked}
+use Rattle.cell_lemmas.proofs.Ready.{grown, linkable_after, ready_after, IsBase, append_same}
 use Rattle.cell_lemmas.proofs.Attach.{Grows}
-use Rattle.cell_lemmas.proofs.Supplied.{still_supplied, still_fitting}
+use Rattle.cell_lemmas.proofs.Supplied.{still_supplied}
 use Rattle.std.proofs.lemmas.List.{map-append}
 use Rattle.cell_world.specs.Names.{chain}
 
@@ -107,47 +102,9 @@ module _ (v : World) (base : IsBase v) (new : List Cell) (next : ℕ) where
           (λ c k. subst (λ (u : World). is_fitting u c ≡ true) (sym is) (old_fitting c k))
           (subst (λ (u : World). first_misfit u (fresh_cells v.next_cell u) ≡ None) (sym is) fit))
 
--- the cells of a ready machine stay supplied and fitting where it grows
-module _ (v w : World) (ready : IsReady v) (grows : Grows v w) where
-  pub supplied_still : (c : Cell) → In c v.cells → is_supplied w c ≡ true
-  supplied_still c k = still_supplied v w grows ready.cell_order ready.cells ready.objects ready.supplied c k
-
-  pub fitting_still : (c : Cell) → In c v.cells → is_fitting w c ≡ true
-  fitting_still c k = still_fitting v w grows ready.cell_order ready.cells ready.objects ready.supplied c k (all-In (is_fitting v) v.cells ready.fitting c k)
+-- the cells of a ready machine stay supplied where it grows
+pub supplied_still : (v w : World) → IsReady v → Grows v w → (c : Cell) → In c v.cells → is_supplied w c ≡ true
+supplied_still v w ready grows c k = still_supplied v w grows ready.cells ready.supplied c k
 
 pub swaps_below : (v w : World) → IsReady v → (x : Extends v w) → v.swaps < x.next
 swaps_below v w ready x = omega (arith, ready.swap_numbers, x.rises)
-
-pub load_ready : (v after : World) → IsReady v → Loaded v after → (w : World) × IsReady w × (relink w ≡ after)
-load_ready v after ready l = (
-  l.world,
-  placed_ready v base l.extends.new l.extends.next l.world ranks l.extends.attached l.extends.fresh lacks places (supplied_still v l.world ready grows)
-      (swaps_below v l.with_cells ready l.extends) (fitting_still v l.world ready grows) l.fit,
-  l.is,
-)
-  where
-    base : IsBase v
-    base = ready_base v ready
-
-    back : l.with_cells ≡ grown v (v.cells ++ l.extends.new) l.extends.next v.regions
-    back = sym l.extends.is
-
-    same : fresh_cells v.next_cell (grown v (v.cells ++ l.extends.new) l.extends.next v.regions) ≡ l.extends.new
-    same = fresh_is v base l.extends.new l.extends.next l.extends.fresh
-
-    lacks : first_lack (grown v (v.cells ++ l.extends.new) l.extends.next v.regions) l.extends.new ≡ None
-    lacks = subst (λ (cs : List Cell). first_lack (grown v (v.cells ++ l.extends.new) l.extends.next v.regions) cs ≡ None) same (subst (λ (u : World). first_lack u (fresh_cells v.next_cell u) ≡ None) back l.none_lacks)
-
-    places : place_all (grown v (v.cells ++ l.extends.new) l.extends.next v.regions) l.extends.new ≡ Ok l.world
-    places = subst (λ (cs : List Cell). place_all (grown v (v.cells ++ l.extends.new) l.extends.next v.regions) cs ≡ Ok l.world) same (subst (λ (u : World). place_all u (fresh_cells v.next_cell u) ≡ Ok l.world) back l.places)
-
-    ranks : Ranks (grown v (v.cells ++ l.extends.new) l.extends.next v.regions)
-    ranks = subst Ranks back l.ranks
-
-    grows : Grows v l.world
-    grows = placed_grows v base l.extends.new l.extends.next l.world ranks l.extends.attached l.extends.fresh lacks places
-
-pub load_coherent : (sources : List Source) (w : World) (name stem : List ℕ) (d : Done) → AreSound sources → IsCoherent w → next_load sources w name stem ≡ Ok d → IsCoherent d.world
-load_coherent sources w name stem d sound c h =
-    let r = load_ready w d.world c.ready (load_ok sources w name stem d sound (ready_ranks w c.ready) (ready_spaced w c.ready) h) in
-    subst IsCoherent r.2 (coherent_relinked r.0 r.1)

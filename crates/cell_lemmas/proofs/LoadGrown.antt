@@ -15,7 +15,7 @@ use Rattle.cell_world.specs.Gather.{Source, depot_files, one_file, bring, first_
 use Rattle.cell_world.specs.Fit.{first_misfit}
 use Rattle.cell_world.specs.Answer.{space_of}
 use Rattle.cell_world.specs.LoadCommand.{append_named}
-use Rattle.cell_world.specs.Coherent.{AreSound, IsReady, Shape, class_shape}
+use Rattle.cell_world.specs.Coherent.{AreSound, IsReady, Shape, class_shape, is_fitting}
 use Rattle.cell_lemmas.specs.Linkable.{IsLinkable}
 use Rattle.cell_lemmas.specs.Grown.{HasAttached, IsOwn, IsRegrown}
 use Rattle.cell_num.proofs.Elements.{In-All, In-left, In-right, flat_map-In, below_there, position_below}
@@ -28,12 +28,13 @@ use Rattle.cell_lemmas.proofs.FieldsInside.{classes, class-In}
 use Rattle.cell_lemmas.proofs.Renamed.{bare, all_bare, pairs_bare}
 use Rattle.cell_num.proofs.Sublists.{In-fixed}
 use Rattle.cell_lemmas.proofs.Targets.{In-find}
-use Rattle.cell_world.specs.Changed.{now_in}
+use Rattle.cell_world.specs.Changed.{now_in, first_changed_misfit}
 use Rattle.cell_lemmas.proofs.PlacedAll.{Placed, all_placed}
 use Rattle.cell_lemmas.proofs.NewPlaced.{AllPlaced, new_placed, shapes_of}
 use Rattle.cell_lemmas.proofs.NewRegions.{AllOwn, all_own}
 use Rattle.cell_lemmas.proofs.Ready.{grown, append_same, IsBase, ready_base}
-use Rattle.cell_lemmas.proofs.LoadCoherent.{ready_ranks, fresh_is, placed_linkable, placed_ready, placed_grows, supplied_still, fitting_still, swaps_below}
+use Rattle.cell_lemmas.proofs.LoadCoherent.{ready_ranks, fresh_is, placed_linkable, placed_ready, placed_grows, supplied_still, swaps_below}
+use Rattle.cell_lemmas.proofs.ChangedFits.{cell_fits}
 use Rattle.cell_lemmas.proofs.Distinct.{shape_there}
 use Rattle.cell_lemmas.proofs.Attach.{Grows}
 
@@ -140,7 +141,15 @@ module _ (sources : List Source) (v : World) (name stem : List ℕ) (a g : World
     pub load_placed_linkable : IsLinkable w
     load_placed_linkable = placed_linkable v (ready_base v ready) extends.new extends.next w ranks extends.attached extends.fresh lacks places (supplied_still v w ready grows)
 
-    pub load_placed_ready : first_misfit w (fresh_cells v.next_cell w) ≡ None → IsReady w
-    load_placed_ready fit =
+    -- the cells that were there are as they were
+    pub load_still : (c : Cell) → In c v.cells → now_in w c ≡ c
+    load_still = still v (ready_base v ready) extends.new extends.next w ranks extends.attached extends.fresh places
+
+    -- what changes in them fits, and so does what doesn't
+    fitting : first_changed_misfit v w v.cells ≡ None → (c : Cell) → In c v.cells → is_fitting w c ≡ true
+    fitting fit c k = subst (λ (x : Cell). is_fitting w x ≡ true) (load_still c k) (cell_fits v w (fresh_cells v.next_cell w) ready load_placed_linkable load_regrown fit c k)
+
+    pub load_placed_ready : first_misfit w (fresh_cells v.next_cell w) ≡ None → first_changed_misfit v w v.cells ≡ None → IsReady w
+    load_placed_ready fit changed =
         placed_ready v (ready_base v ready) extends.new extends.next w ranks extends.attached extends.fresh lacks places (supplied_still v w ready grows)
-        (swaps_below v g ready extends) (fitting_still v w ready grows) fit
+        (swaps_below v g ready extends) (fitting changed) fit

@@ -28,8 +28,8 @@ use Rattle.cell_lemmas.proofs.Placing.{all_is}
 -- gathering is refused
 pub load_refused : (sources : List Source) (w : World) (ns stem : List ℕ) (r : Refusal) → gathered_by sources w ns stem ≡ Err r → next_load sources w ns stem ≡ Err r
 load_refused sources w ns stem r e =
-    sym (bind_assoc (append_named sources w ns stem) (λ a. bring sources w.next_cell a) (link_fresh w.next_cell))
-    ∙ bind_err (gathered_by sources w ns stem) (link_fresh w.next_cell) r e
+    sym (bind_assoc (append_named sources w ns stem) (λ a. bring sources w.next_cell a) (link_fresh w))
+    ∙ bind_err (gathered_by sources w ns stem) (link_fresh w) r e
 
 -- places don't change numbers
 numbers_placed : (n : ℕ) (starts : List Starts) (cells : List Cell) → list_all (λ (c : Cell). nat_le n c.id.0) (placed_cells starts cells) ≡ list_all (λ (c : Cell). nat_le n c.id.0) cells
@@ -74,10 +74,10 @@ module _ (sources : List Source) (w : World) (ns stem : List ℕ) (coherent : Is
   places_are : place_all (grown w cells) (fresh_cells w.next_cell (grown w cells)) ≡ (take_all w.base (page_table w) (objects_of cells) >>= (λ t. Ok (placed_after t.starts w cells)))
   places_are = ap (place_all (grown w cells)) fresh ∙ all_is cells w.cells (grown w cells) refl ranks.order
 
-  load_is : next_load sources w ns stem ≡ link_fresh w.next_cell (grown w cells)
+  load_is : next_load sources w ns stem ≡ link_fresh w (grown w cells)
   load_is =
-      sym (bind_assoc (append_named sources w ns stem) (λ a. bring sources w.next_cell a) (link_fresh w.next_cell))
-      ∙ ap (λ o. o >>= link_fresh w.next_cell) gathered
+      sym (bind_assoc (append_named sources w ns stem) (λ a. bring sources w.next_cell a) (link_fresh w))
+      ∙ ap (λ o. o >>= link_fresh w) gathered
 
   -- no run is long enough
   pub load_full : (r : Refusal) → take_all w.base (page_table w) (objects_of cells) ≡ Err r → next_load sources w ns stem ≡ Err r

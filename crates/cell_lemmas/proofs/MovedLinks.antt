@@ -1,22 +1,25 @@
--- Where each entry that named a section names one still, the links of the cells that were there only move.
+-- In machines without a WEAK symbol each entry that named a section names one still: the links of the cells that were there only move.
 use Rattle.std.proofs.Common.{◌≡◌, refl, sym, ◌∙◌, ap, subst, ℕ, zero, suc, ◌+◌, arith, Bool, true, false, cond, List, [], ◌∷◌, ◌++◌, map, true≢false, Option, Some, None, inr, inl}
 use Rattle.std.specs.Prelude.{filter_map, flat_map, option_map, option_and_then, slice_get, unwrap_or}
 use Rattle.std.specs.List.{cons_option}
 use Rattle.std.proofs.lemmas.List.Folds.{flat_map-map}
-use Rattle.cell_num.specs.Lists.{numbered, In}
+use Rattle.cell_num.specs.Lists.{numbered, or_else, In}
 use Rattle.cell_object.specs.declared.object.Object.{Object}
 use Rattle.cell_object.specs.declared.object.Symbol.{Symbol}
 use Rattle.cell_object.specs.declared.object.Entry.{Entry}
 use Rattle.cell_object.specs.declared.object.Home.{Home}
 use Rattle.cell_object.specs.declared.object.Home.TheVariants.{Undef, Abs, Inside, Elsewhere}
-use Rattle.cell_object.specs.Parts.{is_global}
+use Rattle.cell_object.specs.declared.object.Bind.{Bind}
+use Rattle.cell_object.specs.declared.object.Bind.TheVariants.{Local, Global, Weak}
+use Rattle.cell_object.specs.Parts.{is_local, is_weak}
 use Rattle.cell_world.specs.declared.state.LinkRow.{LinkRow}
 use Rattle.cell_world.specs.declared.state.NewCell.{NewCell}
 use Rattle.cell_world.specs.declared.state.Target.{Target}
 use Rattle.cell_world.specs.declared.state.Target.TheVariants.{Section, Number}
-use Rattle.cell_world.specs.World.{World, Cell, Attached, cell_of, key_of}
-use Rattle.cell_world.specs.Names.{Provider, provider_of}
-use Rattle.cell_world.specs.Target.{provided_target, symbol_target, numbered_target, naming_entry, target_of}
+use Rattle.cell_world.specs.World.{World, Cell, cell_of, key_of}
+use Rattle.cell_world.specs.declared.state.Standing.TheVariants.{Attached}
+use Rattle.cell_world.specs.Names.{Provider, provider_of, strong_provider}
+use Rattle.cell_world.specs.Target.{own_target, provided_target, symbol_target, numbered_target, naming_entry, target_of}
 use Rattle.cell_world.specs.Relink.{link_of, relink}
 use Rattle.cell_world.specs.Changed.{now_in}
 use Rattle.cell_world.specs.Coherent.{IsReady, IsCoherent, is_supplied}
@@ -31,6 +34,7 @@ use Rattle.cell_lemmas.proofs.Fixed.{links_fixed}
 use Rattle.cell_lemmas.proofs.TargetsLeft.{provided}
 use Rattle.cell_lemmas.specs.Moved.{entry_at, led_to, moved}
 use Rattle.cell_lemmas.proofs.Unchanged.{placed_same, now_There}
+use Rattle.cell_lemmas.proofs.Plain.{ready_plain, unweak}
 use Rattle.std.proofs.lemmas.List.{map-append}
 
 abbrev is_section : Option Target → Bool
@@ -52,28 +56,32 @@ numbered_section object (suc n) = unwrap_or (option_map (λ s. home_section s.ho
 abbrev names_section : Object → Entry → Bool
 names_section object e = unwrap_or (option_map (λ n. numbered_section object n.symbol) (naming_entry object e)) false
 
-module _ (w : World) (h : IsCoherent w) (c : Cell) where
-  symbol_section : (s : Symbol) (home : Home) → Has (symbol_target w c s home) → is_section (symbol_target w c s home) ≡ home_section home
-  symbol_section s Abs t = refl
-  symbol_section s (Inside n) t = refl
-  symbol_section s Elsewhere t = refl
-  symbol_section s Undef t = go (is_global s.bind) t
+module _ (w : World) (h : IsCoherent w) (c : Cell) (i : In c w.cells) where
+  symbol_section : (s : Symbol) → is_weak s.bind ≡ false → (home : Home) → Has (symbol_target w c s home) → is_section (symbol_target w c s home) ≡ home_section home
+  symbol_section s strong Abs t = refl
+  symbol_section s strong (Inside n) t =
+      ap (λ (b : Bool). is_section (or_else (option_and_then (provided_target w) (cond b (strong_provider w c.standing c.ns s.name) None)) (own_target c.placed s (Inside n)))) strong
+  symbol_section s strong Elsewhere t = refl
+  symbol_section s strong Undef t = go s.bind strong t
     where
-      by : (o : Option Provider) → provider_of w c s.name ≡ o → Has (option_and_then (provided_target w) o) → is_section (option_and_then (provided_target w) o) ≡ true
+      by : (o : Option Provider) → provider_of w c s.name ≡ o → Has (or_else (option_and_then (provided_target w) o) None) → is_section (or_else (option_and_then (provided_target w) o) None) ≡ true
       by None e x = let n : None ≡ Some x.0 = x.1 in cc
-      by (Some p) e x = ap is_section (provided w (named w h) p (provides w c.standing c.ns s.name p e)).3
+      by (Some p) e x = ap (λ (o : Option Target). is_section (or_else o None)) (provided w (named w h) p (provides w c.standing c.ns s.name p e)).3
 
-      go : (b : Bool) → Has (cond b (option_and_then (provided_target w) (provider_of w c s.name)) None) → is_section (cond b (option_and_then (provided_target w) (provider_of w c s.name)) None) ≡ true
-      go true x = by (provider_of w c s.name) refl x
-      go false x = let n : None ≡ Some x.0 = x.1 in cc
+      go : (b : Bind) → is_weak b ≡ false
+          → Has (or_else (option_and_then (provided_target w) (cond (is_local b) None (provider_of w c s.name))) (cond (is_weak b) (Some (Number 0)) None))
+          → is_section (or_else (option_and_then (provided_target w) (cond (is_local b) None (provider_of w c s.name))) (cond (is_weak b) (Some (Number 0)) None)) ≡ true
+      go Local u x = let n : None ≡ Some x.0 = x.1 in cc
+      go Global u x = by (provider_of w c s.name) refl x
+      go Weak u x = cc
 
   numbered_is : (n : ℕ) → Has (numbered_target w c n) → is_section (numbered_target w c n) ≡ numbered_section c.object n
   numbered_is zero t = refl
-  numbered_is (suc n) t = go (slice_get c.object.symbols n) t
+  numbered_is (suc n) t = go (slice_get c.object.symbols n) refl t
     where
-      go : (o : Option Symbol) → Has (option_and_then (λ s. symbol_target w c s s.home) o) → is_section (option_and_then (λ s. symbol_target w c s s.home) o) ≡ unwrap_or (option_map (λ s. home_section s.home) o) false
-      go None x = refl
-      go (Some s) x = symbol_section s s.home x
+      go : (o : Option Symbol) → slice_get c.object.symbols n ≡ o → Has (option_and_then (λ s. symbol_target w c s s.home) o) → is_section (option_and_then (λ s. symbol_target w c s s.home) o) ≡ unwrap_or (option_map (λ s. home_section s.home) o) false
+      go None f x = refl
+      go (Some s) f x = symbol_section s (unweak c (ready_plain w h.ready c i) s (get-In c.object.symbols n s f)) s.home x
 
   target_section : (e : Entry) → Has (target_of w c e) → is_section (target_of w c e) ≡ names_section c.object e
   target_section e t = go (naming_entry c.object e) t
@@ -109,9 +117,9 @@ module _ (v w : World) (new : List Cell) (h : IsCoherent v) (ready : IsReady w) 
     -- a link is one still
     still : (e : Entry) → In e c.object.entries → is_section (target_of v c e) ≡ is_section (target_of w (now_in w c) e)
     still e j =
-        target_section v h c e (target_has v h.ready.cell_order h.ready.cells c (object_sound v h.ready.objects c i) (all-In (is_supplied v) v.cells h.ready.supplied c i) e j)
+        target_section v h c i e (target_has v h.ready.cell_order h.ready.cells c (object_sound v h.ready.objects c i) (all-In (is_supplied v) v.cells h.ready.supplied c i) e j)
         ∙ (ap (λ (p : NewCell). names_section p.object e) (sym same)
-        ∙ sym (target_section (relink w) (coherent_relinked w ready) (now_in w c) e
+        ∙ sym (target_section (relink w) (coherent_relinked w ready) (now_in w c) there e
         (target_has w ready.cell_order ready.cells (now_in w c) (object_sound w ready.objects (now_in w c) there) (all-In (is_supplied w) w.cells ready.supplied (now_in w c) there) e
         (subst (λ (p : NewCell). In e p.object.entries) (sym same) j))))
 

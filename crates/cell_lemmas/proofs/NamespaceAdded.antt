@@ -1,27 +1,30 @@
 -- A namespace that is added keeps the machine coherent: no cell, link or byte depends on it.
-use Rattle.std.proofs.Common.{◌≡◌, ◌∙◌, ap, subst, ℕ, ◌<◌, true, List, map, length, None, Ok}
-use Rattle.std.specs.Prelude.{All, nat_lt, is_none, filter_map, fold}
+use Rattle.std.proofs.Common.{◌≡◌, ◌∙◌, ap, subst, ℕ, ◌<◌, true, List, map, length, Option, None, Ok}
+use Rattle.std.specs.Prelude.{All, nat_lt, is_none, filter_map, fold, unwrap_or}
 use Rattle.std.proofs.lemmas.Bool.{lt-ltb}
 use Rattle.cell_num.specs.Lists.{equals, numbered, In}
 use Rattle.cell_object.specs.declared.object.Entry.{Entry}
 use Rattle.cell_world.specs.declared.refusal.Many.TheVariants.{Namespaces}
 use Rattle.cell_world.specs.declared.refusal.Refusal.TheVariants.{NameTaken, TooMany, Unknown}
 use Rattle.cell_world.specs.declared.state.LinkRow.{LinkRow}
-use Rattle.cell_world.specs.Limits.{max_namespaces}
+use Rattle.cell_num.specs.Limits.{max_namespaces}
 use Rattle.cell_world.specs.World.{World, Cell, Region}
 use Rattle.cell_world.specs.Names.{chain, namespace_named, provider_of}
-use Rattle.cell_world.specs.Field.{Bound, fields_of}
-use Rattle.cell_world.specs.Relink.{Patch, patch_of, patched, patches_of, restored, remade, link_of, links_of, relink}
+use Rattle.cell_world.specs.declared.state.Target.{Target}
+use Rattle.cell_world.specs.declared.state.Target.TheVariants.{Number}
+use Rattle.cell_world.specs.Target.{target_of}
+use Rattle.cell_world.specs.Field.{Bound, bound_by, misfit_of, fields_of}
+use Rattle.cell_world.specs.Relink.{bound_entries, Patch, patch_of, patched, patches_of, restored, remade, link_of, links_of, relink}
 use Rattle.cell_world.specs.Outcome.{need}
 use Rattle.cell_world.specs.Answer.{Done, space_of}
 use Rattle.cell_world.specs.NsCommand.{with_namespace, next_ns}
 use Rattle.cell_world.specs.Coherent.{IsReady, IsCoherent, is_supplied, is_fitting}
-use Rattle.cell_num.proofs.Elements.{all-In, In-all, In-All, In-numbered, get-In, none_is, position_below, flat_same, filter_map_same, map_same}
+use Rattle.cell_num.proofs.Elements.{all-In, In-all, In-All, none_is, position_below, flat_same, filter_map_same, map_same}
 use Rattle.cell_lemmas.proofs.Outcomes.{bind_ok, then_ok, need_ok, found_ok}
 use Rattle.cell_lemmas.proofs.Appended.{ok_same}
 use Rattle.cell_lemmas.proofs.FreshLinks.{link_with}
-use Rattle.cell_lemmas.proofs.Supplied.{same_target, same_bound, still_supplied, still_fitting}
-use Rattle.cell_lemmas.proofs.Spaces.{child, spaces_more, names_more, few_more, chain_stays, space_grows, provider_stays, stands_there, known_stays, names_stay}
+use Rattle.cell_lemmas.proofs.Supplied.{still_supplied}
+use Rattle.cell_lemmas.proofs.Spaces.{child, spaces_more, names_more, few_more, chain_stays, space_grows, provider_stays, target_stays, stands_there, known_stays, names_stay}
 
 module _ (w : World) (coherent : IsCoherent w) (name : List ℕ) (parent : ℕ) where
   abbrev after : World
@@ -30,19 +33,21 @@ module _ (w : World) (coherent : IsCoherent w) (name : List ℕ) (parent : ℕ) 
   abbrev ready : IsReady w
   ready = coherent.ready
 
+  same_target : (c : Cell) → In c w.cells → (e : Entry) → target_of after c e ≡ target_of w c e
+  same_target c k = target_stays w ready.spaces name parent c (stands_there w ready.spaces name parent ready.cells c k)
+
+  same_bound : (c : Cell) → In c w.cells → bound_entries after c ≡ bound_entries w c
+  same_bound c k = ap (bound_by c.object.entries) (map_same (λ e. unwrap_or (target_of after c e) (Number 0)) (λ e. unwrap_or (target_of w c e) (Number 0)) c.object.entries
+      (λ e j. ap (λ (o : Option Target). unwrap_or o (Number 0)) (same_target c k e)))
+
   same_patches : (c : Cell) → In c w.cells → patches_of after c ≡ patches_of w c
-  same_patches c k =
-      ap (λ (bound : List Bound). map (patch_of c bound) (fields_of c.object))
-      (same_bound w after (space_grows w ready.spaces name parent) ready.cell_order ready.cells ready.objects ready.supplied c k)
+  same_patches c k = ap (λ (bound : List Bound). map (patch_of c bound) (fields_of c.object)) (same_bound c k)
 
   same_remade : (r : Region) → remade after r ≡ remade w r
   same_remade r = ap (λ (ps : List Patch). fold patched (restored w r) ps) (flat_same (patches_of after) (patches_of w) w.cells same_patches)
 
   same_link : (c : Cell) → In c w.cells → (p : ℕ × Entry) → In p (numbered c.object.entries) → link_of after c p ≡ link_of w c p
-  same_link c k p m =
-      let n = In-numbered c.object.entries 0 p m in
-      ap (link_with c p)
-      (same_target w after (space_grows w ready.spaces name parent) ready.cell_order ready.cells ready.objects ready.supplied c k p.1 (get-In c.object.entries n.0 p.1 n.1))
+  same_link c k p m = ap (link_with c p) (same_target c k p.1)
 
   same_links : links_of after ≡ links_of w
   same_links =
@@ -63,9 +68,9 @@ module _ (w : World) (coherent : IsCoherent w) (name : List ℕ) (parent : ℕ) 
       own_names = ready.own_names;
       cells = known_stays w ready.spaces name parent ready.cells;
       supplied = In-all (is_supplied after) w.cells
-          (λ c k. still_supplied w after (space_grows w ready.spaces name parent) ready.cell_order ready.cells ready.objects ready.supplied c k);
+          (λ c k. still_supplied w after (space_grows w ready.spaces name parent) ready.cells ready.supplied c k);
       fitting = In-all (is_fitting after) w.cells
-          (λ c k. still_fitting w after (space_grows w ready.spaces name parent) ready.cell_order ready.cells ready.objects ready.supplied c k (all-In (is_fitting w) w.cells ready.fitting c k));
+          (λ c k. ap (λ (bound : List Bound). is_none (misfit_of c.placed bound)) (same_bound c k) ∙ all-In (is_fitting w) w.cells ready.fitting c k);
     };
     counted = ready.counted;
     parents = record {

@@ -4,13 +4,16 @@ use Rattle.std.specs.Prelude.{Option, Some, None, filter, ◌&&◌, ◌||◌, �
 use Rattle.std.specs.Ordering.{int_eq}
 use Rattle.std.proofs.lemmas.Bool.{eqb-true}
 use Rattle.cell_num.specs.Kinds.{is_pcrel_lo12}
-use Rattle.cell_num.specs.Lists.{holds, numbered_from, In}
+use Rattle.cell_num.specs.Lists.{holds, numbered_from, or_else, In}
+use Rattle.cell_world.specs.declared.state.Target.TheVariants.{Number}
 use Rattle.cell_object.specs.declared.object.Object.{Object}
 use Rattle.cell_object.specs.declared.object.Symbol.{Symbol}
 use Rattle.cell_object.specs.declared.object.Entry.{Entry}
+use Rattle.cell_object.specs.declared.object.Bind.{Bind}
+use Rattle.cell_object.specs.declared.object.Bind.TheVariants.{Local, Global, Weak}
 use Rattle.cell_object.specs.declared.object.Home.{Home}
 use Rattle.cell_object.specs.declared.object.Home.TheVariants.{Undef, Abs, Inside, Elsewhere}
-use Rattle.cell_object.specs.Parts.{symbol_at, label_of, high_of, inside_of, is_undefined, is_global}
+use Rattle.cell_object.specs.Parts.{symbol_at, label_of, high_of, inside_of, is_undefined, is_global, is_local, is_weak}
 use Rattle.cell_object.specs.Sound.{IsSoundObject}
 use Rattle.cell_world.specs.World.{World, Cell}
 use Rattle.cell_world.specs.Names.{provider_of, needs_of, is_used}
@@ -30,6 +33,15 @@ undefined_is Undef e = refl
 undefined_is Abs e = absurd (true≢false (sym e))
 undefined_is (Inside k) e = absurd (true≢false (sym e))
 undefined_is Elsewhere e = absurd (true≢false (sym e))
+
+global_is : (b : Bind) → is_global b ≡ true → b ≡ Global
+global_is Global e = refl
+global_is Local e = absurd (true≢false (sym e))
+global_is Weak e = absurd (true≢false (sym e))
+
+or_none : {X : Type 0} (o : Option X) → or_else o None ≡ o
+or_none None = refl
+or_none (Some x) = refl
 
 low_label : (l a h b : Bool) → (not l || a && h && b) ≡ true → l ≡ true → b ≡ true
 low_label true true true b k e = k
@@ -94,8 +106,9 @@ module _ (w : World) (h : IsCoherent w) (c : Cell) (here : In c w.cells) where
       ∙ (ap (numbered_target w c) n.by_number
       ∙ (ap (option_and_then (λ (y : Symbol). symbol_target w c y y.home)) n.has
       ∙ (ap (symbol_target w c n.symbol) n.home
-      ∙ (ap (λ b. cond b (option_and_then (provided_target w) (provider_of w c n.symbol.name)) None) n.global
-      ∙ ap (λ (x : List ℕ). option_and_then (provided_target w) (provider_of w c x)) (sym n.named)))))
+      ∙ (ap (λ (b : Bind). or_else (option_and_then (provided_target w) (cond (is_local b) None (provider_of w c n.symbol.name))) (cond (is_weak b) (Some (Number 0)) None)) (global_is n.symbol.bind n.global)
+      ∙ (or_none (option_and_then (provided_target w) (provider_of w c n.symbol.name))
+      ∙ ap (λ (x : List ℕ). option_and_then (provided_target w) (provider_of w c x)) (sym n.named))))))
 
 module _ (w : World) (h : IsCoherent w) (numbers : List ℕ) (closed : Closed w numbers) (c : Cell) (here : In c w.cells) (stays : holds numbers c.id.0 ≡ false) where
   need_same : (name : List ℕ) → In name (needs_of c.object) → provider_of (without_cells w numbers) c name ≡ provider_of w c name

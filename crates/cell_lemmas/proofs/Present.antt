@@ -1,22 +1,22 @@
 -- In a machine that is ready, what an entry names is a number or a place in a section of a present cell.
-use Rattle.std.proofs.Common.{◌≡◌, refl, sym, ◌∙◌, ap, subst, ℕ, zero, suc, ◌+◌, Bool, true, false, cond, List, [], ◌∷◌, inl, inr, ◌&&◌, true≢false, Option, Some, None}
+use Rattle.std.proofs.Common.{◌≡◌, refl, sym, ◌∙◌, ap, subst, ℕ, zero, suc, ◌+◌, Bool, true, false, cond, List, [], ◌∷◌, inl, inr, true≢false, Option, Some, None}
 use Rattle.std.specs.Prelude.{All, filter_map, option_map, option_and_then, unwrap_or, slice_get, nat_lt, nat_le, ◌==◌}
 use Rattle.std.specs.List.{cons_option}
 use Rattle.std.proofs.lemmas.Bool.{leb-true, and_parts}
-use Rattle.cell_num.specs.Lists.{each_pair, numbered, In}
+use Rattle.cell_num.specs.Lists.{each_pair, numbered, or_else, In}
 use Rattle.cell_object.specs.declared.object.Section.{Section as ObjectSection}
 use Rattle.cell_object.specs.declared.object.Symbol.{Symbol}
 use Rattle.cell_object.specs.declared.object.Entry.{Entry}
 use Rattle.cell_object.specs.declared.object.Home.{Home}
 use Rattle.cell_object.specs.declared.object.Home.TheVariants.{Undef, Abs, Inside, Elsewhere}
-use Rattle.cell_object.specs.Parts.{is_global, section_of, symbol_at}
-use Rattle.cell_object.specs.Sound.{is_known_bind, is_sound_home, is_sound_symbol, is_sound_entry_in}
+use Rattle.cell_object.specs.Parts.{is_local, is_weak, section_of, symbol_at}
+use Rattle.cell_object.specs.Sound.{is_sound_home, is_sound_symbol, is_sound_entry_in}
 use Rattle.cell_world.specs.declared.state.LinkRow.{LinkRow}
 use Rattle.cell_world.specs.declared.state.Target.{Target}
 use Rattle.cell_world.specs.declared.state.Target.TheVariants.{Section, Number}
 use Rattle.cell_world.specs.World.{World, Cell, cell_of, key_of}
-use Rattle.cell_world.specs.Names.{Provider, provider_of}
-use Rattle.cell_world.specs.Target.{start_of, own_target, provided_target, symbol_target, numbered_target, naming_entry, target_of}
+use Rattle.cell_world.specs.Names.{Provider, strong_provider, provider_of}
+use Rattle.cell_world.specs.Target.{start_of, own_target, provided_target, unasked_target, symbol_target, numbered_target, naming_entry, target_of}
 use Rattle.cell_world.specs.Relink.{link_to, link_of, links_of}
 use Rattle.cell_world.specs.Coherent.{IsCoherent, IsLoadable, is_supplied}
 use Rattle.cell_lemmas.specs.Linkable.{IsLinkable}
@@ -55,7 +55,7 @@ module _ (w : World) (order : each_pair (λ a b. nat_lt a.id.0 b.id.0) w.cells �
       whole = all-In (is_sound_symbol c.object) c.object.symbols (object_sound w objects c k).symbols s i
 
       home : is_sound_home c.object s (Inside n) ≡ true
-      home = subst (λ (x : Home). is_sound_home c.object s x ≡ true) e (and_parts (is_known_bind s.bind) (is_sound_home c.object s s.home) (and_parts (is_known_bind s.bind && is_sound_home c.object s s.home) _ whole).0).1
+      home = subst (λ (x : Home). is_sound_home c.object s x ≡ true) e (and_parts (is_sound_home c.object s s.home) _ whole).0
 
       go : (o : Option ObjectSection) → section_of c.object n ≡ o → unwrap_or (option_map (λ section. nat_le s.value section.size) o) false ≡ true → IsInSection w (key_of c.id.0 n) s.value (start_of c.placed n + s.value)
       go None g b = absurd (true≢false (sym b))
@@ -71,14 +71,24 @@ module _ (w : World) (order : each_pair (λ a b. nat_lt a.id.0 b.id.0) w.cells �
       symbol-In c zero s h = cc
       symbol-In c (suc n) s h = get-In c.object.symbols n s h
 
-  symbol_there : (c : Cell) → In c w.cells → (s : Symbol) → In s c.object.symbols → (home : Home) → s.home ≡ home → (t : Target) → symbol_target w c s home ≡ Some t → IsThere w t
-  symbol_there c k s i Undef e t h = go (is_global s.bind) h
+  -- what is given by whoever is asked, or else what there is without asking
+  asked_there : (o : Option Provider) (other : Option Target) (t : Target) → (other ≡ Some t → IsThere w t) → or_else (option_and_then (provided_target w) o) other ≡ Some t → IsThere w t
+  asked_there None other t f h = f h
+  asked_there (Some p) other t f h = go (provided_target w p) refl h
     where
-      go : (b : Bool) → cond b (option_and_then (provided_target w) (provider_of w c s.name)) None ≡ Some t → IsThere w t
-      go true g = let p = and_then_ok (provided_target w) (provider_of w c s.name) t g in provided_there p.0 t p.2
-      go false g = cc
+      go : (o : Option Target) → provided_target w p ≡ o → or_else o other ≡ Some t → IsThere w t
+      go None e g = f g
+      go (Some u) e g = provided_there p t (e ∙ g)
+
+  symbol_there : (c : Cell) → In c w.cells → (s : Symbol) → In s c.object.symbols → (home : Home) → s.home ≡ home → (t : Target) → symbol_target w c s home ≡ Some t → IsThere w t
+  symbol_there c k s i Undef e t h = asked_there (cond (is_local s.bind) None (provider_of w c s.name)) (unasked_target c s Undef) t (zero_there (is_weak s.bind)) h
+    where
+      zero_there : (b : Bool) → cond b (Some (Number 0)) None ≡ Some t → IsThere w t
+      zero_there true g = subst (IsThere w) (some_same (Number 0) t g) tt
+      zero_there false g = cc
   symbol_there c k s i Abs e t h = own_there c k s i Abs e t h
-  symbol_there c k s i (Inside n) e t h = own_there c k s i (Inside n) e t h
+  symbol_there c k s i (Inside n) e t h =
+      asked_there (cond (is_weak s.bind) (strong_provider w c.standing c.ns s.name) None) (own_target c.placed s (Inside n)) t (own_there c k s i (Inside n) e t) h
   symbol_there c k s i Elsewhere e t h = own_there c k s i Elsewhere e t h
 
   numbered_there : (c : Cell) → In c w.cells → (n : ℕ) (t : Target) → numbered_target w c n ≡ Some t → IsThere w t

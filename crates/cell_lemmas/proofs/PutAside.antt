@@ -2,7 +2,8 @@
 use Rattle.std.proofs.Common.{◌≡◌, refl, sym, ◌∙◌, ap, subst, ℕ, Bool, true, false, cond, List, [], ◌∷◌, ◌++◌, inl, inr, map, true≢false}
 use Rattle.std.specs.Prelude.{filter, flat_map, None, not, nat_lt}
 use Rattle.cell_num.specs.Lists.{holds, each_pair, In}
-use Rattle.cell_world.specs.World.{World, Cell, Task, Detached, cell_of, is_attached}
+use Rattle.cell_world.specs.World.{World, Cell, Task, cell_of, is_attached}
+use Rattle.cell_world.specs.declared.state.Standing.TheVariants.{Detached}
 use Rattle.cell_world.specs.Answer.{numbers_of}
 use Rattle.cell_world.specs.Kept.{holding_of, kept_in}
 use Rattle.cell_world.specs.UnloadCommand.{without_cells, starts_of, garbage_of, purged, put_aside, detach, first_held}

@@ -10,7 +10,7 @@ use Rattle.cell_world.specs.World.{World, Cell, Region, Task, is_attached, cell_
 use Rattle.cell_world.specs.Names.{needs_of, provider_of}
 use Rattle.cell_world.specs.Gather.{first_lack, fresh_cells}
 use Rattle.cell_world.specs.Fit.{first_misfit}
-use Rattle.cell_world.specs.Limits.{max_cells}
+use Rattle.cell_num.specs.Limits.{max_cells}
 use Rattle.cell_world.specs.Pages.{IsSpace}
 use Rattle.cell_world.specs.Coherent.{IsReady, AreSoundRegions, AreSoundSpaces, AreSoundTasks, only_regions, only_tasks, IsLoadable, Shape, shape_of, with_shape, stack_shape, wanted_shapes, may_both_stand, has_each_name_once, is_placed, is_supplied, is_fitting, is_known_cell, is_sound_task}
 use Rattle.cell_lemmas.specs.Linkable.{IsLinkable}

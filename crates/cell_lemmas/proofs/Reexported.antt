@@ -6,8 +6,9 @@ use Rattle.std.proofs.lemmas.Bool.{and_from, eqb-true, ltb-true}
 use Rattle.std.proofs.lemmas.List.{length-map, map-append}
 use Rattle.std.proofs.lemmas.Slice.Eq.{bytes_eq-Decides}
 use Rattle.cell_num.specs.Lists.{equals, holds, holds_name, each_pair, In}
-use Rattle.cell_world.specs.World.{World, Cell, Alias, Standing, Attached, Detached, cell_of, is_attached}
-use Rattle.cell_world.specs.Names.{chain, rivals, clash_name, has_name, names_of, definitions_of, are_on_one_path}
+use Rattle.cell_world.specs.World.{World, Cell, Alias, Standing, cell_of, is_attached}
+use Rattle.cell_world.specs.declared.state.Standing.TheVariants.{Attached, Detached}
+use Rattle.cell_world.specs.Names.{chain, rivals, clash_name, has_name, names_of, definitions_of, weak_definitions_of, weak_symbol_named, are_on_one_path}
 use Rattle.cell_world.specs.Reexport.{with_alias}
 use Rattle.cell_world.specs.Coherent.{IsLoadable, all_names, may_both_stand, has_each_name_once, is_known_cell, is_sound_standing}
 use Rattle.cell_num.proofs.Elements.{all-In, In-all, All-In, In-All, In-none, none-In, unfound-In, filter-In, In-append, In-map, found-In, pairs-map, pairs_same, pairs_push, all_push}
@@ -64,7 +65,7 @@ module _ (number : ℕ) (a : Alias) where
   names_more : (c : Cell) → all_names (record c { aliases = c.aliases ++ a ∷ [] }) ≡ all_names c ++ a.name ∷ []
   names_more c = ap (map (λ (x : Alias). x.name)) (sym (append_assoc (definitions_of c.object) c.aliases (a ∷ []))) ∙ map-append (λ (x : Alias). x.name) (names_of c) (a ∷ [])
 
-  module _ (u : World) (r : Ranks u) (c : Cell) (at : cell_of u number ≡ Some c) (attached : is_attached c.standing ≡ true) (free : clash_name u c.ns a.name ≡ None)
+  module _ (u : World) (r : Ranks u) (c : Cell) (at : cell_of u number ≡ Some c) (attached : is_attached c.standing ≡ true) (free : clash_name u c.ns a.name ≡ None) (unweak : weak_symbol_named c a.name ≡ None)
       (own : list_any (λ d. d.symbol == a.symbol) (definitions_of c.object) ≡ true) where
     abbrev after : World
     after = record u { cells = map renamed u.cells }
@@ -78,7 +79,7 @@ module _ (number : ℕ) (a : Alias) where
         let x = In-map (λ (y : Alias). y.name) (names_of d) n j in
         ap (λ (m : List ℕ). equals m a.name) x.2
         ∙ none-In (λ (y : Alias). equals y.name a.name) (names_of d)
-        (unfound-In (λ e. has_name e a.name) (rivals u c.ns) (unmapped (λ (e : Cell). e.id.0) _ free) d
+        (unfound-In (λ e. has_name (names_of e) a.name) (rivals u c.ns) (unmapped (λ (e : Cell). e.id.0) _ free) d
         (filter-In (λ (e : Cell). is_attached e.standing && are_on_one_path u.namespaces c.ns e.ns) u.cells d i (and_from (is_attached d.standing) (are_on_one_path u.namespaces c.ns d.ns) t p))) x.0 x.1
 
     on_own_path : are_on_one_path u.namespaces c.ns c.ns ≡ true
@@ -142,6 +143,17 @@ module _ (number : ℕ) (a : Alias) where
         go false p false q =
             ap (λ (z : Cell). may_both_stand after z (renamed y)) (renamed_out x p) ∙ (ap (λ (z : Cell). may_both_stand after x z) (renamed_out y q) ∙ e)
 
+    abbrev weak_names : List (List ℕ)
+    weak_names = map (λ (x : Alias). x.name) (weak_definitions_of c.object)
+
+    -- nor does it hold it weakly itself
+    none : (n : List ℕ) → In n weak_names ⊎ In n (all_names c) → equals n a.name ≡ false
+    none n (inr k) = nobody c present attached on_own_path n k
+    none n (inl k) =
+        let x = In-map (λ (y : Alias). y.name) (weak_definitions_of c.object) n k in
+        ap (λ (m : List ℕ). equals m a.name) x.2
+        ∙ unfound-In (λ (y : Alias). equals y.name a.name) (weak_definitions_of c.object) (unmapped (λ (y : Alias). y.symbol) _ unweak) x.0 x.1
+
     own_once : (z : Cell) → In z u.cells → has_each_name_once (renamed z) ≡ true
     own_once z i = go (z.id.0 == number) refl
       where
@@ -149,8 +161,9 @@ module _ (number : ℕ) (a : Alias) where
         once = all-In has_each_name_once u.cells r.own_names z i
 
         push : has_each_name_once c ≡ true → has_each_name_once (record c { aliases = c.aliases ++ a ∷ [] }) ≡ true
-        push o = ap (each_pair (λ x y. not (equals x y))) (names_more c)
-            ∙ pairs_push (λ x y. not (equals x y)) (all_names c) a.name o (λ n k. ap not (nobody c present attached on_own_path n k))
+        push o = ap (λ (names : List (List ℕ)). each_pair (λ x y. not (equals x y)) (weak_names ++ names)) (names_more c)
+            ∙ (ap (each_pair (λ x y. not (equals x y))) (sym (append_assoc weak_names (all_names c) (a.name ∷ [])))
+            ∙ pairs_push (λ x y. not (equals x y)) (weak_names ++ all_names c) a.name o (λ n k. ap not (none n (In-append weak_names (all_names c) n k))))
 
         go : (b : Bool) → (z.id.0 == number) ≡ b → has_each_name_once (renamed z) ≡ true
         go true e =

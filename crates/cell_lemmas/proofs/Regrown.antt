@@ -13,7 +13,8 @@ use Rattle.cell_num.specs.Kinds.{width_of}
 use Rattle.cell_object.specs.declared.object.Entry.{Entry}
 use Rattle.cell_world.specs.declared.state.LinkRow.{LinkRow}
 use Rattle.cell_world.specs.declared.state.NewCell.{NewCell}
-use Rattle.cell_world.specs.World.{World, Cell, Region, Attached}
+use Rattle.cell_world.specs.World.{World, Cell, Region}
+use Rattle.cell_world.specs.declared.state.Standing.TheVariants.{Attached}
 use Rattle.cell_world.specs.Memory.{covers}
 use Rattle.cell_world.specs.Field.{is_at, fields_of, fields_among, place_of}
 use Rattle.cell_world.specs.Relink.{is_region_of, images_for, bound_entries, Patch, patch_of, patched, patches_of, restored, remade, link_of, links_of, relink}

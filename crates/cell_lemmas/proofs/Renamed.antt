@@ -1,11 +1,13 @@
 -- Places of cells play no part in names: who provides a name stays when cells are placed.
-use Rattle.std.proofs.Common.{◌≡◌, refl, sym, ◌∙◌, ap, subst, ℕ, Bool, true, false, cond, List, [], ◌∷◌, map}
+use Rattle.std.proofs.Common.{◌≡◌, refl, sym, ◌∙◌, ap, subst, ℕ, Bool, true, false, cond, List, [], ◌∷◌, ◌++◌, map, Option}
 use Rattle.std.specs.Prelude.{filter, filter_map, option_map, ◌==◌}
 use Rattle.std.specs.List.{cons_option, list_all}
+use Rattle.std.proofs.lemmas.List.{map-append}
 use Rattle.cell_num.specs.Lists.{first, holds, or_else, each_pair, In}
 use Rattle.cell_num.proofs.Elements.{all-In, In-all, In-map, map-In, pairs-map, pairs_equal}
-use Rattle.cell_world.specs.World.{World, Cell, Standing, Attached, Detached, is_attached, is_of_group}
-use Rattle.cell_world.specs.Names.{Provider, chain, first_provider, provider_for, symbol_named}
+use Rattle.cell_world.specs.World.{World, Cell, Standing, is_attached, is_of_group}
+use Rattle.cell_world.specs.declared.state.Standing.TheVariants.{Attached, Detached}
+use Rattle.cell_world.specs.Names.{Provider, asked_by, by_spaces, chain, first_provider, nearest_provider, provider_for, symbol_named, weak_symbol_named}
 use Rattle.cell_world.specs.Place.{with_places}
 use Rattle.cell_world.specs.Layout.{places_in}
 use Rattle.cell_world.specs.declared.layout.Starts.{Starts}
@@ -36,6 +38,13 @@ all_bare p f xs ys e h = In-all p xs (λ c k. go c (In-bare c xs ys e k))
     go : (c : Cell) → (d : Cell) × In d ys × (bare c ≡ bare d) → p c ≡ true
     go c d = sym (f c) ∙ (ap p d.2 ∙ (f d.0 ∙ all-In p ys h d.0 d.1))
 
+-- what the cell is as a provider of a name that it holds, strongly and weakly
+abbrev offered : List ℕ → Cell → Option Provider
+offered name c = option_map (λ symbol. record { cell = c.id.0; symbol = symbol }) (symbol_named c name)
+
+abbrev weakly_offered : List ℕ → Cell → Option Provider
+weakly_offered name c = option_map (λ symbol. record { cell = c.id.0; symbol = symbol }) (weak_symbol_named c name)
+
 filter_bare : (test : Cell → Bool) → ((c : Cell) → test (bare c) ≡ test c) → (cells : List Cell) → filter test (map bare cells) ≡ map bare (filter test cells)
 filter_bare test t [] = refl
 filter_bare test t (c ∷ cells) =
@@ -46,24 +55,43 @@ filter_bare test t (c ∷ cells) =
     go true e = ap (λ (cs : List Cell). bare c ∷ cs) e
     go false e = e
 
-filter_map_bare : (name : List ℕ) (cells : List Cell) → filter_map (λ c. option_map {T = ℕ} {U = Provider} (λ symbol. record { cell = c.id.0; symbol = symbol }) (symbol_named c name)) (map bare cells) ≡ filter_map (λ c. option_map {T = ℕ} {U = Provider} (λ symbol. record { cell = c.id.0; symbol = symbol }) (symbol_named c name)) cells
-filter_map_bare name [] = refl
-filter_map_bare name (c ∷ cells) = ap (λ ys. cons_option (option_map (λ symbol. record { cell = c.id.0; symbol = symbol }) (symbol_named c name)) ys) (filter_map_bare name cells)
+-- what is offered hangs on no places
+offers_bare : (offer : Cell → Option Provider) → ((c : Cell) → offer (bare c) ≡ offer c) → (cells : List Cell) → filter_map offer (map bare cells) ≡ filter_map offer cells
+offers_bare offer f [] = refl
+offers_bare offer f (c ∷ cells) = ap (λ o. cons_option o (filter_map offer (map bare cells))) (f c) ∙ ap (λ ys. cons_option (offer c) ys) (offers_bare offer f cells)
 
-pub first_bare : (spaces name : List ℕ) (cells : List Cell) → first_provider spaces name (map bare cells) ≡ first_provider spaces name cells
+first_bare : (spaces name : List ℕ) (cells : List Cell) → first_provider spaces name (map bare cells) ≡ first_provider spaces name cells
 first_bare spaces name cells =
-    ap (λ (cs : List Cell). first (filter_map (λ c. option_map {T = ℕ} {U = Provider} (λ symbol. record { cell = c.id.0; symbol = symbol }) (symbol_named c name)) cs)) (filter_bare (λ c. holds spaces c.ns) (λ c. refl) cells)
-    ∙ ap first (filter_map_bare name (filter (λ c. holds spaces c.ns) cells))
+    ap (λ (cs : List Cell). first (filter_map (offered name) cs)) (filter_bare (λ c. holds spaces c.ns) (λ c. refl) cells)
+    ∙ ap first (offers_bare (offered name) (λ c. refl) (filter (λ c. holds spaces c.ns) cells))
 
-among_bare : (spaces name : List ℕ) (test : Cell → Bool) → ((c : Cell) → test (bare c) ≡ test c) → (xs ys : List Cell) → map bare xs ≡ map bare ys → first_provider spaces name (filter test xs) ≡ first_provider spaces name (filter test ys)
-among_bare spaces name test t xs ys e =
-    sym (first_bare spaces name (filter test xs)) ∙ (ap (λ (cs : List Cell). first_provider spaces name cs) (sym (filter_bare test t xs) ∙ (ap (filter test) e ∙ filter_bare test t ys)) ∙ first_bare spaces name (filter test ys))
+by_spaces_bare : (spaces : List ℕ) (cells : List Cell) → by_spaces spaces (map bare cells) ≡ map bare (by_spaces spaces cells)
+by_spaces_bare [] cells = refl
+by_spaces_bare (ns ∷ spaces) cells =
+    ap (λ (xs : List Cell). xs ++ by_spaces spaces (map bare cells)) (filter_bare (λ c. c.ns == ns) (λ c. refl) cells)
+    ∙ (ap (λ (xs : List Cell). map bare (filter (λ c. c.ns == ns) cells) ++ xs) (by_spaces_bare spaces cells)
+    ∙ sym (map-append bare (filter (λ c. c.ns == ns) cells) (by_spaces spaces cells)))
+
+nearest_bare : (spaces name : List ℕ) (cells : List Cell) → nearest_provider spaces name (map bare cells) ≡ nearest_provider spaces name cells
+nearest_bare spaces name cells =
+    ap (λ (cs : List Cell). first (filter_map (weakly_offered name) cs)) (by_spaces_bare spaces cells)
+    ∙ ap first (offers_bare (weakly_offered name) (λ c. refl) (by_spaces spaces cells))
+
+asked_bare : (ask : List Cell → Option Provider) → ((cells : List Cell) → ask (map bare cells) ≡ ask cells) → (w w' : World) → map bare w'.cells ≡ map bare w.cells → (s : Standing) → asked_by w' ask s ≡ asked_by w ask s
+asked_bare ask f w w' e s = go s
+  where
+    among : (test : Cell → Bool) → ((c : Cell) → test (bare c) ≡ test c) → ask (filter test w'.cells) ≡ ask (filter test w.cells)
+    among test t = sym (f (filter test w'.cells)) ∙ (ap ask (sym (filter_bare test t w'.cells) ∙ (ap (filter test) e ∙ filter_bare test t w.cells)) ∙ f (filter test w.cells))
+
+    go : (s : Standing) → asked_by w' ask s ≡ asked_by w ask s
+    go Attached = among (λ c. is_attached c.standing) (λ c. refl)
+    go (Detached k) =
+        ap (λ o. or_else o (ask (filter (λ c. is_attached c.standing) w'.cells))) (among (λ c. is_of_group k c.standing) (λ c. refl))
+        ∙ ap (or_else (ask (filter (λ c. is_of_group k c.standing) w.cells))) (among (λ c. is_attached c.standing) (λ c. refl))
 
 -- worlds whose cells are the same but for places have the same providers
 pub provider_bare : (w w' : World) → w'.namespaces ≡ w.namespaces → map bare w'.cells ≡ map bare w.cells → (s : Standing) (ns : ℕ) (name : List ℕ) → provider_for w' s ns name ≡ provider_for w s ns name
-provider_bare w w' n e Attached ns name =
-    ap (λ sp. first_provider (chain sp ns) name (filter (λ c. is_attached c.standing) w'.cells)) n ∙ among_bare (chain w.namespaces ns) name (λ c. is_attached c.standing) (λ c. refl) w'.cells w.cells e
-provider_bare w w' n e (Detached k) ns name =
-    ap (λ sp. or_else (first_provider (chain sp ns) name (filter (λ c. is_of_group k c.standing) w'.cells)) (first_provider (chain sp ns) name (filter (λ c. is_attached c.standing) w'.cells))) n
-    ∙ (ap (λ o. or_else o (first_provider (chain w.namespaces ns) name (filter (λ c. is_attached c.standing) w'.cells))) (among_bare (chain w.namespaces ns) name (λ c. is_of_group k c.standing) (λ c. refl) w'.cells w.cells e)
-    ∙ ap (λ o. or_else (first_provider (chain w.namespaces ns) name (filter (λ c. is_of_group k c.standing) w.cells)) o) (among_bare (chain w.namespaces ns) name (λ c. is_attached c.standing) (λ c. refl) w'.cells w.cells e))
+provider_bare w w' n e s ns name =
+    ap (λ sp. or_else (asked_by w' (first_provider (chain sp ns) name) s) (asked_by w' (nearest_provider (chain sp ns) name) s)) n
+    ∙ (ap (λ o. or_else o (asked_by w' (nearest_provider (chain w.namespaces ns) name) s)) (asked_bare (first_provider (chain w.namespaces ns) name) (first_bare (chain w.namespaces ns) name) w w' e s)
+    ∙ ap (or_else (asked_by w (first_provider (chain w.namespaces ns) name) s)) (asked_bare (nearest_provider (chain w.namespaces ns) name) (nearest_bare (chain w.namespaces ns) name) w w' e s))

@@ -6,7 +6,8 @@ use Rattle.std.proofs.lemmas.Bool.{and_parts, and_from, leb-true, le-leb}
 use Rattle.std.proofs.lemmas.List.{length-map}
 use Rattle.std.proofs.lemmas.List.Folds.{flat_map-map}
 use Rattle.cell_num.specs.Lists.{holds, In}
-use Rattle.cell_world.specs.World.{World, Cell, Task, Standing, Attached, Detached, cell_of}
+use Rattle.cell_world.specs.World.{World, Cell, Task, Standing, cell_of}
+use Rattle.cell_world.specs.declared.state.Standing.TheVariants.{Attached, Detached}
 use Rattle.cell_world.specs.Names.{definitions_of}
 use Rattle.cell_world.specs.UnloadCommand.{detach}
 use Rattle.cell_world.specs.Coherent.{IsLoadable, IsCoherent, Shape, with_shape, stack_shape, may_both_stand, has_each_name_once, is_known_cell, is_sound_standing, is_placed, is_sound_task, wanted_shapes}

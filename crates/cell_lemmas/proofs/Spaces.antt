@@ -1,19 +1,22 @@
 -- A namespace that is added: the lists of them, and what it leaves of those before it.
 use Rattle.std.proofs.Common.{◌≡◌, ◌≤◌, refl, sym, ◌∙◌, ap, subst, arith, ℕ, suc, ◌+◌, ◌<◌, inl, inr, Bool, true, false, cond, not, ◌&&◌, ◌||◌, List, [], ◌∷◌, ◌++◌, length, length-append, Some, None}
-use Rattle.std.specs.Prelude.{position, nat_lt, filter}
+use Rattle.std.specs.Prelude.{position, nat_lt}
 use Rattle.std.specs.List.{list_any, list_all, prefix_len}
 use Rattle.std.proofs.lemmas.Bool.{and_parts, and_from, lt-ltb, ltb-true}
 use Rattle.std.proofs.lemmas.List.{append-nil}
 use Rattle.cell_num.specs.Lists.{equals, holds, holds_name, numbered, numbered_from, each_pair, or_else, In}
 use Rattle.cell_world.specs.declared.state.Namespace.{Namespace}
-use Rattle.cell_world.specs.World.{World, Cell, Standing, Attached, Detached, is_attached, is_of_group}
-use Rattle.cell_world.specs.Names.{chain, are_on_one_path, first_provider, provider_for}
+use Rattle.cell_world.specs.World.{World, Cell, Standing, is_attached}
+use Rattle.cell_world.specs.Names.{asked_by, chain, are_on_one_path, first_provider, nearest_provider, strong_provider, provider_for}
+use Rattle.cell_world.specs.Target.{target_of}
+use Rattle.cell_object.specs.declared.object.Entry.{Entry}
 use Rattle.cell_world.specs.NsCommand.{with_namespace}
 use Rattle.cell_world.specs.Coherent.{all_names, may_both_stand, is_sound_parent, begins_with_k, is_known_cell}
 use Rattle.cell_num.proofs.Elements.{all-In, In-all, pairs_push, pairs_same}
 use Rattle.cell_lemmas.proofs.Known.{known_parts, known_from}
 use Rattle.cell_lemmas.proofs.Chains.{chain_more}
 use Rattle.cell_lemmas.proofs.Attach.{Grows}
+use Rattle.cell_lemmas.proofs.Agreeing.{target_agrees}
 
 module _ {X : Type 0} where
   -- where no first one passes, none does
@@ -83,9 +86,14 @@ module _ (w : World) (spaces : (begins_with_k w.namespaces && list_all is_sound_
 
   -- who provides a name for a namespace that is there
   pub provider_stays : (s : Standing) (ns : ℕ) → nat_lt ns (length w.namespaces) ≡ true → (symbol : List ℕ) → provider_for after s ns symbol ≡ provider_for w s ns symbol
-  provider_stays Attached ns there symbol = ap (λ (xs : List ℕ). first_provider xs symbol (filter (λ c. is_attached c.standing) w.cells)) (chain_stays ns there)
-  provider_stays (Detached k) ns there symbol =
-      ap (λ (xs : List ℕ). or_else (first_provider xs symbol (filter (λ c. is_of_group k c.standing) w.cells)) (first_provider xs symbol (filter (λ c. is_attached c.standing) w.cells))) (chain_stays ns there)
+  provider_stays s ns there symbol = ap (λ (xs : List ℕ). or_else (asked_by w (first_provider xs symbol) s) (asked_by w (nearest_provider xs symbol) s)) (chain_stays ns there)
+
+  strong_stays : (s : Standing) (ns : ℕ) → nat_lt ns (length w.namespaces) ≡ true → (symbol : List ℕ) → strong_provider after s ns symbol ≡ strong_provider w s ns symbol
+  strong_stays s ns there symbol = ap (λ (xs : List ℕ). asked_by w (first_provider xs symbol) s) (chain_stays ns there)
+
+  -- what an entry of a cell in such a namespace names
+  pub target_stays : (c : Cell) → nat_lt c.ns (length w.namespaces) ≡ true → (e : Entry) → target_of after c e ≡ target_of w c e
+  target_stays c there = target_agrees w after c (strong_stays c.standing c.ns there) (provider_stays c.standing c.ns there) (λ p. refl)
 
   module _ (known : list_all (is_known_cell w) w.cells ≡ true) where
     pub stands_there : (c : Cell) → In c w.cells → nat_lt c.ns (length w.namespaces) ≡ true

@@ -6,7 +6,8 @@ use Rattle.std.proofs.lemmas.List.{length-replicate, append_assoc, map-append}
 use Rattle.std.proofs.lemmas.List.Sums.{fold-append}
 use Rattle.cell_world.specs.declared.refusal.Refusal.TheVariants.{TooMany, NoEntry}
 use Rattle.cell_world.specs.declared.refusal.Many.TheVariants.{Tasks as ManyTasks, TaskNumbers}
-use Rattle.cell_world.specs.World.{stack_size, World, Cell, Region, Task, cell_of}
+use Rattle.cell_num.specs.Limits.{stack_size}
+use Rattle.cell_world.specs.World.{World, Cell, Region, Task, cell_of}
 use Rattle.cell_world.specs.Memory.{covers}
 use Rattle.cell_world.specs.Names.{Provider, attached_provider}
 use Rattle.cell_world.specs.Field.{fields_of, place_of}

@@ -5,7 +5,8 @@ use Rattle.std.proofs.lemmas.Bool.{and_from, le-leb, lt-ltb, eqb-true, cases_lt,
 use Rattle.cell_num.specs.Lists.{holds, where_true, In}
 use Rattle.cell_object.specs.declared.object.Section.{Section as ObjectSection}
 use Rattle.cell_world.specs.declared.state.Placed.{Placed}
-use Rattle.cell_world.specs.World.{World, Cell, Region, Task, stack_size}
+use Rattle.cell_num.specs.Limits.{stack_size}
+use Rattle.cell_world.specs.World.{World, Cell, Region, Task}
 use Rattle.cell_world.specs.Kept.{Claim, holding_of, claim_of, placed_at, placed_in, is_inside, is_word_in, aligned_words, words_inside, writable_words}
 use Rattle.cell_world.specs.Memory.{covers, end_of, region_in, part_of, read_in}
 use Rattle.cell_world.specs.Layout.{gap}

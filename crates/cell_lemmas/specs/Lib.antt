@@ -9,6 +9,11 @@ pub mod Kept
 pub mod Undo
 pub mod Left
 pub mod Targets
+pub mod Firm
+pub mod Touched
 pub mod Swapping
 pub mod Moved
+pub mod LinkSteps
 pub mod Begins
+pub mod Lost
+pub mod Leads

@@ -5,6 +5,7 @@
 --     placed_after starts w cells   the machine with the cells in their places
 --     gathered_by sources w ns stem the machine with the cells that a load brings, not placed yet
 use Rattle.std.specs.Prelude.{ℕ, ◌+◌, ◌*◌, ◌/◌, Bool, true, List, [], ◌∷◌, ◌++◌, Some, None, Ok, Err, length, map}
+use Rattle.cell_num.specs.Limits.{page_size}
 use Rattle.cell_object.specs.declared.object.Object.{Object}
 use Rattle.cell_object.specs.declared.object.Section.{Section as ObjectSection}
 use Rattle.cell_world.specs.declared.refusal.Refusal.TheVariants.{Exhausted}
@@ -29,12 +30,12 @@ abbrev pub take_run : ℕ → List Bool → ℕ → Outcome Taken
 take_run base table n =
     elim (lowest_run table n) [
       | None ↦ Err (Exhausted n (longest_run table))
-      | Some page ↦ Ok (record { start = base + 4096 * page; table = filled table page n true })
+      | Some page ↦ Ok (record { start = base + page_size * page; table = filled table page n true })
     ]
 
 abbrev pub take_for : ℕ → List Bool → List ObjectSection → Outcome Taken
 take_for base table [] = Ok (record { start = 0; table = table })
-take_for base table (s ∷ rest) = take_run base table (run_size (s ∷ rest) / 4096)
+take_for base table (s ∷ rest) = take_run base table (run_size (s ∷ rest) / page_size)
 
 abbrev pub take_class : ℕ → List Bool → Class → Object → Outcome Taken
 take_class base table class object = take_for base table (sections_in class object)

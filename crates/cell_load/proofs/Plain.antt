@@ -3,7 +3,8 @@ use Rattle.std.proofs.Common.{◌≡◌, refl, ap, ap₂, inl, inr, List, [], �
 use Rattle.std.specs.Prelude.{filter_map}
 use Rattle.cell_num.specs.Lists.{numbered, or_else, In}
 use Rattle.cell_world.specs.declared.state.LinkRow.{LinkRow}
-use Rattle.cell_world.specs.World.{World, Cell, Standing, Attached, attached}
+use Rattle.cell_world.specs.World.{World, Cell, Standing, attached}
+use Rattle.cell_world.specs.declared.state.Standing.TheVariants.{Attached}
 use Rattle.cell_world.specs.Fit.{first_misfit, misfit_in}
 use Rattle.cell_world.specs.Relink.{link_of}
 use Rattle.cell_world.specs.Target.{targets_of}

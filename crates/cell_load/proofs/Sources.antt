@@ -2,11 +2,11 @@
 use Rattle.std.proofs.Common.{◌≡◌, ℕ, ◌≤◌, refl, subst, List, length, map, Ok, Err}
 use Rattle.std.specs.Prelude.{All, Result}
 use Rattle.std.proofs.lemmas.List.Elements.{All-map, All-weaker}
-use Rattle.cell_world.specs.Limits.{max_file_bytes}
+use Rattle.cell_num.specs.Limits.{max_file_bytes}
 use Rattle.cell_object.specs.declared.object.Object.{Object}
 use Rattle.cell_object.specs.Bytes.{Broken}
 use Rattle.cell_object.specs.Reads.{reads}
-use Rattle.cell_elf.proofs.Soundness.{object_sound, few_entries}
+use Rattle.cell_elf.proofs.Soundness.{object_plain, object_sound, few_entries}
 use Rattle.cell_elf.proofs.LoadableCounts.{few_symbols, reads_passed}
 use Rattle.cell_world.specs.declared.file.File.{File}
 use Rattle.cell_world.specs.Gather.{Source, source_of}
@@ -20,6 +20,7 @@ loadable bytes o small e =
       sound = object_sound bytes p.0;
       symbols = few_symbols bytes p.0 small;
       entries = few_entries bytes p.0 small;
+      plain = object_plain bytes p.0;
     })
 
 reading_loadable : (bytes : List ℕ) (r : Result Object Broken) → length bytes ≤ max_file_bytes → reads bytes ≡ r → IsLoadableReading r

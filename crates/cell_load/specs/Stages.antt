@@ -8,9 +8,11 @@
 --     Names l s              what is staged is what has landed, with the cells' names
 --     Stages u new result    the cells placed, linked and named, or the refusal
 use Rattle.std.specs.Prelude.{ℕ, ◌≡◌, ◌+◌, ◌*◌, ◌<◌, ◌^◌, List, ◌++◌, All, Result, Ok, Err, map}
+use Rattle.cell_num.specs.Limits.{page_size}
 use Rattle.cell_world.specs.declared.fail.Fail.{Fail}
 use Rattle.cell_world.specs.declared.fail.Fail.TheVariants.{Refused, OutOfMemory}
-use Rattle.cell_world.specs.World.{World, Cell, Attached}
+use Rattle.cell_world.specs.World.{World, Cell}
+use Rattle.cell_world.specs.declared.state.Standing.TheVariants.{Attached}
 use Rattle.cell_world.specs.Coherent.{IsLoadable}
 use Rattle.cell_world.specs.Fit.{first_misfit}
 use Rattle.cell_world.specs.Outcome.{Outcome, ◌>>=◌, ◌>>◌, refused_by}
@@ -43,7 +45,7 @@ pub record AreGathered (spaces : SpacesState) (g : Gathered) : Type 0 where
 pub record CanStage (m : Machine) (g : Gathered) : Type 0 where
   pub parts : AreParts m
   pub gathered : AreGathered m.spaces g
-  pub low : m.memory.base + 4096 * m.memory.pages < 2 ^ 63
+  pub low : m.memory.base + page_size * m.memory.pages < 2 ^ 63
   pub stand : (t : ManyTaken) → take_all m.memory.base (page_table (world_of m)) (objects_of (new_cells g)) ≡ Ok t
       → AreNewIn (world_of m) (placed_after t.starts (world_of m) (new_cells g)) (placed_cells t.starts (new_cells g))
 

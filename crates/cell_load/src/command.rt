@@ -1,7 +1,7 @@
 //! The command that loads a crate.
 
 ghost use Rattle.std.specs.Prelude.{◌≡◌, ◌≤◌, All, IfOk, length, map, true};
-ghost use Rattle.cell_world.specs.Limits.{max_file_bytes};
+ghost use Rattle.cell_num.specs.Limits.{max_file_bytes};
 ghost use Rattle.cell_depot.specs.Files.{are_apart};
 ghost use Rattle.cell_world.specs.Gather.{source_of};
 ghost use Rattle.cell_world.specs.LoadCommand.{next_load};

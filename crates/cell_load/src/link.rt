@@ -7,9 +7,8 @@ ghost use Rattle.cell_load.specs.Linking.{CanLink, Links, LinksAll};
 
 use crate::rows::rows;
 use cell_link::{FieldValue, link_fields};
-use cell_space::CellState;
 use cell_target::Scene;
-use cell_world::{Fail, LinkRow, NewCell};
+use cell_world::{Fail, LinkRow, NewCell, Standing};
 use std::alloc::{AllocError, Global};
 
 /// What fields hold, and links.
@@ -37,7 +36,7 @@ fn link_one(alloc: Global, scene: &Scene, cell: &NewCell) -> Result<Linked, Fail
     requires can { CanLink scene.now.ahead.now.namespaces cell.now }
     ensures { Links (seen scene.now.ahead.now.namespaces (scene.now.present.now ++ scene.now.fresh.now) scene.now.ahead.now.cells) cell.now result }
 {
-    let targets = scene.targets(alloc, cell, CellState::Attached)?;
+    let targets = scene.targets(alloc, cell, Standing::Attached)?;
     let fields = link_fields(alloc, cell, &targets)?;
     let rows = rows(alloc, cell, &targets)?;
     Ok(Linked {

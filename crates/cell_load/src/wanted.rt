@@ -1,7 +1,7 @@
 //! Which cells a load brings.
 
 ghost use Rattle.std.specs.Prelude.{◌≡◌, ◌≤◌, All, IfOk, length, map, None, true};
-ghost use Rattle.cell_world.specs.Limits.{max_file_bytes};
+ghost use Rattle.cell_num.specs.Limits.{max_file_bytes};
 ghost use Rattle.cell_depot.specs.Files.{are_apart};
 ghost use Rattle.cell_depot.specs.Found.{IsOnly};
 ghost use Rattle.cell_world.specs.Following.{Follows};

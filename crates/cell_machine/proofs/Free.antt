@@ -7,7 +7,7 @@ use Rattle.std.proofs.lemmas.Bool.{ltb-true}
 use Rattle.std.proofs.lemmas.List.{map-append}
 use Rattle.cell_num.specs.Lists.{each_pair, equals, holds, holds_name, In}
 use Rattle.cell_world.specs.World.{Alias, World, Cell, is_attached}
-use Rattle.cell_world.specs.Names.{are_on_one_path, chain, names_of}
+use Rattle.cell_world.specs.Names.{are_on_one_path, chain, names_of, has_name}
 use Rattle.cell_world.specs.Coherent.{all_names, is_known_cell, may_both_stand}
 use Rattle.cell_lemmas.proofs.Distinct.{pairs_across}
 use Rattle.cell_num.proofs.Elements.{none-In, In-none, In-All, In-filtered, filter-Passes, In-map, map-In}
@@ -15,8 +15,6 @@ use Rattle.cell_lemmas.proofs.Known.{known_parts}
 use Rattle.cell_space.specs.declared.cell.SpaceCell.{SpaceCell}
 use Rattle.cell_space.specs.Machine.{called}
 use Rattle.cell_space.specs.Named.{clash_name, clash_stem, is_rival, number_of, rivals}
-use Rattle.cell_space.specs.Rows.{has_name}
-use Rattle.cell_space.proofs.Machines.{attached}
 use Rattle.cell_commit.specs.Cells.{AreFree, MayCome, arrived, with_no_room}
 use Rattle.cell_space.specs.Spaces.{IsFree}
 use Rattle.cell_commit.specs.declared.attach.Newcomer.{Newcomer}
@@ -69,7 +67,7 @@ module _ (w : World) (before : List Cell) (c : Cell) (is : is_attached c.standin
   rival x k =
       let d : (d : Cell) × In d before × (x ≡ called d) = In-map called before x (In-filtered (is_rival w.namespaces c.ns) (map called before) x k) in
       let r : is_rival w.namespaces c.ns (called d.0) ≡ true = subst (λ (x : SpaceCell). is_rival w.namespaces c.ns x ≡ true) d.2 (filter-Passes (is_rival w.namespaces c.ns) (map called before) x k) in
-      (d.0, d.2, apart d.0 d.1 (subst (λ (b : Bool). (b && are_on_one_path w.namespaces c.ns d.0.ns) ≡ true) (attached d.0.standing) r))
+      (d.0, d.2, apart d.0 d.1 r)
 
   pub stem_free : clash_stem w.namespaces c.ns c.stem (map called before) ≡ None
   stem_free =

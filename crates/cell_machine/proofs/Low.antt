@@ -11,7 +11,7 @@ use Rattle.cell_object.specs.declared.object.Object.{Object}
 use Rattle.cell_object.specs.declared.object.Section.{Section as ObjectSection}
 use Rattle.cell_object.specs.declared.object.Symbol.{Symbol}
 use Rattle.cell_object.specs.Parts.{is_defined, section_of}
-use Rattle.cell_object.specs.Sound.{IsSoundObject, is_known_bind, is_sound_home, is_sound_section, is_sound_symbol}
+use Rattle.cell_object.specs.Sound.{IsSoundObject, is_sound_home, is_sound_section, is_sound_symbol}
 use Rattle.cell_world.specs.declared.state.SecPlace.{SecPlace}
 use Rattle.cell_world.specs.World.{World, Cell}
 use Rattle.cell_world.specs.Coherent.{IsLoadable, is_placed, stands_by_rule}
@@ -29,17 +29,12 @@ section_small o sound n s found =
     let parts = all-In is_sound_section o.sections sound.sections s at.0 in
     grind (arith, nat_tests)
 
-second : (a b c : Bool) → (a && b && c) ≡ true → b ≡ true
-second true true c h = refl
-second true false c h = h
-second false b c h = absurd (true≢false (sym h))
-
 -- a symbol in a section has a small value
 value_low : (o : Object) → IsSoundObject o → (s : Symbol) → In s o.symbols → is_defined s.home ≡ true → s.value < 2 ^ 63
 value_low o sound s i = go s.home refl
   where
     sound_home : is_sound_home o s s.home ≡ true
-    sound_home = second (is_known_bind s.bind) (is_sound_home o s s.home) _ (all-In (is_sound_symbol o) o.symbols sound.symbols s i)
+    sound_home = (and_parts (is_sound_home o s s.home) _ (all-In (is_sound_symbol o) o.symbols sound.symbols s i)).0
 
     inside : (n : ℕ) (found : Option ObjectSection) → section_of o n ≡ found → unwrap_or (option_map (λ section. nat_le s.value section.size) found) false ≡ true → s.value < 2 ^ 63
     inside n None e h = absurd (true≢false (sym h))

@@ -5,12 +5,11 @@ use Rattle.std.proofs.lemmas.Bool.{ltb-true, eqb-true, eq-eqb}
 use Rattle.cell_num.specs.Lists.{each_pair, In}
 use Rattle.cell_world.specs.declared.state.NewCell.{NewCell}
 use Rattle.cell_world.specs.MapCommand.{group_of}
-use Rattle.cell_world.specs.World.{Cell, Standing, Attached as IsAttached, Detached as IsDetached}
+use Rattle.cell_world.specs.World.{Cell, Standing}
+use Rattle.cell_world.specs.declared.state.Standing.TheVariants.{Attached, Detached}
 use Rattle.cell_num.proofs.Elements.{find_there, found-In, pairs-In}
-use Rattle.cell_space.specs.declared.cell.CellState.{CellState}
-use Rattle.cell_space.specs.declared.cell.CellState.TheVariants.{Attached, Detached}
 use Rattle.cell_space.specs.declared.cell.SpaceCell.{SpaceCell}
-use Rattle.cell_space.specs.Machine.{called, state_of}
+use Rattle.cell_space.specs.Machine.{called}
 use Rattle.cell_space.specs.Named.{cell_numbered}
 use Rattle.cell_space.specs.Spaces.{HasCell}
 use Rattle.cell_machine.specs.declared.machine.Machine.{Machine}
@@ -51,19 +50,19 @@ module _ (m : Machine) (sound : IsSound m) where
       is_there (Some x) c e = refl
 
   -- the state that they tell is the cell's standing
-  pub state_told : (d : Cell) → In d (world_of m).cells → (p : NewCell) → d.placed ≡ p → (s : CellState) → option_map (λ (c : SpaceCell). c.state) (cell_numbered m.spaces.cells p.id.0) ≡ Some s → s ≡ state_of d.standing
+  pub state_told : (d : Cell) → In d (world_of m).cells → (p : NewCell) → d.placed ≡ p → (s : Standing) → option_map (λ (c : SpaceCell). c.state) (cell_numbered m.spaces.cells p.id.0) ≡ Some s → s ≡ d.standing
   state_told d i p same s told =
-      let here : option_map (λ (c : SpaceCell). c.state) (cell_numbered m.spaces.cells d.id.0) ≡ Some (state_of d.standing) = ap (option_map (λ (c : SpaceCell). c.state)) (known_at d i) in
-      some_same s (state_of d.standing) (sym told ∙ (ap (λ (x : NewCell). option_map (λ (c : SpaceCell). c.state) (cell_numbered m.spaces.cells x.id.0)) (sym same) ∙ here))
+      let here : option_map (λ (c : SpaceCell). c.state) (cell_numbered m.spaces.cells d.id.0) ≡ Some d.standing = ap (option_map (λ (c : SpaceCell). c.state)) (known_at d i) in
+      some_same s d.standing (sym told ∙ (ap (λ (x : NewCell). option_map (λ (c : SpaceCell). c.state) (cell_numbered m.spaces.cells x.id.0)) (sym same) ∙ here))
     where
-      some_same : (a b : CellState) → Some a ≡ (let o : Option CellState = Some b in o) → a ≡ b
+      some_same : (a b : Standing) → Some a ≡ (let o : Option Standing = Some b in o) → a ≡ b
       some_same a b h = cc
 
 -- by its group
-pub attached_group : (standing : Standing) → Attached ≡ state_of standing → None ≡ group_of standing
-attached_group IsAttached e = refl
-attached_group (IsDetached k) e = cc
+pub attached_group : (standing : Standing) → Attached ≡ standing → None ≡ group_of standing
+attached_group Attached e = refl
+attached_group (Detached k) e = cc
 
-pub detached_group : (standing : Standing) (k : ℕ) → Detached k ≡ state_of standing → Some k ≡ group_of standing
-detached_group IsAttached k e = cc
-detached_group (IsDetached l) k e = cc
+pub detached_group : (standing : Standing) (k : ℕ) → Detached k ≡ standing → Some k ≡ group_of standing
+detached_group Attached k e = cc
+detached_group (Detached l) k e = cc

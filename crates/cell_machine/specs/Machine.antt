@@ -7,6 +7,7 @@
 --     IsWhole m               and the machine is coherent, also while an undo is begun
 --     IsSound m               and none is begun
 use Rattle.std.specs.Prelude.{ℕ, ◌≡◌, ◌≤◌, ◌-◌, ◌*◌, ◌^◌, List, None, flat_map, map}
+use Rattle.cell_num.specs.Limits.{page_size}
 use Rattle.cell_num.specs.Kinds.{width_of}
 use Rattle.cell_num.specs.declared.ids.SecKey.{SecKey}
 use Rattle.cell_world.specs.declared.state.LinkRow.{LinkRow}
@@ -60,7 +61,7 @@ pub record AreParts (m : Machine) : Type 0 where
   pub table : m.space.taken ≡ page_table (world_of m)
   pub base : m.space.base ≡ m.memory.base
   pub sections : m.graph.sections ≡ keys_of m.cells.items
-  pub seals : m.memory.sealed ≡ seal_table m.memory.base (4096 * m.memory.pages) (field_bytes m.cells.items)
+  pub seals : m.memory.sealed ≡ seal_table m.memory.base (page_size * m.memory.pages) (field_bytes m.cells.items)
   pub patches : m.memory.patches ≤ 2 ^ 64 - 1
   pub maps : m.memory.maps ≤ 2 ^ 64 - 1
 

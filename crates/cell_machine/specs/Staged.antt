@@ -13,7 +13,8 @@ use Rattle.std.specs.Prelude.{◌≡◌, ◌+◌, List, [], ◌∷◌, ◌++◌,
 use Rattle.cell_world.specs.declared.layout.Starts.{Starts}
 use Rattle.cell_world.specs.declared.state.LinkRow.{LinkRow}
 use Rattle.cell_world.specs.declared.state.NewCell.{NewCell}
-use Rattle.cell_world.specs.World.{Alias, World, Cell, Region, Attached, attached}
+use Rattle.cell_world.specs.World.{Alias, World, Cell, Region, attached}
+use Rattle.cell_world.specs.declared.state.Standing.TheVariants.{Attached}
 use Rattle.cell_world.specs.Coherent.{IsCoherent, IsReady}
 use Rattle.cell_world.specs.Fit.{first_misfit}
 use Rattle.cell_world.specs.Gather.{fresh_cells}
@@ -29,7 +30,6 @@ use Rattle.cell_link.specs.Linked.{field_values}
 use Rattle.cell_mem.specs.State.{MemoryState}
 use Rattle.cell_place.specs.Space.{SpaceState}
 use Rattle.cell_commit.specs.Commit.{fields_written}
-use Rattle.cell_space.specs.declared.cell.CellState.TheVariants.{Attached as IsAttached}
 use Rattle.cell_space.specs.declared.cell.SpaceCell.{SpaceCell}
 use Rattle.cell_space.specs.Joined.{placed_of}
 use Rattle.cell_machine.specs.declared.machine.Machine.{Machine}
@@ -44,7 +44,7 @@ abbrev pub all_fields : World → List Cell → List FieldValue
 all_fields w cells = flat_map (λ c. field_values c.placed (targets_of w c)) cells
 
 abbrev pub arrival : NewCell → List Alias → SpaceCell
-arrival c names = record { cell = c.id; ns = c.ns; stem = c.stem; state = IsAttached; names = names }
+arrival c names = record { cell = c.id; ns = c.ns; stem = c.stem; state = Attached; names = names }
 
 abbrev pub arrivals : List NewCell → List (List Alias) → List SpaceCell
 arrivals [] names = []

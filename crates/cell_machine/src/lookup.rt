@@ -11,8 +11,8 @@ ghost use Rattle.cell_world.specs.World.{Cell, cell_of};
 
 use crate::Machine;
 use cell_placed::{cell_numbered, target_in};
-use cell_space::{CellState, Scope};
-use cell_world::{NewCell, Target};
+use cell_space::Scope;
+use cell_world::{NewCell, Standing, Target};
 
 impl Machine {
     /// The present cell of that number.
@@ -41,8 +41,8 @@ impl Machine {
         ensures { (c : Cell) → In c (world_of self.now).cells → c.placed ≡ cell.now → result ≡ group_of c.standing }
     {
         match self.spaces.state(cell.id) {
-            CellState::Attached => None,
-            CellState::Detached(swap) => Some(swap),
+            Standing::Attached => None,
+            Standing::Detached(swap) => Some(swap),
         }
     }
 }

@@ -1,5 +1,6 @@
 -- What the fields of a memory mean, and what always holds of them.
 use Rattle.std.specs.Prelude.{◌≡◌, ◌≤◌, ◌+◌, ◌*◌, ◌^◌, List, length, option_map}
+use Rattle.cell_num.specs.Limits.{page_size}
 use Rattle.cell_world.specs.Pages.{IsSpace}
 use Rattle.cell_world.specs.Undo.{AreBytes, undone}
 use Rattle.cell_world.specs.World.{Region}
@@ -29,10 +30,10 @@ pub record IsSound (m : Inside) : Type 0 where
   pub space : IsSpace m.base m.pages
   pub regions : length m.regions.items ≡ m.pages
   pub in_place : AreInPlace m.base m.regions.items
-  pub laid : IsLaid m.base (held m.regions.items) (m.base + 4096 * m.pages)
+  pub laid : IsLaid m.base (held m.regions.items) (m.base + page_size * m.pages)
   pub firsts : length m.firsts.items ≡ m.pages
   pub index : IsIndex m.base (held m.regions.items) m.firsts.items
   pub bytes : AreBytes (held m.regions.items)
-  pub sealed : length m.sealed.items ≡ 4096 * m.pages
+  pub sealed : length m.sealed.items ≡ page_size * m.pages
   -- far below the numbers of 64 bits
   pub few : m.spare + length (held m.regions.items) ≤ 2 ^ 32 + m.pages

@@ -13,6 +13,7 @@
 --     before_in m                       the regions that it gives back
 use Rattle.std.specs.Prelude.{◌≡◌, ◌≤◌, ℕ, ◌+◌, ◌-◌, ◌*◌, ◌%◌, ◌^◌, ◌==◌, nat_le, Bool, true, false, ◌||◌, List, [], ◌∷◌, Option, Some, None, length, find, min, max, replicate, slice_range, option_map, option_and_then, unwrap_or, IfSome}
 use Rattle.std.specs.List.{list_any, list_all}
+use Rattle.cell_num.specs.Limits.{page_size}
 use Rattle.cell_num.specs.Lists.{holds, where_true}
 use Rattle.cell_world.specs.World.{Region, Permission}
 use Rattle.cell_world.specs.Memory.{covers, end_of}
@@ -83,11 +84,11 @@ sealed_at m addr width = record m { sealed = filled m.sealed (addr - m.base) wid
 
 -- n bytes from start on are one or more whole pages of the space, in no region, and a region is in reserve
 pub record IsRoom (m : MemoryState) (start n : ℕ) : Type 0 where
-  pub aligned : start % 4096 ≡ 0
-  pub whole : n % 4096 ≡ 0
+  pub aligned : start % page_size ≡ 0
+  pub whole : n % page_size ≡ 0
   pub filled : 1 ≤ n
   pub above : m.base ≤ start
-  pub below : start + n ≤ m.base + 4096 * m.pages
+  pub below : start + n ≤ m.base + page_size * m.pages
   pub apart : list_all (λ r. nat_le (end_of r) start || nat_le (start + n) r.start) m.regions ≡ true
   pub spare : 1 ≤ m.spare
 
@@ -142,7 +143,7 @@ empty_memory base pages =
       base = base;
       pages = pages;
       regions = [];
-      sealed = replicate (4096 * pages) false;
+      sealed = replicate (page_size * pages) false;
       spare = 0;
       undo = None;
       patches = 0;

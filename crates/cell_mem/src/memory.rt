@@ -2,6 +2,7 @@
 
 ghost use Rattle.std.specs.Prelude.{ℕ, ◌≡◌, ◌≢◌, ◌<◌, ◌+◌, ◌*◌, ◌/◌, ◌-◌, ◌≤◌, Some, None, Ok, Err, true, false, length, find, map, replicate, slice_set, slice_index_or, is_some, option_map, IfSome, IsSomeAnd, IfOk, IfErr, OnOk, OnErr};
 ghost use Rattle.std.specs.Result.{result_map_both};
+ghost use Rattle.cell_num.specs.Limits.{page_size};
 ghost use Rattle.cell_num.specs.Bits.{bytes_of};
 ghost use Rattle.cell_world.specs.Memory.{covers};
 ghost use Rattle.cell_world.specs.Pages.{IsSpace};
@@ -19,6 +20,7 @@ use crate::fill::{fill, nothing, repeated};
 use crate::perm::Perm;
 use crate::region::Region;
 use crate::undo::Undo;
+use cell_num::PAGE_SIZE;
 use cell_world::Record;
 use std::alloc::{AllocError, Global};
 use std::marker::Model;
@@ -74,7 +76,7 @@ impl Memory {
             pages,
             regions: nothing(alloc, pages as usize)?,
             firsts: repeated(alloc, None, pages as usize)?,
-            sealed: repeated(alloc, false, 4096 * pages as usize)?,
+            sealed: repeated(alloc, false, PAGE_SIZE as usize * pages as usize)?,
             spare: 0,
             undo: None,
             patches: 0,
@@ -119,7 +121,7 @@ impl Memory {
 
     /// The regions are whole pages of the space, ascending by their starts and apart.
     pub fn laid_out(&self)
-        ensures { IsLaid self.now.base self.now.regions (self.now.base + 4096 * self.now.pages) }
+        ensures { IsLaid self.now.base self.now.regions (self.now.base + page_size * self.now.pages) }
     {
         let _ = &self.base;
     }
@@ -147,7 +149,7 @@ impl Memory {
         if addr < self.base {
             return None;
         }
-        let page = (addr - self.base) / 4096;
+        let page = (addr - self.base) / PAGE_SIZE;
         if page >= u64::from(self.pages) {
             return None;
         }
@@ -334,9 +336,9 @@ impl Memory {
     /// The page that an address of the space lies in.
     fn page_at(&self, addr: u64) -> usize
         requires low { self.now.base ≤ addr }
-        ensures { result ≡ (addr - self.now.base) / 4096 }
+        ensures { result ≡ (addr - self.now.base) / page_size }
     {
-        ((addr - self.base) / 4096) as usize
+        ((addr - self.base) / PAGE_SIZE) as usize
     }
 
     /// Maps a new region of these bytes.
@@ -345,7 +347,7 @@ impl Memory {
         ensures { self.new ≡ mapped self.old start (permission_of perm) bytes.items }
     {
         let first = self.page_at(start);
-        let count = bytes.len() / 4096;
+        let count = bytes.len() / PAGE_SIZE as usize;
         self.regions[first] = Some(Region::new(start, perm, bytes));
         fill(&mut self.firsts, first, count, Some(first));
         self.spare -= 1;
@@ -374,7 +376,7 @@ impl Memory {
         };
         let size = region.bytes().len();
         let at = (start - self.base) as usize;
-        fill(&mut self.firsts, first, size / 4096, None);
+        fill(&mut self.firsts, first, size / PAGE_SIZE as usize, None);
         fill(&mut self.sealed, at, size, false);
         self.spare += 1;
     }

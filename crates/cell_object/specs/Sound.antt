@@ -2,14 +2,13 @@
 use Rattle.std.specs.Prelude.{pos, ◌+◌, ◌%◌, ◌^◌, ◌==◌, nat_lt, nat_le, Bool, IsTrue, true, false, not, ◌&&◌, ◌||◌, length, is_some, option_map, unwrap_or}
 use Rattle.std.specs.List.{list_any, list_all}
 use Rattle.std.specs.Ordering.{int_eq}
+use Rattle.cell_num.specs.Limits.{max_section_bytes}
 use Rattle.cell_num.specs.declared.kinds.RelKind.{RelKind}
 use Rattle.cell_num.specs.declared.kinds.RelKind.TheVariants.{GotHi20}
 use Rattle.cell_object.specs.declared.object.Object.{Object}
 use Rattle.cell_object.specs.declared.object.Section.{Section}
 use Rattle.cell_object.specs.declared.object.Symbol.{Symbol}
 use Rattle.cell_object.specs.declared.object.Entry.{Entry}
-use Rattle.cell_object.specs.declared.object.Bind.{Bind}
-use Rattle.cell_object.specs.declared.object.Bind.TheVariants.{Local, Global, Weak}
 use Rattle.cell_object.specs.declared.object.Sort.{Sort}
 use Rattle.cell_object.specs.declared.object.Sort.TheVariants.{NoType, Object as DataSort, Func, Section as SectionSort, File}
 use Rattle.cell_object.specs.declared.object.Home.{Home}
@@ -18,7 +17,7 @@ use Rattle.cell_object.specs.declared.object.Fill.{Fill}
 use Rattle.cell_object.specs.declared.object.Fill.TheVariants.{Zero}
 use Rattle.cell_num.specs.Lists.{each_pair, equals, upto}
 use Rattle.cell_object.specs.Symbols.{is_global_name}
-use Rattle.cell_object.specs.Parts.{is_global, section_of, symbol_at, label_of, high_of}
+use Rattle.cell_object.specs.Parts.{is_local, section_of, symbol_at, label_of, high_of}
 use Rattle.cell_num.specs.Kinds.{width_of, is_instruction, is_stacking, is_pcrel_lo12}
 
 abbrev pub is_zero : Fill → Bool
@@ -27,7 +26,7 @@ is_zero _ = false
 
 abbrev pub is_sound_section : Section → Bool
 is_sound_section s =
-    not (s.write && s.exec) && list_any (λ k. s.align == 2 ^ k) (upto 13) && nat_le s.size 16777216
+    not (s.write && s.exec) && list_any (λ k. s.align == 2 ^ k) (upto 13) && nat_le s.size max_section_bytes
     && (is_zero s.fill || length s.bytes == s.size)
 
 abbrev pub is_plain_sort : Sort → Bool
@@ -37,27 +36,21 @@ is_plain_sort NoType = true
 is_plain_sort DataSort = true
 is_plain_sort Func = true
 
--- a symbol in a section has its value in it; an absolute one is LOCAL, and a GLOBAL is in no section that isn't loaded
+-- a symbol in a section has its value in it; an absolute one is LOCAL, as is one in a section that isn't loaded
 abbrev pub is_sound_home : Object → Symbol → Home → Bool
 is_sound_home object s Undef = true
-is_sound_home object s Abs = not (is_global s.bind)
+is_sound_home object s Abs = is_local s.bind
 is_sound_home object s (Inside n) =
     unwrap_or (option_map (λ section. nat_le s.value section.size) (section_of object n)) false
-is_sound_home object s Elsewhere = not (is_global s.bind)
-
--- the bindings that an object may have
-abbrev pub is_known_bind : Bind → Bool
-is_known_bind Local = true
-is_known_bind Global = true
-is_known_bind Weak = false
+is_sound_home object s Elsewhere = is_local s.bind
 
 abbrev pub is_sound_symbol : Object → Symbol → Bool
 is_sound_symbol object s =
-    is_known_bind s.bind && is_sound_home object s s.home && (not (is_global s.bind) || is_global_name s.name && is_plain_sort s.sort)
+    is_sound_home object s s.home && (is_local s.bind || is_global_name s.name && is_plain_sort s.sort)
 
--- an entry names symbol 0, a GLOBAL, or a LOCAL that has a place or an absolute value
+-- an entry names symbol 0, a GLOBAL or WEAK, or a LOCAL that has a place or an absolute value
 abbrev pub is_nameable : Symbol → Home → Bool
-is_nameable s Undef = is_global s.bind
+is_nameable s Undef = not (is_local s.bind)
 is_nameable s Abs = true
 is_nameable s (Inside n) = true
 is_nameable s Elsewhere = false
@@ -89,9 +82,9 @@ may_share e f =
     || nat_le (e.offset + width_of e.kind) f.offset || nat_le (f.offset + width_of f.kind) e.offset
     || (e.offset == f.offset) && (width_of e.kind == width_of f.kind) && is_stacking e.kind && is_stacking f.kind
 
--- no two GLOBAL symbols have the same name
+-- no two symbols have the same name, LOCAL ones aside
 abbrev pub may_both_be : Symbol → Symbol → Bool
-may_both_be a b = not (is_global a.bind && is_global b.bind && equals a.name b.name)
+may_both_be a b = is_local a.bind || is_local b.bind || not (equals a.name b.name)
 
 pub record IsSoundObject (object : Object) : Type 0 where
   -- section numbers rise

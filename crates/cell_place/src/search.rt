@@ -1,6 +1,7 @@
 //! The lowest free run that is long enough, and the longest one.
 
 ghost use Rattle.std.specs.Prelude.{if◌then◌else◌, ◌≡◌, ◌+◌, ◌<◌, ◌≤◌, length, IfOk};
+ghost use Rattle.cell_num.specs.Limits.{max_pages};
 ghost use Rattle.cell_world.specs.Pages.{longest_run, lowest_run};
 ghost use Rattle.cell_place.specs.Runs.{AreTakenBefore, IsFound, run_of};
 
@@ -20,7 +21,7 @@ pub struct NoRun {
 
 /// How many pages are free without a gap up to a page, and so many were before it.
 fn with_page(taken: bool, free: u32) -> u32
-    requires { free < 4096 }
+    requires { free < max_pages }
     ensures { result ≡ (if taken then 0 else free + 1) }
 {
     if taken {
@@ -31,7 +32,7 @@ fn with_page(taken: bool, free: u32) -> u32
 
 /// The lowest page from which enough pages are free. All pages before `from` are taken.
 fn lowest_from(taken: &[bool], from: u32, count: u32) -> Option<u32>
-    requires few { length taken.now ≤ 4096 }
+    requires few { length taken.now ≤ max_pages }
     requires wanted { 1 ≤ count }
     requires inside { from ≤ length taken.now }
     requires before { AreTakenBefore taken.now from }
@@ -58,7 +59,7 @@ pub struct Found {
 impl Found {
     /// The same from the page before on.
     fn with_page(self, taken: &[bool], page: u32) -> Found
-        requires few { length taken.now ≤ 4096 }
+        requires few { length taken.now ≤ max_pages }
         requires inside { page < length taken.now }
         requires later { IsFound taken.now (page + 1) self }
         ensures { IsFound taken.now page result }
@@ -76,7 +77,7 @@ impl Found {
 
 /// The length of the longest free run. This goes over the pages from the last to the first.
 fn longest(taken: &[bool]) -> u32
-    requires { length taken.now ≤ 4096 }
+    requires { length taken.now ≤ max_pages }
     ensures { result ≡ longest_run taken.now }
 {
     let mut found = Found {
@@ -91,7 +92,7 @@ fn longest(taken: &[bool]) -> u32
 
 /// The lowest free run of so many pages. All pages before `from` are taken.
 pub fn search(taken: &[bool], from: u32, count: u32) -> Result<Run, NoRun>
-    requires few { length taken.now ≤ 4096 }
+    requires few { length taken.now ≤ max_pages }
     requires wanted { 1 ≤ count }
     requires from { from ≤ length taken.now }
     requires before { AreTakenBefore taken.now from }

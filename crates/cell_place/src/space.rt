@@ -1,10 +1,12 @@
 //! The pages of the space.
 
 ghost use Rattle.std.specs.Prelude.{◌≡◌, ◌+◌, ◌*◌, ◌≤◌, ◌<◌, ◌^◌, false, true, length, replicate, IfOk, OnErr};
+ghost use Rattle.cell_num.specs.Limits.{page_size};
 ghost use Rattle.cell_world.specs.Pages.{IsSpace, is_taken_run, filled};
 ghost use Rattle.cell_place.specs.Runs.{run_of};
 
 use crate::search::{NoRun, Run, search};
+use cell_num::PAGE_SIZE;
 use std::alloc::{AllocError, Global};
 use std::marker::Model;
 
@@ -76,10 +78,10 @@ impl Space {
 
     /// The address of a run's first byte.
     pub fn address_of(&self, run: Run) -> u64
-        ensures address { result ≡ self.now.base + 4096 * run.page }
+        ensures address { result ≡ self.now.base + page_size * run.page }
         ensures low { result < 2 ^ 45 }
     {
-        self.base + 4096 * u64::from(run.page)
+        self.base + PAGE_SIZE * u64::from(run.page)
     }
 
     /// The lowest free run of so many pages, which stays free.

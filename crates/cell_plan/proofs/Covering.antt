@@ -6,7 +6,8 @@ use Rattle.std.proofs.lemmas.Bool.{eq-eqb, leb-true, ltb-true}
 use Rattle.std.proofs.lemmas.List.{append-nil}
 use Rattle.std.proofs.lemmas.List.Elements.{filter-append}
 use Rattle.cell_num.specs.Lists.{holds, In}
-use Rattle.cell_world.specs.World.{World, Cell, Detached, is_attached, is_of_group}
+use Rattle.cell_world.specs.World.{World, Cell, is_attached, is_of_group}
+use Rattle.cell_world.specs.declared.state.Standing.TheVariants.{Detached}
 use Rattle.cell_world.specs.Gather.{first_lack}
 use Rattle.cell_world.specs.SwapCommand.{first_uncovered, is_bystander}
 use Rattle.cell_world.specs.Coherent.{IsCoherent, is_known_cell}

@@ -12,13 +12,12 @@ use Rattle.cell_world.specs.declared.state.LinkRow.{LinkRow}
 use Rattle.cell_world.specs.declared.state.NewCell.{NewCell}
 use Rattle.cell_world.specs.declared.state.Target.{Target}
 use Rattle.cell_world.specs.Fit.{overflow_at}
-use Rattle.cell_world.specs.World.{attached}
+use Rattle.cell_world.specs.World.{attached, Standing}
 use Rattle.cell_plan.specs.declared.changed.Changed.{Changed}
 use Rattle.cell_plan.specs.declared.span.Span.{Span}
 use Rattle.cell_plan.specs.Exchanged.{Change, IsChange, View, first_unfit, links_before, moves_of, patches_of, spans_of, targets_now}
 use Rattle.cell_plan.specs.Coverage.{state_in}
 use Rattle.cell_plan.specs.Taking.{HasTaken}
-use Rattle.cell_space.specs.declared.cell.CellState.{CellState}
 use Rattle.cell_target.specs.Scene.{in_state}
 use Rattle.cell_world.specs.Target.{targets_of}
 use Rattle.cell_plan.specs.Viewed.{Adds, HasAdded}
@@ -39,7 +38,7 @@ nothing_yet x users changed patches moves spans = record {
 }
 
 -- what is taken in from a cell is what changes in it
-pub taken_in : (x : View) (c : NewCell) (state : CellState) (targets : List Target) (links : List LinkRow) (was now : Changed)
+pub taken_in : (x : View) (c : NewCell) (state : Standing) (targets : List Target) (links : List LinkRow) (was now : Changed)
     → state ≡ state_in x.spaces c.id.0 → targets ≡ targets_of x.now (in_state c state) → links ≡ links_before x c
     → HasTaken x.old c targets links was now → HasAdded x c was now
 taken_in x c state targets links was now same_state same_targets same_links taken =

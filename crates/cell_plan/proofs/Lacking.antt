@@ -1,6 +1,6 @@
 -- The first need that nobody provides, by what the spaces answer.
 use Rattle.std.proofs.Common.{◌≡◌, refl, sym, ◌∙◌, ap, ap₂, ℕ, suc, ◌&&◌, ◌||◌, ◌+◌, ◌<◌, ◌≤◌, Bool, true, false, cond, not, List, [], ◌∷◌, map, length, drop, get_or}
-use Rattle.std.specs.Prelude.{Option, Some, None, Err, filter, find, is_none, option_map, unwrap_or}
+use Rattle.std.specs.Prelude.{IsTrue, Option, Some, None, Err, filter, find, is_none, option_map, unwrap_or}
 use Rattle.std.proofs.lemmas.List.{drop_more}
 use Rattle.std.proofs.Math.ListN.{drop_of_length-le}
 use Rattle.std.specs.List.{list_any}
@@ -11,30 +11,25 @@ use Rattle.cell_world.specs.declared.refusal.Refusal.{Refusal}
 use Rattle.cell_world.specs.declared.refusal.Refusal.TheVariants.{Missing}
 use Rattle.cell_world.specs.declared.state.Namespace.{Namespace}
 use Rattle.cell_world.specs.declared.state.NewCell.{NewCell}
-use Rattle.cell_world.specs.World.{World}
+use Rattle.cell_world.specs.World.{World, Cell, Standing}
 use Rattle.cell_world.specs.Gather.{first_lack, lacks_of, missing}
 use Rattle.cell_object.specs.declared.object.Object.{Object}
 use Rattle.cell_object.specs.declared.object.Symbol.{Symbol}
-use Rattle.cell_object.specs.Parts.{is_global, is_undefined}
+use Rattle.cell_object.specs.Parts.{has_no_weak, is_global, is_undefined}
+use Rattle.cell_num.proofs.Elements.{All-In}
+use Rattle.cell_lemmas.proofs.Plain.{strong_alone}
 use Rattle.cell_world.specs.Names.{chain, is_used, needs_of, provider_of}
 use Rattle.cell_space.specs.Ahead.{AheadState}
-use Rattle.cell_space.specs.Joined.{standing_of}
-use Rattle.cell_space.specs.Machine.{called, state_of}
 use Rattle.cell_space.specs.Named.{cell_numbered, provider_for}
 use Rattle.cell_space.specs.Spaces.{SpacesState}
-use Rattle.cell_space.specs.declared.cell.CellState.{CellState}
-use Rattle.cell_space.specs.declared.cell.CellState.TheVariants.{Attached, Detached}
+use Rattle.cell_world.specs.declared.state.Standing.TheVariants.{Attached}
 use Rattle.cell_space.specs.declared.cell.SpaceCell.{SpaceCell}
-use Rattle.cell_space.proofs.Machines.{provider_for-called}
+use Rattle.cell_space.proofs.Machines.{strong_provider-called}
 use Rattle.cell_target.specs.Scene.{in_state}
 use Rattle.cell_plan.specs.Known.{is_lacking, is_open}
 use Rattle.cell_plan.specs.Coverage.{Covers, IsAhead, as_it_stands, first_lost, lost_by, others_in}
 
-state_back : (s : CellState) → state_of (standing_of s) ≡ s
-state_back Attached = refl
-state_back (Detached k) = refl
-
-module _ (w : World) (ahead : AheadState) (is : IsAhead w ahead) (c : NewCell) (s : CellState) where
+module _ (w : World) (ahead : AheadState) (is : IsAhead w ahead) (c : NewCell) (s : Standing) where
   abbrev pub nobody : List ℕ → Bool
   nobody name = is_none (provider_for (chain ahead.namespaces c.ns) s name ahead.cells)
 
@@ -44,9 +39,9 @@ module _ (w : World) (ahead : AheadState) (is : IsAhead w ahead) (c : NewCell) (
   same : (name : List ℕ) → lacks name ≡ nobody name
   same name =
       ap is_none
-      (provider_for-called w c.ns name (standing_of s)
-      ∙ (ap (λ (t : CellState). provider_for (chain w.namespaces c.ns) t name (map called w.cells)) (state_back s)
-      ∙ ap₂ (λ (spaces : List Namespace) (cells : List SpaceCell). provider_for (chain spaces c.ns) s name cells) is.namespaces is.cells))
+      (strong_alone w (All-In (λ (d : Cell). IsTrue (has_no_weak d.object)) w.cells is.no_weak) s c.ns name
+      ∙ strong_provider-called w c.ns name s
+      ∙ ap₂ (λ (spaces : List Namespace) (cells : List SpaceCell). provider_for (chain spaces c.ns) s name cells) is.namespaces is.cells)
 
   by_names : (names : List (List ℕ)) → option_map missing (first (map (λ name. record { cell = in_state c s; name = name }) (filter lacks names))) ≡ option_map (λ name. Missing name c.id) (find nobody names)
   by_names [] = refl
@@ -85,7 +80,7 @@ module _ (object : Object) (lacking : List ℕ → Bool) where
   none_needed k (s ∷ symbols) none = one_needed k s symbols (none_needed (suc k) symbols) (is_open s) (is_used object k) (lacking s.name) refl none
 
 -- a cell of which no name is lacking has lost nothing
-pub lost_nothing : (w : World) (ahead : AheadState) (is : IsAhead w ahead) (c : NewCell) (s : CellState) → list_any (λ x. is_open x && is_lacking ahead c.ns s x.name) c.object.symbols ≡ false → lost_by w (in_state c s) ≡ None
+pub lost_nothing : (w : World) (ahead : AheadState) (is : IsAhead w ahead) (c : NewCell) (s : Standing) → list_any (λ x. is_open x && is_lacking ahead c.ns s x.name) c.object.symbols ≡ false → lost_by w (in_state c s) ≡ None
 lost_nothing w ahead is c s none =
     lost_is w ahead is c s (needs_of c.object) refl ∙ ap (option_map (λ name. Missing name c.id)) (none_needed c.object (is_lacking ahead c.ns s) 1 c.object.symbols none)
 
@@ -109,11 +104,11 @@ module _ (w : World) (spaces : SpacesState) (old : List ℕ) where
   old_needs_nothing c e = ap (λ b. first_lost w (map (as_it_stands spaces) (others b c []))) e
 
   -- another has lost what it needs as it stands
-  pub other_needs : (c : NewCell) → holds old c.id.0 ≡ false → (s : CellState) → option_map (λ (x : SpaceCell). x.state) (cell_numbered spaces.cells c.id.0) ≡ Some s → lost_of (c ∷ []) ≡ lost_by w (in_state c s)
+  pub other_needs : (c : NewCell) → holds old c.id.0 ≡ false → (s : Standing) → option_map (λ (x : SpaceCell). x.state) (cell_numbered spaces.cells c.id.0) ≡ Some s → lost_of (c ∷ []) ≡ lost_by w (in_state c s)
   other_needs c e s state =
       ap (λ b. first_lost w (map (as_it_stands spaces) (others b c []))) e
       ∙ (ap (option_map missing) (or_none (first (lacks_of w (as_it_stands spaces c))))
-      ∙ ap (λ (o : Option CellState). lost_by w (in_state c (unwrap_or o Attached))) state)
+      ∙ ap (λ (o : Option Standing). lost_by w (in_state c (unwrap_or o Attached))) state)
 
   lost_split : (c : NewCell) (users : List NewCell) → lost_of (c ∷ users) ≡ or_else (lost_of (c ∷ [])) (lost_of users)
   lost_split c users = go (holds old c.id.0)

@@ -16,8 +16,9 @@ use Rattle.cell_lemmas.proofs.Unchanged.{bound_now, named_in}
 use Rattle.cell_lemmas.proofs.Values.{bind}
 use Rattle.cell_lemmas.specs.Swapping.{HasSwapPlaced}
 use Rattle.cell_lemmas.specs.Targets.{loses}
-use Rattle.cell_lemmas.proofs.SwapReady.{swap_linkable, swap_regrown, unchanged_fits}
-use Rattle.cell_lemmas.proofs.SwapTargets.{differs_where_lost}
+use Rattle.cell_lemmas.proofs.ChangedFits.{unchanged_fits}
+use Rattle.cell_lemmas.proofs.PlainSwaps.{differs_where_lost}
+use Rattle.cell_lemmas.proofs.SwapReady.{swap_linkable, swap_regrown}
 use Rattle.cell_plan.specs.Staying.{StaysBy}
 
 module _ (sources : List Source) (sound : AreSound sources) (v : World) (h : IsCoherent v) (items : List SwapItem) (reexport : Bool) (w : World) (p : HasSwapPlaced sources v items reexport w) where
@@ -34,7 +35,8 @@ module _ (sources : List Source) (sound : AreSound sources) (v : World) (h : IsC
     fit : (b : Bound) → In b (map (bind (named_in w (now_in w c))) c.object.entries) → FitsStill b
     fit b j =
         let e = In-map (bind (named_in w (now_in w c))) c.object.entries b j in
-        subst FitsStill (sym e.2) (unchanged_fits sources sound v h items reexport w p c i e.0 e.1)
+        subst FitsStill (sym e.2)
+        (unchanged_fits v w (fresh_cells v.next_cell w) h.ready (swap_linkable sources sound v h items reexport w p) (swap_regrown sources sound v h items reexport w p) c i e.0 e.1)
 
     pub stays : StaysBy v w old c
     stays = record {

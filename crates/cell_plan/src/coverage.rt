@@ -14,8 +14,8 @@ use crate::known::{Known, has_all};
 use crate::old::Old;
 use cell_gather::needs;
 use cell_num::{CellId, Name};
-use cell_space::{Ahead, CellState, Spaces};
-use cell_world::{Fail, NewCell, Refusal};
+use cell_space::{Ahead, Spaces};
+use cell_world::{Fail, NewCell, Refusal, Standing};
 use std::alloc::{AllocError, Global};
 
 /// E9: the cell has lost a name.
@@ -27,7 +27,7 @@ fn missing(alloc: Global, name: &Name, needed_by: CellId) -> Result<Refusal, All
 }
 
 /// Whether nobody provides the name for a cell of that namespace and state.
-fn is_lacking(ahead: &Ahead, ns: u16, state: CellState, name: &Name) -> bool
+fn is_lacking(ahead: &Ahead, ns: u16, state: Standing, name: &Name) -> bool
     requires { ns < length ahead.now.namespaces }
     ensures { result ≡ is_none (provider_among (chain ahead.now.namespaces ns) state name.now ahead.now.cells) }
 {
@@ -35,12 +35,7 @@ fn is_lacking(ahead: &Ahead, ns: u16, state: CellState, name: &Name) -> bool
 }
 
 /// The first of the names that nobody provides for a cell of that namespace and state.
-fn first_lacking<'a>(
-    ahead: &Ahead,
-    ns: u16,
-    state: CellState,
-    names: &'a [Name],
-) -> Option<&'a Name>
+fn first_lacking<'a>(ahead: &Ahead, ns: u16, state: Standing, names: &'a [Name]) -> Option<&'a Name>
     requires { ns < length ahead.now.namespaces }
     ensures { option_map (λ name. name.now) result ≡ find (λ name. is_none (provider_among (chain ahead.now.namespaces ns) state name ahead.now.cells)) names.now }
 {
@@ -48,7 +43,7 @@ fn first_lacking<'a>(
 }
 
 /// Sees that each need of a cell in that state has a provider, name by name.
-fn check_names(alloc: Global, ahead: &Ahead, cell: &NewCell, state: CellState) -> Result<(), Fail>
+fn check_names(alloc: Global, ahead: &Ahead, cell: &NewCell, state: Standing) -> Result<(), Fail>
     requires { cell.now.ns < length ahead.now.namespaces }
     ensures { (w : World) → IsAhead w ahead.now → Covers (lost_by w (in_state cell.now state)) result }
 {
@@ -66,7 +61,7 @@ fn check_cell<'a>(
     ahead: &Ahead,
     known: &mut Option<Known<'a>>,
     cell: &'a NewCell,
-    state: CellState,
+    state: Standing,
 ) -> Result<(), Fail>
     requires ns { cell.now.ns < length ahead.now.namespaces }
     requires known { IsKnown ahead.now known.old }

@@ -2,12 +2,12 @@
 
 ghost use Rattle.std.specs.Prelude.{◌≡◌, ◌<◌, ◌&&◌, IsSomeAnd, IsTrue, false, length, not, true};
 ghost use Rattle.std.specs.List.{list_any};
-ghost use Rattle.cell_space.specs.declared.cell.CellState.TheVariants.{Attached};
+ghost use Rattle.cell_world.specs.declared.state.Standing.TheVariants.{Attached};
 ghost use Rattle.cell_plan.specs.Known.{IsKnown, is_lacking, is_open as is_undefined_global, known_after};
 
 use cell_object::{Bind, Home, Symbol};
-use cell_space::{Ahead, CellState};
-use cell_world::NewCell;
+use cell_space::Ahead;
+use cell_world::{NewCell, Standing};
 
 /// A name that somebody provides for the attached cells of a namespace.
 #[derive(Clone, Copy)]
@@ -17,11 +17,11 @@ pub struct Known<'a> {
 }
 
 /// Whether it is known that somebody provides the name.
-fn is_known(known: Option<Known>, ns: u16, state: CellState, name: &[u8]) -> bool
+fn is_known(known: Option<Known>, ns: u16, state: Standing, name: &[u8]) -> bool
     ensures { IsTrue result → IsSomeAnd known.entry (λ k. (k.ns ≡ ns) × (k.name.now ≡ name.now) × (state ≡ Attached)) }
 {
     match (known, state) {
-        (Some(known), CellState::Attached) => known.ns == ns && known.name == name,
+        (Some(known), Standing::Attached) => known.ns == ns && known.name == name,
         _ => false,
     }
 }
@@ -30,14 +30,14 @@ fn is_known(known: Option<Known>, ns: u16, state: CellState, name: &[u8]) -> boo
 fn known_with<'a>(
     known: Option<Known<'a>>,
     ns: u16,
-    state: CellState,
+    state: Standing,
     name: &'a [u8],
 ) -> Option<Known<'a>>
     ensures { result ≡ known_after known.entry ns state name.entry }
 {
     match state {
-        CellState::Attached => Some(Known { ns, name }),
-        CellState::Detached(_) => known,
+        Standing::Attached => Some(Known { ns, name }),
+        Standing::Detached(_) => known,
     }
 }
 
@@ -46,7 +46,7 @@ fn is_provided<'a>(
     ahead: &Ahead,
     known: &mut Option<Known<'a>>,
     ns: u16,
-    state: CellState,
+    state: Standing,
     name: &'a [u8],
 ) -> bool
     requires ns { ns < length ahead.now.namespaces }
@@ -75,7 +75,7 @@ pub fn has_all<'a>(
     ahead: &Ahead,
     known: &mut Option<Known<'a>>,
     cell: &'a NewCell,
-    state: CellState,
+    state: Standing,
 ) -> bool
     requires ns { cell.now.ns < length ahead.now.namespaces }
     requires known { IsKnown ahead.now known.old }

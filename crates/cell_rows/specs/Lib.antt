@@ -15,3 +15,5 @@ pub mod Stricts
 pub mod Askers
 pub mod Entries
 pub mod Several
+pub mod Latecomers
+pub mod Yielding

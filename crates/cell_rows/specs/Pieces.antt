@@ -5,7 +5,7 @@ use Rattle.cell_num.specs.declared.kinds.RelKind.{RelKind}
 use Rattle.cell_object.specs.declared.object.Section.{Section}
 use Rattle.cell_object.specs.declared.object.Symbol.{Symbol}
 use Rattle.cell_object.specs.declared.object.Entry.{Entry}
-use Rattle.cell_object.specs.declared.object.Bind.TheVariants.{Local, Global}
+use Rattle.cell_object.specs.declared.object.Bind.TheVariants.{Local, Global, Weak}
 use Rattle.cell_object.specs.declared.object.Sort.TheVariants.{NoType}
 use Rattle.cell_object.specs.declared.object.Home.TheVariants.{Undef, Inside}
 use Rattle.cell_object.specs.declared.object.Fill.TheVariants.{Prog}
@@ -30,6 +30,13 @@ label name section value = record { name = name; bind = Local; sort = NoType; ho
 
 abbrev pub undefined : List ℕ → Symbol
 undefined name = record { name = name; bind = Global; sort = NoType; home = Undef; value = 0; size = 0 }
+
+-- a WEAK at that offset of the section, and one that isn't defined
+abbrev pub weakly_defined : List ℕ → ℕ → ℕ → Symbol
+weakly_defined name section value = record { name = name; bind = Weak; sort = NoType; home = Inside section; value = value; size = 0 }
+
+abbrev pub weakly_undefined : List ℕ → Symbol
+weakly_undefined name = record { name = name; bind = Weak; sort = NoType; home = Undef; value = 0; size = 0 }
 
 abbrev pub entry : ℕ → ℕ → RelKind → ℕ → ℤ → Entry
 entry section offset kind symbol addend = record { section = section; offset = offset; kind = kind; symbol = symbol; addend = addend }

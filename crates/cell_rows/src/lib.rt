@@ -20,6 +20,8 @@ ghost use Rattle.cell_rows.specs.Stricts as stricts;
 ghost use Rattle.cell_rows.specs.Askers as askers;
 ghost use Rattle.cell_rows.specs.Entries as entries;
 ghost use Rattle.cell_rows.specs.Several as several;
+ghost use Rattle.cell_rows.specs.Latecomers as latecomers;
+ghost use Rattle.cell_rows.specs.Yielding as yielding;
 
 /// A load links a field to a cell that was loaded before it, and a dump shows the address.
 pub fn loads_and_dumps()
@@ -95,4 +97,14 @@ pub fn entries()
 /// Routines run one after the other with turns for all together, and the first that doesn't end well is named. One may be in a cell that was brought.
 pub fn several()
     ensures { answers several.files (empty_world 0x1000_0000 1024) several.script ≡ several.answered }
+{}
+
+/// A weak name is 0 until a load brings its definition, which changes the field of the cell that was there. The link that it then has holds the definition's cell. After a swap that takes the definition away it is 0 again.
+pub fn latecomers()
+    ensures { answers latecomers.files (empty_world 0x1000_0000 1024) latecomers.script ≡ latecomers.answered }
+{}
+
+/// A load whose cell defines a name changes the call in the cell that has it weakly, but not while a task stands between the call's two instructions.
+pub fn yielding()
+    ensures { answers yielding.files (empty_world 0x1000_0000 1024) yielding.script ≡ yielding.answered }
 {}

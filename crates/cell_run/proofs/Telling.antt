@@ -16,7 +16,7 @@ use Rattle.cell_system.specs.Step.{IsStep, counts_of}
 use Rattle.cell_world.specs.declared.command.Command.{Command}
 use Rattle.cell_world.specs.Coherent.{IsCoherent}
 use Rattle.cell_world.specs.Gather.{source_of}
-use Rattle.cell_world.specs.Limits.{max_cells}
+use Rattle.cell_num.specs.Limits.{max_cells}
 use Rattle.cell_world.specs.Next.{Answered, answered_by}
 use Rattle.cell_world.specs.World.{World}
 use Rattle.cell_run.specs.declared.status.Status.{Status}

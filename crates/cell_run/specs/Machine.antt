@@ -14,7 +14,7 @@ use Rattle.cell_world.specs.declared.file.File.{File}
 use Rattle.cell_world.specs.declared.refusal.Refusal.{Refusal}
 use Rattle.cell_world.specs.declared.reply.Reply.{Reply}
 use Rattle.cell_world.specs.Coherent.{IsCoherent}
-use Rattle.cell_world.specs.Limits.{max_file_bytes, max_files}
+use Rattle.cell_num.specs.Limits.{max_file_bytes, max_files}
 use Rattle.cell_world.specs.World.{empty_world}
 use Rattle.cell_depot.specs.Files.{are_apart}
 use Rattle.cell_depot.specs.ObjectName.{is_object_name}

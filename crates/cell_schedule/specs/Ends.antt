@@ -2,6 +2,7 @@
 --     stack_run base stack      the pages of a stack
 --     IsEnded old t new         the machine without the task, whose stack has been given back
 use Rattle.std.specs.Prelude.{ℕ, ◌≡◌, ◌-◌, ◌/◌, false}
+use Rattle.cell_num.specs.Limits.{page_size, stack_pages}
 use Rattle.cell_world.specs.World.{Task}
 use Rattle.cell_mem.specs.State.{unmapped}
 use Rattle.cell_place.specs.declared.search.Run.{Run}
@@ -11,7 +12,7 @@ use Rattle.cell_machine.specs.declared.machine.Machine.{Machine}
 
 -- four pages, from the one that the address begins
 abbrev pub stack_run : ℕ → ℕ → Run
-stack_run base stack = record { page = (stack - base) / 4096; count = 4 }
+stack_run base stack = record { page = (stack - base) / page_size; count = stack_pages }
 
 -- its region is unmapped, and its pages are free
 pub record IsEnded (old : Machine) (t : Task) (new : Machine) : Type 0 where

@@ -10,12 +10,12 @@ ghost use Rattle.cell_machine.specs.Does.{Does, one_stack};
 ghost use Rattle.cell_schedule.specs.Starts.{entry_as, may_start, started};
 
 use crate::entry::{Entry, entry_for};
-use cell_hart::STACK_SIZE;
 use cell_machine::{Machine, namespace};
 use cell_mem::Perm;
+use cell_num::{MAX_TASK_NUMBER, MAX_TASKS, STACK_PAGES, STACK_SIZE};
 use cell_place::NoRun;
 use cell_task::Tasks;
-use cell_world::{Fail, MAX_TASK_NUMBER, MAX_TASKS, Many, Permission, Refusal, Reply, STACK_PAGES};
+use cell_world::{Fail, Many, Permission, Refusal, Reply};
 use std::alloc::{AllocError, Global};
 
 /// A stack may be read and written.

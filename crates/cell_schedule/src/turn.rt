@@ -1,6 +1,7 @@
 //! One turn of a task in the machine.
 
 ghost use Rattle.std.specs.Prelude.{◌≡◌, ◌+◌, ◌<◌, ◌≤◌, Some, None, true, vec_capacity, vec_len};
+ghost use Rattle.cell_num.specs.Limits.{max_pages};
 ghost use Rattle.cell_machine.specs.Machine.{IsSound, world_of};
 ghost use Rattle.cell_task.specs.State.{IsReady, live_in};
 ghost use Rattle.cell_world.specs.Pages.{is_taken_run};
@@ -16,7 +17,7 @@ use cell_task::Turned;
 /// Where the task ended, its stack is given back.
 fn settle(space: &mut Space, stack: u64, turned: Turned)
     requires above { space.old.base ≤ stack }
-    requires low { (stack_run space.old.base stack).page < 4096 }
+    requires low { (stack_run space.old.base stack).page < max_pages }
     requires taken { is_taken_run space.old.taken (stack_run space.old.base stack).page 4 ≡ true }
     ensures { space.new ≡ space_after turned space.old stack }
 {

@@ -4,7 +4,8 @@ use Rattle.std.specs.Prelude.{not, ◌&&◌, ◌||◌, slice_get}
 use Rattle.std.specs.List.{list_all}
 use Rattle.cell_num.specs.Lists.{equals}
 use Rattle.cell_world.specs.World.{Alias}
-use Rattle.cell_space.specs.Rows.{has_name, are_apart}
+use Rattle.cell_world.specs.Names.{has_name}
+use Rattle.cell_space.specs.Rows.{are_apart}
 
 both : (b c : Bool) → b ≡ true → c ≡ true → (b && c) ≡ true
 both true c e f = f

@@ -5,7 +5,7 @@ use Rattle.std.specs.List.{position_or_len}
 use Rattle.std.proofs.Math.ListN.{set}
 use Rattle.std.proofs.lemmas.List.Elements.{All-cons, All-head, All-tail, All-append, All-take, All-drop, All-filter, All-map, All-weaker, All-same}
 use Rattle.cell_world.specs.declared.state.Namespace.{Namespace}
-use Rattle.cell_space.specs.declared.cell.CellState.{CellState}
+use Rattle.cell_world.specs.World.{Standing}
 use Rattle.cell_space.specs.declared.cell.SpaceCell.{SpaceCell}
 use Rattle.cell_space.specs.Named.{is_numbered, is_higher, put_into, with_cell, with_state, without, cell_numbered}
 use Rattle.cell_space.specs.Spaces.{AreSound}
@@ -45,11 +45,11 @@ module _ (P : SpaceCell → Type 0) where
   All-find test (d ∷ cells) c all e =
       one_found (test d) c d (find test cells) (All-head P d cells all) (All-find test cells c (All-tail P d cells all)) e
 
-changed : (b : Bool) (state : CellState) (c : SpaceCell) → (let d : SpaceCell = cond b (record c { state = state }) c in d.ns) ≡ c.ns
+changed : (b : Bool) (state : Standing) (c : SpaceCell) → (let d : SpaceCell = cond b (record c { state = state }) c in d.ns) ≡ c.ns
 changed true state c = refl
 changed false state c = refl
 
-pub ns-put_into : (state : CellState) (number : ℕ) (c : SpaceCell) → (put_into state number c).ns ≡ c.ns
+pub ns-put_into : (state : Standing) (number : ℕ) (c : SpaceCell) → (put_into state number c).ns ≡ c.ns
 ns-put_into state number c = changed (is_numbered number c) state c
 
 module _ (spaces : List Namespace) (cells : List SpaceCell) (sound : AreSound spaces cells) where
@@ -59,7 +59,7 @@ module _ (spaces : List Namespace) (cells : List SpaceCell) (sound : AreSound sp
   pub sound-with_cell : (c : SpaceCell) → c.ns < length spaces → AreSound spaces (with_cell c cells)
   sound-with_cell c there = record { rooted = sound.rooted; few = sound.few; inside = All-with_cell Inside c cells there sound.inside }
 
-  pub sound-with_state : (state : CellState) (number : ℕ) → AreSound spaces (with_state state number cells)
+  pub sound-with_state : (state : Standing) (number : ℕ) → AreSound spaces (with_state state number cells)
   sound-with_state state number = record {
     rooted = sound.rooted;
     few = sound.few;

@@ -9,19 +9,19 @@ use Rattle.std.proofs.lemmas.Bool.Decides.{nat_tests}
 use Rattle.cell_num.specs.Lists.{equals, holds, first}
 use Rattle.cell_world.specs.declared.state.Namespace.{Namespace}
 use Rattle.cell_world.specs.World.{Alias}
-use Rattle.cell_world.specs.Names.{Provider, are_on_one_path}
-use Rattle.cell_space.specs.declared.cell.CellState.TheVariants.{Attached}
+use Rattle.cell_world.specs.Names.{Provider, are_on_one_path, has_name, symbol_in}
+use Rattle.cell_world.specs.declared.state.Standing.TheVariants.{Attached}
 use Rattle.cell_space.specs.declared.cell.SpaceCell.{SpaceCell}
 use Rattle.cell_space.specs.declared.index.Holder.{Holder}
 use Rattle.cell_space.specs.declared.index.Holder.TheVariants.{One}
 use Rattle.cell_space.specs.declared.word.WordKind.{WordKind}
 use Rattle.cell_space.specs.declared.word.WordKind.TheVariants.{Stem, Name}
 use Rattle.cell_space.specs.Hash.{stem_hash, name_hash}
-use Rattle.cell_space.specs.Rows.{has_name, symbol_in}
 use Rattle.cell_space.specs.Named.{is_in, is_holder, is_rival, provider_at, first_provider, cell_numbered}
 use Rattle.cell_space.specs.Rising.{IsRising, lower}
 use Rattle.cell_space.specs.Index.{may_be, IsTaken, IsListed, IsWhole, anywhere, hashes, name_hashes, has_word, word_hash, is_at, kept_if}
 use Rattle.cell_space.proofs.NameTables.{is_some_symbol}
+use Rattle.cell_space.proofs.Searches.{filter-filter}
 use Rattle.cell_space.proofs.Rising.{one_at_most, none_passes, find-or, same_number, turned, left, right}
 
 -- what holds of each hash of a cell holds of that of a word that it has
@@ -250,6 +250,9 @@ module _ (spaces : List ℕ) (name : List ℕ) where
       nothing true = refl
       nothing false = refl
 
+  held_found : (cells : List SpaceCell) → provided (filter (is_holder spaces Attached) cells) ≡ option_and_then (provider_at name) (find has cells)
+  held_found [] = refl
+  held_found (c ∷ cells) = by_holder (is_holder spaces Attached c) c cells (held_found cells)
+
   pub provider_found : (cells : List SpaceCell) → first_provider spaces Attached name cells ≡ option_and_then (provider_at name) (find has cells)
-  provider_found [] = refl
-  provider_found (c ∷ cells) = by_holder (is_holder spaces Attached c) c cells (provider_found cells)
+  provider_found cells = ap provided (filter-filter (is_in Attached) (λ c. holds spaces c.ns) cells) ∙ held_found cells

@@ -7,7 +7,7 @@ use Rattle.std.proofs.lemmas.List.{take_all, length-map}
 use Rattle.cell_world.specs.World.{Alias}
 use Rattle.cell_space.specs.Hash.{stem_hash, name_hash}
 use Rattle.cell_space.proofs.Apart.{take_next}
-use Rattle.cell_space.specs.declared.cell.CellState.TheVariants.{Attached, Detached}
+use Rattle.cell_world.specs.declared.state.Standing.TheVariants.{Attached, Detached}
 use Rattle.cell_space.specs.declared.cell.SpaceCell.{SpaceCell}
 use Rattle.cell_space.specs.declared.index.Index.{Index}
 use Rattle.cell_space.specs.declared.index.Holder.{Holder}

@@ -3,25 +3,20 @@ use Rattle.std.proofs.Common.{◌≡◌, refl, sym, ◌∙◌, ap, ap₂, ℕ, B
 use Rattle.std.specs.Prelude.{Option, Some, ◌==◌, drop, find, option_map}
 use Rattle.std.proofs.lemmas.List.{map-append}
 use Rattle.cell_world.specs.declared.state.NewCell.{NewCell}
-use Rattle.cell_world.specs.World.{Alias, Cell, Standing, Attached as IsAttached, Detached as IsDetached}
+use Rattle.cell_world.specs.World.{Alias, Cell}
 use Rattle.cell_world.specs.Names.{definitions_of}
-use Rattle.cell_space.specs.Machine.{called, state_of}
-use Rattle.cell_space.specs.Joined.{AreJoined, cells_of, joined, placed_of, standing_of}
+use Rattle.cell_space.specs.Machine.{called}
+use Rattle.cell_space.specs.Joined.{AreJoined, cells_of, joined, placed_of}
 use Rattle.cell_space.specs.declared.cell.SpaceCell.{SpaceCell}
 
 behind : {X : Type 0} (xs ys : List X) → drop (length xs) (xs ++ ys) ≡ ys
 behind [] ys = refl
 behind (x ∷ xs) ys = behind xs ys
 
-standing_back : (s : Standing) → standing_of (state_of s) ≡ s
-standing_back IsAttached = refl
-standing_back (IsDetached k) = refl
-
 -- a cell is what its place and its names say
 back : (c : Cell) → joined c.placed (called c) ≡ c
 back c =
-    ap₂ (λ (aliases : List Alias) (s : Standing). record { placed = c.placed; aliases = aliases; standing = s })
-    (behind (definitions_of c.object) c.aliases) (standing_back c.standing)
+    ap (λ (aliases : List Alias). record { placed = c.placed; aliases = aliases; standing = c.standing }) (behind (definitions_of c.object) c.aliases)
 
 -- and so are all cells
 pub all_back : (cells : List Cell) → cells_of (map placed_of cells) (map called cells) ≡ cells

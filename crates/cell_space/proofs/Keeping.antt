@@ -3,7 +3,7 @@ use Rattle.std.proofs.Common.{◌≡◌, ℕ, ◌<◌, true, List, [], Some, Non
 use Rattle.std.specs.Prelude.{Option, not}
 use Rattle.std.proofs.lemmas.List.Elements.{All-nil}
 use Rattle.cell_world.specs.declared.state.Namespace.{Namespace}
-use Rattle.cell_space.specs.declared.cell.CellState.TheVariants.{Attached, Detached}
+use Rattle.cell_world.specs.declared.state.Standing.TheVariants.{Attached, Detached}
 use Rattle.cell_space.specs.declared.cell.SpaceCell.{SpaceCell}
 use Rattle.cell_space.specs.declared.index.Index.{Index}
 use Rattle.cell_space.specs.declared.index.Holder.{Holder}

@@ -8,32 +8,36 @@ use Rattle.std.proofs.lemmas.List.Folds.{find-append}
 use Rattle.std.proofs.lemmas.Bool.Decides.{nat_tests}
 use Rattle.std.proofs.Common.{arith}
 use Rattle.cell_num.specs.Lists.{first, equals, holds, or_else}
-use Rattle.cell_space.specs.declared.cell.CellState.{CellState}
-use Rattle.cell_space.specs.declared.cell.CellState.TheVariants.{Attached, Detached}
+use Rattle.cell_world.specs.World.{Standing}
+use Rattle.cell_world.specs.declared.state.Standing.TheVariants.{Attached, Detached}
 use Rattle.cell_space.specs.declared.cell.SpaceCell.{SpaceCell}
-use Rattle.cell_space.specs.Named.{is_in, is_state, is_holder, provider_at, first_provider, provider_for, cell_at, number_of}
+use Rattle.cell_space.specs.Named.{is_in, is_state, provider_at, first_provider, provider_for, cell_at, number_of}
 use Rattle.cell_space.specs.Ahead.{has_stem_in, is_there_in}
 
 pub first-append : {X : Type 0} (xs ys : List X) → first (xs ++ ys) ≡ or_else (first xs) (first ys)
 first-append [] ys = refl
 first-append (x ∷ xs) ys = refl
 
-pub first_provider-append : (spaces : List ℕ) (state : CellState) (name : List ℕ) (xs ys : List SpaceCell)
+pub first_provider-append : (spaces : List ℕ) (state : Standing) (name : List ℕ) (xs ys : List SpaceCell)
     → first_provider spaces state name (xs ++ ys) ≡ or_else (first_provider spaces state name xs) (first_provider spaces state name ys)
 first_provider-append spaces state name xs ys =
-    ap (λ cs. first (filter_map (provider_at name) cs)) (filter-append (is_holder spaces state) xs ys)
-    ∙ ap first (filter_map-append (provider_at name) (filter (is_holder spaces state) xs) (filter (is_holder spaces state) ys))
-    ∙ first-append (filter_map (provider_at name) (filter (is_holder spaces state) xs)) (filter_map (provider_at name) (filter (is_holder spaces state) ys))
+    let in_spaces : SpaceCell → Bool = λ c. holds spaces c.ns in
+    let left = filter (is_in state) xs in
+    let right = filter (is_in state) ys in
+    ap (λ cs. first (filter_map (provider_at name) (filter in_spaces cs))) (filter-append (is_in state) xs ys)
+    ∙ ap (λ cs. first (filter_map (provider_at name) cs)) (filter-append in_spaces left right)
+    ∙ ap first (filter_map-append (provider_at name) (filter in_spaces left) (filter in_spaces right))
+    ∙ first-append (filter_map (provider_at name) (filter in_spaces left)) (filter_map (provider_at name) (filter in_spaces right))
 
 -- no attached cell is put aside
 none_aside : (spaces : List ℕ) (k : ℕ) (name : List ℕ) (cells : List SpaceCell) → All (λ c. is_in Attached c ≡ true) cells → first_provider spaces (Detached k) name cells ≡ None
 none_aside spaces k name [] all = refl
 none_aside spaces k name (c ∷ cells) all =
-    ap (λ b. first (filter_map (provider_at name) (cond (b && holds spaces c.ns) (c ∷ filter (is_holder spaces (Detached k)) cells) (filter (is_holder spaces (Detached k)) cells))))
+    ap (λ b. first (filter_map (provider_at name) (filter (λ (d : SpaceCell). holds spaces d.ns) (cond b (c ∷ filter (is_in (Detached k)) cells) (filter (is_in (Detached k)) cells)))))
     (other c.state (All-head (λ (d : SpaceCell). is_in Attached d ≡ true) c cells all))
     ∙ none_aside spaces k name cells (All-tail (λ (d : SpaceCell). is_in Attached d ≡ true) c cells all)
   where
-    other : (state : CellState) → is_state Attached state ≡ true → is_state (Detached k) state ≡ false
+    other : (state : Standing) → is_state Attached state ≡ true → is_state (Detached k) state ≡ false
     other Attached on = refl
     other (Detached l) on = absurd (cc on)
 
@@ -43,7 +47,7 @@ or_assoc None b (Some y) d e = ap (λ o. or_else o (Some y)) e
 or_assoc (Some x) b c d e = refl
 
 -- the new cells are attached
-pub provider_for-append : (spaces : List ℕ) (state : CellState) (name : List ℕ) (xs ys : List SpaceCell) → All (λ c. is_in Attached c ≡ true) ys
+pub provider_for-append : (spaces : List ℕ) (state : Standing) (name : List ℕ) (xs ys : List SpaceCell) → All (λ c. is_in Attached c ≡ true) ys
     → provider_for spaces state name (xs ++ ys) ≡ or_else (provider_for spaces state name xs) (provider_for spaces Attached name ys)
 provider_for-append spaces Attached name xs ys on = first_provider-append spaces Attached name xs ys
 provider_for-append spaces (Detached k) name xs ys on =

@@ -9,7 +9,7 @@ use Rattle.std.proofs.lemmas.List.{map-append}
 use Rattle.indexmap.specs.IndexMap.{insert_entry}
 use Rattle.indexmap.proofs.CallerLemmas.{insert_entry-new}
 use Rattle.cell_world.specs.World.{Alias}
-use Rattle.cell_space.specs.Rows.{symbol_in, has_name}
+use Rattle.cell_world.specs.Names.{symbol_in, has_name}
 
 module _ {K : Type 0} (bytes : K → List ℕ) where
   abbrev pub rows_of : List (K × ℕ) → List Alias

@@ -6,7 +6,7 @@ use Rattle.std.proofs.lemmas.Bool.Decides.{nat_tests}
 use Rattle.std.proofs.lemmas.List.Elements.{All-append, All-head, All-map, All-tail, All-weaker}
 use Rattle.cell_world.specs.declared.state.Namespace.{Namespace}
 use Rattle.cell_world.specs.World.{Alias}
-use Rattle.cell_space.specs.declared.cell.CellState.TheVariants.{Attached}
+use Rattle.cell_world.specs.declared.state.Standing.TheVariants.{Attached}
 use Rattle.cell_space.specs.declared.cell.SpaceCell.{SpaceCell}
 use Rattle.cell_space.specs.declared.index.Holder.{Holder}
 use Rattle.cell_space.specs.Ahead.{AreAhead}
@@ -16,7 +16,7 @@ use Rattle.cell_space.specs.Hash.{name_hash}
 use Rattle.cell_space.specs.Index.{AreTaken, Grows, IsListed, IsTaken, anywhere, hashes, name_hashes}
 use Rattle.cell_space.specs.Named.{LacksName, cell_numbered, is_in, is_numbered, take_name, with_name}
 use Rattle.cell_space.specs.Rising.{IsRising}
-use Rattle.cell_space.specs.Rows.{has_name}
+use Rattle.cell_world.specs.Names.{has_name}
 use Rattle.cell_space.specs.Spaces.{SpacesState}
 use Rattle.cell_space.proofs.Holding.{whole_more}
 use Rattle.cell_world.proofs.InOrder.{none_there, other_there, this_there}

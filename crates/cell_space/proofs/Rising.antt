@@ -5,10 +5,10 @@ use Rattle.std.specs.Option.{option_map_or}
 use Rattle.std.proofs.lemmas.List.Elements.{All-nil, All-cons, All-head, All-tail, All-filter, All-map}
 use Rattle.std.proofs.lemmas.Bool.Decides.{nat_tests}
 use Rattle.std.specs.Cmp.{unsigned_Decides}
-use Rattle.cell_space.specs.declared.cell.CellState.{CellState}
+use Rattle.cell_world.specs.World.{Standing}
 use Rattle.cell_space.specs.declared.cell.SpaceCell.{SpaceCell}
 use Rattle.cell_space.specs.Named.{is_numbered, is_in, put_into, with_cell, with_state, cell_numbered}
-use Rattle.cell_space.specs.declared.cell.CellState.TheVariants.{Attached}
+use Rattle.cell_world.specs.declared.state.Standing.TheVariants.{Attached}
 use Rattle.cell_space.specs.Rising.{IsRising, lower}
 use Rattle.cell_space.specs.Index.{attached_at, kept_if}
 use Rattle.cell_space.proofs.Changes.{All-with_cell, All-find}
@@ -165,9 +165,9 @@ rising-with_cell c (d ∷ cells) rising new =
     put_in c (nat_lt c.cell.0 d.cell.0) d cells refl (absent_first (is_numbered c.cell.0 d) d (cell_numbered cells c.cell.0) new) rising.0 rising.1
     (rising-with_cell c cells rising.1 (absent_rest (is_numbered c.cell.0 d) d (cell_numbered cells c.cell.0) new))
 
-numbered_as : (b : Bool) (state : CellState) (c : SpaceCell) → (let d : SpaceCell = cond b (record c { state = state }) c in d.cell.0) ≡ c.cell.0
+numbered_as : (b : Bool) (state : Standing) (c : SpaceCell) → (let d : SpaceCell = cond b (record c { state = state }) c in d.cell.0) ≡ c.cell.0
 numbered_as true state c = refl
 numbered_as false state c = refl
 
-pub rising-with_state : (state : CellState) (n : ℕ) (cells : List SpaceCell) → IsRising cells → IsRising (with_state state n cells)
+pub rising-with_state : (state : Standing) (n : ℕ) (cells : List SpaceCell) → IsRising cells → IsRising (with_state state n cells)
 rising-with_state state n cells rising = rising-map (put_into state n) (λ c. numbered_as (is_numbered n c) state c) cells rising

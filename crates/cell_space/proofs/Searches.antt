@@ -25,6 +25,15 @@ pub filter_map-filter : {X Y : Type 0} (f : X → Option Y) (q : X → Bool) (xs
 filter_map-filter f q [] = refl
 filter_map-filter f q (x ∷ xs) = offered (q x) x f (filter q xs) _ (f x) refl (filter_map-filter f q xs)
 
+-- what passes one test and then another passes both
+pub filter-filter : {X : Type 0} (p q : X → Bool) (xs : List X) → filter q (filter p xs) ≡ filter (λ x. p x && q x) xs
+filter-filter p q [] = refl
+filter-filter p q (x ∷ xs) = go (p x) (filter-filter p q xs)
+  where
+    go : (b : Bool) → filter q (filter p xs) ≡ filter (λ x. p x && q x) xs → filter q (cond b (x ∷ filter p xs) (filter p xs)) ≡ cond (b && q x) (x ∷ filter (λ x. p x && q x) xs) (filter (λ x. p x && q x) xs)
+    go true e = ap (λ ys. cond (q x) (x ∷ ys) ys) e
+    go false e = e
+
 pub none_either_way : {X : Type 0} (b : Bool) (o : Option X) → o ≡ None → cond b o None ≡ None
 none_either_way true o e = e
 none_either_way false o e = refl

@@ -4,11 +4,10 @@ use Rattle.std.specs.Prelude.{All, IsSomeAnd, Option, ◌&&◌, ◌||◌, find, 
 use Rattle.std.proofs.lemmas.List.Elements.{All-cons, All-nil}
 use Rattle.cell_num.specs.Lists.{holds, or_else}
 use Rattle.cell_world.specs.declared.state.Namespace.{Namespace}
-use Rattle.cell_world.specs.Names.{are_on_one_path, chain, chain_within}
-use Rattle.cell_space.specs.declared.cell.CellState.TheVariants.{Attached}
+use Rattle.cell_world.specs.Names.{are_on_one_path, chain, chain_within, has_name}
+use Rattle.cell_world.specs.declared.state.Standing.TheVariants.{Attached}
 use Rattle.cell_space.specs.declared.cell.SpaceCell.{SpaceCell}
 use Rattle.cell_space.specs.Named.{LacksName, cell_numbered, clash_name, is_in, is_numbered, is_rival, number_of}
-use Rattle.cell_space.specs.Rows.{has_name}
 use Rattle.cell_space.proofs.Changes.{All-find}
 use Rattle.cell_space.proofs.Layered.{rival-append}
 use Rattle.cell_space.proofs.Rising.{itself}

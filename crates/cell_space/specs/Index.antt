@@ -14,10 +14,10 @@ use Rattle.cell_space.specs.declared.index.Holder.{Holder}
 use Rattle.cell_space.specs.declared.index.Holder.TheVariants.{One, Many}
 use Rattle.cell_space.specs.declared.word.WordKind.{WordKind}
 use Rattle.cell_space.specs.declared.word.WordKind.TheVariants.{Stem, Name}
-use Rattle.cell_space.specs.declared.cell.CellState.TheVariants.{Attached}
+use Rattle.cell_world.specs.declared.state.Standing.TheVariants.{Attached}
 use Rattle.cell_space.specs.declared.cell.SpaceCell.{SpaceCell}
 use Rattle.cell_num.specs.Lists.{equals}
-use Rattle.cell_space.specs.Rows.{has_name}
+use Rattle.cell_world.specs.Names.{has_name}
 use Rattle.cell_space.specs.Named.{is_in, cell_numbered}
 use Rattle.cell_space.specs.Hash.{stem_hash, name_hash}
 

@@ -4,19 +4,13 @@
 --     AreJoined cells known   the places and the names are those of the same cells
 use Rattle.std.specs.Prelude.{◌≡◌, List, [], ◌∷◌, drop, length, map}
 use Rattle.cell_world.specs.declared.state.NewCell.{NewCell}
-use Rattle.cell_world.specs.World.{Cell, Standing, Attached as IsAttached, Detached as IsDetached}
+use Rattle.cell_world.specs.World.{Cell}
 use Rattle.cell_world.specs.Names.{definitions_of}
-use Rattle.cell_space.specs.declared.cell.CellState.{CellState}
-use Rattle.cell_space.specs.declared.cell.CellState.TheVariants.{Attached, Detached}
 use Rattle.cell_space.specs.declared.cell.SpaceCell.{SpaceCell}
 use Rattle.cell_space.specs.Machine.{called}
 
-abbrev pub standing_of : CellState → Standing
-standing_of Attached = IsAttached
-standing_of (Detached k) = IsDetached k
-
 abbrev pub joined : NewCell → SpaceCell → Cell
-joined c s = record { placed = c; aliases = drop (length (definitions_of c.object)) s.names; standing = standing_of s.state }
+joined c s = record { placed = c; aliases = drop (length (definitions_of c.object)) s.names; standing = s.state }
 
 abbrev pub cells_of : List NewCell → List SpaceCell → List Cell
 cells_of [] known = []

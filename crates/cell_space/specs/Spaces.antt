@@ -1,9 +1,8 @@
 -- Namespaces, and the cells in them.
-use Rattle.std.specs.Prelude.{not, ◌&&◌, find, ◌≡◌, ◌<◌, ◌≤◌, ℕ, List, [], ◌∷◌, Option, Some, None, All, length, option_and_then, position, IsSome}
-use Rattle.cell_num.specs.Lists.{equals}
+use Rattle.std.specs.Prelude.{not, ◌&&◌, find, ◌≡◌, ◌<◌, ◌≤◌, ℕ, List, [], ◌∷◌, Option, Some, None, All, length, option_and_then, IsSome}
 use Rattle.cell_world.specs.declared.state.Namespace.{Namespace}
-use Rattle.cell_world.specs.Names.{Provider, chain}
-use Rattle.cell_space.specs.declared.cell.CellState.TheVariants.{Attached}
+use Rattle.cell_world.specs.Names.{Provider, chain, space_named}
+use Rattle.cell_world.specs.declared.state.Standing.TheVariants.{Attached}
 use Rattle.cell_space.specs.declared.cell.SpaceCell.{SpaceCell}
 use Rattle.cell_space.specs.declared.provider.Scope.{Scope}
 use Rattle.cell_space.specs.declared.provider.Scope.TheVariants.{Space, Cell}
@@ -66,4 +65,4 @@ provider_in s (Cell id) name =
     option_and_then (λ c. provider_for (chain s.namespaces c.ns) c.state name s.cells) (cell_numbered s.cells id.0)
 
 abbrev pub namespace_named : List Namespace → List ℕ → Option ℕ
-namespace_named spaces name = position (λ space. equals space.name name) spaces
+namespace_named spaces name = space_named spaces name

@@ -2,12 +2,12 @@
 
 ghost use Rattle.std.specs.Prelude.{◌≡◌, ◌<◌, ◌++◌, ◌∷◌, [], All, IfOk, IsSome, OnErr, OnOk, Some, is_some, length, option_map, slice_get};
 ghost use Rattle.cell_world.specs.Names.{chain as chain_in};
-ghost use Rattle.cell_space.specs.declared.cell.CellState.TheVariants.{Attached};
+ghost use Rattle.cell_world.specs.declared.state.Standing.TheVariants.{Attached};
 ghost use Rattle.cell_space.specs.Ahead.{has_stem_in, is_there_in};
 ghost use Rattle.cell_space.specs.Path.{IsPath};
 ghost use Rattle.cell_space.specs.Named.{LacksName, with_name, cell_numbered as numbered, provider_for as provider_among, provider_as, number_as, clash_stem as stem_clash, clash_name as name_clash, cell_at as cell_in};
 
-use crate::cell::{CellState, SpaceCell};
+use crate::cell::SpaceCell;
 use crate::chain::Chain;
 use crate::index::Index;
 use crate::lookup::{cell_at, cell_numbered, clash_name, clash_stem, provider_for};
@@ -17,7 +17,7 @@ use crate::provider::Provider;
 use crate::rows::add_name;
 use crate::spaces::Spaces;
 use cell_num::{CellId, Name};
-use cell_world::Namespace;
+use cell_world::{Namespace, Standing};
 use std::alloc::{AllocError, Global};
 use std::marker::Model;
 
@@ -80,7 +80,7 @@ impl<'a> Ahead<'a> {
             cell,
             ns,
             stem,
-            state: CellState::Attached,
+            state: Standing::Attached,
             names,
         })?;
         Ok(())
@@ -165,18 +165,18 @@ impl<'a> Ahead<'a> {
         requires { ns < length self.now.namespaces }
         ensures { option_map provider_as result ≡ provider_among (chain_in self.now.namespaces ns) Attached name.now self.now.cells }
     {
-        self.provider_for(ns, CellState::Attached, name)
+        self.provider_for(ns, Standing::Attached, name)
     }
 
     /// Who provides a name for a cell of that namespace and state. No new cell is put aside.
-    pub fn provider_for(&self, ns: u16, state: CellState, name: &[u8]) -> Option<Provider>
+    pub fn provider_for(&self, ns: u16, state: Standing, name: &[u8]) -> Option<Provider>
         requires { ns < length self.now.namespaces }
         ensures { option_map provider_as result ≡ provider_among (chain_in self.now.namespaces ns) state name.now self.now.cells }
     {
         match self.present.provider_for(ns, state, name) {
             Some(provider) => Some(provider),
             None => {
-                let attached = CellState::Attached;
+                let attached = Standing::Attached;
                 provider_for(
                     self.namespaces,
                     &self.index,

@@ -2,19 +2,13 @@
 
 ghost use Rattle.std.specs.Prelude.{◌≡◌, ◌++◌, ◌∷◌, [], IfOk, OnErr, OnOk, false, map};
 ghost use Rattle.cell_num.specs.Lists.{equals};
-ghost use Rattle.cell_space.specs.Rows.{has_name};
+ghost use Rattle.cell_world.specs.Names.{has_name};
 ghost use Rattle.cell_space.specs.Named.{is_state, is_in, is_numbered};
 
 use crate::names::NameRows;
 use cell_num::{CellId, Name};
+use cell_world::Standing;
 use std::alloc::{AllocError, Global};
-
-/// Whether the cell takes part in names, or the swap that put it aside.
-#[derive(Clone, Copy, Debug, PartialEq, Eq)]
-pub enum CellState {
-    Attached,
-    Detached(u32),
-}
 
 /// A cell: its number, namespace and stem, and the names of its GLOBAL symbols, aliases last.
 #[derive(Drop)]
@@ -22,23 +16,23 @@ pub struct SpaceCell {
     pub cell: CellId,
     pub ns: u16,
     pub stem: Name,
-    pub state: CellState,
+    pub state: Standing,
     pub names: NameRows,
 }
 
-pub fn is_state(a: CellState, b: CellState) -> bool
+pub fn is_state(a: Standing, b: Standing) -> bool
     ensures { result ≡ is_state a b }
 {
     match (a, b) {
-        (CellState::Attached, CellState::Attached) => true,
-        (CellState::Detached(k), CellState::Detached(l)) => l == k,
-        (CellState::Attached, CellState::Detached(_)) => false,
-        (CellState::Detached(_), CellState::Attached) => false,
+        (Standing::Attached, Standing::Attached) => true,
+        (Standing::Detached(k), Standing::Detached(l)) => l == k,
+        (Standing::Attached, Standing::Detached(_)) => false,
+        (Standing::Detached(_), Standing::Attached) => false,
     }
 }
 
 impl SpaceCell {
-    pub(crate) fn is_in(&self, state: CellState) -> bool
+    pub(crate) fn is_in(&self, state: Standing) -> bool
         ensures { result ≡ is_in state self.now }
     {
         is_state(state, self.state)

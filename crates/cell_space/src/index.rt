@@ -9,10 +9,11 @@ ghost use Rattle.cell_space.specs.Rising.{IsRising};
 ghost use Rattle.cell_space.specs.Named.{cell_numbered as numbered};
 ghost use Rattle.cell_space.specs.Index.{held, claimed, attached_at, hashes, name_hashes, Grows, IsTaken, AreHeld, AreTaken, IsCellTaken, IsListed, IsWhole};
 
-use crate::cell::{CellState, SpaceCell};
+use crate::cell::SpaceCell;
 use crate::hash::{name_hash, stem_hash};
 use crate::lookup::cell_numbered;
 use crate::names::NameRows;
+use cell_world::Standing;
 use indexmap::IndexMap;
 use std::alloc::{AllocError, Global};
 
@@ -37,7 +38,7 @@ fn is_attached(cells: &[SpaceCell], number: u32) -> bool
     ensures { result ≡ attached_at cells.now number }
 {
     match cell_numbered(cells, number) {
-        Some(cell) => cell.is_in(CellState::Attached),
+        Some(cell) => cell.is_in(Standing::Attached),
         None => false,
     }
 }
@@ -201,7 +202,7 @@ impl Index {
         ensures grows { Grows cells.now cell.now.cell.0 (held self.old) (held self.new) }
         ensures taken { OnOk result (IsListed (held self.new) cell.now) }
     {
-        let attached = cell.is_in(CellState::Attached);
+        let attached = cell.is_in(Standing::Attached);
         let stem = cell.stem.bytes();
         self.claim_all(cells, cell.ns, stem, &cell.names, cell.cell.0, attached)
     }

@@ -18,7 +18,7 @@ mod symbol_name;
 mod word;
 
 pub use ahead::Ahead;
-pub use cell::{CellState, SpaceCell, into_names};
+pub use cell::{SpaceCell, into_names};
 pub use cell_world::Namespace;
 pub use chain::Chain;
 pub use names::NameRows;

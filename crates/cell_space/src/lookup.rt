@@ -11,17 +11,17 @@ ghost use Rattle.cell_space.specs.Keys.{number_in};
 ghost use Rattle.cell_space.specs.Path.{IsPath};
 ghost use Rattle.cell_space.specs.Rising.{IsRising, lower};
 ghost use Rattle.cell_space.specs.Rooted.{AreRooted};
-ghost use Rattle.cell_space.specs.declared.cell.CellState.TheVariants.{Attached};
+ghost use Rattle.cell_world.specs.declared.state.Standing.TheVariants.{Attached};
 ghost use Rattle.cell_space.specs.declared.cell.SpaceCell.{SpaceCell as Known};
 
-use crate::cell::{CellState, SpaceCell};
+use crate::cell::SpaceCell;
 use crate::chain::{chain_of, is_above};
 use crate::index::{ANYWHERE, Holder, Index};
 use crate::path::Path;
 use crate::provider::Provider;
 use crate::word::{Word, WordKind, has_word, is_at};
 use cell_num::CellId;
-use cell_world::Namespace;
+use cell_world::{Namespace, Standing};
 
 /// How many of the cells can have a lower number at most: numbers rise by one at least.
 fn most_before(cells: &[SpaceCell], number: u32) -> usize
@@ -97,7 +97,7 @@ fn offer(
     namespaces: &[Namespace],
     ns: u16,
     cell: &SpaceCell,
-    state: CellState,
+    state: Standing,
     name: &[u8],
 ) -> Option<Provider>
     requires rooted { AreRooted namespaces.now }
@@ -124,7 +124,7 @@ fn first_offer(
     namespaces: &[Namespace],
     ns: u16,
     cells: &[SpaceCell],
-    state: CellState,
+    state: Standing,
     name: &[u8],
 ) -> Option<Provider>
     requires rooted { AreRooted namespaces.now }
@@ -144,7 +144,7 @@ fn first_provider(
     namespaces: &[Namespace],
     ns: u16,
     cells: &[SpaceCell],
-    state: CellState,
+    state: Standing,
     name: &[u8],
 ) -> Option<Provider>
     requires rooted { AreRooted namespaces.now }
@@ -216,7 +216,7 @@ fn above_numbered<'a>(
     match cell_numbered(cells, number) {
         Some(cell)
             if has_word(cell, word.kind, word.text)
-                && cell.is_in(CellState::Attached)
+                && cell.is_in(Standing::Attached)
                 && is_above(namespaces, ns, cell.ns) => { Some(cell) }
         _ => None,
     }
@@ -303,7 +303,7 @@ fn rival_numbered<'a>(
     match cell_numbered(cells, number) {
         Some(cell)
             if has_word(cell, word.kind, word.text)
-                && cell.is_in(CellState::Attached)
+                && cell.is_in(Standing::Attached)
                 && path.has(namespaces, cell.ns) => { Some(cell) }
         _ => None,
     }
@@ -387,7 +387,7 @@ pub fn provider_for(
     index: &Index,
     cells: &[SpaceCell],
     ns: u16,
-    state: CellState,
+    state: Standing,
     name: &[u8],
 ) -> Option<Provider>
     requires rooted { AreRooted namespaces.now }
@@ -396,8 +396,8 @@ pub fn provider_for(
     requires whole { IsWhole (held index.now) cells.now }
     ensures { option_map provider_as result ≡ provider_for (chain namespaces.now ns) state name.now cells.now }
 {
-    if let CellState::Detached(group) = state {
-        let put_aside = first_provider(namespaces, ns, cells, CellState::Detached(group), name);
+    if let Standing::Detached(group) = state {
+        let put_aside = first_provider(namespaces, ns, cells, Standing::Detached(group), name);
         if let Some(provider) = put_aside {
             return Some(provider);
         }

@@ -1,7 +1,7 @@
 //! The names that a cell has.
 
 ghost use Rattle.std.specs.Prelude.{◌≡◌, ◌==◌, ◌++◌, ◌∷◌, ◌<◌, [], Some, false, length, slice_get, IfOk, OnErr, OnOk};
-ghost use Rattle.cell_space.specs.Rows.{symbol_in, has_name};
+ghost use Rattle.cell_world.specs.Names.{symbol_in, has_name};
 
 use indexmap::IndexMap;
 use std::alloc::{AllocError, Global};

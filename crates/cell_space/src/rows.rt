@@ -1,12 +1,13 @@
 //! Changing the list of cells.
 
-ghost use Rattle.std.specs.Prelude.{◌≡◌, ◌<◌, ◌≤◌, ◌+◌, ℕ, OnErr, OnOk, length, nat_lt, vec_capacity, vec_len};
+ghost use Rattle.std.specs.Prelude.{◌≡◌, ◌<◌, ◌≤◌, ◌+◌, OnErr, OnOk, length, nat_lt, vec_capacity, vec_len};
 ghost use Rattle.std.specs.List.{position_or_len};
 ghost use Rattle.cell_space.specs.Named.{LacksName, is_higher, put_into, with_cell, with_name, with_state, without};
 ghost use Rattle.cell_space.specs.Rising.{IsRising};
 
-use crate::cell::{CellState, SpaceCell};
+use crate::cell::SpaceCell;
 use crate::lookup::cells_before;
+use cell_world::Standing;
 use std::alloc::{AllocError, Global};
 
 /// Where a cell of a number is to stand: before the first of a higher number.
@@ -23,7 +24,7 @@ fn place_for(cells: &[SpaceCell], number: u32) -> usize
 }
 
 /// Puts a cell into a state, where it has the number.
-fn put_into(cell: &mut SpaceCell, number: u32, state: CellState)
+fn put_into(cell: &mut SpaceCell, number: u32, state: Standing)
     ensures { cell.new ≡ put_into state number cell.old }
 {
     if cell.is_numbered(number) {
@@ -32,7 +33,7 @@ fn put_into(cell: &mut SpaceCell, number: u32, state: CellState)
 }
 
 /// Puts the cell of a number into a state.
-pub fn set_state(cells: &mut Vec<SpaceCell>, number: u32, state: CellState)
+pub fn set_state(cells: &mut Vec<SpaceCell>, number: u32, state: Standing)
     ensures items { cells.new.items ≡ with_state state number cells.old.items }
     ensures len { vec_len cells.new ≡ vec_len cells.old }
     ensures capacity { vec_capacity cells.new ≡ vec_capacity cells.old }

@@ -2,13 +2,13 @@
 
 ghost use Rattle.std.specs.Prelude.{◌≡◌, ◌<◌, ◌≤◌, ◌+◌, ◌++◌, ◌∷◌, [], None, Some, All, IfOk, OnOk, OnErr, length, option_map, slice_get};
 ghost use Rattle.cell_world.specs.Names.{chain as chain_in};
-ghost use Rattle.cell_space.specs.declared.cell.CellState.TheVariants.{Attached, Detached};
+ghost use Rattle.cell_world.specs.declared.state.Standing.TheVariants.{Attached, Detached};
 ghost use Rattle.cell_space.specs.Path.{IsPath};
 ghost use Rattle.cell_space.specs.Named.{cell_numbered as numbered, provider_for as provider_among, provider_as, number_as, clash_stem as stem_clash, clash_name as name_clash, cell_at as cell_in, with_cell, with_state, without};
 ghost use Rattle.cell_space.specs.Rooted.{AreRooted};
 ghost use Rattle.cell_space.specs.Spaces.{IsThere, HasCell, HasDetached, HasAttached, HasNoRival, kernel, provider_in, namespace_named};
 
-use crate::cell::{CellState, SpaceCell, copy_cells};
+use crate::cell::{SpaceCell, copy_cells};
 use crate::chain::{Chain, chain_of};
 use crate::index::{Index, claim_again, index_of};
 use crate::lookup::{cell_at, cell_numbered, clash_name, clash_stem, provider_for};
@@ -18,7 +18,7 @@ use crate::path::{Path, path_of};
 use crate::provider::{Provider, Scope};
 use crate::rows::{insert_cell, remove_cell, set_state};
 use cell_num::{CellId, Name};
-use cell_world::Namespace;
+use cell_world::{Namespace, Standing};
 use std::alloc::{AllocError, Global};
 use std::marker::Model;
 
@@ -123,7 +123,7 @@ impl Spaces {
     }
 
     /// The state of a cell that is there.
-    pub fn state(&self, cell: CellId) -> CellState
+    pub fn state(&self, cell: CellId) -> Standing
         requires { HasCell self.now cell.0 }
         ensures { option_map (λ c. c.state) (numbered self.now.cells cell.0) ≡ Some result }
     {
@@ -164,7 +164,7 @@ impl Spaces {
         ensures { option_map provider_as result ≡ provider_in self.now scope name.now }
     {
         match scope {
-            Scope::Space(ns) => self.provider_for(ns, CellState::Attached, name),
+            Scope::Space(ns) => self.provider_for(ns, Standing::Attached, name),
             Scope::Cell(cell) => match cell_numbered(&self.cells, cell.0) {
                 Some(found) => self.provider_for(found.ns, found.state, name),
                 None => None,
@@ -173,7 +173,7 @@ impl Spaces {
     }
 
     /// Who provides a name for a cell of that namespace and state.
-    pub fn provider_for(&self, ns: u16, state: CellState, name: &[u8]) -> Option<Provider>
+    pub fn provider_for(&self, ns: u16, state: Standing, name: &[u8]) -> Option<Provider>
         requires { ns < length self.now.namespaces }
         ensures { option_map provider_as result ≡ provider_among (chain_in self.now.namespaces ns) state name.now self.now.cells }
     {
@@ -229,7 +229,7 @@ impl Spaces {
             cell,
             ns,
             stem,
-            state: CellState::Attached,
+            state: Standing::Attached,
             names,
         };
         insert_cell(&mut self.cells, row);
@@ -243,7 +243,7 @@ impl Spaces {
         ensures same_room { self.old.spare_cells ≤ self.new.spare_cells }
         ensures same_names_room { self.old.spare_names ≤ self.new.spare_names }
     {
-        set_state(&mut self.cells, cell.0, CellState::Detached(group));
+        set_state(&mut self.cells, cell.0, Standing::Detached(group));
     }
 
     /// Attaches a cell again that was put aside.
@@ -256,7 +256,7 @@ impl Spaces {
         ensures names_left { (c : SpaceCell) → numbered self.old.cells cell.0 ≡ Some c → self.old.spare_names ≤ self.new.spare_names + length c.names + 1 }
     {
         claim_again(&mut self.index, &self.cells, cell.0);
-        set_state(&mut self.cells, cell.0, CellState::Attached);
+        set_state(&mut self.cells, cell.0, Standing::Attached);
     }
 
     /// Takes a cell away.

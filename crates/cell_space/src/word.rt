@@ -3,8 +3,9 @@
 ghost use Rattle.std.specs.Prelude.{◌≡◌};
 ghost use Rattle.cell_space.specs.Index.{has_word, word_hash, is_at};
 
-use crate::cell::{CellState, SpaceCell};
+use crate::cell::SpaceCell;
 use crate::hash::{name_hash, stem_hash};
+use cell_world::Standing;
 
 /// Whether a word is a stem or the name of a symbol.
 #[derive(Clone, Copy, Debug, PartialEq, Eq)]
@@ -55,5 +56,5 @@ pub fn has_word(cell: &SpaceCell, kind: WordKind, text: &[u8]) -> bool
 pub fn is_at(cell: &SpaceCell, ns: u16, word: &Word) -> bool
     ensures { result ≡ is_at ns word.now.kind word.now.text.now cell.now }
 {
-    cell.is_in(CellState::Attached) && cell.ns == ns && has_word(cell, word.kind, word.text)
+    cell.is_in(Standing::Attached) && cell.ns == ns && has_word(cell, word.kind, word.text)
 }

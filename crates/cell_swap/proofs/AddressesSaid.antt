@@ -10,7 +10,8 @@ use Rattle.cell_world.specs.Names.{names_of}
 use Rattle.cell_world.specs.SwapCommand.{Wanted, old_numbers}
 use Rattle.cell_world.specs.SwapTransfer.{addresses_in, symbol_address}
 use Rattle.cell_world.specs.UnloadCommand.{put_aside}
-use Rattle.cell_world.specs.World.{Alias, Cell, Detached, World}
+use Rattle.cell_world.specs.World.{Alias, Cell, World}
+use Rattle.cell_world.specs.declared.state.Standing.TheVariants.{Detached}
 use Rattle.cell_num.specs.Lists.{holds, In, each_pair}
 use Rattle.cell_num.proofs.Elements.{In-All, In-map, map-In, pairs-map}
 use Rattle.cell_lemmas.proofs.Inside.{ready_linkable}

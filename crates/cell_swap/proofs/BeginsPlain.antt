@@ -8,7 +8,8 @@ use Rattle.cell_world.specs.Outcome.{Outcome, ◌>>=◌, each, found}
 use Rattle.cell_world.specs.SpawnCommand.{entry_offset}
 use Rattle.cell_world.specs.SwapTransfer.{Begin, begin_of, begins_of, definition_named, entry_at, routines_in}
 use Rattle.cell_world.specs.Target.{start_of}
-use Rattle.cell_world.specs.World.{Cell, Detached, World, attached}
+use Rattle.cell_world.specs.World.{Cell, World, attached}
+use Rattle.cell_world.specs.declared.state.Standing.TheVariants.{Detached}
 use Rattle.cell_world.specs.declared.refusal.Refusal.TheVariants.{NoEntry}
 use Rattle.cell_world.specs.declared.state.NewCell.{NewCell}
 use Rattle.cell_world.specs.declared.transfer.Routine.{Routine}

@@ -6,7 +6,8 @@ use Rattle.cell_world.specs.declared.fail.Fail.TheVariants.{Refused, OutOfMemory
 use Rattle.cell_world.specs.declared.file.File.{File}
 use Rattle.cell_world.specs.Gather.{grown}
 use Rattle.cell_world.specs.Outcome.{Outcome}
-use Rattle.cell_world.specs.World.{Attached, Cell, World}
+use Rattle.cell_world.specs.World.{Cell, World}
+use Rattle.cell_world.specs.declared.state.Standing.TheVariants.{Attached}
 use Rattle.cell_space.specs.Joined.{placed_of}
 use Rattle.cell_space.specs.Machine.{called}
 use Rattle.cell_space.proofs.Joined.{cells_are}

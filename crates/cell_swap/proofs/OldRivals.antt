@@ -8,13 +8,12 @@ use Rattle.std.proofs.lemmas.Slice.Eq.{bytes_eq-Decides}
 use Rattle.cell_num.specs.Lists.{equals, holds, holds_name, In}
 use Rattle.cell_world.specs.Coherent.{all_names, may_both_stand}
 use Rattle.cell_world.specs.Names.{are_on_one_path, chain}
-use Rattle.cell_world.specs.World.{World, Cell, Standing, Attached as IsAttached, Detached as IsDetached, is_attached}
+use Rattle.cell_world.specs.World.{World, Cell, Standing, is_attached}
+use Rattle.cell_world.specs.declared.state.Standing.TheVariants.{Attached, Detached}
 use Rattle.cell_world.specs.declared.state.Namespace.{Namespace}
 use Rattle.cell_num.proofs.Elements.{In-All, In-map, any-Has, any-In, found-In, pairs-In, some_has}
-use Rattle.cell_space.specs.declared.cell.CellState.{CellState}
-use Rattle.cell_space.specs.declared.cell.CellState.TheVariants.{Attached}
 use Rattle.cell_space.specs.declared.cell.SpaceCell.{SpaceCell}
-use Rattle.cell_space.specs.Machine.{called, state_of}
+use Rattle.cell_space.specs.Machine.{called}
 use Rattle.cell_space.specs.Named.{clash_name, clash_stem, is_in, is_numbered, is_state}
 use Rattle.cell_space.specs.Spaces.{HasDetached, HasNoRival, IsFree, SpacesState}
 use Rattle.cell_machine.specs.declared.machine.Machine.{Machine}
@@ -58,10 +57,10 @@ stand_either w a b =
 
 -- the cells of a number that was attached
 module _ (before : Machine) (sound : IsSound before) (n : ℕ) (at : state_in before.spaces.cells n ≡ Some Attached) where
-  stood : (d : Cell) → In d (world_of before).cells → d.id.0 ≡ n → state_of d.standing ≡ Attached
-  stood d i e = same (state_of d.standing) Attached (ap (option_map (λ (c : SpaceCell). c.state)) (sym (known_at before sound d i)) ∙ (ap (state_in before.spaces.cells) e ∙ at))
+  stood : (d : Cell) → In d (world_of before).cells → d.id.0 ≡ n → d.standing ≡ Attached
+  stood d i e = same d.standing Attached (ap (option_map (λ (c : SpaceCell). c.state)) (sym (known_at before sound d i)) ∙ (ap (state_in before.spaces.cells) e ∙ at))
     where
-      same : (a b : CellState) → (let o : Option CellState = Some a in o) ≡ Some b → a ≡ b
+      same : (a b : Standing) → (let o : Option Standing = Some a in o) ≡ Some b → a ≡ b
       same a b h = cc
 
   pub are_attached : AreAttached before.spaces.cells n
@@ -86,7 +85,7 @@ module _ (before : Machine) (sound : IsSound before) (k : ℕ) (p : ℕ → Bool
       other x f (inr (inl h)) = h
       other x f (inr (inr h)) = stand_either w x d ∙ h
 
-      go : (x : Cell) → In x w.cells → (b : Bool) → p x.id.0 ≡ b → may_both_stand w (cond b (record x { standing = IsDetached k }) x) d ≡ true
+      go : (x : Cell) → In x w.cells → (b : Bool) → p x.id.0 ≡ b → may_both_stand w (cond b (record x { standing = Detached k }) x) d ≡ true
       go x m true f = refl
       go x m false f = other x f (pairs-In (may_both_stand w) w.cells sound.coherent.ready.names x d m i)
 
@@ -105,7 +104,7 @@ module _ (before : Machine) (sound : IsSound before) (k : ℕ) (p : ℕ → Bool
         let d = In-map (stood_aside k p) w.cells e.0 e.1 in
         record { cell = d.0; there = d.1; is = e.2 ∙ ap called d.2 }
 
-    free_aside : (d : Cell) → In d w.cells → is_attached d.standing ≡ true → p d.id.0 ≡ true → IsFree s (called (record d { standing = IsDetached k }))
+    free_aside : (d : Cell) → In d w.cells → is_attached d.standing ≡ true → p d.id.0 ≡ true → IsFree s (called (record d { standing = Detached k }))
     free_aside d i a t = record {
       stem = subst (λ (spaces : List Namespace). clash_stem spaces d.ns d.stem s.cells ≡ None) (sym namespaces)
           (subst (λ (cs : List SpaceCell). clash_stem w.namespaces d.ns d.stem cs ≡ None) (sym cells_now) (stem_free w now d a (may_stand d i t)));
@@ -116,7 +115,7 @@ module _ (before : Machine) (sound : IsSound before) (k : ℕ) (p : ℕ → Bool
     number_now : (d : Cell) → (called (stood_aside k p d)).cell.0 ≡ d.id.0
     number_now d = go (p d.id.0)
       where
-        go : (b : Bool) → (called (cond b (record d { standing = IsDetached k }) d)).cell.0 ≡ d.id.0
+        go : (b : Bool) → (called (cond b (record d { standing = Detached k }) d)).cell.0 ≡ d.id.0
         go true = refl
         go false = refl
 
@@ -135,9 +134,9 @@ module _ (before : Machine) (sound : IsSound before) (k : ℕ) (p : ℕ → Bool
           let number = numbered_now y.0 d t.0 in
           ap p (sym number) ∙ go d.cell (stood before sound n at d.cell d.there number) (p d.cell.id.0) (subst (λ (x : SpaceCell). not (is_in Attached x) ≡ true) d.is t.1)
         where
-          go : (d : Cell) → state_of d.standing ≡ Attached → (b : Bool) → not (is_in Attached (called (cond b (record d { standing = IsDetached k }) d))) ≡ true → b ≡ true
+          go : (d : Cell) → d.standing ≡ Attached → (b : Bool) → not (is_in Attached (called (cond b (record d { standing = Detached k }) d))) ≡ true → b ≡ true
           go d e true f = refl
-          go d e false f = absurd (true≢false (sym (subst (λ (x : CellState). not (is_state Attached x) ≡ true) e f)))
+          go d e false f = absurd (true≢false (sym (subst (λ (x : Standing). not (is_state Attached x) ≡ true) e f)))
 
       pub no_rival : HasDetached s n → HasNoRival s n
       no_rival h c e =
@@ -145,9 +144,9 @@ module _ (before : Machine) (sound : IsSound before) (k : ℕ) (p : ℕ → Bool
           let d = cell_now c i.0 in
           let number = numbered_now c d i.1 in
           let t : p d.cell.id.0 ≡ true = ap p number ∙ put_now h in
-          let is : c ≡ called (record d.cell { standing = IsDetached k }) = d.is ∙ ap (λ (b : Bool). called (cond b (record d.cell { standing = IsDetached k }) d.cell)) t in
+          let is : c ≡ called (record d.cell { standing = Detached k }) = d.is ∙ ap (λ (b : Bool). called (cond b (record d.cell { standing = Detached k }) d.cell)) t in
           subst (λ (x : SpaceCell). IsFree s x) (sym is) (free_aside d.cell d.there (attached_by d.cell.standing (stood before sound n at d.cell d.there number)) t)
         where
-          attached_by : (x : Standing) → state_of x ≡ Attached → is_attached x ≡ true
-          attached_by IsAttached f = refl
-          attached_by (IsDetached l) f = absurd (cc f)
+          attached_by : (x : Standing) → x ≡ Attached → is_attached x ≡ true
+          attached_by Attached f = refl
+          attached_by (Detached l) f = absurd (cc f)

@@ -3,13 +3,13 @@ use Rattle.std.proofs.Common.{◌≡◌, refl, sym, ◌∙◌, ap, ap₂, arith,
 use Rattle.cell_num.specs.declared.ids.CellId.{CellId}
 use Rattle.cell_world.specs.declared.state.Namespace.{Namespace}
 use Rattle.cell_world.specs.UnloadCommand.{detach, put_aside}
-use Rattle.cell_world.specs.World.{World, Cell, Detached}
+use Rattle.cell_world.specs.World.{World, Cell}
+use Rattle.cell_world.specs.declared.state.Standing.TheVariants.{Detached}
 use Rattle.cell_num.proofs.Elements.{map_same}
 use Rattle.cell_lemmas.proofs.Relinked.{map_twice}
 use Rattle.cell_mem.specs.State.{MemoryState}
 use Rattle.cell_space.specs.Joined.{placed_of}
 use Rattle.cell_space.specs.Machine.{called}
-use Rattle.cell_space.specs.declared.cell.CellState.TheVariants.{Detached as IsDetached}
 use Rattle.cell_space.specs.declared.cell.SpaceCell.{SpaceCell}
 use Rattle.cell_space.proofs.Joined.{cells_are, joined_by}
 use Rattle.cell_machine.specs.declared.machine.Machine.{Machine}
@@ -27,7 +27,7 @@ module _ (k : ℕ) (p : ℕ → Bool) where
   called_one : (c : Cell) → aside_where k p (called c) ≡ called (stood_aside c)
   called_one c = go (p c.id.0)
     where
-      go : (b : Bool) → cond b (record (called c) { state = IsDetached k }) (called c) ≡ called (cond b (record c { standing = Detached k }) c)
+      go : (b : Bool) → cond b (record (called c) { state = Detached k }) (called c) ≡ called (cond b (record c { standing = Detached k }) c)
       go true = refl
       go false = refl
 

@@ -8,8 +8,8 @@ use Rattle.std.proofs.Math.Bool.{or_assoc, or-false}
 use Rattle.cell_num.specs.declared.ids.CellId.{CellId}
 use Rattle.cell_num.proofs.Elements.{All-In, find_there, found-In, map_same}
 use Rattle.cell_lemmas.proofs.Relinked.{map_twice}
-use Rattle.cell_space.specs.declared.cell.CellState.{CellState}
-use Rattle.cell_space.specs.declared.cell.CellState.TheVariants.{Attached, Detached}
+use Rattle.cell_world.specs.World.{Standing}
+use Rattle.cell_world.specs.declared.state.Standing.TheVariants.{Attached, Detached}
 use Rattle.cell_space.specs.declared.cell.SpaceCell.{SpaceCell}
 use Rattle.cell_space.specs.Named.{cell_numbered, is_numbered, put_into, with_state}
 use Rattle.cell_swap.specs.OldCells.{AreAttached, IsPut, among, aside_where}
@@ -22,14 +22,14 @@ is_some_one : {X : Type 0} (o : Option X) (x : X) → o ≡ Some x → IsSome o
 is_some_one None x e = absurd (cc e)
 is_some_one (Some y) x e = refl
 
-abbrev pub state_in : List SpaceCell → ℕ → Option CellState
+abbrev pub state_in : List SpaceCell → ℕ → Option Standing
 state_in cells n = option_map (λ c. c.state) (cell_numbered cells n)
 
-pub has_state : (cells : List SpaceCell) (n : ℕ) (s : CellState) → state_in cells n ≡ Some s → IsSome (cell_numbered cells n)
+pub has_state : (cells : List SpaceCell) (n : ℕ) (s : Standing) → state_in cells n ≡ Some s → IsSome (cell_numbered cells n)
 has_state cells n s e = let x = mapped_from (λ (c : SpaceCell). c.state) (cell_numbered cells n) s e in is_some_one (cell_numbered cells n) x.0 x.1
 
 -- a test that holds in that state finds the cell
-pub found_in : (test : CellState → Bool) (cells : List SpaceCell) (n : ℕ) (s : CellState) → state_in cells n ≡ Some s → test s ≡ true → IsSome (find (λ c. is_numbered n c && test c.state) cells)
+pub found_in : (test : Standing → Bool) (cells : List SpaceCell) (n : ℕ) (s : Standing) → state_in cells n ≡ Some s → test s ≡ true → IsSome (find (λ c. is_numbered n c && test c.state) cells)
 found_in test cells n s e t =
     let x = mapped_from (λ (c : SpaceCell). c.state) (cell_numbered cells n) s e in
     let i = found-In (is_numbered n) cells x.0 x.1 in
@@ -73,7 +73,7 @@ module _ (before : List SpaceCell) (k : ℕ) (p : ℕ → Bool) where
       one false found rest e = e
 
   -- the state of a cell that was attached
-  abbrev pub state_by : Bool → CellState
+  abbrev pub state_by : Bool → Standing
   state_by b = cond b (Detached k) Attached
 
   pub state_put : (c : SpaceCell) → c.state ≡ Attached → (aside_where k p c).state ≡ state_by (p c.cell.0)
@@ -90,7 +90,7 @@ module _ (before : List SpaceCell) (k : ℕ) (p : ℕ → Bool) where
         let number : x.0.cell.0 ≡ n = eqb-true x.0.cell.0 n (found-In (is_numbered n) before x.0 x.1).1 in
         ap (λ (cs : List SpaceCell). state_in cs n) put
         ∙ (ap (option_map (λ (c : SpaceCell). c.state)) (numbered_put before n ∙ ap (option_map (aside_where k p)) x.1)
-        ∙ ap (λ (s : CellState). Some s) (state_put x.0 x.2 ∙ ap (λ m. state_by (p m)) number))
+        ∙ ap (λ (s : Standing). Some s) (state_put x.0 x.2 ∙ ap (λ m. state_by (p m)) number))
 
     -- what isn't attached was put aside
     pub is_put : (group : ℕ) → state_in before n ≡ Some Attached → state_in cells n ≡ Some (Detached group) → p n ≡ true
@@ -131,9 +131,9 @@ module _ (before : List SpaceCell) (k : ℕ) (p : ℕ → Bool) where
         one c was = ap (λ (m : ℕ). cond (m == n) (record (aside_where k p c) { state = Attached }) (aside_where k p c)) (number_put c) ∙ go (p c.cell.0) (c.cell.0 == n) was
           where
             go : (b t : Bool) → (t ≡ true → c.state ≡ Attached) → (let d : SpaceCell = cond b (record c { state = Detached k }) c in cond t (record d { state = Attached }) d) ≡ cond (b && not t) (record c { state = Detached k }) c
-            go true true f = ap (λ (s : CellState). record c { state = s }) (sym (f refl))
+            go true true f = ap (λ (s : Standing). record c { state = s }) (sym (f refl))
             go true false f = refl
-            go false true f = ap (λ (s : CellState). record c { state = s }) (sym (f refl))
+            go false true f = ap (λ (s : Standing). record c { state = s }) (sym (f refl))
             go false false f = refl
 
     was_attached : AreAttached before n → IsSome (cell_numbered cells n) → state_in before n ≡ Some Attached
@@ -143,7 +143,7 @@ module _ (before : List SpaceCell) (k : ℕ) (p : ℕ → Bool) where
         go None e h = absurd (true≢false (sym h))
         go (Some c) e h =
             let i = found-In (is_numbered n) before c e in
-            ap (λ (s : CellState). Some s) (All-In (λ (c : SpaceCell). IsTrue (is_numbered n c) → c.state ≡ Attached) before attached c i.0 i.1)
+            ap (λ (s : Standing). Some s) (All-In (λ (c : SpaceCell). IsTrue (is_numbered n c) → c.state ≡ Attached) before attached c i.0 i.1)
 
     pub attached_again : AreAttached before n → state_in cells n ≡ Some Attached → IsPut before k (λ m. p m && not (m == n)) cells
     attached_again attached now =

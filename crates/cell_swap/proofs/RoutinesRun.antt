@@ -11,7 +11,8 @@ use Rattle.cell_world.specs.declared.refusal.Refusal.TheVariants.{Exhausted, Tra
 use Rattle.cell_world.specs.declared.state.NewCell.{NewCell}
 use Rattle.cell_world.specs.declared.transfer.Failure.{Failure}
 use Rattle.cell_world.specs.declared.transfer.Routine.{Routine}
-use Rattle.cell_world.specs.World.{Cell, Region, World, stack_size}
+use Rattle.cell_num.specs.Limits.{stack_size}
+use Rattle.cell_world.specs.World.{Cell, Region, World}
 use Rattle.cell_world.specs.Coherent.{IsCoherent, ends_before, is_in_space, shape_of, Shape}
 use Rattle.cell_world.specs.Execute.{Seen, allows, seen_in}
 use Rattle.cell_world.specs.Field.{fields_of, place_of}

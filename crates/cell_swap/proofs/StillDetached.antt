@@ -6,7 +6,8 @@ use Rattle.cell_num.specs.declared.ids.CellId.{CellId}
 use Rattle.cell_world.specs.declared.state.NewCell.{NewCell}
 use Rattle.cell_world.specs.Answer.{ids, numbers_of}
 use Rattle.cell_world.specs.MapCommand.{group_of}
-use Rattle.cell_world.specs.World.{Cell, Standing, Attached, Detached, is_attached}
+use Rattle.cell_world.specs.World.{Cell, Standing, is_attached}
+use Rattle.cell_world.specs.declared.state.Standing.TheVariants.{Attached, Detached}
 use Rattle.cell_swap.specs.Swapped.{unless_attached}
 
 abbrev pub detached : Cell → List CellId

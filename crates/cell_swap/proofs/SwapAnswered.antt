@@ -11,18 +11,16 @@ use Rattle.cell_world.specs.declared.reply.Reply.{Reply}
 use Rattle.cell_world.specs.Answer.{Done, done}
 use Rattle.cell_world.specs.Following.{FailsAs}
 use Rattle.cell_world.specs.Gather.{Source, source_of}
-use Rattle.cell_world.specs.Limits.{max_file_bytes}
+use Rattle.cell_num.specs.Limits.{max_file_bytes}
 use Rattle.cell_world.specs.Outcome.{Outcome, ◌>>=◌, ◌>>◌, refused_by}
 use Rattle.cell_world.specs.SwapCommand.{Plan as SwapPlan, Wanted, all_wanted, first_held_old, next_swap, plan_swap, swap_reply, with_transfer}
 use Rattle.cell_world.specs.UnloadCommand.{purged}
-use Rattle.cell_world.specs.World.{World, Standing, Attached as IsAttached, Detached as IsDetached, is_attached}
+use Rattle.cell_world.specs.World.{World, Standing, is_attached}
+use Rattle.cell_world.specs.declared.state.Standing.TheVariants.{Attached, Detached}
 use Rattle.cell_num.specs.Lists.{In}
 use Rattle.cell_num.proofs.Elements.{In-All, In-map, map-In}
 use Rattle.cell_mem.specs.State.{MemoryState}
-use Rattle.cell_space.specs.declared.cell.CellState.{CellState}
-use Rattle.cell_space.specs.declared.cell.CellState.TheVariants.{Attached}
 use Rattle.cell_space.specs.declared.cell.SpaceCell.{SpaceCell}
-use Rattle.cell_space.specs.Machine.{state_of}
 use Rattle.cell_space.specs.Named.{cell_numbered}
 use Rattle.cell_machine.specs.declared.machine.Machine.{Machine}
 use Rattle.cell_machine.specs.Does.{Counts, Does, HasRisen, Most, counted_before, new_runs, patched_by}
@@ -43,9 +41,9 @@ use Rattle.cell_swap.proofs.Late.{unrisen}
 use Rattle.cell_swap.specs.declared.swapping.Options.{Options}
 use Rattle.cell_swap.proofs.SwapLanded.{unasked}
 
-attached_state : (standing : Standing) → is_attached standing ≡ true → state_of standing ≡ Attached
-attached_state IsAttached e = refl
-attached_state (IsDetached k) e = cc
+attached_state : (standing : Standing) → is_attached standing ≡ true → standing ≡ Attached
+attached_state Attached e = refl
+attached_state (Detached k) e = cc
 
 -- the old cells stand aside also where there is other room and counts have risen
 pub aside_same : (before : Machine) (old : List CellId) (m n : Machine) → IsAside before old m → IsSame m (without_counts m n) → IsAside before old (without_counts before n)
@@ -85,7 +83,7 @@ module _ (files : List File) (before : Machine) (sound : IsSound before) (items 
           let is : IsWanted sources w want.0 = all want.0 want.1 in
           ap (λ (n : ℕ). option_map (λ (x : SpaceCell). x.state) (cell_numbered before.spaces.cells n)) want.2
           ∙ (ap (option_map (λ (x : SpaceCell). x.state)) (known_at before sound want.0.old is.present)
-          ∙ ap (λ (state : CellState). let o : Option CellState = Some state in o) (attached_state want.0.old.standing is.attached))
+          ∙ ap (λ (state : Standing). let o : Option Standing = Some state in o) (attached_state want.0.old.standing is.attached))
 
   module _ (o : Options) where
     abbrev words : List (List ℕ)

@@ -7,7 +7,8 @@ use Rattle.cell_world.specs.declared.state.LinkRow.{LinkRow}
 use Rattle.cell_world.specs.declared.state.NewCell.{NewCell}
 use Rattle.cell_world.specs.Answer.{ids, numbers_of}
 use Rattle.cell_world.specs.LoadCommand.{field_count}
-use Rattle.cell_world.specs.World.{World, Cell, Attached}
+use Rattle.cell_world.specs.World.{World, Cell}
+use Rattle.cell_world.specs.declared.state.Standing.TheVariants.{Attached}
 use Rattle.cell_num.proofs.Elements.{In-map, map-In}
 use Rattle.cell_lemmas.proofs.Relinked.{map_twice}
 use Rattle.cell_lemmas.proofs.Loads.{older}

@@ -3,7 +3,7 @@ use Rattle.std.proofs.Common.{◌≡◌, refl, ◌∙◌, ap, subst, ℕ, ◌+�
 use Rattle.std.specs.Prelude.{Option, Some, None, Ok, Err, filter, nat_le, option_map}
 use Rattle.std.specs.List.{list_all}
 use Rattle.std.proofs.lemmas.Bool.{and_from, and_parts}
-use Rattle.cell_num.specs.Lists.{holds, In}
+use Rattle.cell_num.specs.Lists.{holds, or_else, In}
 use Rattle.cell_world.specs.declared.command.SwapItem.{SwapItem}
 use Rattle.cell_world.specs.declared.layout.Starts.{Starts}
 use Rattle.cell_world.specs.declared.refusal.Refusal.{Refusal}
@@ -233,34 +233,35 @@ module _ (sources : List Source) (sound : AreSound sources) (v : World) (h : IsC
             routines = routines_in (W t runs) begins;
           }
 
-          abbrev after_changes : Outcome Plan
-          after_changes = refused_by (first_torn (changed_fields v (W t runs)) (filter is_ready v.tasks)) >> Ok plan
+          abbrev torn : Option Refusal
+          torn = first_torn (changed_fields v (W t runs)) (filter is_ready v.tasks)
 
-          abbrev after_fit : Outcome Plan
-          after_fit = refused_by (first_changed_misfit v (W t runs) v.cells) >> after_changes
+          -- the plan, unless that refuses it
+          abbrev unless : Option Refusal → Outcome Plan
+          unless o = refused_by o >> Ok plan
 
           planned : plan_swap sources v items reexport words ≡ plan_placed v (W t runs) wants begins stack
           planned = by_world ∙ ap (λ (o : Outcome (Option ℕ)). o >>= plan_placed v (W t runs) wants begins) (stack_at t runs words ∙ at)
 
           pub overflows : (r : Refusal) → first_misfit (W t runs) (F t runs) ≡ Some r → plan_swap sources v items reexport words ≡ Err r
-          overflows r e = planned ∙ ap (λ (o : Option Refusal). refused_by o >> after_fit) (ap (first_misfit (W t runs)) (fresh_placed t runs) ∙ e)
+          overflows r e = planned ∙ ap (λ (o : Option Refusal). unless (or_else o (or_else (first_changed_misfit v (W t runs) v.cells) torn))) (ap (first_misfit (W t runs)) (fresh_placed t runs) ∙ e)
 
           module _ (fit : first_misfit (W t runs) (F t runs) ≡ None) where
-            so_far : plan_swap sources v items reexport words ≡ after_fit
-            so_far = planned ∙ ap (λ (o : Option Refusal). refused_by o >> after_fit) (ap (first_misfit (W t runs)) (fresh_placed t runs) ∙ fit)
+            so_far : plan_swap sources v items reexport words ≡ unless (or_else (first_changed_misfit v (W t runs) v.cells) torn)
+            so_far = planned ∙ ap (λ (o : Option Refusal). unless (or_else o (or_else (first_changed_misfit v (W t runs) v.cells) torn))) (ap (first_misfit (W t runs)) (fresh_placed t runs) ∙ fit)
 
             pub changed_refused : (r : Refusal) → first_changed_misfit v (W t runs) v.cells ≡ Some r → plan_swap sources v items reexport words ≡ Err r
-            changed_refused r e = so_far ∙ ap (λ (o : Option Refusal). refused_by o >> after_changes) e
+            changed_refused r e = so_far ∙ ap (λ (o : Option Refusal). unless (or_else o torn)) e
 
             module _ (changed_fit : first_changed_misfit v (W t runs) v.cells ≡ None) where
-              fits : plan_swap sources v items reexport words ≡ after_changes
-              fits = so_far ∙ ap (λ (o : Option Refusal). refused_by o >> after_changes) changed_fit
+              fits : plan_swap sources v items reexport words ≡ unless torn
+              fits = so_far ∙ ap (λ (o : Option Refusal). unless (or_else o torn)) changed_fit
 
               pub torn_refused : (r : Refusal) → first_torn (changed_fields v (W t runs)) (filter is_ready v.tasks) ≡ Some r → plan_swap sources v items reexport words ≡ Err r
-              torn_refused r e = fits ∙ ap (λ (o : Option Refusal). refused_by o >> (let p : Outcome Plan = Ok plan in p)) e
+              torn_refused r e = fits ∙ ap unless e
 
               pub accepted : first_torn (changed_fields v (W t runs)) (filter is_ready v.tasks) ≡ None → plan_swap sources v items reexport words ≡ Ok plan
-              accepted e = fits ∙ ap (λ (o : Option Refusal). refused_by o >> (let p : Outcome Plan = Ok plan in p)) e
+              accepted e = fits ∙ ap unless e
 
       -- there is no room, or an entry doesn't fit
       pub unplaced : (r : Refusal) → placing u new (pages_for words) ≡ Err r → plan_swap sources v items reexport words ≡ Err r

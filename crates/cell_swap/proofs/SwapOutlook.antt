@@ -13,7 +13,8 @@ use Rattle.cell_world.specs.Answer.{numbers_of}
 use Rattle.cell_world.specs.Kept.{placed_in}
 use Rattle.cell_world.specs.MapCommand.{group_of}
 use Rattle.cell_world.specs.UnloadCommand.{put_aside}
-use Rattle.cell_world.specs.World.{World, Cell, Region, Standing, Attached, Detached, attached}
+use Rattle.cell_world.specs.World.{World, Cell, Region, Standing, attached}
+use Rattle.cell_world.specs.declared.state.Standing.TheVariants.{Attached, Detached}
 use Rattle.cell_world.specs.declared.state.NewCell.{NewCell}
 use Rattle.cell_num.proofs.Elements.{all-In, In-all, In-append, In-left, In-right}
 use Rattle.cell_space.specs.Joined.{placed_of}

@@ -10,7 +10,8 @@ use Rattle.cell_world.specs.Answer.{numbers_of}
 use Rattle.cell_world.specs.Coherent.{IsCoherent, Shape}
 use Rattle.cell_world.specs.Kept.{holding_of, kept_in}
 use Rattle.cell_world.specs.UnloadCommand.{detached_of, garbage_of}
-use Rattle.cell_world.specs.World.{World, Cell, Standing, Attached, attached, is_attached}
+use Rattle.cell_world.specs.World.{World, Cell, Standing, attached, is_attached}
+use Rattle.cell_world.specs.declared.state.Standing.TheVariants.{Attached}
 use Rattle.cell_world.specs.declared.state.NewCell.{NewCell}
 use Rattle.cell_num.proofs.Elements.{In-append, In-filtered, In-map, any-In, filter-Passes, filter_all, filter_none, map-In}
 use Rattle.cell_lemmas.proofs.KeptPaths.{holds-In}

@@ -7,16 +7,16 @@ use Rattle.cell_world.specs.declared.file.File.{File}
 use Rattle.cell_world.specs.declared.state.LinkRow.{LinkRow}
 use Rattle.cell_world.specs.declared.state.NewCell.{NewCell}
 use Rattle.cell_world.specs.Relink.{links_of}
-use Rattle.cell_world.specs.World.{Cell, Standing, Attached, Detached, World}
+use Rattle.cell_world.specs.World.{Cell, World}
+use Rattle.cell_world.specs.declared.state.Standing.TheVariants.{Attached}
 use Rattle.cell_num.proofs.Elements.{map-In}
 use Rattle.cell_lemmas.proofs.Fixed.{links_fixed}
 use Rattle.cell_lemmas.proofs.Detached.{put, put_same}
 use Rattle.cell_lemmas.proofs.SetAside.{aside_ranks}
 use Rattle.cell_space.specs.Joined.{placed_of}
-use Rattle.cell_space.specs.Machine.{called, state_of}
+use Rattle.cell_space.specs.Machine.{called}
 use Rattle.cell_space.specs.Named.{cell_numbered}
 use Rattle.cell_space.specs.Spaces.{HasCell}
-use Rattle.cell_space.specs.declared.cell.CellState.TheVariants.{Attached as IsAttached}
 use Rattle.cell_space.specs.declared.cell.SpaceCell.{SpaceCell}
 use Rattle.cell_target.specs.Scene.{in_state}
 use Rattle.cell_machine.specs.declared.machine.Machine.{Machine}
@@ -41,10 +41,6 @@ numbered_called n (c ∷ cells) = go (c.id.0 == n) (numbered_called n cells)
 -- a cell but for its aliases
 abbrev pub plain : Cell → Cell
 plain c = record { placed = c.placed; aliases = []; standing = c.standing }
-
-stands_as : (p : NewCell) (s : Standing) → in_state p (state_of s) ≡ record { placed = p; aliases = []; standing = s }
-stands_as p Attached = refl
-stands_as p (Detached k) = refl
 
 module _ (files : List File) (asked : Asked) (m : Machine) (b : IsBegun files asked m) where
   abbrev before : World
@@ -98,8 +94,7 @@ module _ (files : List File) (asked : Asked) (m : Machine) (b : IsBegun files as
 
   pub stands : (d : Cell) → In d (u files asked m b).cells → as_it_stands m.spaces d.placed ≡ plain d
   stands d i =
-      ap (λ (o : Option SpaceCell). in_state d.placed (unwrap_or (option_map (λ c. c.state) o) IsAttached)) (known_at d i)
-      ∙ stands_as d.placed d.standing
+      ap (λ (o : Option SpaceCell). in_state d.placed (unwrap_or (option_map (λ c. c.state) o) Attached)) (known_at d i)
 
   pub has_cell : (d : Cell) → In d (u files asked m b).cells → HasCell m.spaces d.id.0
   has_cell d i = is_there (cell_numbered m.spaces.cells d.id.0) (called d) (known_at d i)

@@ -2,6 +2,7 @@
 --     CanGoBack n back fresh     the new cells can be taken out of n, to which they were added, and fields and links of others are known as they were
 --     CanUndo n back fresh       the same once routines have run, which may have mapped their stack
 use Rattle.std.specs.Prelude.{◌≡◌, ◌≤◌, ◌+◌, ◌*◌, ℕ, List, is_some, length, map, true}
+use Rattle.cell_num.specs.Limits.{page_size}
 use Rattle.cell_world.specs.Coherent.{shape_of}
 use Rattle.cell_mem.specs.Index.{IsLaid}
 use Rattle.cell_mem.specs.State.{before_in}
@@ -39,7 +40,7 @@ pub record CanGoBack (n : Machine) (back : List LinkRow) (fresh : List CellId) :
 pub record CanUndo (n : Machine) (back : List LinkRow) (fresh : List CellId) : Type 0 where
   pub added : Machine
   pub can : CanGoBack added back fresh
-  pub laid : IsLaid added.memory.base added.memory.regions (added.memory.base + 4096 * added.memory.pages)
+  pub laid : IsLaid added.memory.base added.memory.regions (added.memory.base + page_size * added.memory.pages)
   pub kept : map shape_of (before_in added.memory) ≡ map shape_of added.memory.regions
   pub like : n ≡ record added { memory = n.memory }
   pub rest : n.memory ≡ record added.memory { regions = n.memory.regions; undo = n.memory.undo; maps = n.memory.maps }

@@ -15,7 +15,7 @@ use Rattle.cell_world.specs.declared.fail.Fail.TheVariants.{Refused, OutOfMemory
 use Rattle.cell_world.specs.declared.file.File.{File}
 use Rattle.cell_world.specs.Gather.{grown, source_of}
 use Rattle.cell_world.specs.Kept.{placed_in}
-use Rattle.cell_world.specs.Limits.{max_file_bytes}
+use Rattle.cell_num.specs.Limits.{max_file_bytes}
 use Rattle.cell_world.specs.Outcome.{Outcome}
 use Rattle.cell_world.specs.Relink.{Patch}
 use Rattle.cell_world.specs.SwapCommand.{Plan as SwapPlan, first_uncovered, gather_swap, plan_swap, set_aside}

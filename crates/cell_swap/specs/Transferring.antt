@@ -12,7 +12,8 @@ use Rattle.std.specs.Prelude.{◌≡◌, ◌==◌, ℕ, nat_lt, All, IsSome, IsT
 use Rattle.cell_num.specs.declared.ids.CellId.{CellId}
 use Rattle.cell_world.specs.declared.refusal.Refusal.{Refusal}
 use Rattle.cell_world.specs.declared.state.NewCell.{NewCell}
-use Rattle.cell_world.specs.World.{Alias, stack_size}
+use Rattle.cell_num.specs.Limits.{stack_size}
+use Rattle.cell_world.specs.World.{Alias}
 use Rattle.cell_mem.specs.State.{MemoryState}
 use Rattle.cell_num.specs.Lists.{each_pair, In}
 use Rattle.cell_placed.specs.Low.{IsLow}

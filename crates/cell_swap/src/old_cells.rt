@@ -5,13 +5,14 @@ ghost use Rattle.cell_machine.specs.Machine.{IsSound};
 ghost use Rattle.cell_machine.specs.Same.{IsSame, without_counts};
 ghost use Rattle.cell_space.specs.Named.{cell_numbered as numbered};
 ghost use Rattle.cell_space.specs.Spaces.{HasCell, HasDetached, HasNoRival};
-ghost use Rattle.cell_space.specs.declared.cell.CellState.TheVariants.{Attached};
+ghost use Rattle.cell_world.specs.declared.state.Standing.TheVariants.{Attached};
 ghost use Rattle.cell_space.specs.declared.cell.SpaceCell.{SpaceCell as Known};
 ghost use Rattle.cell_swap.specs.OldCells.{AreAttached, AreThere, CanReturn, IsAside, IsPut};
 
 use cell_machine::Machine;
 use cell_num::CellId;
-use cell_space::{CellState, Spaces};
+use cell_space::Spaces;
+use cell_world::Standing;
 
 /// Puts a cell aside, unless it was already, as where two items name it.
 fn put_one_aside(spaces: &mut Spaces, cell: CellId, swap: u32)
@@ -20,8 +21,8 @@ fn put_one_aside(spaces: &mut Spaces, cell: CellId, swap: u32)
     ensures namespaces { spaces.new.namespaces ≡ spaces.old.namespaces }
 {
     match spaces.state(cell) {
-        CellState::Attached => spaces.detach(cell, swap),
-        CellState::Detached(_) => {}
+        Standing::Attached => spaces.detach(cell, swap),
+        Standing::Detached(_) => {}
     }
 }
 
@@ -46,8 +47,8 @@ fn reattach_one(spaces: &mut Spaces, cell: CellId)
     ensures namespaces { spaces.new.namespaces ≡ spaces.old.namespaces }
 {
     match spaces.state(cell) {
-        CellState::Attached => {}
-        CellState::Detached(_) => spaces.reattach(cell),
+        Standing::Attached => {}
+        Standing::Detached(_) => spaces.reattach(cell),
     }
 }
 

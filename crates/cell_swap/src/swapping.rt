@@ -6,7 +6,7 @@ ghost use Rattle.cell_machine.specs.Machine.{IsSound, world_of};
 ghost use Rattle.cell_machine.specs.Same.{IsSame};
 ghost use Rattle.cell_world.specs.Answer.{ids};
 ghost use Rattle.cell_world.specs.Gather.{source_of};
-ghost use Rattle.cell_world.specs.Limits.{max_file_bytes};
+ghost use Rattle.cell_num.specs.Limits.{max_file_bytes};
 ghost use Rattle.cell_world.specs.SwapCommand.{next_swap};
 ghost use Rattle.cell_world.specs.UnloadCommand.{detached_of};
 ghost use Rattle.cell_graph.specs.Links.{is_bound};

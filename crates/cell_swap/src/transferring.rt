@@ -4,18 +4,17 @@ ghost use Rattle.std.specs.Prelude.{◌≡◌, ◌≤◌, ◌<◌, ◌^◌, ◌+
 ghost use Rattle.cell_num.specs.Lists.{each_pair};
 ghost use Rattle.cell_placed.specs.Low.{IsLow};
 ghost use Rattle.cell_space.specs.Spaces.{HasCell};
-ghost use Rattle.cell_world.specs.World.{stack_size};
+ghost use Rattle.cell_num.specs.Limits.{stack_size};
 ghost use Rattle.cell_xfer.specs.Named.{AnswersAs};
 ghost use Rattle.cell_swap.specs.Transferring.{AreOld, CanRun, Gives, HasRun, new_rows, old_rows, pages_for, rows_in};
 
 use crate::planning::Plan;
-use cell_hart::STACK_SIZE;
 use cell_machine::{Machine, Staged};
 use cell_mem::Memory;
-use cell_num::{CellId, Name};
+use cell_num::{CellId, Name, STACK_PAGES, STACK_SIZE};
 use cell_placed::cell_numbered;
 use cell_routines::{add_addresses, routines_at};
-use cell_world::{Refusal, STACK_PAGES};
+use cell_world::Refusal;
 use cell_xfer::{Addresses, Firsts, Transfer, carry_over};
 use std::alloc::{AllocError, Global};
 

@@ -14,10 +14,10 @@ use Rattle.cell_world.specs.declared.refusal.Many.TheVariants.{Tasks as ManyTask
 use Rattle.cell_world.specs.declared.refusal.Refusal.TheVariants.{NoEntry, NoObject, TooMany}
 use Rattle.cell_world.specs.Answer.{Done, present_cell, space_of}
 use Rattle.cell_world.specs.Coherent.{AreSound, IsCoherent}
-use Rattle.cell_world.specs.Fit.{first_misfit}
 use Rattle.cell_world.specs.Gather.{Source, append_cell, bring, depot_files, file_named, fresh_cells, new_cell, one_file}
 use Rattle.cell_world.specs.Layout.{places_in}
 use Rattle.cell_world.specs.LinkCommands.{next_deps, next_users}
+use Rattle.cell_world.specs.Linking.{link_refusal}
 use Rattle.cell_world.specs.LoadCommand.{append_named, next_load}
 use Rattle.cell_world.specs.Next.{outcome_of}
 use Rattle.cell_world.specs.NsCommand.{next_ns}
@@ -30,7 +30,8 @@ use Rattle.cell_world.specs.Reexport.{heir_of, take_on, with_alias}
 use Rattle.cell_world.specs.SwapCommand.{Plan, Wanted, append_wanted, exchanges_from, next_swap, old_numbers, renamed, set_aside}
 use Rattle.cell_world.specs.UnloadCommand.{purged, put_aside}
 use Rattle.cell_world.specs.declared.command.SwapItem.{SwapItem}
-use Rattle.cell_world.specs.World.{Alias, Cell, Detached, World, cell_of}
+use Rattle.cell_world.specs.World.{Alias, Cell, World, cell_of}
+use Rattle.cell_world.specs.declared.state.Standing.TheVariants.{Detached}
 use Rattle.cell_lemmas.proofs.Appended.{Appended, append_ok, ok_same}
 use Rattle.cell_lemmas.proofs.Brought.{In-depot, brought, one_file-In}
 use Rattle.cell_num.proofs.Elements.{All-In, In-All, In-append, In-filtered, all-In}
@@ -110,7 +111,7 @@ module _ (sources : List Source) (apart : Apart sources) where
       let file = bind_ok (one_file (depot_files sources name stem) (NoObject stem)) _ appended.0 ns.2 in
       let all = bind_ok (bring sources w.next_cell appended.0) _ d appended.2 in
       let placed = bind_ok (place_all all.0 (fresh_cells w.next_cell all.0)) _ d all.2 in
-      let fits = then_ok (refused_by (first_misfit placed.0 (fresh_cells w.next_cell placed.0))) _ d placed.2 in
+      let fits = then_ok (refused_by (link_refusal w placed.0)) _ d placed.2 in
       let few = appended_few w file.0 ns.0 appended.0 file.2 in
       let first : AreRead sources appended.0 =
       append_read w file.0 ns.0 appended.0 (In-depot sources name stem file.0 (one_file-In (depot_files sources name stem) (NoObject stem) file.0 file.1)) file.2 read in

@@ -41,7 +41,7 @@ use Rattle.cell_world.specs.SwapCommand.{next_swap}
 use Rattle.cell_change_law.proofs.ByLoad.{load_is}
 use Rattle.cell_change_law.proofs.BySwap.{swap_is}
 use Rattle.cell_load.proofs.Sources.{sources_sound}
-use Rattle.cell_world.specs.Limits.{max_file_bytes}
+use Rattle.cell_num.specs.Limits.{max_file_bytes}
 use Rattle.cell_system.specs.Readings.{AreRead}
 use Rattle.cell_system.proofs.Readings.{outcome_read}
 use Rattle.cell_system.specs.Step.{IsStep, counts_of, state_of}

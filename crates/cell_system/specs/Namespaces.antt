@@ -3,7 +3,7 @@ use Rattle.std.specs.Prelude.{ℕ, nat_lt, is_none, List, length}
 use Rattle.cell_world.specs.declared.refusal.Many.TheVariants.{Namespaces}
 use Rattle.cell_world.specs.declared.refusal.Refusal.TheVariants.{NameTaken, TooMany}
 use Rattle.cell_world.specs.declared.state.Namespace.{Namespace}
-use Rattle.cell_world.specs.Limits.{max_namespaces}
+use Rattle.cell_num.specs.Limits.{max_namespaces}
 use Rattle.cell_world.specs.Outcome.{Outcome, ◌>>◌, need}
 use Rattle.cell_space.specs.Spaces.{namespace_named}
 

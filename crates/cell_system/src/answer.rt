@@ -1,7 +1,7 @@
 //! The answer to a command.
 
 ghost use Rattle.std.specs.Prelude.{◌≡◌, ◌≤◌, All, length, map, true};
-ghost use Rattle.cell_world.specs.Limits.{max_file_bytes};
+ghost use Rattle.cell_num.specs.Limits.{max_file_bytes};
 ghost use Rattle.cell_depot.specs.Files.{are_apart};
 ghost use Rattle.cell_script.specs.Script.{is_said};
 ghost use Rattle.cell_world.specs.Gather.{source_of};

@@ -9,9 +9,9 @@ ghost use Rattle.cell_world.specs.NsCommand.{next_ns};
 ghost use Rattle.cell_system.specs.Namespaces.{may_add};
 
 use cell_machine::{Machine, namespace};
-use cell_num::Name;
+use cell_num::{MAX_NAMESPACES, Name};
 use cell_space::Spaces;
-use cell_world::{Fail, MAX_NAMESPACES, Many, Refusal, Reply};
+use cell_world::{Fail, Many, Refusal, Reply};
 use std::alloc::{AllocError, Global};
 
 /// E2: the name is taken.

@@ -2,7 +2,7 @@
 
 ghost use Rattle.std.specs.Prelude.{◌≡◌, ◌≤◌, IfOk, All, length, map, true};
 ghost use Rattle.std.specs.List.{list_all};
-ghost use Rattle.cell_world.specs.Limits.{max_file_bytes, max_files};
+ghost use Rattle.cell_num.specs.Limits.{max_file_bytes, max_files};
 ghost use Rattle.cell_depot.specs.Files.{are_apart};
 ghost use Rattle.cell_script.specs.Script.{is_said};
 ghost use Rattle.cell_depot.specs.ObjectName.{is_object_name};
@@ -33,7 +33,7 @@ impl Model for System {
     ghost use Rattle.std.specs.Prelude.{All, ◌≡◌, ◌≤◌, length, map, true};
     ghost use Rattle.cell_depot.specs.Files.{are_apart};
     ghost use Rattle.cell_machine.specs.Machine.{IsSound, world_of};
-    ghost use Rattle.cell_world.specs.Limits.{max_file_bytes};
+    ghost use Rattle.cell_num.specs.Limits.{max_file_bytes};
     ghost use Rattle.cell_world.specs.Gather.{source_of};
     ghost use Rattle.cell_system.specs.Readings.{AreRead};
     ghost use Rattle.cell_system.specs.State.{State};

@@ -1,4 +1,5 @@
 pub mod Lookups
+pub mod Strong
 pub mod Tabled
 pub mod Seen
 pub mod HighEntries

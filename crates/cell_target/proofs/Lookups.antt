@@ -1,5 +1,5 @@
 -- Look-ups in the machine that is seen.
-use Rattle.std.proofs.Common.{◌≡◌, refl, sym, ◌∙◌, ap, arith, ℕ, zero, suc, ◌<◌, Bool, true, false, cond, inl, inr, List, [], ◌∷◌, ◌++◌, map, length, get_or}
+use Rattle.std.proofs.Common.{◌≡◌, refl, sym, ◌∙◌, ap, subst, arith, ℕ, zero, suc, ◌<◌, Bool, true, false, cond, inl, inr, List, [], ◌∷◌, ◌++◌, length, get_or}
 use Rattle.std.specs.Prelude.{Option, Some, None, ◌==◌, find, option_map, option_and_then}
 use Rattle.std.specs.Option.{option_or}
 use Rattle.std.proofs.lemmas.List.Folds.{find-append}
@@ -7,17 +7,18 @@ use Rattle.cell_world.specs.declared.state.Namespace.{Namespace}
 use Rattle.cell_world.specs.declared.state.NewCell.{NewCell}
 use Rattle.cell_world.specs.declared.state.Target.{Target}
 use Rattle.cell_world.specs.Target.{provided_target}
-use Rattle.cell_world.specs.World.{World, cell_of}
+use Rattle.cell_world.specs.World.{World, Cell, cell_of, Standing}
 use Rattle.cell_world.specs.Names.{Provider, chain, provider_for as provider_in}
 use Rattle.cell_num.specs.Lists.{In}
-use Rattle.cell_space.specs.declared.cell.CellState.{CellState}
-use Rattle.cell_space.specs.declared.cell.CellState.TheVariants.{Attached, Detached}
 use Rattle.cell_space.specs.declared.cell.SpaceCell.{SpaceCell}
-use Rattle.cell_space.specs.Joined.{AreJoined, cells_of, placed_of, standing_of}
-use Rattle.cell_space.specs.Machine.{called, state_of}
+use Rattle.cell_space.specs.Joined.{AreJoined, cells_of, placed_of}
+use Rattle.cell_space.specs.Machine.{called}
 use Rattle.cell_space.proofs.Joined.{found_placed, is_numbered}
 use Rattle.cell_space.specs.Named.{provider_for}
-use Rattle.cell_space.proofs.Machines.{provider_for-called}
+use Rattle.cell_space.proofs.Machines.{strong_provider-called}
+use Rattle.cell_lemmas.proofs.Plain.{strong_alone}
+use Rattle.cell_num.proofs.Elements.{map-In}
+use Rattle.cell_object.specs.Parts.{has_no_weak}
 use Rattle.cell_target.specs.Scene.{seen, AreCells}
 
 pub in_get : {X : Type 0} (xs : List X) (i : ℕ) (d : X) → i < length xs → In (get_or xs i d) xs
@@ -52,26 +53,25 @@ module _ (namespaces : List Namespace) (present fresh : List NewCell) (known : L
   in_fresh o none e = e ∙ ap (λ p. option_or p (find (is_numbered n) fresh)) none ∙ sym by_parts
 
 -- who provides a name is told by the spaces
-state_again : (state : CellState) → state_of (standing_of state) ≡ state
-state_again Attached = refl
-state_again (Detached k) = refl
-
-module _ (namespaces : List Namespace) (spaces : List SpaceCell) (cells : List NewCell) (are : AreCells spaces cells) (ns : ℕ) (state : CellState) (name : List ℕ) where
+module _ (namespaces : List Namespace) (spaces : List SpaceCell) (cells : List NewCell) (are : AreCells spaces cells) (ns : ℕ) (state : Standing) (name : List ℕ) where
   abbrev machine : World
   machine = seen namespaces cells spaces
 
-  provider_told : provider_for (chain namespaces ns) state name spaces ≡ provider_in machine (standing_of state) ns name
+  no_weak : (c : Cell) → In c machine.cells → has_no_weak c.object ≡ true
+  no_weak c i = are.no_weak c.placed (subst (λ (ps : List NewCell). In c.placed ps) are.joined.placed (map-In placed_of (cells_of cells spaces) c i))
+
+  provider_told : provider_for (chain namespaces ns) state name spaces ≡ provider_in machine state ns name
   provider_told =
-      sym (provider_for-called machine ns name (standing_of state)
-      ∙ (ap (λ (s : CellState). provider_for (chain namespaces ns) s name (map called machine.cells)) (state_again state)
-      ∙ ap (provider_for (chain namespaces ns) state name) are.joined.called))
+      sym (strong_alone machine no_weak state ns name
+      ∙ strong_provider-called machine ns name state
+      ∙ ap (provider_for (chain namespaces ns) state name) are.joined.called)
 
   -- the target of a name's provider, where the spaces tell who that is
   module _ (t : Option Target) where
     pub nobody_there : t ≡ None → None ≡ provider_for (chain namespaces ns) state name spaces
-        → t ≡ option_and_then (provided_target machine) (provider_in machine (standing_of state) ns name)
+        → t ≡ option_and_then (provided_target machine) (provider_in machine state ns name)
     nobody_there e none = e ∙ ap (option_and_then (provided_target machine)) (none ∙ provider_told)
 
     pub somebody_there : (p : Provider) → Some p ≡ provider_for (chain namespaces ns) state name spaces → t ≡ provided_target machine p
-        → t ≡ option_and_then (provided_target machine) (provider_in machine (standing_of state) ns name)
+        → t ≡ option_and_then (provided_target machine) (provider_in machine state ns name)
     somebody_there p some e = e ∙ ap (option_and_then (provided_target machine)) (some ∙ provider_told)

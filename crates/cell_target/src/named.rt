@@ -1,12 +1,11 @@
 //! The name that was looked up last, which many cells may name one after the other.
 
 ghost use Rattle.std.specs.Prelude.{◌≡◌, ◌<◌, IsTrue, length};
-ghost use Rattle.cell_space.specs.declared.cell.CellState.TheVariants.{Attached};
+ghost use Rattle.cell_world.specs.declared.state.Standing.TheVariants.{Attached};
 ghost use Rattle.cell_target.specs.Named.{IsNamed, named_after, target_named, world_of};
 
 use crate::scene::Scene;
-use cell_space::CellState;
-use cell_world::Target;
+use cell_world::{Standing, Target};
 
 /// A name, and where its provider for the attached cells of a namespace has it.
 #[derive(Clone, Copy)]
@@ -17,25 +16,25 @@ pub struct Named<'n> {
 }
 
 /// Whether that is the name, for attached cells of the namespace.
-fn is_named(named: &Named, ns: u16, state: CellState, name: &[u8]) -> bool
+fn is_named(named: &Named, ns: u16, state: Standing, name: &[u8]) -> bool
     ensures { IsTrue result → (named.now.ns ≡ ns) × (named.now.name.now ≡ name.now) × (state ≡ Attached) }
 {
-    matches!(state, CellState::Attached) && named.ns == ns && named.name == name
+    matches!(state, Standing::Attached) && named.ns == ns && named.name == name
 }
 
 /// The name in place of the last one, if it was looked up for attached cells.
 fn named_with<'n>(
     named: Option<Named<'n>>,
     ns: u16,
-    state: CellState,
+    state: Standing,
     name: &'n [u8],
     target: Option<Target>,
 ) -> Option<Named<'n>>
     ensures { result ≡ named_after named.entry ns state name.entry target }
 {
     match state {
-        CellState::Attached => Some(Named { ns, name, target }),
-        CellState::Detached(_) => named,
+        Standing::Attached => Some(Named { ns, name, target }),
+        Standing::Detached(_) => named,
     }
 }
 
@@ -45,7 +44,7 @@ impl<'a> Scene<'a> {
         &self,
         named: &mut Option<Named<'n>>,
         ns: u16,
-        state: CellState,
+        state: Standing,
         name: &'n [u8],
     ) -> Option<Target>
         requires ns { ns < length self.now.ahead.now.namespaces }

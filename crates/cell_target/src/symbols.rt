@@ -1,6 +1,7 @@
 //! The targets of a cell's symbols.
 
-ghost use Rattle.std.specs.Prelude.{◌≡◌, ◌<◌, ◌++◌, OnOk, length};
+ghost use Rattle.std.specs.Prelude.{◌≡◌, ◌<◌, ◌++◌, IsTrue, OnOk, length};
+ghost use Rattle.cell_object.specs.Parts.{has_no_weak, is_global as global, is_undefined as undefined};
 ghost use Rattle.cell_world.specs.Target.{symbol_target as target_with};
 ghost use Rattle.cell_num.specs.Lists.{In};
 ghost use Rattle.cell_target.specs.Entries.{symbol_targets as targets_with};
@@ -12,9 +13,20 @@ use crate::named::Named;
 use crate::scene::Scene;
 use cell_object::{Bind, Home, Symbol};
 use cell_placed::own_target;
-use cell_space::CellState;
-use cell_world::{NewCell, Target};
+use cell_world::{NewCell, Standing, Target};
 use std::alloc::AllocError;
+
+fn is_undefined(symbol: &Symbol) -> bool
+    ensures { result ≡ undefined symbol.now.home }
+{
+    matches!(symbol.home, Home::Undef)
+}
+
+fn is_global(symbol: &Symbol) -> bool
+    ensures { result ≡ global symbol.now.bind }
+{
+    matches!(symbol.bind, Bind::Global)
+}
 
 impl<'a> Scene<'a> {
     /// The target of a symbol of the cell, in that state.
@@ -22,20 +34,21 @@ impl<'a> Scene<'a> {
         &self,
         named: &mut Option<Named<'n>>,
         cell: &NewCell,
-        state: CellState,
+        state: Standing,
         symbol: &'n Symbol,
     ) -> Option<Target>
         requires named { IsNamed (world_of self.now) named.old }
         requires low { IsLow cell.now }
         requires there { In symbol.now cell.now.object.symbols }
+        requires no_weak { IsTrue (has_no_weak cell.now.object) }
         requires ns { cell.now.ns < length self.now.ahead.now.namespaces }
         ensures named { IsNamed (world_of self.now) named.new }
         ensures target { result ≡ target_with (seen self.now.ahead.now.namespaces (self.now.present.now ++ self.now.fresh.now) self.now.ahead.now.cells) (in_state cell.now state) symbol.now symbol.now.home }
     {
-        if symbol.home != Home::Undef {
+        if !is_undefined(symbol) {
             return own_target(cell, symbol);
         }
-        if symbol.bind != Bind::Global {
+        if !is_global(symbol) {
             return None;
         }
         self.provided_after(named, cell.ns, state, symbol.name.as_slice())
@@ -47,10 +60,11 @@ impl<'a> Scene<'a> {
         targets: &mut Vec<Option<Target>>,
         named: &mut Option<Named<'n>>,
         cell: &'n NewCell,
-        state: CellState,
+        state: Standing,
     ) -> Result<(), AllocError>
         requires named { IsNamed (world_of self.now) named.old }
         requires low { IsLow cell.now }
+        requires no_weak { IsTrue (has_no_weak cell.now.object) }
         requires ns { cell.now.ns < length self.now.ahead.now.namespaces }
         ensures named { IsNamed (world_of self.now) named.new }
         ensures targets { OnOk result (targets.new.items ≡ targets_with (seen self.now.ahead.now.namespaces (self.now.present.now ++ self.now.fresh.now) self.now.ahead.now.cells) (in_state cell.now state)) }

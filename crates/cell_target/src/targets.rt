@@ -10,8 +10,7 @@ use crate::entries::find_entries;
 use crate::highs::Highs;
 use crate::named::Named;
 use crate::scene::Scene;
-use cell_space::CellState;
-use cell_world::{NewCell, Target};
+use cell_world::{NewCell, Standing, Target};
 use std::alloc::{AllocError, Global};
 
 /// What a cell's entries name, in room that serves for one cell after another.
@@ -45,7 +44,7 @@ impl<'a> Scene<'a> {
         targets: &mut Targets,
         named: &mut Option<Named<'n>>,
         cell: &'n NewCell,
-        state: CellState,
+        state: Standing,
     ) -> Result<(), AllocError>
         requires named { IsNamed (world_of self.now) named.old }
         requires there { In cell.now (self.now.present.now ++ self.now.fresh.now) }
@@ -65,7 +64,7 @@ impl<'a> Scene<'a> {
         alloc: Global,
         named: &mut Option<Named<'n>>,
         cell: &'n NewCell,
-        state: CellState,
+        state: Standing,
     ) -> Result<Vec<Target>, AllocError>
         requires named { IsNamed (world_of self.now) named.old }
         requires there { In cell.now (self.now.present.now ++ self.now.fresh.now) }
@@ -83,7 +82,7 @@ impl<'a> Scene<'a> {
         &self,
         alloc: Global,
         cell: &NewCell,
-        state: CellState,
+        state: Standing,
     ) -> Result<Vec<Target>, AllocError>
         requires there { In cell.now (self.now.present.now ++ self.now.fresh.now) }
         requires ns { cell.now.ns < length self.now.ahead.now.namespaces }

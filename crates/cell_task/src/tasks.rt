@@ -1,6 +1,7 @@
 //! The live tasks.
 
 ghost use Rattle.std.specs.Prelude.{◌≡◌, ◌+◌, ◌-◌, ◌<◌, ◌≤◌, ◌^◌, None, Some, [], true, is_some, length, map, option_map, replicate, slice_set, vec_capacity, vec_len, IfNone, IfOk, IfSome, OnErr, OnOk};
+ghost use Rattle.cell_num.specs.Limits.{stack_size};
 ghost use Rattle.cell_mem.specs.State.{region_from};
 ghost use Rattle.cell_world.specs.SpawnCommand.{new_task};
 ghost use Rattle.cell_world.specs.Words.{words_of as words_in_task};
@@ -101,7 +102,7 @@ impl Tasks {
         root: CellId,
     ) -> Result<u32, AllocError>
         requires numbers { self.old.next ≤ 65535 }
-        requires stack { stack + 16384 < 2 ^ 64 }
+        requires stack { stack + stack_size < 2 ^ 64 }
         ensures number { IfOk result (λ number. number ≡ self.old.next) }
         ensures started { OnOk result (self.new ≡ with_new self.old (new_task self.old.next root.0 entry arg stack)) }
         ensures kept { OnErr result (self.new ≡ self.old) }

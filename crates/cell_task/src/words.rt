@@ -1,6 +1,7 @@
 //! The words of a task: what of it may point into cells.
 
 ghost use Rattle.std.specs.Prelude.{◌≡◌, ◌≤◌, ◌++◌, slice_index, length, option_map, IfSome, OnOk};
+ghost use Rattle.cell_num.specs.Limits.{stack_size};
 ghost use Rattle.cell_world.specs.Memory.{read_in};
 ghost use Rattle.cell_world.specs.Words.{stack_from, stack_words, words_in, words_of};
 ghost use Rattle.cell_world.specs.World.{Task as LiveTask};
@@ -8,8 +9,8 @@ ghost use Rattle.cell_task.specs.State.{seen_as};
 
 use crate::Task;
 use byteorder::{ByteOrder, LittleEndian};
-use cell_hart::STACK_SIZE;
 use cell_mem::Memory;
+use cell_num::STACK_SIZE;
 use std::alloc::AllocError;
 
 /// The words of a task whose whole stack counts.
@@ -18,7 +19,7 @@ const MOST_WORDS: usize = 2080;
 /// How many bytes of the stack stand below its first word: none where `top` is outside the stack.
 fn stack_from(stack: u64, top: u64) -> usize
     ensures value { (t : LiveTask) → t.stack ≡ stack → slice_index t.registers 2 ≡ top → result ≡ stack_from t }
-    ensures inside { result ≤ 16384 }
+    ensures inside { result ≤ stack_size }
 {
     if stack <= top && top - stack <= STACK_SIZE {
         return ((top - stack) / 8 * 8) as usize;
@@ -28,8 +29,8 @@ fn stack_from(stack: u64, top: u64) -> usize
 
 /// The bytes of a stack, where it is mapped.
 fn whole_stack(memory: &Memory, stack: u64) -> Option<&[u8]>
-    ensures bytes { option_map (λ bytes. bytes.now) result ≡ read_in memory.now.regions stack 16384 }
-    ensures size { IfSome result (λ bytes. length bytes.now ≡ 16384) }
+    ensures bytes { option_map (λ bytes. bytes.now) result ≡ read_in memory.now.regions stack stack_size }
+    ensures size { IfSome result (λ bytes. length bytes.now ≡ stack_size) }
 {
     memory.bytes(stack, STACK_SIZE)
 }

@@ -1,4 +1,4 @@
-//! Tests of the whole program, over files and streams in memory.
+//! Tests of the whole program, over files and streams in memory, machines of given answers, and of what the generator makes.
 #![tactic(auto)]
 
 #[cfg(test)]
@@ -16,9 +16,15 @@ mod folder;
 #[cfg(test)]
 mod gathering;
 #[cfg(test)]
+mod generated;
+#[cfg(test)]
+mod given;
+#[cfg(test)]
 mod gnu;
 #[cfg(test)]
 mod holding;
+#[cfg(test)]
+mod in_memory;
 #[cfg(test)]
 mod layouts;
 #[cfg(test)]

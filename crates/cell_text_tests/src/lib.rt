@@ -8,6 +8,8 @@ mod bad_lines;
 #[cfg(test)]
 mod doubles;
 #[cfg(test)]
+mod dump_lines;
+#[cfg(test)]
 mod outside;
 #[cfg(test)]
 mod script;

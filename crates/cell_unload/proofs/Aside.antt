@@ -12,7 +12,8 @@ use Rattle.cell_world.specs.Answer.{numbers_of}
 use Rattle.cell_world.specs.Coherent.{IsCoherent}
 use Rattle.cell_world.specs.Kept.{Holding, holding_of, is_claimed_by, kept_in, placed_in}
 use Rattle.cell_world.specs.UnloadCommand.{detach, garbage_of, put_aside}
-use Rattle.cell_world.specs.World.{World, Cell, Detached, is_attached}
+use Rattle.cell_world.specs.World.{World, Cell, is_attached}
+use Rattle.cell_world.specs.declared.state.Standing.TheVariants.{Detached}
 use Rattle.cell_num.proofs.Elements.{In-All, In-none, In-filtered, filter-In, map-In, map_same, pairs-map}
 use Rattle.cell_lemmas.proofs.Relinked.{map_twice}
 use Rattle.cell_num.proofs.Sublists.{pairs-filter}

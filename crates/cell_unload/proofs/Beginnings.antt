@@ -14,7 +14,8 @@ use Rattle.cell_world.specs.Answer.{numbers_of}
 use Rattle.cell_world.specs.Coherent.{is_sound_task}
 use Rattle.cell_world.specs.Kept.{Claim, claim_of}
 use Rattle.cell_world.specs.UnloadCommand.{put_aside}
-use Rattle.cell_world.specs.World.{Cell, Standing, Attached, Detached, Task, World, cell_of, is_attached}
+use Rattle.cell_world.specs.World.{Cell, Standing, Task, World, cell_of, is_attached}
+use Rattle.cell_world.specs.declared.state.Standing.TheVariants.{Attached, Detached}
 use Rattle.cell_num.proofs.Elements.{all-In, In-all, In-append, In-flat_map, In-map, some_has}
 use Rattle.cell_lemmas.proofs.Freed.{number_holds, present_holds}
 use Rattle.cell_unload.specs.Begun.{is_aside, root_of, root_of_task}

@@ -3,6 +3,7 @@
 --     IsTaken old cells new        they are gone from each part of the machine
 --     IsRemoved old cells new      the machine without the cells; names, pages, sections and seals are those of the cells that stay
 use Rattle.std.specs.Prelude.{◌≡◌, ◌+◌, ◌*◌, All, IsTrue, List, None, false, filter, map, nat_lt, not}
+use Rattle.cell_num.specs.Limits.{page_size}
 use Rattle.cell_num.specs.Lists.{each_pair, holds}
 use Rattle.cell_graph.specs.Removal.{is_used_outside, links_without, sections_without}
 use Rattle.cell_machine.specs.Staged.{all_attached}
@@ -26,7 +27,7 @@ pub record CanGo (m : Machine) (cells : List CellId) : Type 0 where
   pub unused : is_used_outside cells m.graph.rows ≡ false
 
 pub record IsTaken (old : Machine) (cells : List CellId) (new : Machine) : Type 0 where
-  pub laid : IsLaid old.memory.base old.memory.regions (old.memory.base + 4096 * old.memory.pages)
+  pub laid : IsLaid old.memory.base old.memory.regions (old.memory.base + page_size * old.memory.pages)
   pub memory : new.memory ≡ without_regions old.memory (lost_starts (all_attached old.cells.items) (map (λ c. c.0) cells))
   pub tabled : IsTabled new.memory new.space
   pub names : new.spaces.cells ≡ filter (λ c. not (holds (map (λ d. d.0) cells) c.cell.0)) old.spaces.cells
@@ -44,7 +45,7 @@ pub record IsRemoved (old : Machine) (cells : List CellId) (new : Machine) : Typ
   pub table : new.space.taken ≡ page_table (world_of new)
   pub base : new.space.base ≡ new.memory.base
   pub sections : new.graph.sections ≡ keys_of new.cells.items
-  pub seals : new.memory.sealed ≡ seal_table new.memory.base (4096 * new.memory.pages) (field_bytes new.cells.items)
+  pub seals : new.memory.sealed ≡ seal_table new.memory.base (page_size * new.memory.pages) (field_bytes new.cells.items)
   pub undo : new.memory.undo ≡ None
   pub patches : new.memory.patches ≡ old.memory.patches
   pub maps : new.memory.maps ≡ old.memory.maps

@@ -6,6 +6,7 @@
 --     lost_starts cells numbers  where the regions of the cells of these numbers start
 use Rattle.std.specs.Prelude.{ℕ, ◌≡◌, ◌≤◌, ◌+◌, ◌*◌, ◌%◌, ◌==◌, not, Bool, true, List, [], filter, flat_map, fold, is_some, map}
 use Rattle.std.specs.List.{cons_option, list_any}
+use Rattle.cell_num.specs.Limits.{max_pages, page_size}
 use Rattle.cell_num.specs.Lists.{each_pair, holds, upto, In}
 use Rattle.cell_mem.specs.State.{MemoryState, region_from, unmapped}
 use Rattle.cell_place.specs.Space.{SpaceState}
@@ -16,13 +17,13 @@ use Rattle.cell_world.specs.UnloadCommand.{starts_of}
 use Rattle.cell_world.specs.World.{Cell}
 
 abbrev pub table_of : MemoryState → List Bool
-table_of m = map (λ page. list_any (λ r. covers r (m.base + 4096 * page)) m.regions) (upto m.pages)
+table_of m = map (λ page. list_any (λ r. covers r (m.base + page_size * page)) m.regions) (upto m.pages)
 
 pub record IsTabled (m : MemoryState) (s : SpaceState) : Type 0 where
   pub base : s.base ≡ m.base
   pub table : s.taken ≡ table_of m
-  pub aligned : m.base % 4096 ≡ 0
-  pub most : m.pages ≤ 4096
+  pub aligned : m.base % page_size ≡ 0
+  pub most : m.pages ≤ max_pages
 
 abbrev pub without_regions : MemoryState → List ℕ → MemoryState
 without_regions m starts = fold unmapped m starts

@@ -9,6 +9,7 @@ ghost use Rattle.cell_world.specs.World.{attached};
 ghost use Rattle.cell_unload.specs.Unmapped.{CanLeave, IsTabled, class_starts, without_regions};
 
 use cell_mem::Memory;
+use cell_num::PAGE_SIZE;
 use cell_place::{Run, Space};
 use cell_placed::start_of;
 use cell_world::{Class, NewCell};
@@ -35,8 +36,8 @@ fn unmap(memory: &mut Memory, space: &mut Space, start: u64)
 {
     // The regions are whole pages of the space and stand apart.
     memory.laid_out();
-    let page = ((start - space.base()) / 4096) as u32;
-    let count = (memory.size_from(start) / 4096) as u32;
+    let page = ((start - space.base()) / PAGE_SIZE) as u32;
+    let count = (memory.size_from(start) / PAGE_SIZE) as u32;
     memory.unmap(start);
     space.give(Run { page, count });
 }

@@ -11,7 +11,7 @@
 use Rattle.std.specs.Prelude.{ℕ, suc, ◌+◌, nat_lt, Bool, false, not, ◌&&◌, List, [], ◌∷◌, ◌++◌, Option, Some, None, Ok, filter, filter_map, length, option_map, if◌then◌else◌}
 use Rattle.cell_num.specs.Lists.{holds}
 use Rattle.cell_world.specs.declared.refusal.Refusal.{Refusal}
-use Rattle.cell_world.specs.World.{World, Cell, is_ready}
+use Rattle.cell_world.specs.World.{World, Cell}
 use Rattle.cell_world.specs.Relink.{relink}
 use Rattle.cell_world.specs.Place.{place_all}
 use Rattle.cell_world.specs.Gather.{Source, Need, append_cell, bring, fresh_cells, first_lack, missing}
@@ -19,9 +19,8 @@ use Rattle.cell_world.specs.LoadCommand.{field_count}
 use Rattle.cell_world.specs.UnloadCommand.{detach, garbage_of, without_cells, first_held}
 use Rattle.cell_world.specs.Kept.{holding_of}
 use Rattle.cell_world.specs.Reexport.{Exchange, with_reexports}
-use Rattle.cell_world.specs.Changed.{FieldAt, changed_fields, first_changed_misfit}
-use Rattle.cell_world.specs.Torn.{first_torn}
-use Rattle.cell_world.specs.Fit.{first_misfit}
+use Rattle.cell_world.specs.Changed.{FieldAt, changed_fields}
+use Rattle.cell_world.specs.Linking.{link_refusal}
 use Rattle.cell_world.specs.declared.transfer.Routine.{Routine}
 use Rattle.cell_world.specs.Transfer.{Addresses, transfer}
 use Rattle.cell_world.specs.SwapTransfer.{begins_of, stack_for, routines_in, addresses_in, transferred_by}
@@ -112,9 +111,7 @@ plan_of sources w c = do
   begins ← begins_of (new_since w gathered) c.routines
   placed ← place_all gathered (new_since w gathered)
   stack ← stack_for placed c.routines
-  refused_by (first_misfit placed (new_since w placed))
-  refused_by (first_changed_misfit w placed w.cells)
-  refused_by (first_torn (changed_fields w placed) (filter is_ready w.tasks))
+  refused_by (link_refusal w placed)
   Ok (record {
     fresh = new_since w placed;
     changed = changed_fields w placed;

@@ -6,13 +6,15 @@ use Rattle.std.specs.Prelude.{slice_index, ℕ, suc, ◌+◌, ◌-◌, ◌*◌, 
 use Rattle.std.specs.List.{list_any, list_all}
 use Rattle.cell_object.specs.declared.object.Object.{Object}
 use Rattle.cell_object.specs.Bytes.{Broken}
+use Rattle.cell_object.specs.Parts.{has_no_weak}
 use Rattle.cell_object.specs.Sound.{IsSoundObject}
 use Rattle.cell_world.specs.declared.state.Namespace.{Namespace}
-use Rattle.cell_world.specs.Limits.{max_namespaces, max_cells, max_tasks, max_cell_number, max_task_number}
-use Rattle.cell_world.specs.World.{stack_size, World, Cell, Region, Permission, Task, Standing, Attached, Detached, is_attached, cell_of}
+use Rattle.cell_num.specs.Limits.{max_cell_number, max_cells, max_namespaces, max_task_number, max_tasks, page_size, stack_size}
+use Rattle.cell_world.specs.World.{World, Cell, Region, Permission, Task, Standing, is_attached, cell_of}
+use Rattle.cell_world.specs.declared.state.Standing.TheVariants.{Attached, Detached}
 use Rattle.cell_num.specs.Lists.{equals, holds_name, numbered, each_pair}
 use Rattle.cell_world.specs.Pages.{IsSpace}
-use Rattle.cell_world.specs.Names.{are_on_one_path, names_of, needs_of, provider_of, definitions_of}
+use Rattle.cell_world.specs.Names.{are_on_one_path, names_of, needs_of, provider_of, definitions_of, weak_definitions_of}
 use Rattle.cell_world.specs.Target.{start_of}
 use Rattle.cell_world.specs.Field.{misfit_of}
 use Rattle.cell_world.specs.Relink.{class_start, bound_entries, relink}
@@ -21,11 +23,12 @@ use Rattle.cell_world.specs.declared.layout.Class.TheVariants.{Text, ReadOnly, W
 use Rattle.cell_world.specs.declared.layout.Class.{Class}
 use Rattle.cell_world.specs.Gather.{Source}
 
--- an object that a present cell may have
+-- an object that a present cell may have. None is read that has a WEAK symbol, so none has one
 pub record IsLoadable (object : Object) : Type 0 where
   pub sound : IsSoundObject object
   pub symbols : length object.symbols < 2 ^ 32
   pub entries : length object.entries < 2 ^ 32
+  pub plain : IsTrue (has_no_weak object)
 
 abbrev pub IsLoadableReading : Result Object Broken → Type 0
 IsLoadableReading (Ok object) = IsLoadable object
@@ -43,9 +46,9 @@ may_both_stand w a b =
     not (is_attached a.standing && is_attached b.standing && are_on_one_path w.namespaces a.ns b.ns)
     || not (equals a.stem b.stem) && not (list_any (holds_name (all_names b)) (all_names a))
 
--- within one cell a name stands once
+-- within one cell a name stands once, be it held strongly or weakly
 abbrev pub has_each_name_once : Cell → Bool
-has_each_name_once c = each_pair (λ a b. not (equals a b)) (all_names c)
+has_each_name_once c = each_pair (λ a b. not (equals a b)) (map (λ a. a.name) (weak_definitions_of c.object) ++ all_names c)
 
 -- what a region is apart from its bytes
 pub record Shape : Type 0 where
@@ -81,8 +84,8 @@ wanted_shapes w =
 -- one or more whole pages inside the space
 abbrev pub is_in_space : World → Region → Bool
 is_in_space w r =
-    nat_le w.base r.start && ((r.start - w.base) % 4096 == 0) && nat_lt 0 (length r.bytes)
-    && (length r.bytes % 4096 == 0) && nat_le (r.start + length r.bytes) (w.base + 4096 * w.pages)
+    nat_le w.base r.start && ((r.start - w.base) % page_size == 0) && nat_lt 0 (length r.bytes)
+    && (length r.bytes % page_size == 0) && nat_le (r.start + length r.bytes) (w.base + page_size * w.pages)
 
 abbrev pub ends_before : Region → Region → Bool
 ends_before r s = nat_le (r.start + length r.bytes) s.start

@@ -6,7 +6,7 @@
 --     first_lack w c              the first need of a cell that has no provider
 --     bring sources w cells       append what the cells need, until nothing is lacking
 use Rattle.std.specs.Prelude.{fold, if◌then◌else◌, ℕ, zero, suc, ◌+◌, ◌==◌, nat_lt, nat_le, Bool, not, ◌&&◌, ◌||◌, List, [], ◌∷◌, ◌++◌, Option, Some, None, Result, Ok, Err, map, filter, slice_get, length, find, is_none, option_map}
-use Rattle.std.specs.List.{list_any, before_first, after_first}
+use Rattle.std.specs.List.{before_first, after_first}
 use Rattle.cell_object.specs.declared.object.Object.{Object}
 use Rattle.cell_object.specs.Bytes.{Broken}
 use Rattle.cell_object.specs.Reads.{reads}
@@ -14,10 +14,11 @@ use Rattle.cell_world.specs.declared.file.File.{File}
 use Rattle.cell_world.specs.declared.refusal.Refusal.{Refusal}
 use Rattle.cell_world.specs.declared.refusal.Refusal.TheVariants.{TooMany, Ambiguous, BadObject, Duplicate, Missing}
 use Rattle.cell_world.specs.declared.refusal.Many.TheVariants.{Cells, CellNumbers}
-use Rattle.cell_world.specs.Limits.{max_cells, max_cell_number}
-use Rattle.cell_world.specs.World.{World, Cell, Alias, Attached, is_attached}
-use Rattle.cell_world.specs.Names.{chain, needs_of, definitions_of, provider_of, clash_stem, clash_name, crate_of}
-use Rattle.cell_num.specs.Lists.{equals, is_before, holds, first, or_else}
+use Rattle.cell_num.specs.Limits.{max_cells, max_cell_number}
+use Rattle.cell_world.specs.World.{World, Cell, Alias}
+use Rattle.cell_world.specs.declared.state.Standing.TheVariants.{Attached}
+use Rattle.cell_world.specs.Names.{chain, of_cell, has_stem_by, needs_of, definitions_of, provider_of, clash_stem, clash_name, crate_of}
+use Rattle.cell_num.specs.Lists.{equals, is_before, first, or_else}
 use Rattle.cell_world.specs.Outcome.{Outcome, ◌>>=◌, ◌>>◌, need, found, refused_by}
 
 -- a file: its name, and what its bytes are read as
@@ -105,8 +106,9 @@ first_lack w (c ∷ cells) = or_else (first (lacks_of w c)) (first_lack w cells)
 abbrev pub missing : Need → Refusal
 missing lack = Missing lack.name (record { 0 = lack.cell.id.0 })
 
+-- an attached cell of the machine in one of the namespaces has the stem
 abbrev pub has_stem_in : World → List ℕ → List ℕ → Bool
-has_stem_in w spaces stem = list_any (λ c. is_attached c.standing && holds spaces c.ns && equals c.stem stem) w.cells
+has_stem_in w spaces stem = has_stem_by of_cell spaces stem w.cells
 
 -- the nearest namespace of the chain whose depot has a file of the stem, with the one such file
 abbrev pub nearest_file : World → List Source → List ℕ → List ℕ → Refusal → Outcome (ℕ × Source)

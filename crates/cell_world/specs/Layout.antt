@@ -8,6 +8,7 @@
 --     run_size sections              how many bytes the run of a class has
 --     places_in starts object        where each section stands, by where the runs of the three classes start
 use Rattle.std.specs.Prelude.{ℕ, ◌+◌, ◌-◌, ◌%◌, ◌==◌, Bool, true, false, not, ◌&&◌, List, [], ◌∷◌, ◌++◌, length, replicate, map, filter, max, if◌then◌else◌}
+use Rattle.cell_num.specs.Limits.{page_size}
 use Rattle.cell_object.specs.declared.object.Object.{Object}
 use Rattle.cell_object.specs.declared.object.Section.{Section as ObjectSection}
 use Rattle.cell_object.specs.declared.object.Fill.{Fill}
@@ -70,8 +71,8 @@ laid_out bytes (s ∷ sections) =
 
 -- up to whole pages, at least one
 abbrev pub to_pages : List ℕ → List ℕ
-to_pages [] = replicate 4096 0
-to_pages bytes = bytes ++ replicate (gap (length bytes) 4096) 0
+to_pages [] = replicate page_size 0
+to_pages bytes = bytes ++ replicate (gap (length bytes) page_size) 0
 
 abbrev pub image_of : List ObjectSection → List ℕ
 image_of sections = to_pages (laid_out [] sections)

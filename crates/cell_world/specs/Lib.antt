@@ -1,4 +1,3 @@
-pub mod Limits
 pub mod World
 pub mod Before
 pub mod Names
@@ -35,6 +34,7 @@ pub mod UnloadCommand
 pub mod Reexport
 pub mod Changed
 pub mod Torn
+pub mod Linking
 pub mod SwapTransfer
 pub mod Change
 pub mod Asked

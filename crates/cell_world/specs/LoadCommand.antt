@@ -1,4 +1,4 @@
--- `load NS STEM`: a crate and what it needs, placed and linked.
+-- `load NS STEM`: a crate and what it needs, placed and linked. Where it has a name that others hold weakly or lack, they change too.
 use Rattle.std.specs.Prelude.{ℕ, ◌+◌, List, length, fold}
 use Rattle.cell_world.specs.declared.refusal.Refusal.TheVariants.{NoObject}
 use Rattle.cell_world.specs.declared.reply.Reply.TheVariants.{Load as LoadDone}
@@ -7,7 +7,8 @@ use Rattle.cell_world.specs.Field.{fields_of}
 use Rattle.cell_world.specs.Relink.{relink}
 use Rattle.cell_world.specs.Place.{place_all}
 use Rattle.cell_world.specs.Gather.{Source, depot_files, one_file, append_cell, bring, fresh_cells}
-use Rattle.cell_world.specs.Fit.{first_misfit}
+use Rattle.cell_world.specs.Changed.{changed_fields}
+use Rattle.cell_world.specs.Linking.{link_refusal}
 use Rattle.cell_world.specs.Outcome.{Outcome, ◌>>=◌, ◌>>◌, refused_by}
 use Rattle.cell_world.specs.Answer.{Done, done, ids, numbers_of, space_of}
 
@@ -22,15 +23,16 @@ append_named sources w name stem = do
   file ← one_file (depot_files sources name stem) (NoObject stem)
   append_cell w file ns
 
--- the cells since that number placed and linked
-abbrev pub link_fresh : ℕ → World → Outcome Done
-link_fresh from gathered = do
-  placed ← place_all gathered (fresh_cells from gathered)
-  refused_by (first_misfit placed (fresh_cells from placed))
-  done (LoadDone (ids (numbers_of (fresh_cells from placed))) (field_count (fresh_cells from placed))) (relink placed)
+-- the new cells placed and linked, and with them the fields that change elsewhere
+abbrev pub link_fresh : World → World → Outcome Done
+link_fresh w gathered = do
+  placed ← place_all gathered (fresh_cells w.next_cell gathered)
+  refused_by (link_refusal w placed)
+  done (LoadDone (ids (numbers_of (fresh_cells w.next_cell placed)))
+      (field_count (fresh_cells w.next_cell placed) + length (changed_fields w placed))) (relink placed)
 
 abbrev pub next_load : List Source → World → List ℕ → List ℕ → Outcome Done
 next_load sources w name stem = do
   appended ← append_named sources w name stem
   gathered ← bring sources w.next_cell appended
-  link_fresh w.next_cell gathered
+  link_fresh w gathered

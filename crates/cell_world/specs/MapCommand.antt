@@ -4,7 +4,8 @@ use Rattle.cell_object.specs.declared.object.Section.{Section as ObjectSection}
 use Rattle.cell_world.specs.declared.reply.MapCell.{MapCell}
 use Rattle.cell_world.specs.declared.reply.MapSection.{MapSection}
 use Rattle.cell_world.specs.declared.reply.Reply.TheVariants.{Map as MapDone}
-use Rattle.cell_world.specs.World.{World, Cell, Standing, Attached, Detached}
+use Rattle.cell_world.specs.World.{World, Cell, Standing}
+use Rattle.cell_world.specs.declared.state.Standing.TheVariants.{Attached, Detached}
 use Rattle.cell_world.specs.Gather.{name_of_ns}
 use Rattle.cell_world.specs.Target.{start_of}
 use Rattle.cell_world.specs.Outcome.{Outcome}

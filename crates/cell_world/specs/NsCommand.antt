@@ -3,7 +3,7 @@ use Rattle.std.specs.Prelude.{ℕ, nat_lt, List, [], ◌∷◌, ◌++◌, Some, 
 use Rattle.cell_world.specs.declared.refusal.Many.TheVariants.{Namespaces}
 use Rattle.cell_world.specs.declared.refusal.Refusal.TheVariants.{NameTaken, TooMany}
 use Rattle.cell_world.specs.declared.reply.Reply.TheVariants.{Ns as NsDone}
-use Rattle.cell_world.specs.Limits.{max_namespaces}
+use Rattle.cell_num.specs.Limits.{max_namespaces}
 use Rattle.cell_world.specs.World.{World}
 use Rattle.cell_world.specs.Names.{namespace_named}
 use Rattle.cell_world.specs.Outcome.{Outcome, ◌>>=◌, ◌>>◌, need}

@@ -9,11 +9,11 @@
 use Rattle.std.specs.Prelude.{◌≡◌, ◌≤◌, ℕ, ◌+◌, ◌%◌, Bool, false, true, not, List, [], ◌∷◌, ◌++◌, Option, length, take, drop, find, max, replicate, slice_index_or}
 use Rattle.std.specs.List.{list_all, prefix_len}
 use Rattle.cell_num.specs.Lists.{from_on, upto}
-use Rattle.cell_world.specs.Limits.{min_base, max_base, min_pages, max_pages}
+use Rattle.cell_num.specs.Limits.{max_base, max_pages, min_base, min_pages, page_size}
 
 -- the first address of the space and its number of pages
 pub record IsSpace (base pages : ℕ) : Type 0 where
-  pub aligned : base % 4096 ≡ 0
+  pub aligned : base % page_size ≡ 0
   pub lowest : min_base ≤ base
   pub highest : base ≤ max_base
   pub fewest : min_pages ≤ pages

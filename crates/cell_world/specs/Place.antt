@@ -3,6 +3,7 @@
 --     place_cell w c, place_all w cells     w with the cells' regions and starts
 use Rattle.std.specs.Prelude.{ℕ, ◌+◌, ◌*◌, ◌/◌, ◌==◌, nat_lt, Bool, List, [], ◌∷◌, Some, None, Ok, Err, map, length, if◌then◌else◌}
 use Rattle.std.specs.List.{list_any}
+use Rattle.cell_num.specs.Limits.{page_size}
 use Rattle.cell_object.specs.declared.object.Object.{Object}
 use Rattle.cell_object.specs.declared.object.Section.{Section as ObjectSection}
 use Rattle.cell_world.specs.declared.refusal.Refusal.TheVariants.{Exhausted}
@@ -18,7 +19,7 @@ use Rattle.cell_world.specs.Outcome.{Outcome, ◌>>=◌, each}
 
 -- the page table: a page is taken where a region covers it
 abbrev pub is_taken : World → ℕ → Bool
-is_taken w page = list_any (λ r. covers r (w.base + 4096 * page)) w.regions
+is_taken w page = list_any (λ r. covers r (w.base + page_size * page)) w.regions
 
 abbrev pub page_table : World → List Bool
 page_table w = map (is_taken w) (upto w.pages)
@@ -33,7 +34,7 @@ abbrev pub start_of_run : World → ℕ → Outcome ℕ
 start_of_run w n =
     elim (lowest_run (page_table w) n) [
       | None ↦ Err (Exhausted n (longest_run (page_table w)))
-      | Some page ↦ Ok (w.base + 4096 * page)
+      | Some page ↦ Ok (w.base + page_size * page)
     ]
 
 -- the world with the run of a class, and where the run starts
@@ -50,7 +51,7 @@ with_run w class sections start =
 abbrev pub place_sections : World → Class → List ObjectSection → Outcome Placing
 place_sections w class [] = Ok (record { world = w; start = 0 })
 place_sections w class (s ∷ rest) =
-    start_of_run w (length (image_of (s ∷ rest)) / 4096) >>= (λ start. Ok (with_run w class (s ∷ rest) start))
+    start_of_run w (length (image_of (s ∷ rest)) / page_size) >>= (λ start. Ok (with_run w class (s ∷ rest) start))
 
 abbrev pub place_class : World → Class → Object → Outcome Placing
 place_class w class object = place_sections w class (sections_in class object)

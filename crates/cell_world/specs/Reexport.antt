@@ -1,11 +1,11 @@
 -- The old names that new cells take on in a swap.
 --     successor_of c name             the symbol of the one definition of the cell that has the name's base name
---     heir_of w c name                the same, where no attached cell on one path has the name
+--     heir_of w c name                the same, where no attached cell on one path has the name, nor the cell itself weakly
 --     with_reexports w exchanges      w with the names of old cells as aliases of the new ones
-use Rattle.std.specs.Prelude.{ℕ, ◌==◌, List, [], ◌∷◌, ◌++◌, Option, Some, None, map, filter, fold, option_and_then, if◌then◌else◌}
+use Rattle.std.specs.Prelude.{ℕ, ◌==◌, List, [], ◌∷◌, ◌++◌, Option, Some, None, map, filter, fold, is_some, option_and_then, if◌then◌else◌}
 use Rattle.cell_num.specs.Lists.{equals}
 use Rattle.cell_world.specs.World.{World, Cell, Alias, cell_of}
-use Rattle.cell_world.specs.Names.{names_of, definitions_of, clash_name, base_name}
+use Rattle.cell_world.specs.Names.{names_of, definitions_of, weak_symbol_named, clash_name, base_name}
 
 -- the symbol, where there is one definition alone
 abbrev pub symbol_of_one : List Alias → Option ℕ
@@ -18,7 +18,9 @@ successor_of c name =
 
 -- the new cell itself is one of those that may have the name
 abbrev pub heir_of : World → Cell → List ℕ → Option ℕ
-heir_of w c name = elim (clash_name w c.ns name) [ None ↦ successor_of c name | Some holder ↦ None ]
+heir_of w c name =
+    if is_some (weak_symbol_named c name) then None else
+    elim (clash_name w c.ns name) [ None ↦ successor_of c name | Some holder ↦ None ]
 
 abbrev pub with_alias : ℕ → Alias → Cell → Cell
 with_alias number a c = if c.id.0 == number then record c { aliases = c.aliases ++ a ∷ [] } else c

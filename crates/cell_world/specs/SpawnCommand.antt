@@ -9,8 +9,8 @@ use Rattle.cell_num.specs.Lists.{where_true}
 use Rattle.cell_world.specs.declared.refusal.Refusal.TheVariants.{TooMany, NoEntry}
 use Rattle.cell_world.specs.declared.refusal.Many.TheVariants.{Tasks as ManyTasks, TaskNumbers}
 use Rattle.cell_world.specs.declared.reply.Reply.TheVariants.{Spawn as SpawnDone}
-use Rattle.cell_world.specs.Limits.{max_tasks, max_task_number}
-use Rattle.cell_world.specs.World.{stack_size, World, Cell, Task, cell_of}
+use Rattle.cell_num.specs.Limits.{max_task_number, max_tasks, stack_size}
+use Rattle.cell_world.specs.World.{World, Cell, Task, cell_of}
 use Rattle.cell_world.specs.Names.{attached_provider}
 use Rattle.cell_world.specs.Target.{start_of}
 use Rattle.cell_world.specs.Layout.{sections_in, permission_of, offset_in}

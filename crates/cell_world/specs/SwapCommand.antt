@@ -5,7 +5,7 @@ use Rattle.cell_world.specs.declared.refusal.Refusal.{Refusal}
 use Rattle.cell_world.specs.declared.refusal.Refusal.TheVariants.{Unknown}
 use Rattle.cell_world.specs.declared.reply.Reply.{Reply}
 use Rattle.cell_world.specs.declared.reply.Reply.TheVariants.{Swap as SwapDone}
-use Rattle.cell_world.specs.World.{World, Cell, is_ready, is_of_group}
+use Rattle.cell_world.specs.World.{World, Cell, is_of_group}
 use Rattle.cell_world.specs.Relink.{relink}
 use Rattle.cell_world.specs.Place.{place_all}
 use Rattle.cell_world.specs.Gather.{Source, Need, file_named, append_cell, bring, fresh_cells, first_lack, missing}
@@ -13,9 +13,8 @@ use Rattle.cell_world.specs.LoadCommand.{field_count}
 use Rattle.cell_world.specs.UnloadCommand.{attached_cell, detach, detached_of, garbage_of, purged, first_held}
 use Rattle.cell_world.specs.Kept.{holding_of}
 use Rattle.cell_world.specs.Reexport.{Exchange, with_reexports}
-use Rattle.cell_world.specs.Changed.{FieldAt, changed_fields, first_changed_misfit}
-use Rattle.cell_world.specs.Torn.{first_torn}
-use Rattle.cell_world.specs.Fit.{first_misfit}
+use Rattle.cell_world.specs.Changed.{FieldAt, changed_fields}
+use Rattle.cell_world.specs.Linking.{link_refusal}
 use Rattle.cell_world.specs.declared.transfer.Routine.{Routine}
 use Rattle.cell_world.specs.Transfer.{Addresses, transfer}
 use Rattle.cell_world.specs.SwapTransfer.{Begin, begins_of, stack_for, routines_in, addresses_in, transferred_by}
@@ -79,23 +78,18 @@ pub record Plan : Type 0 where
   pub stack : Option ℕ
   pub routines : List Routine
 
--- the new cells are placed. Does each entry fit, and does no task stand inside what changes?
+-- the new cells are placed
 abbrev pub plan_placed : World → World → List Wanted → List Begin → Option ℕ → Outcome Plan
-plan_placed w placed wants begins stack =
-    let fresh = fresh_cells w.next_cell placed in
-    let changed = changed_fields w placed in
-    do
-      refused_by (first_misfit placed fresh)
-      refused_by (first_changed_misfit w placed w.cells)
-      refused_by (first_torn changed (filter is_ready w.tasks))
-      Ok (record {
-        wants = wants;
-        fresh = fresh;
-        changed = changed;
-        linked = relink placed;
-        stack = stack;
-        routines = routines_in placed begins;
-      })
+plan_placed w placed wants begins stack = do
+  refused_by (link_refusal w placed)
+  Ok (record {
+    wants = wants;
+    fresh = fresh_cells w.next_cell placed;
+    changed = changed_fields w placed;
+    linked = relink placed;
+    stack = stack;
+    routines = routines_in placed begins;
+  })
 
 abbrev pub plan_swap : List Source → World → List SwapItem → Bool → List (List ℕ) → Outcome Plan
 plan_swap sources w items reexport words = do

@@ -4,12 +4,12 @@
 --     routines_in w begins        the routines, by the places that the cells have in w
 --     addresses_in cells          the names of the cells with their addresses, cell by cell
 --     transferred_by words end    the machine after the routines, or the refusal under the name of the one that failed
-use Rattle.std.specs.Prelude.{ℕ, ◌+◌, List, [], ◌∷◌, ◌++◌, Option, Some, None, Result, Ok, Err, map, flat_map, filter_map, find, option_map, option_and_then, unwrap_or, slice_index_or}
-use Rattle.cell_num.specs.Lists.{equals, first, numbered}
+use Rattle.std.specs.Prelude.{ℕ, ◌+◌, List, [], ◌∷◌, ◌++◌, Option, Some, None, Result, Ok, Err, map, flat_map, filter_map, option_map, option_and_then, unwrap_or, slice_index_or}
+use Rattle.cell_num.specs.Lists.{first, numbered}
 use Rattle.cell_object.specs.Parts.{symbol_at}
 use Rattle.cell_world.specs.declared.refusal.Refusal.TheVariants.{NoEntry, Transfer}
 use Rattle.cell_world.specs.World.{World, Cell, cell_of}
-use Rattle.cell_world.specs.Names.{definitions_of, names_of}
+use Rattle.cell_world.specs.Names.{definitions_of, names_of, symbol_in}
 use Rattle.cell_world.specs.Target.{start_of, own_target, address_of}
 use Rattle.cell_world.specs.Place.{start_of_run}
 use Rattle.cell_world.specs.SpawnCommand.{entry_offset}
@@ -26,7 +26,7 @@ pub record Begin : Type 0 where
 
 -- the symbol that the cell's object defines under that name. An alias doesn't count
 abbrev pub definition_named : Cell → List ℕ → Option ℕ
-definition_named c name = option_map (λ a. a.symbol) (find (λ a. equals a.name name) (definitions_of c.object))
+definition_named c name = symbol_in (definitions_of c.object) name
 
 -- the first of the cells that defines the name, with its symbol
 abbrev pub first_definition : List Cell → List ℕ → Option (Cell × ℕ)

@@ -13,9 +13,10 @@ use Rattle.cell_world.specs.declared.state.NewCell.{NewCell}
 use Rattle.cell_world.specs.declared.state.Target.{Target}
 use Rattle.cell_world.specs.declared.state.Target.TheVariants.{Section, Number}
 use Rattle.cell_num.specs.Kinds.{is_pcrel_lo12}
-use Rattle.cell_object.specs.Parts.{symbol_at, high_of, is_global}
+use Rattle.cell_num.specs.Lists.{or_else}
+use Rattle.cell_object.specs.Parts.{symbol_at, high_of, is_local, is_weak}
 use Rattle.cell_world.specs.World.{World, Cell, cell_of, key_of}
-use Rattle.cell_world.specs.Names.{Provider, provider_of}
+use Rattle.cell_world.specs.Names.{Provider, provider_of, strong_provider}
 
 -- 0 where the cell has no such section or no places yet
 abbrev pub start_of : NewCell → ℕ → ℕ
@@ -37,11 +38,22 @@ abbrev pub provided_target : World → Provider → Option Target
 provided_target w p =
     option_and_then (λ c. option_and_then (λ s. own_target c.placed s s.home) (symbol_at c.object p.symbol)) (cell_of w p.cell)
 
--- an undefined GLOBAL is what its provider's symbol is
+-- who is asked for a symbol: for an undefined GLOBAL or WEAK its name's provider, for a WEAK in a section a strong holder alone
+abbrev pub asked_for : World → Cell → Symbol → Home → Option Provider
+asked_for w c s Undef = if is_local s.bind then None else provider_of w c s.name
+asked_for w c s Abs = None
+asked_for w c s (Inside section) = if is_weak s.bind then strong_provider w c.standing c.ns s.name else None
+asked_for w c s Elsewhere = None
+
+-- what the symbol is where there is nobody to ask: what its object says, and an undefined WEAK is the number 0
+abbrev pub unasked_target : Cell → Symbol → Home → Option Target
+unasked_target c s Undef = if is_weak s.bind then Some (Number 0) else None
+unasked_target c s Abs = own_target c.placed s Abs
+unasked_target c s (Inside section) = own_target c.placed s (Inside section)
+unasked_target c s Elsewhere = None
+
 abbrev pub symbol_target : World → Cell → Symbol → Home → Option Target
-symbol_target w c s Undef =
-    if is_global s.bind then option_and_then (provided_target w) (provider_of w c s.name) else None
-symbol_target w c s home = own_target c.placed s home
+symbol_target w c s home = or_else (option_and_then (provided_target w) (asked_for w c s home)) (unasked_target c s home)
 
 -- by the symbol's number: symbol 0 is the number 0
 abbrev pub numbered_target : World → Cell → ℕ → Option Target

@@ -5,7 +5,8 @@ use Rattle.cell_world.specs.declared.refusal.Refusal.{Refusal}
 use Rattle.cell_world.specs.declared.refusal.Refusal.TheVariants.{Unknown, Held}
 use Rattle.cell_world.specs.declared.reply.Reply.TheVariants.{Unload as UnloadDone, Purge as PurgeDone}
 use Rattle.cell_world.specs.declared.command.CellName.{CellName}
-use Rattle.cell_world.specs.World.{World, Cell, Detached, is_attached}
+use Rattle.cell_world.specs.World.{World, Cell, is_attached}
+use Rattle.cell_world.specs.declared.state.Standing.TheVariants.{Detached}
 use Rattle.cell_world.specs.Names.{namespace_named, cell_at}
 use Rattle.cell_world.specs.Relink.{class_start}
 use Rattle.cell_world.specs.declared.layout.Class.TheVariants.{Text, ReadOnly, Writable}

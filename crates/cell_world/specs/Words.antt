@@ -3,7 +3,8 @@
 --     words_of regions t         the pc, x1 to x31, and the stack from x2 on
 use Rattle.std.specs.Prelude.{ℕ, ◌+◌, ◌-◌, ◌*◌, ◌/◌, nat_le, ◌&&◌, List, [], ◌∷◌, ◌++◌, take, drop, slice_index, unwrap_or, if◌then◌else◌}
 use Rattle.cell_num.specs.Bits.{little}
-use Rattle.cell_world.specs.World.{stack_size, Region, Task}
+use Rattle.cell_num.specs.Limits.{stack_size}
+use Rattle.cell_world.specs.World.{Region, Task}
 use Rattle.cell_world.specs.Memory.{read_in}
 
 -- the whole 8-byte words that the bytes are, in order

@@ -7,7 +7,6 @@ mod command;
 mod fail;
 mod file;
 mod layout;
-mod limits;
 mod refusal;
 mod reply;
 mod state;
@@ -17,11 +16,9 @@ pub use command::{CellName, Command, SwapItem};
 pub use fail::Fail;
 pub use file::File;
 pub use layout::{Class, Starts};
-pub use limits::{
-    MAX_ALL_BYTES, MAX_CELL_NUMBER, MAX_CELLS, MAX_FILE_BYTES, MAX_FILES, MAX_NAMES,
-    MAX_NAMESPACES, MAX_SCRIPT_BYTES, MAX_TASK_NUMBER, MAX_TASKS, PAGE, STACK_PAGES,
-};
 pub use refusal::{Many, Refusal};
 pub use reply::{Found, LinkLine, MapCell, MapSection, Reply, TaskLine, TaskRun, TaskState};
-pub use state::{LinkRow, Namespace, NewCell, Permission, Placed, Region, SecPlace, Target};
+pub use state::{
+    LinkRow, Namespace, NewCell, Permission, Placed, Region, SecPlace, Standing, Target,
+};
 pub use transfer::{Failure, NameAddr, Record, Routine};

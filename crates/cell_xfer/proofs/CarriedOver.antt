@@ -7,7 +7,8 @@ use Rattle.cell_num.specs.Lists.{each_pair, In}
 use Rattle.cell_world.specs.declared.refusal.Refusal.{Refusal}
 use Rattle.cell_world.specs.declared.transfer.Failure.{Failure}
 use Rattle.cell_world.specs.declared.transfer.Routine.{Routine}
-use Rattle.cell_world.specs.World.{Permission, Region, stack_size}
+use Rattle.cell_num.specs.Limits.{stack_size}
+use Rattle.cell_world.specs.World.{Permission, Region}
 use Rattle.cell_world.specs.Coherent.{Shape, ends_before, shape_of}
 use Rattle.cell_world.specs.Execute.{Seen}
 use Rattle.cell_world.specs.Layout.{permission_of}

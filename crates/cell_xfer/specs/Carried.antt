@@ -12,7 +12,7 @@ use Rattle.cell_world.specs.declared.layout.Class.TheVariants.{Writable}
 use Rattle.cell_world.specs.Pages.{filled}
 use Rattle.cell_world.specs.Transfer.{Transferred, transferred}
 use Rattle.cell_world.specs.Turn.{without_region}
-use Rattle.cell_world.specs.World.{stack_size}
+use Rattle.cell_num.specs.Limits.{stack_size}
 use Rattle.cell_hart.specs.Step.{seen_of}
 use Rattle.cell_mem.specs.State.{HasWrites, IsRoom, MemoryState, before_in, mapped, one_more}
 use Rattle.cell_xfer.specs.declared.carrying.Transfer.{Transfer}

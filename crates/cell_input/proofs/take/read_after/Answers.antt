@@ -2,7 +2,7 @@ use Rattle.std.proofs.Common.{◌≡◌, ◌+◌, true, false, cond, length, Ok,
 use Rattle.std.specs.Prelude.{nat_lt}
 use Rattle.std.proofs.lemmas.Result.{err_from_is_err_and}
 use Rattle.std.proofs.lemmas.Bool.Decides.{nat_tests}
-use Rattle.cell_world.specs.Limits.{max_all_bytes}
+use Rattle.cell_num.specs.Limits.{max_all_bytes}
 use Rattle.cell_io.proofs.Binds.{stops_first, goes_on}
 use Rattle.cell_input.specs.declared.reason.What.TheVariants.{AllBytes}
 use Rattle.cell_input.specs.declared.reason.Reason.TheVariants.{TooLarge}

@@ -1,6 +1,6 @@
 use Rattle.std.proofs.Common.{◌≡◌, ◌≤◌, ◌++◌, length, map, string_bytes}
 use Rattle.std.specs.Prelude.{All}
-use Rattle.cell_world.specs.Limits.{max_file_bytes, max_all_bytes}
+use Rattle.cell_num.specs.Limits.{max_file_bytes, max_all_bytes}
 use Rattle.cell_io.specs.Within.{IfTold}
 use Rattle.cell_input.proofs.ObjectFiles.{prepend, taken_after, AreListed}
 use Rattle.cell_input.proofs.take.take_files.Given as goal

@@ -1,16 +1,16 @@
-use Rattle.cell_lemmas.proofs.LoadCoherent.{load_coherent}
 use Rattle.cell_lemmas.proofs.NamespaceAdded.{ns_coherent}
 use Rattle.cell_lemmas.proofs.Spawned.{spawn_keeps}
 use Rattle.cell_lemmas.proofs.Commands.{step_keeps, run_keeps, kill_keeps}
 use Rattle.cell_lemmas.proofs.Removals.{purge_removed, removed_coherent, unload_removed}
-use Rattle.cell_lemmas.proofs.Left.{swap_coherent}
+use Rattle.cell_change_law.proofs.Asking.{load_made, swap_made}
+use Rattle.cell_laws.proofs.NextCoherent.{made_coherent_by}
 use Rattle.cell_laws.proofs.coherence.commands_keep_coherent.Goals as goal
 
 pub returns-clause-ns : goal.returns-clause-ns
 returns-clause-ns c = ns_coherent
 
 pub returns-clause-load : goal.returns-clause-load
-returns-clause-load c = load_coherent
+returns-clause-load c sources w name stem d sound h e = made_coherent_by sources w sound h d (load_made sources sound w h name stem d e)
 
 pub returns-clause-spawn : goal.returns-clause-spawn
 returns-clause-spawn c = spawn_keeps
@@ -31,4 +31,4 @@ pub returns-clause-purge : goal.returns-clause-purge
 returns-clause-purge c w d h e = removed_coherent w d.world h (purge_removed w d h e)
 
 pub returns-clause-swap : goal.returns-clause-swap
-returns-clause-swap c sources w items reexport strict words budget d sound h some e = swap_coherent sources w items reexport strict words budget d sound h some e
+returns-clause-swap c sources w items reexport strict words budget d sound h e = made_coherent_by sources w sound h d (swap_made sources w h items reexport strict words budget d e)

@@ -1,6 +1,5 @@
 use Rattle.cell_lemmas.proofs.Regrown.{relinked_writes}
 use Rattle.cell_lemmas.proofs.Growths.{targets_follow, links_follow}
-use Rattle.cell_lemmas.proofs.MovedLinks.{links_move}
 use Rattle.cell_laws.proofs.relinking.relinked_writes_changes.Goals as goal
 
 pub returns-clause-writes : goal.returns-clause-writes
@@ -11,6 +10,3 @@ returns-clause-targets c = targets_follow
 
 pub returns-clause-links : goal.returns-clause-links
 returns-clause-links c = links_follow
-
-pub returns-clause-moves : goal.returns-clause-moves
-returns-clause-moves c = links_move

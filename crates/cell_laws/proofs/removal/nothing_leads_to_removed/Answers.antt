@@ -1,5 +1,4 @@
 use Rattle.cell_lemmas.proofs.AllKept.{purge_unreached, unload_unreached}
-use Rattle.cell_lemmas.proofs.Left.{swap_unreached}
 use Rattle.cell_laws.proofs.removal.nothing_leads_to_removed.Goals as goal
 
 pub returns-clause-purge : goal.returns-clause-purge
@@ -7,6 +6,3 @@ returns-clause-purge c = purge_unreached
 
 pub returns-clause-unload : goal.returns-clause-unload
 returns-clause-unload c = unload_unreached
-
-pub returns-clause-swap : goal.returns-clause-swap
-returns-clause-swap c sources w items reexport strict words budget d sound h some s = swap_unreached sources w items reexport strict words budget d sound h some s

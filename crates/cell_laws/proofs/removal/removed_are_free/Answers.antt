@@ -1,5 +1,4 @@
 use Rattle.cell_lemmas.proofs.Removals.{garbage_all, purge_leaves, unload_leaves, unloaded_by}
-use Rattle.cell_lemmas.proofs.Left.{swap_left}
 use Rattle.cell_laws.proofs.removal.removed_are_free.Goals as goal
 
 pub returns-clause-garbage : goal.returns-clause-garbage
@@ -10,6 +9,3 @@ returns-clause-purge c = purge_leaves
 
 pub returns-clause-unload : goal.returns-clause-unload
 returns-clause-unload c w names cells d h n e = unload_leaves w h cells d (unloaded_by w names cells d n e)
-
-pub returns-clause-swap : goal.returns-clause-swap
-returns-clause-swap c sources w items reexport strict words budget d sound h some s = swap_left sources w items reexport strict words budget d sound h some s

@@ -1,5 +1,4 @@
 use Rattle.cell_lemmas.proofs.Removals.{purge_removed, removed_fields, unload_removed}
-use Rattle.cell_lemmas.proofs.Left.{swap_fields_left}
 use Rattle.cell_laws.proofs.removal.removing_keeps_fields.Goals as goal
 
 pub returns-clause-unload : goal.returns-clause-unload
@@ -7,6 +6,3 @@ returns-clause-unload c w names d h e = removed_fields w d.world h (unload_remov
 
 pub returns-clause-purge : goal.returns-clause-purge
 returns-clause-purge c w d h e = removed_fields w d.world h (purge_removed w d h e)
-
-pub returns-clause-swap : goal.returns-clause-swap
-returns-clause-swap c sources w items reexport strict words budget d sound h some s = swap_fields_left sources w items reexport strict words budget d sound h some s

@@ -1,5 +1,4 @@
 use Rattle.cell_lemmas.proofs.Removals.{purge_removed, removed_targets, unload_removed}
-use Rattle.cell_lemmas.proofs.Left.{swap_targets_left}
 use Rattle.cell_laws.proofs.targets.removing_keeps_targets.Goals as goal
 
 pub returns-clause-unload : goal.returns-clause-unload
@@ -7,6 +6,3 @@ returns-clause-unload c w names d h e = removed_targets w d.world h (unload_remo
 
 pub returns-clause-purge : goal.returns-clause-purge
 returns-clause-purge c w d h e = removed_targets w d.world h (purge_removed w d h e)
-
-pub returns-clause-swap : goal.returns-clause-swap
-returns-clause-swap c sources w items reexport strict words budget d sound h some s = swap_targets_left sources w items reexport strict words budget d sound h some s

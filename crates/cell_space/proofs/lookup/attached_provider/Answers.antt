@@ -1,8 +1,7 @@
 use Rattle.std.proofs.Common.{◌≡◌, ◌∙◌, ℕ, List, Some, None, ap, sym}
 use Rattle.std.specs.Prelude.{◌&&◌, find, option_map, option_and_then}
-use Rattle.cell_world.specs.Names.{chain}
-use Rattle.cell_space.specs.Rows.{symbol_in}
-use Rattle.cell_space.specs.declared.cell.CellState.TheVariants.{Attached}
+use Rattle.cell_world.specs.Names.{chain, symbol_in}
+use Rattle.cell_world.specs.declared.state.Standing.TheVariants.{Attached}
 use Rattle.cell_space.specs.declared.cell.SpaceCell.{SpaceCell}
 use Rattle.cell_space.specs.declared.word.WordKind.{WordKind}
 use Rattle.cell_space.specs.declared.word.WordKind.TheVariants.{Name}

@@ -1,6 +1,6 @@
 use Rattle.std.proofs.Common.{◌∙◌, sym, ap, ℕ, List}
 use Rattle.std.specs.Prelude.{◌&&◌, find, option_map}
-use Rattle.cell_space.specs.Rows.{has_name}
+use Rattle.cell_world.specs.Names.{has_name}
 use Rattle.cell_space.specs.declared.word.WordKind.{WordKind}
 use Rattle.cell_space.specs.declared.word.WordKind.TheVariants.{Name}
 use Rattle.cell_space.specs.Index.{has_word}

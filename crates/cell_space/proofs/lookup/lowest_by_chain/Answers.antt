@@ -1,6 +1,6 @@
 use Rattle.std.proofs.Common.{◌∙◌, ◌++◌, ◌∷◌, [], ap, sym, append_assoc, rules}
 use Rattle.std.specs.Prelude.{◌&&◌, option_map}
-use Rattle.cell_space.specs.declared.cell.CellState.TheVariants.{Attached}
+use Rattle.cell_world.specs.declared.state.Standing.TheVariants.{Attached}
 use Rattle.cell_space.specs.Named.{is_holder}
 use Rattle.cell_space.specs.Index.{has_word, is_at}
 use Rattle.cell_space.proofs.Finding.{above_none, above_more, lowest_more}

@@ -1,7 +1,7 @@
 use Rattle.std.proofs.Common.{◌≡◌, ◌++◌}
 use Rattle.std.specs.Prelude.{◌&&◌, find, option_map}
 use Rattle.cell_world.specs.Names.{chain}
-use Rattle.cell_space.specs.declared.cell.CellState.TheVariants.{Attached}
+use Rattle.cell_world.specs.declared.state.Standing.TheVariants.{Attached}
 use Rattle.cell_space.specs.Named.{is_holder}
 use Rattle.cell_space.specs.Index.{has_word}
 use Rattle.cell_space.proofs.lookup.lowest_by_chain.Given as goal

@@ -1,7 +1,7 @@
 use Rattle.std.proofs.Common.{◌∙◌, ap, sym, cond}
 use Rattle.std.specs.Prelude.{is_some, None}
 use Rattle.cell_space.proofs.NameTables.{is_some_symbol}
-use Rattle.cell_space.specs.Rows.{symbol_in}
+use Rattle.cell_world.specs.Names.{symbol_in}
 use Rattle.cell_gather.proofs.HeirTables.{heir_is}
 use Rattle.cell_gather.proofs.heirs.Heirs.of_base.Goals as goal
 

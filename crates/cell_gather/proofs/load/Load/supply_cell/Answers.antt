@@ -1,7 +1,7 @@
 use Rattle.std.proofs.Common.{◌≡◌, ◌<◌, ◌∙◌, ap, arith, length, subst, sym}
 use Rattle.cell_world.specs.declared.state.NewCell.{NewCell}
 use Rattle.cell_world.specs.Names.{needs_of}
-use Rattle.cell_world.specs.World.{Attached}
+use Rattle.cell_world.specs.declared.state.Standing.TheVariants.{Attached}
 use Rattle.cell_gather.specs.Growing.{new_of}
 use Rattle.cell_gather.proofs.Growths.{as_many, cell_there}
 use Rattle.cell_gather.proofs.Lacks.{at_slice}

@@ -14,12 +14,12 @@ pub invariant_of-self : goal.invariant_of-self
 invariant_of-self c =
     let i = c.self.inside in
     let s = c.self.invariant in
-    let now : (with_items i.firsts c.fill.new.items).items ≡ filled i.firsts.items c.page_at-first.result (c.len-count.result / 4096) (Some c.page_at-first.result) =
+    let now : (with_items i.firsts c.fill.new.items).items ≡ filled i.firsts.items c.page_at-first.result (c.len.result / 4096) (Some c.page_at-first.result) =
     with_items_is i.firsts c.fill.new.items (omega (arith, c.fill.auto.items, c.deref_mut.ensures.len))
     ∙ c.fill.ensures
-    ∙ ap (λ (xs : List (Option ℕ)). filled xs c.page_at-first.result (c.len-count.result / 4096) (Some c.page_at-first.result)) c.deref_mut.ensures.value in
+    ∙ ap (λ (xs : List (Option ℕ)). filled xs c.page_at-first.result (c.len.result / 4096) (Some c.page_at-first.result)) c.deref_mut.ensures.value in
     let f : Mapped i (record { start = c.args.start; permission = permission_of c.args.perm; bytes = c.args.bytes.items }) c.page_at-first.result (slice_set i.regions.items c.page_at-first.result (Some c.new.result)) (with_items i.firsts c.fill.new.items).items =
-    mapped_by i c.args.self.now c.args.start (permission_of c.args.perm) c.args.bytes.items s c.self.view_is c.requires c.page_at-first.result _ c.new.result _ c.page_at-first.ensures (ap (λ n. n / 4096) (c.len-count.ensures ∙ c.args.bytes.ok.0)) c.new.ensures.all now in
+    mapped_by i c.args.self.now c.args.start (permission_of c.args.perm) c.args.bytes.items s c.self.view_is c.requires c.page_at-first.result _ c.new.result _ c.page_at-first.ensures (ap (λ n. n / 4096) (c.len.ensures ∙ c.args.bytes.ok.0)) c.new.ensures.all now in
     record {
       space = s.space;
       regions = length-set i.regions.items c.page_at-first.result (Some c.new.result) ∙ s.regions;
@@ -35,10 +35,10 @@ invariant_of-self c =
 pub returns : goal.returns
 returns c =
     let i = c.self.inside in
-    let now : (with_items i.firsts c.fill.new.items).items ≡ filled i.firsts.items c.page_at-first.result (c.len-count.result / 4096) (Some c.page_at-first.result) =
+    let now : (with_items i.firsts c.fill.new.items).items ≡ filled i.firsts.items c.page_at-first.result (c.len.result / 4096) (Some c.page_at-first.result) =
     with_items_is i.firsts c.fill.new.items (omega (arith, c.fill.auto.items, c.deref_mut.ensures.len))
     ∙ c.fill.ensures
-    ∙ ap (λ (xs : List (Option ℕ)). filled xs c.page_at-first.result (c.len-count.result / 4096) (Some c.page_at-first.result)) c.deref_mut.ensures.value in
+    ∙ ap (λ (xs : List (Option ℕ)). filled xs c.page_at-first.result (c.len.result / 4096) (Some c.page_at-first.result)) c.deref_mut.ensures.value in
     let f : Mapped i (record { start = c.args.start; permission = permission_of c.args.perm; bytes = c.args.bytes.items }) c.page_at-first.result (slice_set i.regions.items c.page_at-first.result (Some c.new.result)) (with_items i.firsts c.fill.new.items).items =
-    mapped_by i c.args.self.now c.args.start (permission_of c.args.perm) c.args.bytes.items c.self.invariant c.self.view_is c.requires c.page_at-first.result _ c.new.result _ c.page_at-first.ensures (ap (λ n. n / 4096) (c.len-count.ensures ∙ c.args.bytes.ok.0)) c.new.ensures.all now in
+    mapped_by i c.args.self.now c.args.start (permission_of c.args.perm) c.args.bytes.items c.self.invariant c.self.view_is c.requires c.page_at-first.result _ c.new.result _ c.page_at-first.ensures (ap (λ n. n / 4096) (c.len.ensures ∙ c.args.bytes.ok.0)) c.new.ensures.all now in
     state_mapped i c.args.self.now c.args.start (permission_of c.args.perm) c.args.bytes.items c.self.invariant c.self.view_is c.requires c.page_at-first.result _ _ _ f c.saturating_add-self-inside.ensures

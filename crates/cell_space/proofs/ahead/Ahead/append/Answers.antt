@@ -1,7 +1,7 @@
 use Rattle.std.proofs.Common.{◌≡◌, ◌<◌, ℕ, true, List, length, refl, sym, subst}
 use Rattle.std.specs.Prelude.{All}
 use Rattle.cell_space.specs.Ahead.{AheadState, AreAhead}
-use Rattle.cell_space.specs.declared.cell.CellState.TheVariants.{Attached}
+use Rattle.cell_world.specs.declared.state.Standing.TheVariants.{Attached}
 use Rattle.cell_space.specs.declared.cell.SpaceCell.{SpaceCell}
 use Rattle.cell_space.specs.Index.{held, hashes, AreTaken, Grows}
 use Rattle.cell_space.proofs.Appended.{Below, below_later, ahead_more, ahead_with}

@@ -1,7 +1,7 @@
 use Rattle.std.proofs.Common.{◌∙◌, ap, ◌++◌}
 use Rattle.std.specs.Prelude.{◌&&◌, ◌==◌}
 use Rattle.cell_num.specs.Lists.{equals}
-use Rattle.cell_space.specs.declared.cell.CellState.TheVariants.{Attached}
+use Rattle.cell_world.specs.declared.state.Standing.TheVariants.{Attached}
 use Rattle.cell_space.specs.Named.{cell_at, is_in, number_as}
 use Rattle.cell_space.proofs.Layered.{answered_first, answered_next, number-append}
 use Rattle.cell_space.proofs.ahead.Ahead.cell_at.Goals as goal

@@ -1,6 +1,6 @@
 use Rattle.std.proofs.Common.{◌∙◌, ap, List, ◌++◌}
 use Rattle.cell_world.specs.declared.state.Namespace.{Namespace}
-use Rattle.cell_space.specs.Rows.{has_name}
+use Rattle.cell_world.specs.Names.{has_name}
 use Rattle.cell_space.specs.declared.cell.SpaceCell.{SpaceCell}
 use Rattle.cell_space.specs.Named.{clash_name, is_rival, number_as}
 use Rattle.cell_space.proofs.Layered.{answered_first, answered_next, rival-append}

@@ -1,6 +1,7 @@
 use Rattle.std.proofs.Common.{◌≡◌, ◌∙◌, ◌++◌, ◌∷◌, [], true, ap, sym}
 use Rattle.cell_world.specs.World.{Alias}
-use Rattle.cell_space.specs.Rows.{are_apart, has_name}
+use Rattle.cell_world.specs.Names.{has_name}
+use Rattle.cell_space.specs.Rows.{are_apart}
 use Rattle.cell_space.proofs.Apart.{free_before, take_next}
 use Rattle.cell_space.proofs.names.NameRows.copy.Goals as goal
 

@@ -1,5 +1,5 @@
 use Rattle.std.proofs.Common.{◌∙◌, ap}
-use Rattle.cell_space.specs.Rows.{symbol_in}
+use Rattle.cell_world.specs.Names.{symbol_in}
 use Rattle.cell_space.proofs.NameTables.{lookup-rows}
 use Rattle.cell_space.proofs.names.NameRows.symbol_of.Goals as goal
 

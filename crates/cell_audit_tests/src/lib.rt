@@ -1,0 +1,5 @@
+//! Tests of the audit of a dump.
+#![tactic(auto)]
+
+#[cfg(test)]
+mod dumps;

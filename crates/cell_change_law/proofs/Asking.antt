@@ -1,0 +1,96 @@
+-- What an accepted load or swap leaves, a sound change makes that it asks for.
+use Rattle.std.proofs.Common.{◌≡◌, ◌<◌, ◌⊎◌, sym, ap, subst, inl, inr, ℕ, Bool, true, ◌&&◌, List, [], ◌∷◌, ◌++◌, length, Some, Ok}
+use Rattle.std.specs.Prelude.{◌==◌}
+use Rattle.std.proofs.lemmas.Bool.{and_parts, ltb-true}
+use Rattle.cell_num.specs.Lists.{equals, In}
+use Rattle.cell_world.specs.declared.command.SwapItem.{SwapItem}
+use Rattle.cell_world.specs.declared.refusal.Refusal.TheVariants.{Unknown, NoObject}
+use Rattle.cell_world.specs.World.{World, Cell, is_attached}
+use Rattle.cell_world.specs.Names.{cell_at, namespace_named}
+use Rattle.cell_world.specs.Gather.{Source, depot_files, file_named, one_file}
+use Rattle.cell_world.specs.UnloadCommand.{attached_cell, cell_word}
+use Rattle.cell_world.specs.Outcome.{◌>>=◌, each, found}
+use Rattle.cell_world.specs.Answer.{Done, space_of}
+use Rattle.cell_world.specs.Asked.{load_by_change, swap_by_change, want_of, wants_of}
+use Rattle.cell_world.specs.Change.{Change, Want, make_change, replaced}
+use Rattle.cell_world.specs.Coherent.{AreSound, IsCoherent, is_known_cell}
+use Rattle.cell_num.proofs.Elements.{all-In, found-In, In-All, In-append}
+use Rattle.cell_lemmas.proofs.Appended.{ok_same}
+use Rattle.cell_lemmas.proofs.Known.{known_parts}
+use Rattle.cell_lemmas.proofs.Outcomes.{bind_ok, found_ok}
+use Rattle.cell_lemmas.proofs.Present.{In-filter_map}
+use Rattle.cell_change_law.specs.Sound.{HasMade, IsSound}
+use Rattle.cell_change_law.proofs.ByLoad.{asked, good}
+
+pub load_made : (sources : List Source) (sound : AreSound sources) (w : World) (h : IsCoherent w) (name stem : List ℕ) (d : Done) → load_by_change sources w name stem ≡ Ok d → HasMade sources w d
+load_made sources sound w h name stem d e =
+    let s = bind_ok (space_of w name) _ d e in
+    let f = bind_ok (one_file (depot_files sources name stem) (NoObject stem)) _ d s.2 in
+    let m = bind_ok (make_change sources w (asked sources sound w h name stem s.0 f.0 s.1 f.1)) _ d f.2 in
+    record {
+      change = asked sources sound w h name stem s.0 f.0 s.1 f.1;
+      sound = good sources sound w h name stem s.0 f.0 s.1 f.1;
+      made = m.0;
+      making = m.1;
+      world = ap (λ (x : Done). x.world) (ok_same _ d m.2);
+    }
+
+module _ (sources : List Source) (w : World) (h : IsCoherent w) where
+  record IsWanted (want : Want) : Type 0 where
+    file : In want.file sources
+    space : want.ns < length w.namespaces
+    present : (old : Cell) → want.replaces ≡ Some old → In old w.cells
+    attached : (old : Cell) → want.replaces ≡ Some old → is_attached old.standing ≡ true
+
+  wanted : (item : SwapItem) (want : Want) → want_of sources w item ≡ Ok want → IsWanted want
+  wanted item want e =
+      let a = bind_ok (attached_cell w (record { ns = item.ns; stem = item.stem })) _ want e in
+      let b = bind_ok (found (file_named sources item.file) (Unknown item.file)) _ want a.2 in
+      let c = bind_ok (found (namespace_named w item.ns) (Unknown (cell_word (record { ns = item.ns; stem = item.stem })))) _ a.0 a.1 in
+      let f = found-In (λ (x : Cell). is_attached x.standing && x.ns == c.0 && equals x.stem item.stem) w.cells a.0 (found_ok (cell_at w c.0 item.stem) (Unknown (cell_word (record { ns = item.ns; stem = item.stem }))) a.0 c.2) in
+      let g = found-In (λ (x : Source). equals x.name item.file) sources b.0 (found_ok (file_named sources item.file) (Unknown item.file) b.0 b.1) in
+      let t : is_attached a.0.standing ≡ true = (and_parts (is_attached a.0.standing) (a.0.ns == c.0) (and_parts (is_attached a.0.standing && a.0.ns == c.0) (equals a.0.stem item.stem) f.1).0).0 in
+      subst IsWanted (ok_same _ want b.2)
+      (record {
+        file = g.0;
+        space = ltb-true a.0.ns (length w.namespaces) (known_parts w a.0 (all-In (is_known_cell w) w.cells h.ready.cells a.0 f.0)).ns;
+        present = λ old e. let q : a.0 ≡ old = cc in subst (λ (x : Cell). In x w.cells) q f.0;
+        attached = λ old e. let q : a.0 ≡ old = cc in subst (λ (x : Cell). is_attached x.standing ≡ true) q t;
+      })
+
+  abbrev AllWanted : List Want → Type 0
+  AllWanted wants = (want : Want) → In want wants → IsWanted want
+
+  push_all : (items : List SwapItem) (before wants : List Want) → AllWanted before → each (λ wants item. want_of sources w item >>= (λ want. Ok (wants ++ want ∷ []))) before items ≡ Ok wants → AllWanted wants
+  push_all [] before wants k e = let s : before ≡ wants = ok_same _ _ e in subst AllWanted s k
+  push_all (item ∷ items) before wants k e =
+      let a = bind_ok (want_of sources w item >>= (λ want. Ok (before ++ want ∷ []))) _ wants e in
+      let b = bind_ok (want_of sources w item) _ a.0 a.1 in
+      let s : before ++ b.0 ∷ [] ≡ a.0 = ok_same _ _ b.2 in
+      push_all items a.0 wants (subst AllWanted s (λ want i. pick b.0 b.1 want (In-append before (b.0 ∷ []) want i))) a.2
+    where
+      pick : (x : Want) → want_of sources w item ≡ Ok x → (want : Want) → In want before ⊎ In want (x ∷ []) → IsWanted want
+      pick x o want (inl i) = k want i
+      pick x o want (inr (inl i)) = subst IsWanted (sym i) (wanted item x o)
+      pick x o want (inr (inr i)) = absurd i
+
+  all_sound : (c : Change) → AllWanted c.wants → IsSound sources w c
+  all_sound c all = record {
+    files = In-All (λ (want : Want). In want.file sources) c.wants (λ want i. (all want i).file);
+    spaces = In-All (λ (want : Want). want.ns < length w.namespaces) c.wants (λ want i. (all want i).space);
+    present = In-All (λ (old : Cell). In old w.cells) (replaced c) (λ old i. let x = In-filter_map (λ (want : Want). want.replaces) c.wants old i in (all x.0 x.1).present old x.2);
+    attached = In-All (λ (old : Cell). is_attached old.standing ≡ true) (replaced c) (λ old i. let x = In-filter_map (λ (want : Want). want.replaces) c.wants old i in (all x.0 x.1).attached old x.2);
+  }
+
+  pub swap_made : (items : List SwapItem) (reexport strict : Bool) (words : List (List ℕ)) (budget : ℕ) (d : Done) → swap_by_change sources w items reexport strict words budget ≡ Ok d → HasMade sources w d
+  swap_made items reexport strict words budget d e =
+      let a = bind_ok (wants_of sources w items) _ d e in
+      let asked : Change = record { wants = a.0; reexport = reexport; strict = strict; routines = words; budget = budget } in
+      let m = bind_ok (make_change sources w asked) _ d a.2 in
+      record {
+        change = asked;
+        sound = all_sound asked (push_all items [] a.0 (λ want i. absurd i) a.1);
+        made = m.0;
+        making = m.1;
+        world = ap (λ (x : Done). x.world) (ok_same _ d m.2);
+      }

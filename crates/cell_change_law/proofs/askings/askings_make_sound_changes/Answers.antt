@@ -1,0 +1,8 @@
+use Rattle.cell_change_law.proofs.Asking.{load_made, swap_made}
+use Rattle.cell_change_law.proofs.askings.askings_make_sound_changes.Goals as goal
+
+pub returns-clause-load : goal.returns-clause-load
+returns-clause-load k = λ sources w ns stem d sound h e. load_made sources sound w h ns stem d e
+
+pub returns-clause-swap : goal.returns-clause-swap
+returns-clause-swap k = λ sources w items reexport strict words budget d h e. swap_made sources w h items reexport strict words budget d e

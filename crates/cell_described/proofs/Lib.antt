@@ -1,0 +1,12 @@
+pub mod Marks
+pub mod Selecting
+pub mod Lines
+pub mod Lacking
+pub mod Definitions
+pub mod Walking
+pub mod Kept
+pub mod Founds
+pub mod Assembled
+pub mod Steps
+pub mod Placements
+pub mod Loadables

@@ -1,0 +1,7 @@
+pub mod Fails
+pub mod Taken
+pub mod Faults
+pub mod Objects
+pub mod Finding
+pub mod Placing
+pub mod Describes
