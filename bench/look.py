@@ -28,7 +28,7 @@ CALLS = [
 LINES = [
     "ns n under k", "load k a", "spawn k a::f 0x1f", "step 1 100000", "run 10000", "kill 1", "purge", "find k a::f", "map",
     "tasks", "swap k/a=k#b.o reexport strict transfer a::f transfer b budget 7", "swap k/a=k#b.o k/b=c=d", "unload k/a k/b",
-    "unload k/a", "deps 4294967295", "users 0", "dump 1 2", "# x", " #", "\tmap ", "",
+    "unload k/a", "deps 4294967295", "users 0", "dump 1 2", "dumpall", "# x", " #", "\tmap ", "",
     "swap k/a=k#b.o transfer strict budget 5", "swap k/a=b transfer a transfer b", "spawn k x 18446744073709551615"]
 PARTS = [
     "k", "k/a", "k/a=f", "a::f", "0", "01", "100001", "10001", "4294967296", "18446744073709551616", "0x0", "0x", "0xF",

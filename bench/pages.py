@@ -4,12 +4,13 @@
     bench/pages.py [--cellas PROGRAM] [PROGRAM [PAGE..]]
 
 PROGRAM is a built `cells`, crates/cells/out/cells unless it is said; the assembler is the `cellas` beside it, or the one in
-crates/cellas/out. The pages are README.md and the others at the top, docs/*.md and those of the examples.
+crates/cellas/out, and so is `cellaudit`. The pages are README.md and the others at the top, docs/*.md and those of the examples.
 
 A comment on a line of its own says what the fenced block behind it is. FOLDER is named from the top of the checkout. Each page
 works on a copy of examples/ of its own, so that nothing which it makes there is seen by another one.
 
     <!-- run: WORDS -->             what `./cells WORDS` prints, as <!-- run: examples/swap script -->
+    <!-- audit: WORDS -->           what `./cellaudit WORDS` prints
     <!-- tool: WORDS -->            what `tools/WORDS` prints, as <!-- tool: sweep examples/sweep script -->; CELLS names PROGRAM
     <!-- file: FOLDER/NAME -->      that file
     <!-- new: FOLDER/NAME -->       makes that file of the block, for the runs behind it
@@ -42,7 +43,7 @@ import tempfile
 
 TOP = os.path.dirname(os.path.dirname(os.path.abspath(__file__)))
 PAGES = ["*.md", "docs/*.md", "examples/*/*.md"]
-COMPARED = ("run", "tool", "file")
+COMPARED = ("run", "audit", "tool", "file")
 MADE = ("new", "more", "object")
 KINDS = "|".join(COMPARED + MADE + ("copy",))
 MARK = re.compile(r"<!-- (%s): (.*?)( -->)?" % KINDS)
@@ -119,8 +120,8 @@ def lines(text, told):
 class Page:
     """A page, the folder that it works on, and the programs."""
 
-    def __init__(self, name, folder, cells, cellas):
-        self.name, self.folder, self.cells, self.cellas = name, folder, cells, cellas
+    def __init__(self, name, folder, cells, cellas, cellaudit):
+        self.name, self.folder, self.cells, self.cellas, self.cellaudit = name, folder, cells, cellas, cellaudit
         shutil.copytree(os.path.join(TOP, "examples"), os.path.join(folder, "examples"))
 
     def path(self, name):
@@ -140,6 +141,14 @@ class Page:
         if done.returncode != told.get("status", done.returncode):
             raise Wrong(f"`./cells {words}` ends with status {done.returncode}")
         return answers(done.stdout, *told["answers"]) if "answers" in told else done.stdout
+
+    def audit(self, words, told):
+        if not os.access(self.cellaudit, os.X_OK):
+            raise Wrong(f"there is no program {self.cellaudit}; ./build builds it")
+        done = self.run(self.cellaudit, words.split())
+        if done.returncode != told.get("status", done.returncode):
+            raise Wrong(f"`./cellaudit {words}` ends with status {done.returncode}")
+        return done.stdout
 
     def printed(self, words, told):
         """What a tool prints. A transcript that it reads may be made before, by `new`."""
@@ -177,6 +186,8 @@ class Page:
         words, told = options(mark[2])
         if mark[1] == "run":
             return self.transcript(words, told)
+        if mark[1] == "audit":
+            return self.audit(words, told)
         if mark[1] == "tool":
             return self.printed(words, told)
         if mark[1] == "file":
@@ -221,15 +232,19 @@ def main():
     cells = os.path.abspath(words.cells)
     if not os.access(cells, os.X_OK):
         sys.exit(f"pages.py: there is no program {words.cells}; ./build builds it, or name a built one")
-    beside = os.path.join(os.path.dirname(cells), "cellas")
-    cellas = words.cellas or (beside if os.path.exists(beside) else os.path.join(TOP, "crates/cellas/out/cellas"))
+
+    def built(name):
+        beside = os.path.join(os.path.dirname(cells), name)
+        return beside if os.path.exists(beside) else os.path.join(TOP, "crates", name, "out", name)
+
+    cellas, cellaudit = os.path.abspath(words.cellas or built("cellas")), built("cellaudit")
     pages = words.pages or sorted(path for form in PAGES for path in glob.glob(os.path.join(TOP, form)))
     compared, different, faults = 0, 0, 0
     for path in pages:
         name = os.path.relpath(path, TOP)
         with open(path, "rb") as file, tempfile.TemporaryDirectory() as folder:
             try:
-                more, wrong, unmarked = Page(name, folder, cells, os.path.abspath(cellas)).check(file.read())
+                more, wrong, unmarked = Page(name, folder, cells, cellas, cellaudit).check(file.read())
             except Wrong as fault:
                 print(f"{name}: {fault}")
                 faults += 1

@@ -7,7 +7,7 @@ import sys
 from dataclasses import dataclass, field
 
 TOP = os.path.dirname(os.path.dirname(os.path.abspath(__file__)))
-COMMANDS = "ns|load|spawn|step|run|kill|swap|unload|purge|find|map|tasks|deps|users|dump"
+COMMANDS = "ns|load|spawn|step|run|kill|swap|unload|purge|find|map|tasks|deps|users|dump|dumpall"
 ANSWER = re.compile(rf"(\d+) (?:ok ({COMMANDS})\b|E(\d+) )(.*)")
 CELL = re.compile(r"  #(\d+) (\w+)/(\w+) (attached|detached (\d+)) (\S+)$")
 SECTION = re.compile(r"    (\d+) (rx|rw|ro) ([0-9a-f]+) (\d+)$")

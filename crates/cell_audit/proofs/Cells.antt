@@ -9,8 +9,8 @@ use Rattle.std.proofs.lemmas.List.Elements.{All-drop, All-head, All-nil, All-pus
 use Rattle.cell_num.specs.Lists.{each_pair, last}
 use Rattle.cell_num.proofs.Elements.{In-all, all-In, all_push, pairs_push}
 use Rattle.cell_num.specs.Limits.{max_cell_number, max_cells}
-use Rattle.cell_dumped.specs.declared.line.DumpLine.{DumpLine}
-use Rattle.cell_dumped.specs.declared.line.DumpLine.TheVariants.{Space, Ns, Cell as CellLine, Place, Alias as AliasLine, Link, Provider, Content, End}
+use Rattle.cell_world.specs.declared.line.DumpLine.{DumpLine}
+use Rattle.cell_world.specs.declared.line.DumpLine.TheVariants.{Space, Ns, Cell as CellLine, Place, Alias as AliasLine, Link, Provider, Content, End}
 use Rattle.cell_audit.specs.declared.dump.Line.{Line}
 use Rattle.cell_audit.specs.declared.order.Known.{Known}
 use Rattle.cell_audit.specs.declared.written.WrittenAlias.{WrittenAlias}

@@ -7,7 +7,7 @@ use Rattle.cell_text.specs.Text.{lines_in}
 use Rattle.cell_world.specs.Gather.{Source}
 use Rattle.cell_world.specs.Relink.{links_of}
 use Rattle.cell_dumped.specs.Texts.{line_text}
-use Rattle.cell_dumped.specs.declared.line.DumpLine.{DumpLine}
+use Rattle.cell_world.specs.declared.line.DumpLine.{DumpLine}
 use Rattle.cell_audit.specs.declared.fail.AuditFail.{AuditFail}
 use Rattle.cell_audit.specs.declared.fail.AuditFail.TheVariants.{Unreadable, NoObject, Misplaced, Unlinked, Differs}
 use Rattle.cell_audit.specs.Audits.{Audit, ◌>>=◌, ◌>>◌, IsFresh, IsReading, audit_of, first_difference, found, readable, refused_by}
@@ -29,7 +29,7 @@ found_ok : {X : Type 0} (o : Option X) (fault : AuditFail) (x : X) → found o f
 found_ok None fault x e = absurd cc
 found_ok (Some y) fault x e = subst (λ (r : Audit _). elim r as (λ _. Type 0) [ Ok z ↦ Some y ≡ Some z | Err _ ↦ Unit {0} ]) e refl
 
-readable_ok : {X : Type 0} (r : Result X ℕ) (x : X) → readable r ≡ Ok x → r ≡ Ok x
+pub readable_ok : {X : Type 0} (r : Result X ℕ) (x : X) → readable r ≡ Ok x → r ≡ Ok x
 readable_ok (Ok y) x e = subst (λ (r : Audit _). elim r as (λ _. Type 0) [ Ok z ↦ (let given : Result _ ℕ = Ok y in given ≡ Ok z) | Err _ ↦ Unit {0} ]) e refl
 readable_ok (Err line) x e = absurd cc
 

@@ -11,11 +11,11 @@ use Rattle.cell_world.specs.declared.reply.Found.{Found}
 use Rattle.cell_world.specs.Names.{names_of}
 use Rattle.cell_world.specs.Target.{start_of}
 use Rattle.cell_world.specs.World.{World, Cell, Alias, is_attached}
-use Rattle.cell_dumped.specs.Lines.{alias_line, cell_lines, lines_before_end, lines_by, lines_within, link_line, ns_line, part_of, place_line, provided_at, provider_line, provider_lines, section_lines}
+use Rattle.cell_world.specs.DumpLines.{alias_line, cell_lines, lines_before_end, lines_by, lines_within, link_line, ns_line, part_of, place_line, provided_at, provider_line, provider_lines, section_lines}
 use Rattle.cell_dumped.specs.Texts.{line_text}
-use Rattle.cell_dumped.specs.declared.line.DumpLine.{DumpLine}
-use Rattle.cell_dumped.specs.declared.line.DumpLine.TheVariants.{Space, Ns, Cell as CellLine, Place, Alias as AliasLine, Link, Provider, Content, End}
-use Rattle.cell_dumped.specs.declared.line.Part.{Part}
+use Rattle.cell_world.specs.declared.line.DumpLine.{DumpLine}
+use Rattle.cell_world.specs.declared.line.DumpLine.TheVariants.{Space, Ns, Cell as CellLine, Place, Alias as AliasLine, Link, Provider, Content, End}
+use Rattle.cell_world.specs.declared.line.Part.{Part}
 
 abbrev pub is_other : DumpLine → Bool
 is_other (Space base pages) = true

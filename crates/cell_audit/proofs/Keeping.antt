@@ -7,8 +7,8 @@ use Rattle.std.proofs.lemmas.List.{append-nil, drop-drop, drop-take, drop_at, le
 use Rattle.std.proofs.lemmas.List.Elements.{All-nil}
 use Rattle.cell_num.proofs.Elements.{pairs-map}
 use Rattle.cell_num.specs.Limits.{max_cell_number, max_cells, max_namespaces}
-use Rattle.cell_dumped.specs.declared.line.DumpLine.{DumpLine}
-use Rattle.cell_dumped.specs.declared.line.DumpLine.TheVariants.{Space, Ns, Cell as CellLine, Place, Alias as AliasLine, Link, Provider, Content, End}
+use Rattle.cell_world.specs.declared.line.DumpLine.{DumpLine}
+use Rattle.cell_world.specs.declared.line.DumpLine.TheVariants.{Space, Ns, Cell as CellLine, Place, Alias as AliasLine, Link, Provider, Content, End}
 use Rattle.cell_dumped.specs.Readings.{line_said}
 use Rattle.cell_dumped.specs.Texts.{line_text}
 use Rattle.cell_dumped.proofs.Written.{said_written}

@@ -10,8 +10,8 @@ use Rattle.std.proofs.lemmas.List.Folds.{list_all-append}
 use Rattle.std.proofs.lemmas.List.Sums.{fold-append}
 use Rattle.cell_num.specs.Lists.{last}
 use Rattle.cell_num.specs.Limits.{max_cell_number, max_cells, max_namespaces}
-use Rattle.cell_dumped.specs.declared.line.DumpLine.{DumpLine}
-use Rattle.cell_dumped.specs.declared.line.DumpLine.TheVariants.{Space, Ns, Cell, Place, Alias, Link, Provider, Content, End}
+use Rattle.cell_world.specs.declared.line.DumpLine.{DumpLine}
+use Rattle.cell_world.specs.declared.line.DumpLine.TheVariants.{Space, Ns, Cell, Place, Alias, Link, Provider, Content, End}
 use Rattle.cell_audit.specs.Following.{cell_number, goes_on, goes_on_after, is_below, is_cell, is_in_order, is_ns, is_root, is_space, may_follow, ns_count, rank_of}
 use Rattle.cell_audit.specs.Known.{after_line, follows, is_of, known_of, naming_of, nothing, one_where, placing_of, stands}
 use Rattle.cell_audit.specs.declared.order.Known.{Known}

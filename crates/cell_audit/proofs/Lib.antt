@@ -1,10 +1,11 @@
 pub mod Ends
 pub mod Clean
 pub mod Knowing
-mod Finding
+pub mod Finding
 mod Telling
 mod Cells
 mod Memory
 mod Keeping
-mod Rows
+pub mod Rows
+mod Spaced
 pub mod Refused

@@ -8,8 +8,8 @@ use Rattle.std.proofs.lemmas.List.Elements.{filter_map-append}
 use Rattle.cell_num.specs.Lists.{first, or_else}
 use Rattle.cell_num.specs.Limits.{max_base, max_pages, min_base, min_pages}
 use Rattle.cell_world.specs.declared.state.Namespace.{Namespace}
-use Rattle.cell_dumped.specs.declared.line.DumpLine.{DumpLine}
-use Rattle.cell_dumped.specs.declared.line.DumpLine.TheVariants.{Space, Ns, Cell as CellLine, Place, Alias as AliasLine, Link, Provider, Content, End}
+use Rattle.cell_world.specs.declared.line.DumpLine.{DumpLine}
+use Rattle.cell_world.specs.declared.line.DumpLine.TheVariants.{Space, Ns, Cell as CellLine, Place, Alias as AliasLine, Link, Provider, Content, End}
 use Rattle.cell_audit.specs.declared.kept.WrittenDump.{WrittenDump}
 use Rattle.cell_audit.specs.declared.order.Known.{Known}
 use Rattle.cell_audit.specs.declared.told_bytes.Told.{Told}

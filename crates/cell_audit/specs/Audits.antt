@@ -7,7 +7,7 @@ use Rattle.std.specs.Prelude.{◌≡◌, map, ℕ, List, [], ◌∷◌, Option, 
 use Rattle.cell_num.specs.Lists.{equals}
 use Rattle.cell_world.specs.Gather.{Source}
 use Rattle.cell_dumped.specs.Texts.{line_text}
-use Rattle.cell_dumped.specs.declared.line.DumpLine.{DumpLine}
+use Rattle.cell_world.specs.declared.line.DumpLine.{DumpLine}
 use Rattle.cell_audit.specs.declared.fail.AuditFail.{AuditFail}
 use Rattle.cell_audit.specs.declared.fail.AuditFail.TheVariants.{Unreadable, NoObject, Misplaced, Unlinked, Differs}
 use Rattle.cell_audit.specs.Dumps.{Text, Row, dump_in, rows_in, lines_of}

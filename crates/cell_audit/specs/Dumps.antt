@@ -6,7 +6,7 @@ use Rattle.std.specs.List.{slice_split}
 use Rattle.cell_num.specs.Lists.{numbered_from, where_true}
 use Rattle.cell_text.specs.Text.{lines_in}
 use Rattle.cell_dumped.specs.Readings.{line_said, number}
-use Rattle.cell_dumped.specs.declared.line.DumpLine.{DumpLine}
+use Rattle.cell_world.specs.declared.line.DumpLine.{DumpLine}
 use Rattle.cell_audit.specs.Following.{may_follow}
 
 -- a line of a file, and its number from 1 on

@@ -4,9 +4,9 @@
 use Rattle.std.specs.Prelude.{ℕ, ◌%◌, ◌==◌, nat_lt, nat_le, Bool, true, false, not, ◌&&◌, List, Option, Some, None, length, filter, filter_map, is_none, codes, unwrap_or, option_map, bytes_eq, if◌then◌else◌}
 use Rattle.std.specs.List.{list_all}
 use Rattle.cell_num.specs.Lists.{last}
-use Rattle.cell_num.specs.Limits.{max_cells, max_cell_number, max_namespaces, max_base, max_pages, min_base, min_pages}
-use Rattle.cell_dumped.specs.declared.line.DumpLine.{DumpLine}
-use Rattle.cell_dumped.specs.declared.line.DumpLine.TheVariants.{Space, Ns, Cell, Place, Alias, Link, Provider, Content, End}
+use Rattle.cell_num.specs.Limits.{max_cells, max_cell_number, max_namespaces, max_base, max_pages, min_base, min_pages, page_size}
+use Rattle.cell_world.specs.declared.line.DumpLine.{DumpLine}
+use Rattle.cell_world.specs.declared.line.DumpLine.TheVariants.{Space, Ns, Cell, Place, Alias, Link, Provider, Content, End}
 
 -- lines of a lower rank stand before those of a higher one
 abbrev pub rank_of : DumpLine → ℕ
@@ -41,7 +41,7 @@ is_in_order before rank = list_all (λ l. nat_le (rank_of l) rank) before && (if
 
 abbrev pub is_space : ℕ → ℕ → Bool
 is_space base pages =
-    (base % 4096 == 0) && nat_le min_base base && nat_le base max_base && nat_le min_pages pages && nat_le pages max_pages
+    (base % page_size == 0) && nat_le min_base base && nat_le base max_base && nat_le min_pages pages && nat_le pages max_pages
 
 -- namespace 0 is `k`, and every other has a parent of a lower number
 abbrev pub is_root : List ℕ → Option ℕ → Bool

@@ -4,9 +4,10 @@
 --     Keeps line said old new    the new has what the old has, and what the line says
 --     Tells file rows w          w has what these rows say, of a file
 use Rattle.std.specs.Prelude.{◌≡◌, ◌<◌, ◌≤◌, ◌+◌, ◌-◌, ◌*◌, ◌^◌, ℕ, List, [], ◌∷◌, ◌++◌, All, IfSome, filter_map, length}
+use Rattle.cell_num.specs.Limits.{page_size}
 use Rattle.cell_world.specs.declared.state.Namespace.{Namespace}
-use Rattle.cell_dumped.specs.declared.line.DumpLine.{DumpLine}
-use Rattle.cell_dumped.specs.declared.line.DumpLine.TheVariants.{Space, Ns, Cell as CellLine, Place, Alias as AliasLine, Content}
+use Rattle.cell_world.specs.declared.line.DumpLine.{DumpLine}
+use Rattle.cell_world.specs.declared.line.DumpLine.TheVariants.{Space, Ns, Cell as CellLine, Place, Alias as AliasLine, Content}
 use Rattle.cell_audit.specs.declared.dump.Line.{Line}
 use Rattle.cell_audit.specs.declared.dump.Lines.{Lines}
 use Rattle.cell_audit.specs.declared.kept.WrittenDump.{WrittenDump}
@@ -19,7 +20,7 @@ use Rattle.cell_audit.specs.Told.{IsClear, Puts, byte_told}
 use Rattle.cell_audit.specs.Written.{AreWritten, rows_of}
 
 abbrev pub Fits : Line → DumpLine → Type 0
-Fits line (Space base pages) = base + 4096 * pages < 2 ^ 64
+Fits line (Space base pages) = base + page_size * pages < 2 ^ 64
 Fits line (Ns number name parent) = IfSome parent (λ p. p < 2 ^ 16)
 Fits line (CellLine cell ns stem file group) = (cell < 2 ^ 32) × (ns < 2 ^ 16)
 Fits line (AliasLine cell symbol name) = length name ≤ line.end
@@ -34,13 +35,13 @@ HasRoom _ cells = Unit {0}
 pub record HasSpace (base pages : ℕ) (old new : WrittenDump) : Type 0 where
   pub base_is : new.base ≡ base
   pub pages_are : new.pages ≡ pages
-  pub clear : IsClear new.told base (4096 * pages)
+  pub clear : IsClear new.told base (page_size * pages)
   pub namespaces : new.namespaces ≡ old.namespaces
   pub cells : new.cells ≡ old.cells
   pub lines : new.lines ≡ old.lines
 
 abbrev pub MemoryGoes : DumpLine → WrittenDump → WrittenDump → Type 0
-MemoryGoes (Space base pages) old new = (new.base ≡ base) × (new.pages ≡ pages) × IsClear new.told base (4096 * pages)
+MemoryGoes (Space base pages) old new = (new.base ≡ base) × (new.pages ≡ pages) × IsClear new.told base (page_size * pages)
 MemoryGoes (Content at start bytes) old new = (new.base ≡ old.base) × (new.pages ≡ old.pages) × Puts start bytes old.told new.told
 MemoryGoes _ old new = (new.base ≡ old.base) × (new.pages ≡ old.pages) × (new.told ≡ old.told)
 
@@ -117,4 +118,4 @@ pub record Tells (file : List ℕ) (rows : List Row) (w : WrittenDump) : Type 0 
   pub namespaces : w.namespaces.items ≡ filter_map namespace_of (lines_of rows)
   pub cells : AreWritten file rows w.cells.items
   pub names : All (AreNamesWithin file) w.cells.items
-  pub told : (addr : ℕ) → w.base ≤ addr → addr < w.base + 4096 * w.pages → byte_told w.told addr ≡ byte_at (lines_of rows) addr
+  pub told : (addr : ℕ) → w.base ≤ addr → addr < w.base + page_size * w.pages → byte_told w.told addr ≡ byte_at (lines_of rows) addr

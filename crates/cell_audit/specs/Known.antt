@@ -5,8 +5,8 @@
 use Rattle.std.specs.Prelude.{ℕ, ◌+◌, ◌==◌, nat_lt, nat_le, Bool, true, false, not, ◌&&◌, List, Option, Some, None, fold, max, option_and_then, option_map, unwrap_or, if◌then◌else◌}
 use Rattle.cell_num.specs.Lists.{where_true}
 use Rattle.cell_num.specs.Limits.{max_cells, max_cell_number, max_namespaces}
-use Rattle.cell_dumped.specs.declared.line.DumpLine.{DumpLine}
-use Rattle.cell_dumped.specs.declared.line.DumpLine.TheVariants.{Space, Ns, Cell, Place, Alias, Link, Provider, Content, End}
+use Rattle.cell_world.specs.declared.line.DumpLine.{DumpLine}
+use Rattle.cell_world.specs.declared.line.DumpLine.TheVariants.{Space, Ns, Cell, Place, Alias, Link, Provider, Content, End}
 use Rattle.cell_audit.specs.Following.{cell_number, is_below, is_cell, is_ns, is_root, is_space, rank_of}
 use Rattle.cell_audit.specs.Dumps.{said_at}
 use Rattle.cell_audit.specs.declared.order.Known.{Known}

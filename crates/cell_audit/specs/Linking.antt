@@ -15,8 +15,8 @@ use Rattle.cell_world.specs.Layout.{own_bytes}
 use Rattle.cell_world.specs.Names.{provider_of}
 use Rattle.cell_world.specs.Relink.{bound_entries, links_of}
 use Rattle.cell_world.specs.World.{World, Cell}
-use Rattle.cell_dumped.specs.Lines.{lines_by}
-use Rattle.cell_dumped.specs.declared.line.DumpLine.{DumpLine}
+use Rattle.cell_world.specs.DumpLines.{lines_by}
+use Rattle.cell_world.specs.declared.line.DumpLine.{DumpLine}
 use Rattle.cell_audit.specs.Described.{cell_of, told}
 use Rattle.cell_audit.specs.Dumps.{Row}
 

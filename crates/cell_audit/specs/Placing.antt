@@ -2,6 +2,7 @@
 --     first_lacking sources rows       the first cell's line whose file isn't there or breaks a rule
 --     first_misplaced sources rows     the first line that places what can't stand there
 use Rattle.std.specs.Prelude.{ℕ, suc, ◌+◌, ◌*◌, ◌%◌, ◌==◌, nat_lt, nat_le, Bool, false, not, ◌&&◌, List, [], ◌∷◌, ◌++◌, Option, Some, None, map, filter_map, find, is_none, option_map, option_and_then, unwrap_or, max, if◌then◌else◌}
+use Rattle.cell_num.specs.Limits.{page_size}
 use Rattle.std.specs.List.{list_any}
 use Rattle.cell_num.specs.Lists.{equals, first, where_true}
 use Rattle.cell_object.specs.declared.object.Object.{Object}
@@ -9,8 +10,8 @@ use Rattle.cell_object.specs.declared.object.Section.{Section as ObjectSection}
 use Rattle.cell_object.specs.Parts.{section_of}
 use Rattle.cell_world.specs.Gather.{Source}
 use Rattle.cell_world.specs.Names.{definitions_of}
-use Rattle.cell_dumped.specs.declared.line.DumpLine.{DumpLine}
-use Rattle.cell_dumped.specs.declared.line.DumpLine.TheVariants.{Cell as CellLine, Place, Alias as AliasLine}
+use Rattle.cell_world.specs.declared.line.DumpLine.{DumpLine}
+use Rattle.cell_world.specs.declared.line.DumpLine.TheVariants.{Cell as CellLine, Place, Alias as AliasLine}
 use Rattle.cell_audit.specs.Dumps.{Row, lines_of}
 use Rattle.cell_audit.specs.Described.{object_of, place_of, space_of}
 
@@ -50,7 +51,7 @@ share_a_byte a b =
 abbrev pub may_stand : ℕ × ℕ → List Extent → Extent → Bool
 may_stand space before e =
     (e.start % max 1 e.section.align == 0) && nat_le space.0 e.start
-    && nat_le (e.start + e.section.size) (space.0 + 4096 * space.1) && not (list_any (λ b. share_a_byte b e) before)
+    && nat_le (e.start + e.section.size) (space.0 + page_size * space.1) && not (list_any (λ b. share_a_byte b e) before)
 
 -- the cell has a place for each section of its object, in order
 abbrev pub has_places : List Source → List DumpLine → ℕ → Bool

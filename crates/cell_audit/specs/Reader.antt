@@ -2,9 +2,10 @@
 --     IsReady known cells               what is known of the lines is so of the cells too
 --     IsKept file rows known w          that is known of the rows, and w has what they say
 use Rattle.std.specs.Prelude.{◌≡◌, ◌<◌, ◌≤◌, ◌+◌, ◌*◌, ◌^◌, ℕ, nat_le, nat_lt, true, List, [], Some, All, filter, filter_map, length, map}
+use Rattle.cell_num.specs.Limits.{page_size}
 use Rattle.std.specs.List.{flat_map, list_all}
 use Rattle.cell_num.specs.Lists.{each_pair, first, last}
-use Rattle.cell_dumped.specs.declared.line.DumpLine.{DumpLine}
+use Rattle.cell_world.specs.declared.line.DumpLine.{DumpLine}
 use Rattle.cell_audit.specs.declared.kept.WrittenDump.{WrittenDump}
 use Rattle.cell_audit.specs.declared.order.Known.{Known}
 use Rattle.cell_audit.specs.declared.written.WrittenCell.{WrittenCell}
@@ -49,8 +50,8 @@ pub record HasMemory (lines : List DumpLine) (w : WrittenDump) : Type 0 where
   pub base : w.base ≡ (space_of lines).0
   pub pages : w.pages ≡ (space_of lines).1
   pub told_base : w.told.base ≡ w.base
-  pub told_size : length w.told.bytes.items ≡ 4096 * w.pages
-  pub small : w.base + 4096 * w.pages < 2 ^ 64
+  pub told_size : length w.told.bytes.items ≡ page_size * w.pages
+  pub small : w.base + page_size * w.pages < 2 ^ 64
   pub told : (addr : ℕ) → Covers w.told addr → told_at w.told addr ≡ first (filter_map (byte_in addr) lines)
 
 pub record IsKept (file : List ℕ) (rows : List Row) (known : Known) (w : WrittenDump) : Type 0 where

@@ -4,7 +4,7 @@
 use Rattle.std.specs.Prelude.{◌≡◌, ℕ, nat_lt, ◌==◌, Bool, true, List, ◌∷◌, ◌++◌, map, filter, slice_range}
 use Rattle.std.specs.List.{flat_map}
 use Rattle.cell_num.specs.Lists.{each_pair}
-use Rattle.cell_dumped.specs.declared.line.DumpLine.TheVariants.{Cell as CellLine, Place, Alias as AliasLine}
+use Rattle.cell_world.specs.declared.line.DumpLine.TheVariants.{Cell as CellLine, Place, Alias as AliasLine}
 use Rattle.cell_audit.specs.declared.written.WrittenPlace.{WrittenPlace}
 use Rattle.cell_audit.specs.declared.written.WrittenAlias.{WrittenAlias}
 use Rattle.cell_audit.specs.declared.written.WrittenCell.{WrittenCell}

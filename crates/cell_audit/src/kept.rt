@@ -1,14 +1,14 @@
 //! What is kept of the lines of a dump.
 
 ghost use Rattle.std.specs.Prelude.{◌≡◌, ◌<◌, ◌≤◌, ◌+◌, ◌*◌, ◌^◌, [], ◌∷◌, ◌++◌, length, IfSome, OnOk, vec_len};
+ghost use Rattle.cell_num.specs.Limits.{page_size};
 ghost use Rattle.cell_audit.specs.Kept.{Fits, HasAlias, HasPlace, HasRoom, HasSpace, IsNothing, Keeps, LastGoes, alias_of};
 
 use crate::dump::{Line, Lines};
 use crate::told_bytes::Told;
 use crate::written::{WrittenAlias, WrittenCell, WrittenPlace};
-use cell_dumped::DumpLine;
 use cell_num::{Name, PAGE_SIZE};
-use cell_world::Namespace;
+use cell_world::{DumpLine, Namespace};
 use std::alloc::{AllocError, Global};
 
 /// What the lines of a dump say, as it is needed once they were read. Its links and providers aren't kept, since they are
@@ -101,7 +101,7 @@ impl WrittenDump {
     }
 
     fn keep_space(&mut self, alloc: Global, base: u64, pages: u64) -> Result<(), AllocError>
-        requires { base + 4096 * pages < 2 ^ 64 }
+        requires { base + page_size * pages < 2 ^ 64 }
         ensures { OnOk result (HasSpace base pages self.old self.new) }
     {
         self.told = Told::of(alloc, base, (pages * PAGE_SIZE) as usize)?;

@@ -15,7 +15,7 @@ mod row;
 mod told_bytes;
 mod written;
 
-pub use dump::Lines;
+pub use dump::{Lines, line_end};
 pub use fail::AuditFail;
 pub use kept::WrittenDump;
 pub use read::read_dump;

@@ -5,11 +5,11 @@ ghost use Rattle.cell_audit.specs.Following.{is_below, is_root, is_space, rank_o
 ghost use Rattle.cell_audit.specs.Known.{after_line, follows, is_of, naming_of, nothing, placing_of, stands};
 ghost use Rattle.cell_num.specs.Limits.{max_cell_number, max_cells, max_namespaces};
 
-use cell_dumped::DumpLine;
 use cell_num::{
     MAX_BASE, MAX_CELL_NUMBER, MAX_CELLS, MAX_NAMESPACES, MAX_PAGES, MIN_BASE, MIN_PAGES, Name,
     PAGE_SIZE,
 };
+use cell_world::DumpLine;
 
 /// What is known of the lines so far, where each may stand behind those before it.
 #[derive(Clone, Copy, Debug, PartialEq, Eq)]

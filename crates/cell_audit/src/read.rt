@@ -7,6 +7,7 @@ ghost use Rattle.cell_audit.specs.Kept.{Tells};
 ghost use Rattle.cell_audit.specs.Outcome.{FailsBy, GoesOn, StopsAt};
 ghost use Rattle.cell_audit.specs.Reader.{IsKept, IsReady};
 ghost use Rattle.cell_audit.specs.Within.{AreWithin, IsWithin, text_of, texts_of};
+ghost use Rattle.cell_world.specs.Pages.{IsSpace};
 
 use crate::AuditFail;
 use crate::dump::{Line, Lines, dump_in, line_end};
@@ -49,6 +50,7 @@ pub fn read_dump(alloc: Global, file: &[u8]) -> Result<WrittenDump, AuditFail>
     ensures texts { IfOk result (λ w. dump_in file.now ≡ Some (texts_of file.now w.lines)) }
     ensures within { IfOk result (λ w. AreWithin file.now w.lines) }
     ensures rows { IfOk result (λ w. (rows : List Row) × (reading_of file.now ≡ Ok rows) × Tells file.now rows w) }
+    ensures space { IfOk result (λ w. IsSpace w.base w.pages) }
     ensures fault { IfErr result (λ fault. FailsBy fault (reading_of file.now)) }
 {
     match dump_in(file) {

@@ -5,7 +5,8 @@ ghost use Rattle.cell_audit.specs.Dumps.{said_at};
 ghost use Rattle.cell_audit.specs.Known.{after_line, said_behind};
 
 use crate::order::Known;
-use cell_dumped::{DumpLine, read_line};
+use cell_dumped::read_line;
+use cell_world::DumpLine;
 use std::alloc::{AllocError, Global};
 
 /// What the text says behind the lines of which that is known, if it says something there. Then `known` goes on behind it.

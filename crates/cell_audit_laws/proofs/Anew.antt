@@ -27,16 +27,16 @@ use Rattle.cell_lemmas.proofs.Present.{In-filter_map}
 use Rattle.cell_world.specs.declared.state.Target.{Target}
 use Rattle.cell_world.specs.declared.state.Target.TheVariants.{Number}
 use Rattle.cell_lemmas.proofs.Values.{bind, bound_map}
-use Rattle.cell_dumped.specs.Lines.{alias_line, cell_lines, content_lines, dump_lines, held_in, lines_within, link_line, ns_line, part_of, place_line, provided_at, provider_line, provider_lines, section_lines}
-use Rattle.cell_dumped.specs.declared.line.DumpLine.{DumpLine}
-use Rattle.cell_dumped.specs.declared.line.DumpLine.TheVariants.{Space, Cell as CellLine, Provider, Content, End}
-use Rattle.cell_dumped.specs.declared.line.Part.{Part}
+use Rattle.cell_world.specs.DumpLines.{alias_line, cell_lines, content_lines, dump_lines, held_in, lines_within, link_line, ns_line, part_of, place_line, provided_at, provider_line, provider_lines, section_lines}
+use Rattle.cell_world.specs.declared.line.DumpLine.{DumpLine}
+use Rattle.cell_world.specs.declared.line.DumpLine.TheVariants.{Space, Cell as CellLine, Provider, Content, End}
+use Rattle.cell_world.specs.declared.line.Part.{Part}
 use Rattle.cell_audit.specs.Described.{cell_of, described}
 use Rattle.cell_audit.specs.Dumps.{Row, lines_of}
 use Rattle.cell_audit.specs.Linking.{first_unlinked, fresh_lines, is_lacking, is_unlinked, lacks_provider, relinked_bytes, relinked_content, unlinked_in}
 use Rattle.cell_audit.specs.Placing.{first_lacking, lacks_object}
 use Rattle.cell_audit_laws.specs.Anew.{described_of, made_anew}
-use Rattle.cell_audit_laws.specs.Read.{AreRead}
+use Rattle.cell_origin_law.specs.Readings.{AreRead}
 use Rattle.cell_audit_laws.proofs.Contents.{dump_fresh}
 use Rattle.cell_audit_laws.proofs.Describes.{cell_back, dump_is_of, object_is}
 use Rattle.cell_audit_laws.proofs.Told.{told_is}

@@ -7,17 +7,17 @@ use Rattle.cell_num.proofs.Elements.{All-In}
 use Rattle.cell_world.specs.Coherent.{IsCoherent}
 use Rattle.cell_world.specs.Gather.{Source}
 use Rattle.cell_world.specs.World.{World}
-use Rattle.cell_dumped.specs.Lines.{dump_lines}
+use Rattle.cell_world.specs.DumpLines.{dump_lines}
 use Rattle.cell_dumped.specs.Texts.{line_text}
 use Rattle.cell_dumped.specs.Writable.{IsWritable}
-use Rattle.cell_dumped.specs.declared.line.DumpLine.{DumpLine}
+use Rattle.cell_world.specs.declared.line.DumpLine.{DumpLine}
 use Rattle.cell_dumped.proofs.Says.{text_says}
 use Rattle.cell_audit.specs.Audits.{audit_of}
 use Rattle.cell_audit.specs.Dumps.{Row, Text, dump_in, lines_of, row_after, rows_after, said_at}
 use Rattle.cell_audit.specs.Following.{may_follow}
 use Rattle.cell_audit.proofs.Clean.{fresh_clean}
 use Rattle.cell_audit_laws.specs.Anew.{shown}
-use Rattle.cell_audit_laws.specs.Read.{AreRead}
+use Rattle.cell_origin_law.specs.Readings.{AreRead}
 use Rattle.cell_audit_laws.proofs.Anew.{all_fresh, no_lacking, no_unlinked}
 use Rattle.cell_audit_laws.proofs.Order.{Follows, all_follow}
 use Rattle.cell_audit_laws.proofs.Stands.{no_misplaced}

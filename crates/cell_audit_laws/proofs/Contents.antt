@@ -23,9 +23,9 @@ use Rattle.cell_lemmas.proofs.Slices.{slice, slice_at, slice_length}
 use Rattle.cell_laws.proofs.Fresh.{ends_here, field_holds, section_holds}
 use Rattle.cell_laws.proofs.FreshSaid.{fresh_size}
 use Rattle.cell_laws.proofs.Parts.{read_window}
-use Rattle.cell_dumped.specs.Lines.{cell_lines, content_lines, dump_lines, held_in, lines_by, link_line, ns_line, provider_lines, section_lines}
-use Rattle.cell_dumped.specs.declared.line.DumpLine.TheVariants.{Space, End}
-use Rattle.cell_dumped.specs.declared.line.DumpLine.{DumpLine}
+use Rattle.cell_world.specs.DumpLines.{cell_lines, content_lines, dump_lines, held_in, lines_by, link_line, ns_line, provider_lines, section_lines}
+use Rattle.cell_world.specs.declared.line.DumpLine.TheVariants.{Space, End}
+use Rattle.cell_world.specs.declared.line.DumpLine.{DumpLine}
 use Rattle.cell_audit.specs.Linking.{relinked_bytes}
 use Rattle.cell_audit_laws.specs.Anew.{linked_anew, made_anew}
 

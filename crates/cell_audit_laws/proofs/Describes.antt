@@ -27,11 +27,11 @@ use Rattle.cell_world.specs.declared.state.Namespace.{Namespace}
 use Rattle.cell_world.specs.declared.state.SecPlace.{SecPlace}
 use Rattle.cell_lemmas.proofs.Known.{known_parts, object_sound}
 use Rattle.cell_laws.proofs.Parts.{one_left}
-use Rattle.cell_dumped.specs.Lines.{alias_line, cell_lines, dump_lines, held_in, ns_line, place_line}
-use Rattle.cell_dumped.specs.declared.line.DumpLine.{DumpLine}
+use Rattle.cell_world.specs.DumpLines.{alias_line, cell_lines, dump_lines, held_in, ns_line, place_line}
+use Rattle.cell_world.specs.declared.line.DumpLine.{DumpLine}
 use Rattle.cell_audit.specs.Described.{alias_of, cell_of, described, namespace_of, no_object, object_of, place_of, standing_of}
 use Rattle.cell_audit_laws.specs.Anew.{described_of}
-use Rattle.cell_audit_laws.specs.Read.{AreRead, IsRead}
+use Rattle.cell_origin_law.specs.Readings.{AreRead, IsRead}
 use Rattle.cell_audit_laws.proofs.Selected.{of_cells, of_spaces, quiet_map}
 
 standing_back : (s : Standing) → standing_of (group_of s) ≡ s

@@ -18,10 +18,10 @@ use Rattle.cell_world.specs.World.{World, Cell, Alias, is_attached}
 use Rattle.cell_world.specs.declared.reply.Found.{Found}
 use Rattle.cell_world.specs.declared.state.Namespace.{Namespace}
 use Rattle.cell_lemmas.proofs.Known.{known_parts}
-use Rattle.cell_dumped.specs.Lines.{alias_line, cell_lines, dump_lines, held_in, lines_within, link_line, ns_line, part_of, place_line, provided_at, provider_line, provider_lines, section_lines}
-use Rattle.cell_dumped.specs.declared.line.DumpLine.{DumpLine}
-use Rattle.cell_dumped.specs.declared.line.DumpLine.TheVariants.{Space, Ns, Cell as CellLine, Place, Alias as AliasLine, Link, Provider, Content, End}
-use Rattle.cell_dumped.specs.declared.line.Part.{Part}
+use Rattle.cell_world.specs.DumpLines.{alias_line, cell_lines, dump_lines, held_in, lines_within, link_line, ns_line, part_of, place_line, provided_at, provider_line, provider_lines, section_lines}
+use Rattle.cell_world.specs.declared.line.DumpLine.{DumpLine}
+use Rattle.cell_world.specs.declared.line.DumpLine.TheVariants.{Space, Ns, Cell as CellLine, Place, Alias as AliasLine, Link, Provider, Content, End}
+use Rattle.cell_world.specs.declared.line.Part.{Part}
 use Rattle.cell_audit.proofs.Knowing.{count_more, last_is}
 use Rattle.cell_audit.specs.Following.{cell_number, goes_on, goes_on_after, rank_of, is_below, is_cell, is_in_order, is_ns, is_root, may_follow, ns_count}
 use Rattle.cell_audit_laws.proofs.Anew.{known-In}

@@ -10,10 +10,10 @@ use Rattle.cell_world.specs.declared.reply.Found.{Found}
 use Rattle.cell_world.specs.Names.{names_of}
 use Rattle.cell_world.specs.Target.{start_of}
 use Rattle.cell_world.specs.World.{World, Cell, Alias, is_attached}
-use Rattle.cell_dumped.specs.Lines.{cell_lines, lines_by, lines_within, link_line, ns_line, part_of, provided_at, provider_line, provider_lines, section_lines}
-use Rattle.cell_dumped.specs.declared.line.DumpLine.{DumpLine}
-use Rattle.cell_dumped.specs.declared.line.DumpLine.TheVariants.{Space, Ns, Link, Provider, Content, End}
-use Rattle.cell_dumped.specs.declared.line.Part.{Part}
+use Rattle.cell_world.specs.DumpLines.{cell_lines, lines_by, lines_within, link_line, ns_line, part_of, provided_at, provider_line, provider_lines, section_lines}
+use Rattle.cell_world.specs.declared.line.DumpLine.{DumpLine}
+use Rattle.cell_world.specs.declared.line.DumpLine.TheVariants.{Space, Ns, Link, Provider, Content, End}
+use Rattle.cell_world.specs.declared.line.Part.{Part}
 
 module _ {Y : Type 0} (f : DumpLine → Option Y) where
   abbrev pub selected : List DumpLine → List Y

@@ -27,6 +27,7 @@ use Rattle.cell_world.specs.Relink.{link_of, link_to, links_of}
 use Rattle.cell_world.specs.Target.{own_target, provided_target, start_of, target_of}
 use Rattle.cell_world.specs.World.{World, Cell, Alias, Region, Standing, cell_of}
 use Rattle.cell_world.specs.declared.state.Standing.TheVariants.{Attached, Detached}
+use Rattle.cell_world.specs.Undo.{AreBytes}
 use Rattle.cell_world.specs.declared.reply.Found.{Found}
 use Rattle.cell_world.specs.declared.state.LinkRow.{LinkRow}
 use Rattle.cell_world.specs.declared.state.Namespace.{Namespace}
@@ -36,12 +37,13 @@ use Rattle.cell_lemmas.specs.Present.{HasSection, JoinsPresent}
 use Rattle.cell_lemmas.proofs.FieldsInside.{section_class}
 use Rattle.cell_lemmas.proofs.Known.{known_parts, object_sound}
 use Rattle.cell_lemmas.proofs.Present.{In-filter_map, and_then_ok, links_present}
-use Rattle.cell_dumped.specs.Lines.{dump_lines, held_in, lines_within, link_line, ns_line, part_of, provided_at, section_lines}
+use Rattle.cell_world.specs.DumpLines.{dump_lines, held_in, lines_within, link_line, ns_line, part_of, provided_at, section_lines}
 use Rattle.cell_dumped.specs.Writable.{IsWritable, IsWritablePart, SmallNumber}
-use Rattle.cell_dumped.specs.declared.line.DumpLine.{DumpLine}
-use Rattle.cell_dumped.specs.declared.line.DumpLine.TheVariants.{Content}
-use Rattle.cell_dumped.specs.declared.line.Part.{Part}
-use Rattle.cell_audit_laws.specs.Spelled.{IsSpelled}
+use Rattle.cell_world.specs.declared.line.DumpLine.{DumpLine}
+use Rattle.cell_world.specs.declared.line.DumpLine.TheVariants.{Content}
+use Rattle.cell_world.specs.declared.line.Part.{Part}
+use Rattle.cell_origin_law.specs.Spelled.{IsSpelled, IsSpelledCell}
+use Rattle.cell_origin_law.proofs.Names.{named_well}
 use Rattle.cell_audit_laws.proofs.Anew.{each_line}
 use Rattle.cell_audit_laws.proofs.Told.{held_size, holds}
 
@@ -93,7 +95,10 @@ pieces (suc n) at addr bytes l enough (inr i) =
       own = λ b i. In-drop 64 bytes b (r.own b i);
     }
 
-module _ (w : World) (h : IsCoherent w) (spelled : IsSpelled w) where
+module _ (w : World) (h : IsCoherent w) (spelled : IsSpelled w) (held : AreBytes w.regions) where
+  cell_spelled : (c : Cell) → In c w.cells → IsSpelledCell c
+  cell_spelled = All-In IsSpelledCell w.cells spelled.cells
+
   cell_small : (c : Cell) → In c w.cells → c.id.0 < 65536
   cell_small c i = let k = known_parts w c (all-In (is_known_cell w) w.cells h.ready.cells c i) in let a = ltb-true c.id.0 w.next_cell k.number in let b = h.ready.cell_numbers in omega (arith, a, b)
 
@@ -101,7 +106,7 @@ module _ (w : World) (h : IsCoherent w) (spelled : IsSpelled w) where
   ns_small c i = let k = known_parts w c (all-In (is_known_cell w) w.cells h.ready.cells c i) in let a = ltb-true c.ns (length w.namespaces) k.ns in let b = h.ready.few_spaces in omega (arith, a, b)
 
   section_small : (c : Cell) → In c w.cells → (s : ObjectSection) → In s c.object.sections → s.number < 2 ^ 16
-  section_small c i s m = All-In (λ (s : ObjectSection). s.number < 2 ^ 16) c.object.sections (All-In (λ (c : Cell). All (λ s. s.number < 2 ^ 16) c.object.sections) w.cells spelled.sections c i) s m
+  section_small c i s m = All-In (λ (s : ObjectSection). s.number < 2 ^ 16) c.object.sections (cell_spelled c i).sections s m
 
   ends_low : (c : Cell) → In c w.cells → (s : ObjectSection) → In s c.object.sections → start_of c.placed s.number + s.size < 2 ^ 64
   ends_low c i s m =
@@ -167,29 +172,8 @@ module _ (w : World) (h : IsCoherent w) (spelled : IsSpelled w) where
       symbol-In c (suc n) s h = get-In c.object.symbols n s h
 
   -- names that cells have
-  named_well : (c : Cell) → In c w.cells → (a : Alias) → In a (names_of c) → is_global_name a.name ≡ true
-  named_well c i a m = go (In-append (definitions_of c.object) c.aliases a m)
-    where
-      unlocal : (b : Bind) → is_global b ≡ true → is_local b ≡ false
-      unlocal Local e = absurd (true≢false (sym e))
-      unlocal Global e = refl
-      unlocal Weak e = absurd (true≢false (sym e))
-
-      of_symbol : (s : Symbol) → is_sound_symbol c.object s ≡ true → is_definition s ≡ true → is_global_name s.name ≡ true
-      of_symbol s sound defines =
-          let g = (and_parts (is_global s.bind) (is_defined s.home) defines).0 in
-          let k = (and_parts (is_sound_home c.object s s.home) (is_local s.bind || is_global_name s.name && is_plain_sort s.sort) sound).1 in
-          (and_parts (is_global_name s.name) (is_plain_sort s.sort) (ap (λ (b : Bool). b || is_global_name s.name && is_plain_sort s.sort) (sym (unlocal s.bind g)) ∙ k)).0
-
-      go : In a (definitions_of c.object) ⊎ In a c.aliases → is_global_name a.name ≡ true
-      go (inl j) =
-          let p = In-map (λ (p : ℕ × Symbol). let x : Alias = record { name = p.1.name; symbol = p.0 } in x) (filter (λ p. is_definition p.1) (numbered_from 1 c.object.symbols)) a j in
-          let d = filter-Passes (λ (p : ℕ × Symbol). is_definition p.1) (numbered_from 1 c.object.symbols) p.0 p.1 in
-          let n = In-numbered c.object.symbols 1 p.0 (In-filtered (λ (p : ℕ × Symbol). is_definition p.1) (numbered_from 1 c.object.symbols) p.0 p.1) in
-          let name : a.name ≡ p.0.1.name = ap (λ (x : Alias). x.name) p.2 in
-          subst (λ (x : List ℕ). is_global_name x ≡ true) (sym name)
-          (of_symbol p.0.1 (all-In (is_sound_symbol c.object) c.object.symbols (object_sound w h.ready.objects c i).symbols p.0.1 (get-In c.object.symbols n.0 p.0.1 n.1)) d)
-      go (inr j) = All-In (λ (a : Alias). is_global_name a.name ≡ true) c.aliases (All-In (λ (c : Cell). All (λ a. is_global_name a.name ≡ true) c.aliases) w.cells spelled.aliases c i) a j
+  named : (c : Cell) → In c w.cells → (a : Alias) → In a (names_of c) → is_global_name a.name ≡ true
+  named c i = named_well w h c i (cell_spelled c i)
 
   alias_small : (c : Cell) → In c w.cells → (a : Alias) → In a c.aliases → a.symbol - 1 < 2 ^ 64
   alias_small c i a m =
@@ -261,7 +245,7 @@ module _ (w : World) (h : IsCoherent w) (spelled : IsSpelled w) where
           none (x ∷ xs) e k = absurd (omega (arith, e))
       go (suc n) e =
           let q = holds w h c i s m (omega (arith, e)) in
-          All-In (λ (b : ℕ). b < 256) q.region.bytes (All-In (λ (r : Region). All (λ b. b < 256) r.bytes) w.regions spelled.bytes q.region q.there) b
+          All-In (λ (b : ℕ). b < 256) q.region.bytes (All-In (λ (r : Region). All (λ b. b < 256) r.bytes) w.regions held q.region q.there) b
           (In-drop (start_of c.placed s.number - q.region.start) q.region.bytes b (In-take s.size (drop (start_of c.placed s.number - q.region.start) q.region.bytes) b (subst (λ (xs : List ℕ). In b xs) q.is j)))
 
   bytes_writable : (c : Cell) → In c w.cells → (s : ObjectSection) → In s c.object.sections → (at : Part) (addr : ℕ) (bytes : List ℕ) → In (Content at addr bytes) (section_lines (held_in w) c s) → IsWritable (Content at addr bytes)
@@ -280,14 +264,17 @@ module _ (w : World) (h : IsCoherent w) (spelled : IsSpelled w) where
     space = let a = h.ready.space.highest in let b = h.ready.space.most in (omega (arith, a), omega (arith, b));
     ns = space_writable;
     cell = λ c j. let a = cell_small c j in let b = ns_small c j in
-        (omega (arith, a), omega (arith, b), All-In (λ (c : Cell). is_name c.stem ≡ true) w.cells spelled.stems c j, All-In (λ (c : Cell). is_file c.file ≡ true) w.cells spelled.files c j, group_small c j);
+        (omega (arith, a), omega (arith, b), (cell_spelled c j).stem, (cell_spelled c j).file, group_small c j);
     place = λ c j s m. let a = cell_small c j in let b = section_small c j s m in let d = ends_low c j s m in (omega (arith, a), omega (arith, b), omega (arith, d));
-    alias = λ c j a m. let x = cell_small c j in (omega (arith, x), alias_small c j a m, named_well c j a (In-right (definitions_of c.object) c.aliases a m));
+    alias = λ c j a m. let x = cell_small c j in (omega (arith, x), alias_small c j a m, named c j a (In-right (definitions_of c.object) c.aliases a m));
     link = link_writable;
-    provider = λ c j a m f e. let x = ns_small c j in let y = provided_writable c.ns a.name f e in (omega (arith, x), named_well c j a m, y.0, y.1);
+    provider = λ c j a m f e. let x = ns_small c j in let y = provided_writable c.ns a.name f e in (omega (arith, x), named c j a m, y.0, y.1);
     bytes = bytes_writable;
     end = tt;
   }) l i
 
-pub spelled_writable : (w : World) → IsCoherent w → IsSpelled w → All IsWritable (dump_lines w)
-spelled_writable w h s = In-All IsWritable (dump_lines w) (all_writable w h s)
+pub spelled_writable : (w : World) → IsCoherent w → IsSpelled w → AreBytes w.regions → All IsWritable (dump_lines w)
+spelled_writable w h s b = In-All IsWritable (dump_lines w) (all_writable w h s b)
+
+pub from_one : (w : World) → IsSpelled w → All (λ c. 1 ≤ c.id.0) w.cells
+from_one w s = In-All (λ (c : Cell). 1 ≤ c.id.0) w.cells (λ c i. (All-In IsSpelledCell w.cells s.cells c i).number)

@@ -26,12 +26,12 @@ use Rattle.cell_lemmas.proofs.FieldsApart.{AreSectionsApart, sections_apart, uni
 use Rattle.cell_lemmas.proofs.FieldsInside.{class_In, section_class, stands}
 use Rattle.cell_lemmas.proofs.Known.{known_parts, object_sound}
 use Rattle.cell_lemmas.proofs.Offsets.{Apart, IsUnique}
-use Rattle.cell_dumped.specs.Lines.{alias_line, cell_lines, dump_lines, held_in, place_line}
-use Rattle.cell_dumped.specs.declared.line.DumpLine.{DumpLine}
+use Rattle.cell_world.specs.DumpLines.{alias_line, cell_lines, dump_lines, held_in, place_line}
+use Rattle.cell_world.specs.declared.line.DumpLine.{DumpLine}
 use Rattle.cell_audit.specs.Described.{object_of, place_of, space_of}
 use Rattle.cell_audit.specs.Dumps.{Row, lines_of}
 use Rattle.cell_audit.specs.Placing.{Extent, extent_of, first_misplaced, first_object, is_misplaced, may_stand, misplaced_after, object_with, share_a_byte}
-use Rattle.cell_audit_laws.specs.Read.{AreRead}
+use Rattle.cell_origin_law.specs.Readings.{AreRead}
 use Rattle.cell_audit_laws.proofs.Anew.{each_line}
 use Rattle.cell_audit_laws.proofs.Describes.{alias_back, object_is, others, places_are}
 use Rattle.cell_audit_laws.proofs.Selected.{of_cells, quiet_map}

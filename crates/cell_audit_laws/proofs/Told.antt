@@ -17,9 +17,9 @@ use Rattle.cell_lemmas.proofs.FieldsInside.{section_class}
 use Rattle.cell_lemmas.proofs.Slices.{slice, slice_at, slice_length}
 use Rattle.cell_lemmas.proofs.Bare.{covers_once}
 use Rattle.cell_laws.proofs.Parts.{read_window}
-use Rattle.cell_dumped.specs.Lines.{alias_line, cell_lines, dump_lines, held_in, lines_within, place_line, section_lines}
-use Rattle.cell_dumped.specs.declared.line.DumpLine.TheVariants.{Content}
-use Rattle.cell_dumped.specs.declared.line.Part.{Part}
+use Rattle.cell_world.specs.DumpLines.{alias_line, cell_lines, dump_lines, held_in, lines_within, place_line, section_lines}
+use Rattle.cell_world.specs.declared.line.DumpLine.TheVariants.{Content}
+use Rattle.cell_world.specs.declared.line.Part.{Part}
 use Rattle.cell_audit.specs.Described.{byte_at, byte_in, told}
 use Rattle.cell_audit_laws.proofs.Contents.{held_none}
 use Rattle.cell_audit_laws.proofs.Selected.{flat_selected, of_contents, quiet_map}

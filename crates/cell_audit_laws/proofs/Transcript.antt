@@ -11,17 +11,17 @@ use Rattle.cell_text.specs.Text.{lines_in, onto}
 use Rattle.cell_world.specs.Coherent.{IsCoherent}
 use Rattle.cell_world.specs.Gather.{Source}
 use Rattle.cell_world.specs.World.{World}
-use Rattle.cell_dumped.specs.Lines.{dump_lines, held_in, lines_before_end}
+use Rattle.cell_world.specs.DumpLines.{dump_lines, held_in, lines_before_end}
 use Rattle.cell_dumped.specs.Writable.{IsWritable}
-use Rattle.cell_dumped.specs.declared.line.DumpLine.{DumpLine}
-use Rattle.cell_dumped.specs.declared.line.DumpLine.TheVariants.{End}
+use Rattle.cell_world.specs.declared.line.DumpLine.{DumpLine}
+use Rattle.cell_world.specs.declared.line.DumpLine.TheVariants.{End}
 use Rattle.cell_dumped.proofs.Feeds.{text_feedless}
 use Rattle.cell_dumped.proofs.Says.{Lacks, decimal_lacks, lacks_joined, number_said, split_front}
 use Rattle.cell_audit.specs.Audits.{audit_of}
 use Rattle.cell_audit.specs.Dumps.{Text, behind_beginning, dump_in, ends, is_answer, up_to_end}
 use Rattle.cell_audit.proofs.Ends.{all_other, end_text, is_other}
 use Rattle.cell_audit_laws.specs.Anew.{shown}
-use Rattle.cell_audit_laws.specs.Read.{AreRead}
+use Rattle.cell_origin_law.specs.Readings.{AreRead}
 use Rattle.cell_audit_laws.specs.Transcripts.{IsEarlier, answer_text, ended, transcript}
 use Rattle.cell_audit_laws.proofs.Clean.{coherent_clean}
 

@@ -8,9 +8,9 @@ use Rattle.cell_object.specs.declared.object.Section.{Section as ObjectSection}
 use Rattle.cell_world.specs.Layout.{own_bytes}
 use Rattle.cell_world.specs.Relink.{links_of}
 use Rattle.cell_world.specs.World.{World, Cell}
-use Rattle.cell_dumped.specs.Lines.{held_in}
+use Rattle.cell_world.specs.DumpLines.{held_in}
 use Rattle.cell_dumped.specs.Texts.{line_text}
-use Rattle.cell_dumped.specs.declared.line.DumpLine.{DumpLine}
+use Rattle.cell_world.specs.declared.line.DumpLine.{DumpLine}
 use Rattle.cell_audit.specs.Linking.{relinked_bytes}
 
 abbrev pub linked_anew : World → World

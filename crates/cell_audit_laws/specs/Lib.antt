@@ -1,4 +1,2 @@
 pub mod Anew
-pub mod Read
 pub mod Transcripts
-pub mod Spelled

@@ -6,7 +6,7 @@ ghost use Rattle.std.specs.Prelude.{◌≡◌, Ok, Err, map};
 ghost use Rattle.cell_world.specs.World.{empty_world};
 ghost use Rattle.cell_rows.specs.Answers.{answers};
 ghost use Rattle.cell_rows.specs.Loads as loads;
-ghost use Rattle.cell_dumped.specs.Lines.{dump_lines};
+ghost use Rattle.cell_world.specs.DumpLines.{dump_lines};
 ghost use Rattle.cell_dumped.specs.Texts.{line_text};
 ghost use Rattle.cell_audit.specs.Audits.{audit_of};
 ghost use Rattle.cell_audit_rows.specs.Slots as slots;

@@ -51,7 +51,7 @@ module _ (left rest : List Newcomer) (c : Newcomer) (is : left ≡ c ∷ rest) w
   pub count_here : length left ≡ suc (length rest)
   count_here = ap length is
 
-  pub names_here : name_count left ≡ length c.names + name_count rest
+  pub names_here : name_count left ≡ (length c.weak + length c.names) + name_count rest
   names_here = ap name_count is
 
 pub cells_done : (cells all : List SpaceCell) (left : List Newcomer) → left ≡ [] → cells ++ map arrived left ≡ all → cells ≡ all

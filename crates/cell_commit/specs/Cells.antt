@@ -27,11 +27,11 @@ AreAbove keys (c ∷ cells) =
     All (λ k. k.cell.0 < c.cell.0) keys × IsStrictlyIncreasing c.sections.items × AreAbove (keys ++ keys_in c) cells
 
 abbrev pub arrived : Newcomer → SpaceCell
-arrived c = record { cell = c.cell; ns = c.ns; stem = c.stem; state = Attached; names = c.names }
+arrived c = record { cell = c.cell; ns = c.ns; stem = c.stem; state = Attached; names = c.names; weak = c.weak }
 
 abbrev pub name_count : List Newcomer → ℕ
 name_count [] = 0
-name_count (c ∷ new) = length c.names + name_count new
+name_count (c ∷ new) = (length c.weak + length c.names) + name_count new
 
 -- the spaces, whatever room there is
 abbrev pub with_no_room : List Namespace → List SpaceCell → SpacesState

@@ -6,32 +6,35 @@ ghost use Rattle.cell_commit.specs.Cells.{AreFree, MayCome, arrived, name_count}
 use cell_num::{CellId, Name};
 use cell_space::{NameRows, Spaces};
 
-/// What a new cell is called: its namespace, its stem, and the names that it defines.
+/// What a new cell is called: its namespace, its stem, the names that it holds, and those that it holds
+/// weakly.
 #[derive(Drop)]
 pub struct Newcomer {
     pub cell: CellId,
     pub ns: u16,
     pub stem: Name,
     pub names: NameRows,
+    pub weak: NameRows,
 }
 
 /// Attaches a cell behind those that are there.
 fn attach(spaces: &mut Spaces, newcomer: Newcomer)
     requires free { MayCome spaces.old.namespaces spaces.old.cells newcomer }
     requires room { 0 < spaces.old.spare_cells }
-    requires room_for_names { length newcomer.names < spaces.old.spare_names }
+    requires room_for_names { length newcomer.weak + length newcomer.names < spaces.old.spare_names }
     ensures cells { spaces.new.cells ≡ spaces.old.cells ++ arrived newcomer ∷ [] }
     ensures namespaces { spaces.new.namespaces ≡ spaces.old.namespaces }
     ensures room { spaces.old.spare_cells ≤ spaces.new.spare_cells + 1 }
-    ensures room_for_names { spaces.old.spare_names ≤ spaces.new.spare_names + length newcomer.names + 1 }
+    ensures room_for_names { spaces.old.spare_names ≤ spaces.new.spare_names + (length newcomer.weak + length newcomer.names) + 1 }
 {
     let Newcomer {
         cell,
         ns,
         stem,
         names,
+        weak,
     } = newcomer;
-    spaces.attach(cell, ns, stem, names);
+    spaces.attach(cell, ns, stem, names, weak);
 }
 
 /// Attaches the cells, one after another, behind those that are there.

@@ -1,6 +1,7 @@
 -- The cells that were found and placed are those of the described machine.
-use Rattle.std.proofs.Common.{◌≡◌, ℕ, ◌<◌, List, [], ◌∷◌, map, length, Option, Some, None, Err, refl, sym, ap, subst, ◌∙◌}
+use Rattle.std.proofs.Common.{◌≡◌, ℕ, ◌*◌, ◌<◌, false, List, [], ◌∷◌, map, length, Option, Some, None, Err, refl, sym, ap, subst, ◌∙◌}
 use Rattle.std.specs.Prelude.{All, filter_map, unwrap_or}
+use Rattle.cell_num.specs.Limits.{page_size}
 use Rattle.cell_num.specs.Lists.{In}
 use Rattle.cell_num.proofs.Elements.{All-In, In-All, In-map, get-In, map-In, map_same}
 use Rattle.cell_object.specs.declared.object.Object.{Object}
@@ -19,7 +20,7 @@ use Rattle.cell_described.specs.declared.fail.DescribeFail.{DescribeFail}
 use Rattle.cell_described.specs.declared.fail.DescribeFail.TheVariants.{NoObject, Misplaced, OutOfMemory}
 use Rattle.cell_described.specs.declared.finding.FoundCell.{FoundCell}
 use Rattle.cell_described.specs.Describes.{Describes, IsDescribed, alias_seen, cell_seen, numbered_cell}
-use Rattle.cell_described.specs.Faults.{cells_fault, place_seen}
+use Rattle.cell_described.specs.Faults.{cells_fault, object_at, place_seen}
 use Rattle.cell_described.specs.Finding.{AreFound, Finds, lacking_line}
 use Rattle.cell_described.specs.Objects.{HasObject}
 use Rattle.cell_described.specs.Placing.{FailsToPlace, described_of}
@@ -28,7 +29,10 @@ use Rattle.cell_described.proofs.Founds.{all_found}
 use Rattle.cell_described.proofs.Kept.{get_below}
 use Rattle.cell_described.proofs.Lacking.{lacking_is}
 use Rattle.cell_described.proofs.Lines.{cell_from, known_aliases, known_object, known_places, numbered_cells, unnumbered}
+use Rattle.cell_described.specs.Standing.{Stand}
 use Rattle.cell_described.proofs.Marks.{AreTaken, none_taken}
+use Rattle.cell_described.proofs.Stood.{cells_stand}
+use Rattle.std.proofs.lemmas.List.{length-replicate}
 use Rattle.cell_described.proofs.Walking.{IsKnown, misplaced_is}
 
 map_map : {X Y Z : Type 0} (f : Y → Z) (g : X → Y) (xs : List X) → map f (map g xs) ≡ map (λ x. f (g x)) xs
@@ -109,6 +113,13 @@ module _ (sources : List Source) (file : List ℕ) (rows : List Row) (cells : Li
         let h = held from.0 from.1 in
         subst (λ (d : DescribedCell). d.object < length objects) (sym from.2) (get_below objects from.0.object h.object h.at)))
 
+    stand : (ds : List DescribedCell) → ds ≡ map described_of found → cells_fault (all_free base pages) objects found ≡ None
+        → All (λ c. Stand (space_of (lines_of rows)) (object_at objects c.object).sections c.places) ds
+    stand ds e fault =
+        subst (λ (s : ℕ × ℕ). All (λ (c : DescribedCell). Stand s (object_at objects c.object).sections c.places) ds) (sym space)
+        (subst (All (λ (c : DescribedCell). Stand (base, pages) (object_at objects c.object).sections c.places)) (sym e)
+        (cells_stand base pages objects found (all_free base pages) (record { base_is = refl; size = length-replicate (page_size * pages) false }) fault))
+
     from : (ds : List DescribedCell) → ds ≡ map described_of found → (d : DescribedCell) → In d ds → (f : FoundCell) × In f found × (d ≡ described_of f)
     from ds e d i = In-map described_of found d (subst (In d) e i)
 
@@ -142,6 +153,7 @@ module _ (sources : List Source) (file : List ℕ) (rows : List Row) (cells : Li
           lines_are = ap (λ (os : List Object). map (λ c. (c.line, cell_seen file os c)) d.cells.items) os ∙ lines;
           objects_there = subst (λ (os : List Object). All (λ c. c.object < length os) d.cells.items) (sym os) (objects_there d.cells.items e);
           loadable = subst (All IsLoadable) (sym os) a.loadable;
+          stand = subst (λ (os : List Object). All (λ c. Stand (space_of (lines_of rows)) (object_at os c.object).sections c.places) d.cells.items) (sym os) (stand d.cells.items e fault);
           shared = objects_shared d.cells.items e;
           used = λ place lt. objects_used d.cells.items e place (subst (λ (xs : List Object). place < length xs) os lt);
         }

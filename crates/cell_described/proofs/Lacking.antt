@@ -8,8 +8,8 @@ use Rattle.cell_num.specs.Lists.{In}
 use Rattle.cell_num.proofs.Elements.{In-append, In-map}
 use Rattle.cell_num.proofs.Ranges.{none_found-In}
 use Rattle.cell_world.specs.Gather.{Source}
-use Rattle.cell_dumped.specs.declared.line.DumpLine.{DumpLine}
-use Rattle.cell_dumped.specs.declared.line.DumpLine.TheVariants.{Space, Ns, Cell as CellLine, Place, Alias as AliasLine, Link, Provider, Content, End}
+use Rattle.cell_world.specs.declared.line.DumpLine.{DumpLine}
+use Rattle.cell_world.specs.declared.line.DumpLine.TheVariants.{Space, Ns, Cell as CellLine, Place, Alias as AliasLine, Link, Provider, Content, End}
 use Rattle.cell_audit.specs.Described.{object_of}
 use Rattle.cell_audit.specs.Dumps.{Row}
 use Rattle.cell_audit.specs.Following.{rank_of}

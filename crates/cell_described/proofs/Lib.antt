@@ -6,6 +6,7 @@ pub mod Definitions
 pub mod Walking
 pub mod Kept
 pub mod Founds
+pub mod Stood
 pub mod Assembled
 pub mod Steps
 pub mod Placements

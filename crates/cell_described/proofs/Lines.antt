@@ -9,8 +9,8 @@ use Rattle.cell_object.specs.declared.object.Object.{Object}
 use Rattle.cell_world.specs.Gather.{Source}
 use Rattle.cell_world.specs.World.{Alias, Cell}
 use Rattle.cell_world.specs.declared.state.SecPlace.{SecPlace}
-use Rattle.cell_dumped.specs.declared.line.DumpLine.{DumpLine}
-use Rattle.cell_dumped.specs.declared.line.DumpLine.TheVariants.{Space, Ns, Cell as CellLine, Place, Alias as AliasLine, Link, Provider, Content, End}
+use Rattle.cell_world.specs.declared.line.DumpLine.{DumpLine}
+use Rattle.cell_world.specs.declared.line.DumpLine.TheVariants.{Space, Ns, Cell as CellLine, Place, Alias as AliasLine, Link, Provider, Content, End}
 use Rattle.cell_audit.specs.Described.{alias_of, cell_of, no_object, object_of, place_of, standing_of}
 use Rattle.cell_audit.specs.Dumps.{Row, lines_of}
 use Rattle.cell_audit.specs.Following.{rank_of}

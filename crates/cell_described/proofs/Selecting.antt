@@ -8,7 +8,7 @@ use Rattle.std.proofs.lemmas.List.{append-nil}
 use Rattle.std.proofs.lemmas.List.Elements.{filter_map-append}
 use Rattle.cell_num.specs.Lists.{In, each_pair}
 use Rattle.cell_num.proofs.Elements.{all-In}
-use Rattle.cell_dumped.specs.declared.line.DumpLine.{DumpLine}
+use Rattle.cell_world.specs.declared.line.DumpLine.{DumpLine}
 use Rattle.cell_audit.specs.Dumps.{Row, lines_of}
 use Rattle.cell_audit.specs.Following.{rank_of}
 use Rattle.cell_audit.specs.Written.{is_of_cell}

@@ -7,7 +7,7 @@ use Rattle.cell_object.specs.declared.object.Object.{Object}
 use Rattle.cell_world.specs.Coherent.{IsLoadable}
 use Rattle.cell_world.specs.Gather.{Source}
 use Rattle.cell_world.specs.World.{Alias, Cell}
-use Rattle.cell_audit.specs.Described.{cell_of, standing_of}
+use Rattle.cell_audit.specs.Described.{cell_of, space_of, standing_of}
 use Rattle.cell_audit.specs.Dumps.{Row, lines_of}
 use Rattle.cell_audit.specs.Placing.{first_lacking, first_misplaced}
 use Rattle.cell_audit.specs.declared.written.WrittenAlias.{WrittenAlias}
@@ -16,6 +16,7 @@ use Rattle.cell_described.specs.declared.describing.Described.{Described}
 use Rattle.cell_described.specs.declared.fail.DescribeFail.{DescribeFail}
 use Rattle.cell_described.specs.declared.fail.DescribeFail.TheVariants.{NoObject, Misplaced, OutOfMemory}
 use Rattle.cell_described.specs.Faults.{object_at}
+use Rattle.cell_described.specs.Standing.{Stand}
 
 -- symbols are numbered from 0 in a dump
 abbrev pub alias_seen : List ℕ → WrittenAlias → Alias
@@ -42,6 +43,8 @@ pub record IsDescribed (sources : List Source) (file : List ℕ) (rows : List Ro
   pub lines_are : map (λ c. (c.line, cell_seen file d.objects.items c)) d.cells.items ≡ filter_map (numbered_cell sources rows) rows
   pub objects_there : All (λ c. c.object < length d.objects.items) d.cells.items
   pub loadable : All IsLoadable d.objects.items
+  -- where their sections stand
+  pub stand : All (λ c. Stand (space_of (lines_of rows)) (object_at d.objects.items c.object).sections c.places) d.cells.items
   -- an object for each file that a cell names, and no other
   pub shared : (a b : DescribedCell) → In a d.cells.items → In b d.cells.items → a.file ≡ b.file → a.object ≡ b.object
   pub used : (place : ℕ) → place < length d.objects.items → (c : DescribedCell) × In c d.cells.items × (c.object ≡ place)

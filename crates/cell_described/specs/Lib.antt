@@ -4,4 +4,5 @@ pub mod Faults
 pub mod Objects
 pub mod Finding
 pub mod Placing
+pub mod Standing
 pub mod Describes

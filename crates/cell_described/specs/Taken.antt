@@ -3,6 +3,7 @@
 --     fits t s start              the section may stand there: at a multiple of its alignment, wholly in the space, on bytes that are free
 --     with_section t s start      its bytes are taken as well
 use Rattle.std.specs.Prelude.{ℕ, ◌+◌, ◌-◌, ◌*◌, ◌%◌, ◌==◌, nat_le, Bool, true, false, not, ◌&&◌, List, length, max, replicate, slice_range}
+use Rattle.cell_num.specs.Limits.{page_size}
 use Rattle.std.specs.List.{list_any}
 use Rattle.cell_object.specs.declared.object.Section.{Section as ObjectSection}
 use Rattle.cell_world.specs.Pages.{filled}
@@ -13,7 +14,7 @@ pub record TakenState : Type 0 where
   pub bytes : List Bool
 
 abbrev pub all_free : ℕ → ℕ → TakenState
-all_free base pages = record { base = base; bytes = replicate (4096 * pages) false }
+all_free base pages = record { base = base; bytes = replicate (page_size * pages) false }
 
 -- so many bytes from that place on
 abbrev pub is_free : TakenState → ℕ → ℕ → Bool

@@ -2,7 +2,7 @@
 
 ghost use Rattle.std.specs.Prelude.{◌≡◌, ◌≤◌, ◌<◌, ◌*◌, ◌^◌, ℕ, List, All, length, map};
 ghost use Rattle.cell_world.specs.Gather.{source_of};
-ghost use Rattle.cell_num.specs.Limits.{max_file_bytes};
+ghost use Rattle.cell_num.specs.Limits.{max_file_bytes, page_size};
 ghost use Rattle.cell_audit.specs.Described.{space_of};
 ghost use Rattle.cell_audit.specs.Dumps.{Row, lines_of};
 ghost use Rattle.cell_audit.specs.Written.{AreWritten};
@@ -36,7 +36,7 @@ pub fn describe(
     cells: Vec<WrittenCell>,
     depot: &Depot,
 ) -> Result<Described, DescribeFail>
-    requires space { 4096 * bounds.pages < 2 ^ 64 }
+    requires space { page_size * bounds.pages < 2 ^ 64 }
     requires small { All (λ f. length f.bytes ≤ max_file_bytes) depot.now }
     // whatever else the dump's rows are
     ensures { (file : List ℕ) (rows : List Row) → AreWritten file rows cells.items → space_of (lines_of rows) ≡ (bounds.base, bounds.pages) →

@@ -1,6 +1,7 @@
 //! Whether cells stand where they may.
 
 ghost use Rattle.std.specs.Prelude.{◌≡◌, ◌<◌, ◌*◌, ◌^◌, All, IfOk, None, length, true};
+ghost use Rattle.cell_num.specs.Limits.{page_size};
 ghost use Rattle.cell_described.specs.Faults.{cell_fault, has_sections, taken_after};
 ghost use Rattle.cell_described.specs.Taken.{all_free};
 ghost use Rattle.cell_described.specs.Placing.{Places, PlacesOne, described_of};
@@ -90,7 +91,7 @@ pub fn place_cells(
     objects: &[Object],
     found: Vec<FoundCell>,
 ) -> Result<Vec<DescribedCell>, DescribeFail>
-    requires space { 4096 * bounds.pages < 2 ^ 64 }
+    requires space { page_size * bounds.pages < 2 ^ 64 }
     requires there { All (λ f. f.object < length objects.now) found.items }
     ensures { Places objects.now (all_free bounds.base bounds.pages) found.items result }
 {

@@ -1,6 +1,7 @@
 //! Which bytes of the space are taken.
 
 ghost use Rattle.std.specs.Prelude.{◌≡◌, ◌≤◌, ◌<◌, ◌+◌, ◌*◌, ◌^◌, ◌%◌, ◌==◌, nat_le, ◌&&◌, true, length, max, IfOk};
+ghost use Rattle.cell_num.specs.Limits.{page_size};
 ghost use Rattle.std.specs.List.{list_any};
 ghost use Rattle.cell_world.specs.Pages.{filled};
 
@@ -51,7 +52,7 @@ impl Taken {
 
     /// A space of which no byte is taken.
     pub fn new(alloc: Global, bounds: Bounds) -> Result<Taken, AllocError>
-        requires { 4096 * bounds.pages < 2 ^ 64 }
+        requires { page_size * bounds.pages < 2 ^ 64 }
         ensures { IfOk result (λ taken. taken ≡ all_free bounds.base bounds.pages) }
     {
         let len = PAGE_SIZE * bounds.pages;

@@ -1,6 +1,8 @@
-//! Tests of the cells that a dump describes, over files that are assembled.
+//! Tests of the cells that a dump describes, and of whole audits, over files that are assembled.
 #![tactic(auto)]
 
+#[cfg(test)]
+mod audits;
 #[cfg(test)]
 mod cells;
 #[cfg(test)]

@@ -1,6 +1,6 @@
 -- Forms of lines that want so many words say nothing of fewer or more.
 use Rattle.std.proofs.Common.{◌≡◌, arith, ◌<◌, ◌≤◌, ◌⊎◌, inl, inr, List, [], ◌∷◌, length, Option, None}
-use Rattle.cell_dumped.specs.declared.line.DumpLine.{DumpLine}
+use Rattle.cell_world.specs.declared.line.DumpLine.{DumpLine}
 use Rattle.cell_dumped.specs.Readings.{Word}
 
 pub three_words : (f : List Word → Option DumpLine) (words : List Word) → f [] ≡ None → ((a : Word) → f (a ∷ []) ≡ None) → ((a b : Word) → f (a ∷ b ∷ []) ≡ None) → ((a b c d : Word) (rest : List Word) → f (a ∷ b ∷ c ∷ d ∷ rest) ≡ None)

@@ -8,10 +8,10 @@ use Rattle.cell_num.specs.Lists.{In}
 use Rattle.cell_num.proofs.Elements.{All-In}
 use Rattle.cell_object.specs.Symbols.{is_global_name, is_name_byte as is_visible_byte}
 use Rattle.cell_text.specs.Number.{hex, hex_byte, is_hex_digit}
-use Rattle.cell_dumped.specs.declared.line.DumpLine.{DumpLine}
-use Rattle.cell_dumped.specs.declared.line.DumpLine.TheVariants.{Space, Ns, Cell as CellLine, Place, Alias as AliasLine, Link, Provider, Content, End}
+use Rattle.cell_world.specs.declared.line.DumpLine.{DumpLine}
+use Rattle.cell_world.specs.declared.line.DumpLine.TheVariants.{Space, Ns, Cell as CellLine, Place, Alias as AliasLine, Link, Provider, Content, End}
 use Rattle.cell_dumped.specs.Readings.{Word}
-use Rattle.cell_script.specs.Grammar.{is_file, is_name, is_name_byte, is_symbol_byte}
+use Rattle.cell_script.specs.Grammar.{is_file, is_name, is_name_byte}
 use Rattle.cell_dumped.specs.Texts.{group_words, joined, line_text, parent_word, part_word}
 use Rattle.cell_dumped.specs.Writable.{IsWritable, SmallNumber}
 use Rattle.cell_dumped.proofs.Says.{Lacks, decimal_lacks, glyph_hex, hex_apart, hex_lacks, lacks_by, lacks_joined, part_lacks, third}
@@ -19,20 +19,17 @@ use Rattle.cell_dumped.proofs.Says.{Lacks, decimal_lacks, glyph_hex, hex_apart, 
 name_byte_apart : (b : ℕ) → is_name_byte b ≡ true → (b == 10) ≡ false
 name_byte_apart b h = grind (arith, nat_tests)
 
-visible_apart : (b : ℕ) → is_symbol_byte b ≡ true → (b == 10) ≡ false
+visible_apart : (b : ℕ) → is_visible_byte b ≡ true → (b == 10) ≡ false
 visible_apart b h = grind (arith, nat_tests)
-
-symbol_apart : (b : ℕ) → is_visible_byte b ≡ true → (b == 10) ≡ false
-symbol_apart b h = grind (arith, nat_tests)
 
 name_feedless : (word : Word) → is_name word ≡ true → Lacks 10 word
 name_feedless word h = lacks_by is_name_byte 10 word name_byte_apart (third (nat_lt 0 (length word)) (nat_le (length word) 64) (list_all is_name_byte word) h)
 
 file_feedless : (word : Word) → is_file word ≡ true → Lacks 10 word
-file_feedless word h = lacks_by is_symbol_byte 10 word visible_apart (third (nat_lt 0 (length word)) (nat_le (length word) 255) (list_all is_symbol_byte word) h)
+file_feedless word h = lacks_by is_visible_byte 10 word visible_apart (third (nat_lt 0 (length word)) (nat_le (length word) 255) (list_all is_visible_byte word) h)
 
 symbol_feedless : (word : Word) → is_global_name word ≡ true → Lacks 10 word
-symbol_feedless word h = lacks_by is_visible_byte 10 word symbol_apart (third (nat_le 1 (length word)) (nat_le (length word) 1024) (list_all is_visible_byte word) h)
+symbol_feedless word h = lacks_by is_visible_byte 10 word visible_apart (third (nat_le 1 (length word)) (nat_le (length word) 1024) (list_all is_visible_byte word) h)
 
 bytes_feedless : (bytes : List ℕ) → ((b : ℕ) → In b bytes → b < 256) → Lacks 10 (flat_map hex_byte bytes)
 bytes_feedless bytes f = lacks_by is_hex_digit 10 (flat_map hex_byte bytes) (λ b k. hex_apart 10 b (omega arith) k) (go bytes f)

@@ -5,7 +5,7 @@ use Rattle.std.specs.List.{slice_split}
 use Rattle.std.proofs.lemmas.List.Splits.{length-slice_split}
 use Rattle.std.proofs.lemmas.List.Sums.{length-filter}
 use Rattle.cell_script.specs.Grammar.{file, name}
-use Rattle.cell_dumped.specs.declared.line.DumpLine.{DumpLine}
+use Rattle.cell_world.specs.declared.line.DumpLine.{DumpLine}
 use Rattle.cell_dumped.specs.Readings.{Form, Word, cell_said, forms, line_said, number, said_by, said_in, ◌>>=◌}
 
 abbrev AllNone : List Form → List Word → Type 0

@@ -15,11 +15,11 @@ use Rattle.cell_text.specs.Number.{are_digits, are_hex_digits, has_leading_zero,
 use Rattle.cell_text.specs.Text.{is_filled}
 use Rattle.cell_text.proofs.Decimal.{and_parts as three_parts, digits_value-decimal, is_canonical-decimal, small_number}
 use Rattle.cell_text.proofs.Hexadecimal.{is_canonical_hex-hex, small_hex, value-hex}
-use Rattle.cell_dumped.specs.declared.line.DumpLine.{DumpLine}
-use Rattle.cell_dumped.specs.declared.line.DumpLine.TheVariants.{Space, Ns, Cell as CellLine, Place, Alias as AliasLine, Link, Provider, Content, End}
-use Rattle.cell_dumped.specs.declared.line.Part.{Part}
+use Rattle.cell_world.specs.declared.line.DumpLine.{DumpLine}
+use Rattle.cell_world.specs.declared.line.DumpLine.TheVariants.{Space, Ns, Cell as CellLine, Place, Alias as AliasLine, Link, Provider, Content, End}
+use Rattle.cell_world.specs.declared.line.Part.{Part}
 use Rattle.cell_dumped.specs.Readings.{Word, around, byte_values, forms, group, line_said, number, parent, part, said_by, said_in, two}
-use Rattle.cell_script.specs.Grammar.{is_file, is_name, is_name_byte, is_symbol_byte}
+use Rattle.cell_script.specs.Grammar.{is_file, is_name, is_name_byte}
 use Rattle.cell_dumped.specs.Texts.{group_words, joined, line_text, parent_word, part_word}
 use Rattle.cell_dumped.specs.Writable.{IsWritable, IsWritablePart, SmallNumber}
 
@@ -100,11 +100,8 @@ hex_said n h = small_hex (hex n) (is_canonical_hex-hex n h) (subst (λ (m : ℕ)
 name_byte_apart : (b : ℕ) → is_name_byte b ≡ true → (b == 32) ≡ false
 name_byte_apart b h = grind (arith, nat_tests)
 
-visible_apart : (b : ℕ) → is_symbol_byte b ≡ true → (b == 32) ≡ false
+visible_apart : (b : ℕ) → is_visible_byte b ≡ true → (b == 32) ≡ false
 visible_apart b h = grind (arith, nat_tests)
-
-symbol_apart : (b : ℕ) → is_visible_byte b ≡ true → (b == 32) ≡ false
-symbol_apart b h = grind (arith, nat_tests)
 
 pub third : (a b c : Bool) → (a && b && c) ≡ true → c ≡ true
 third a b c h = (and_parts (a && b) c h).1
@@ -113,10 +110,10 @@ name_lacks : (word : Word) → is_name word ≡ true → Lacks 32 word
 name_lacks word h = lacks_by is_name_byte 32 word name_byte_apart (third (nat_lt 0 (length word)) (nat_le (length word) 64) (list_all is_name_byte word) h)
 
 file_lacks : (word : Word) → is_file word ≡ true → Lacks 32 word
-file_lacks word h = lacks_by is_symbol_byte 32 word visible_apart (third (nat_lt 0 (length word)) (nat_le (length word) 255) (list_all is_symbol_byte word) h)
+file_lacks word h = lacks_by is_visible_byte 32 word visible_apart (third (nat_lt 0 (length word)) (nat_le (length word) 255) (list_all is_visible_byte word) h)
 
 symbol_lacks : (word : Word) → is_global_name word ≡ true → Lacks 32 word
-symbol_lacks word h = lacks_by is_visible_byte 32 word symbol_apart (third (nat_le 1 (length word)) (nat_le (length word) 1024) (list_all is_visible_byte word) h)
+symbol_lacks word h = lacks_by is_visible_byte 32 word visible_apart (third (nat_le 1 (length word)) (nat_le (length word) 1024) (list_all is_visible_byte word) h)
 
 -- parts
 pub part_lacks : (sep : ℕ) (p : Part) → sep < 46 → IsWritablePart p → Lacks sep (part_word p)

@@ -14,11 +14,11 @@ use Rattle.cell_object.specs.Symbols.{is_global_name}
 use Rattle.cell_text.specs.Number.{hex, hex_byte, hex_number_in, is_canonical, is_canonical_hex, is_hex_digit}
 use Rattle.cell_text.proofs.Decimal.{decimal-value}
 use Rattle.cell_text.proofs.Hexadecimal.{hex-value}
-use Rattle.cell_dumped.specs.declared.line.DumpLine.{DumpLine}
-use Rattle.cell_dumped.specs.declared.line.DumpLine.TheVariants.{Space, Ns, Cell as CellLine, Place, Alias as AliasLine, Link, Provider, Content, End}
-use Rattle.cell_dumped.specs.declared.line.Part.{Part}
-use Rattle.cell_dumped.specs.Readings.{Form, Word, ◌>>=◌, alias_said, around, byte_values, cell_said, content, content_said, end_said, forms, group, line_said, link_said, ns_said, number, parent, part, place_said, provider_said, said_by, said_in, space_said, symbol, two}
-use Rattle.cell_script.specs.Grammar.{file, is_file, is_name, name}
+use Rattle.cell_world.specs.declared.line.DumpLine.{DumpLine}
+use Rattle.cell_world.specs.declared.line.DumpLine.TheVariants.{Space, Ns, Cell as CellLine, Place, Alias as AliasLine, Link, Provider, Content, End}
+use Rattle.cell_world.specs.declared.line.Part.{Part}
+use Rattle.cell_dumped.specs.Readings.{Form, Word, ◌>>=◌, alias_said, around, byte_values, cell_said, content, content_said, end_said, forms, group, line_said, link_said, ns_said, number, parent, part, place_said, provider_said, said_by, said_in, space_said, two}
+use Rattle.cell_script.specs.Grammar.{file, is_file, is_name, name, symbol}
 use Rattle.cell_dumped.specs.Texts.{group_words, joined, line_text, line_words, parent_word, part_word}
 
 bind_some : {A B : Type 0} (o : Option A) (f : A → Option B) (y : B) → (o >>= f) ≡ Some y → (x : A) × (o ≡ Some x) × (f x ≡ Some y)

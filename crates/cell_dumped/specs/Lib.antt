@@ -1,4 +1,3 @@
-pub mod Lines
 pub mod Texts
 pub mod Readings
 pub mod Writable

@@ -4,12 +4,11 @@ use Rattle.std.specs.Prelude.{ℕ, nat_lt, nat_le, ◌==◌, ◌&&◌, List, [],
 use Rattle.std.specs.List.{slice_split}
 use Rattle.std.specs.Str.Parse.{digits_value}
 use Rattle.cell_num.specs.Lists.{where_true}
-use Rattle.cell_object.specs.Symbols.{is_global_name}
 use Rattle.cell_text.specs.Number.{number_in, hex_number_in, is_hex_digit}
-use Rattle.cell_script.specs.Grammar.{name, file}
-use Rattle.cell_dumped.specs.declared.line.DumpLine.{DumpLine}
-use Rattle.cell_dumped.specs.declared.line.DumpLine.TheVariants.{Space, Ns, Cell as CellLine, Place, Alias as AliasLine, Link, Provider, Content, End}
-use Rattle.cell_dumped.specs.declared.line.Part.{Part}
+use Rattle.cell_script.specs.Grammar.{name, file, symbol}
+use Rattle.cell_world.specs.declared.line.DumpLine.{DumpLine}
+use Rattle.cell_world.specs.declared.line.DumpLine.TheVariants.{Space, Ns, Cell as CellLine, Place, Alias as AliasLine, Link, Provider, Content, End}
+use Rattle.cell_world.specs.declared.line.Part.{Part}
 
 abbrev pub Word : Type 0
 Word = List ℕ
@@ -23,10 +22,6 @@ Some a >>= f = f a
 -- below 2^64
 abbrev pub number : Word → Option ℕ
 number word = number_in 18446744073709551615 word
-
--- as the name of a GLOBAL is spelled
-abbrev pub symbol : Word → Option Word
-symbol word = where_true (is_global_name word) word
 
 abbrev pub two : List Word → Option (Word × Word)
 two (a ∷ b ∷ []) = Some (a, b)

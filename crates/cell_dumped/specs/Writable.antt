@@ -2,9 +2,9 @@
 --     IsWritable l     its numbers are below 2^64, its names are spelled as such, and it has 1 to 64 bytes
 use Rattle.std.specs.Prelude.{◌≡◌, ◌<◌, ◌^◌, ◌&&◌, ℕ, nat_lt, nat_le, true, All, IfSome, length}
 use Rattle.cell_object.specs.Symbols.{is_global_name}
-use Rattle.cell_dumped.specs.declared.line.DumpLine.{DumpLine}
-use Rattle.cell_dumped.specs.declared.line.DumpLine.TheVariants.{Space, Ns, Cell as CellLine, Place, Alias as AliasLine, Link, Provider, Content, End}
-use Rattle.cell_dumped.specs.declared.line.Part.{Part}
+use Rattle.cell_world.specs.declared.line.DumpLine.{DumpLine}
+use Rattle.cell_world.specs.declared.line.DumpLine.TheVariants.{Space, Ns, Cell as CellLine, Place, Alias as AliasLine, Link, Provider, Content, End}
+use Rattle.cell_world.specs.declared.line.Part.{Part}
 use Rattle.cell_script.specs.Grammar.{is_file, is_name}
 
 abbrev pub SmallNumber : ℕ → Type 0

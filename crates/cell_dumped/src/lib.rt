@@ -1,19 +1,17 @@
-//! The dump of the whole machine, line by line: the lines, their text, and the reader of a line.
+//! The lines of a machine's dump as text: what a line is written as, its writer, and its reader.
 #![tactic(auto)]
 
 ghost use Rattle.std.specs.Prelude.{◌≡◌, ℕ, List, Some};
-ghost use Rattle.cell_dumped.specs.declared.line.DumpLine.{DumpLine as SomeLine};
+ghost use Rattle.cell_world.specs.declared.line.DumpLine.{DumpLine as SomeLine};
 ghost use Rattle.cell_dumped.specs.Readings.{line_said};
 ghost use Rattle.cell_dumped.specs.Texts.{line_text};
 ghost use Rattle.cell_dumped.specs.Writable.{IsWritable};
 
 mod content;
-mod line;
 mod read;
 mod word;
 mod write;
 
-pub use line::{DumpLine, Part};
 pub use read::read_line;
 pub use word::read_number;
 pub use write::put_line;

@@ -4,12 +4,12 @@ ghost use Rattle.std.specs.Prelude.{◌≡◌, ◌==◌, map, filter, length, If
 ghost use Rattle.std.specs.List.{slice_split};
 ghost use Rattle.cell_dumped.specs.Readings.{alias_said, cell_said, content_said, end_said, forms, line_said, link_said, ns_said, place_said, provider_said, said_by, said_in, space_said};
 
-use crate::DumpLine;
 use crate::content::read_content;
-use crate::word::{around, is_file, is_symbol, read_group, read_number, read_parent, read_part};
+use crate::word::{around, read_group, read_number, read_parent, read_part};
 use cell_num::Name;
-use cell_script::is_name;
+use cell_script::{is_file, is_name, is_symbol};
 use cell_text::read_hex;
+use cell_world::DumpLine;
 use std::alloc::{AllocError, Global};
 
 /// What the text says, if it is that of a line. The two spaces before a line in a transcript are no part of its text.

@@ -1,40 +1,16 @@
 //! Words of the lines of a dump.
 
 ghost use Rattle.std.specs.Prelude.{◌≡◌, ◌<◌, ◌==◌, map, length, position, option_map, IfSome};
-ghost use Rattle.std.specs.List.{list_all};
-ghost use Rattle.cell_object.specs.Symbols.{is_global_name, is_name_byte};
-ghost use Rattle.cell_script.specs.Grammar.{is_file, is_symbol_byte};
 ghost use Rattle.cell_dumped.specs.Readings.{around, group, number, parent, part};
 
-use crate::Part;
 use cell_text::read_dec;
+use cell_world::Part;
 
 /// A decimal number below 2^64, without leading zeros.
 pub fn read_number(word: &[u8]) -> Option<u64>
     ensures { result ≡ number word.now }
 {
     read_dec(word, 18446744073709551615)
-}
-
-/// Whether the word may be the name of a file: 1 to 255 bytes of 0x21 to 0x7e.
-pub fn is_file(word: &[u8]) -> bool
-    ensures { result ≡ is_file word.now }
-{
-    !word.is_empty() && word.len() <= 255 && are_printed(word)
-}
-
-/// Whether the word may be the name of a GLOBAL: 1 to 1024 bytes of 0x21 to 0x7e.
-pub fn is_symbol(word: &[u8]) -> bool
-    ensures { result ≡ is_global_name word.now }
-{
-    !word.is_empty() && word.len() <= 1024 && are_printed(word)
-}
-
-fn are_printed(word: &[u8]) -> bool
-    ensures file { result ≡ list_all is_symbol_byte word.now }
-    ensures symbol { result ≡ list_all is_name_byte word.now }
-{
-    word.iter().all(|b| *b >= 0x21 && *b <= 0x7e)
 }
 
 fn place_of(word: &[u8], byte: u8) -> Option<usize>

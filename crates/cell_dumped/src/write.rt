@@ -4,12 +4,12 @@ ghost use Rattle.std.specs.Prelude.{◌≡◌, [], ◌∷◌, ◌++◌, codes, O
 ghost use Rattle.std.specs.List.{flat_map};
 ghost use Rattle.std.specs.Fmt.{decimal};
 ghost use Rattle.cell_text.specs.Number.{hex, hex_byte};
-ghost use Rattle.cell_dumped.specs.declared.line.DumpLine.TheVariants.{Space, Ns, Place, Alias, Link, Provider, Content};
+ghost use Rattle.cell_world.specs.declared.line.DumpLine.TheVariants.{Space, Ns, Place, Alias, Link, Provider, Content};
 ghost use Rattle.cell_dumped.specs.Texts.{group_words, joined, line_text, parent_word, part_word};
 
-use crate::line::{DumpLine, Part};
 use cell_num::Name;
 use cell_text::{put_dec, put_hex, put_hex_byte};
+use cell_world::{DumpLine, Part};
 use std::alloc::AllocError;
 
 /// Appends the text of a line, without what stands before it and the line feed.

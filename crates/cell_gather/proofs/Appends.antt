@@ -51,11 +51,11 @@ module _ (spaces : SpacesState) (next : ℕ) where
 
     pub append_refused : (fail : Fail) (new : List Cell) → FailsAs fail appended → Ends spaces next said (Err fail) new
     append_refused fail new e =
-        ends_refused said appended (λ w c. Ok (grown w (cells ++ attached c ∷ []))) fail new (λ w is. append_grown spaces next w is.has cells f ns) e
+        ends_refused said appended (λ w c. Ok (grown w (cells ++ attached c ∷ []))) fail new (λ w is. append_grown spaces next w is cells f ns) e
 
     pub append_done : (c : NewCell) (new : List Cell) → appended ≡ Ok c → new ≡ cells ++ attached c ∷ [] → (w : World) → IsOf spaces next w → said w ≡ Ok (grown w new)
     append_done c new e are w is =
-        append_grown spaces next w is.has cells f ns
+        append_grown spaces next w is cells f ns
         ∙ ap (λ (o : Outcome NewCell). o >>= (λ d. Ok (grown w (cells ++ attached d ∷ [])))) e
         ∙ ap (λ cs. Ok (grown w cs)) (sym are)
 
@@ -94,7 +94,7 @@ module _ (spaces : SpacesState) (next : ℕ) where
 
     brings_is : (c : Cell) → c.ns ≡ ns → c.id ≡ id → (w : World) → IsOf spaces next w → brings c w ≡ (chosen >>= goes_on w)
     brings_is c at numbered w is =
-        bring_is (map source_of files) (with_new spaces cells) (next + length cells) (grown w cells) (grown_is spaces next w is.has cells) c name
+        bring_is (map source_of files) (with_new spaces cells) (next + length cells) (grown w cells) (grown_is spaces next w is cells) c name
         ∙ ap (λ (m : ℕ). choose_now (map source_of files) (with_new spaces cells) m c.id name >>= goes_on w) at
         ∙ ap (λ (i : CellId). choose_now (map source_of files) (with_new spaces cells) ns i name >>= goes_on w) numbered
 
@@ -145,7 +145,7 @@ module _ (spaces : SpacesState) (next : ℕ) where
 
       begins : (said : Outcome World) → all_from w [] wants ≡ said → gather (map source_of files) w wants reexport ≡ then_brings said next
       begins said e =
-          ap (λ (u : World). then_brings (each (append_wanted (map source_of files)) u wants) w.next_cell) (sym (grown_none spaces next w is.has))
+          ap (λ (u : World). then_brings (each (append_wanted (map source_of files)) u wants) w.next_cell) (sym (grown_none spaces next w is))
           ∙ ap (λ (o : Outcome World). then_brings o w.next_cell) e
           ∙ ap (then_brings said) is.number
 

@@ -12,7 +12,7 @@ use Rattle.cell_world.specs.Outcome.{Outcome, ◌>>=◌, ◌>>◌, need, found}
 use Rattle.cell_space.specs.Machine.{called}
 use Rattle.cell_space.specs.Spaces.{SpacesState}
 use Rattle.cell_gather.specs.Choosing.{one_in, here_or, nearest_now, space_name, lacking, choose_now}
-use Rattle.cell_gather.specs.Gathering.{HasSpaces}
+use Rattle.cell_gather.specs.Gathering.{IsOf}
 use Rattle.cell_space.specs.Ahead.{has_stem_in}
 
 any_called : (spaces stem : List ℕ) (cells : List Cell) → has_stem_by of_cell spaces stem cells ≡ has_stem_in spaces stem (map called cells)
@@ -34,7 +34,7 @@ here lack ns [] rest more e = e
 here lack ns (f ∷ []) rest more e = refl
 here lack ns (f ∷ g ∷ files) rest more e = refl
 
-module _ (sources : List Source) (s : SpacesState) (next : ℕ) (u : World) (is : HasSpaces s next u) where
+module _ (sources : List Source) (s : SpacesState) (next : ℕ) (u : World) (is : IsOf s next u) where
   name_is : (ns : ℕ) → name_of_ns u ns ≡ space_name s.namespaces ns
   name_is ns = ap (λ (spaces : List Namespace). space_name spaces ns) is.namespaces
 

@@ -1,15 +1,12 @@
 -- One more new cell.
-use Rattle.std.proofs.Common.{◌≡◌, refl, sym, ◌∙◌, ap, subst, arith, ℕ, zero, suc, ◌+◌, ◌<◌, ◌≤◌, List, [], ◌∷◌, ◌++◌, get_or, length, map, append-nil, append_assoc, length-append}
-use Rattle.std.specs.Prelude.{IsTrue, Some, slice_get}
+use Rattle.std.proofs.Common.{◌≡◌, refl, sym, ◌∙◌, ap, ap₂, arith, ℕ, zero, suc, ◌+◌, ◌<◌, ◌≤◌, List, [], ◌∷◌, ◌++◌, get_or, length, map, append-nil, append_assoc, length-append}
+use Rattle.std.specs.Prelude.{Some, slice_get}
 use Rattle.std.proofs.lemmas.List.{length-map, map-append}
 use Rattle.std.proofs.lemmas.List.Elements.{All-push, All-same, All-weaker}
 use Rattle.cell_num.specs.declared.ids.CellId.{CellId}
-use Rattle.cell_num.specs.Lists.{In}
-use Rattle.cell_num.proofs.Elements.{All-In, In-All, map-In}
-use Rattle.cell_object.specs.Parts.{has_no_weak}
 use Rattle.cell_world.specs.declared.state.NewCell.{NewCell}
 use Rattle.cell_world.specs.Coherent.{IsLoadable}
-use Rattle.cell_world.specs.Names.{definitions_of}
+use Rattle.cell_world.specs.Names.{definitions_of, weak_definitions_of}
 use Rattle.cell_world.specs.World.{Alias, Cell, attached}
 use Rattle.cell_world.specs.declared.state.Standing.TheVariants.{Attached}
 use Rattle.cell_space.specs.declared.cell.SpaceCell.{SpaceCell}
@@ -18,15 +15,14 @@ use Rattle.cell_space.specs.Machine.{called}
 use Rattle.cell_space.specs.Spaces.{SpacesState}
 use Rattle.cell_space.proofs.Joined.{cells_are, joined_by}
 use Rattle.cell_gather.specs.declared.gathering.Gathered.{Gathered}
-use Rattle.cell_gather.specs.Gathering.{HaveNoWeak}
 use Rattle.cell_gather.specs.Growing.{IsGrowing, new_of}
 
 -- the row of a cell in the spaces
-abbrev pub row_of : CellId → ℕ → List ℕ → List Alias → SpaceCell
-row_of id ns stem names = record { cell = id; ns = ns; stem = stem; state = Attached; names = names }
+abbrev pub row_of : CellId → ℕ → List ℕ → List Alias → List Alias → SpaceCell
+row_of id ns stem names weak = record { cell = id; ns = ns; stem = stem; state = Attached; names = names; weak = weak }
 
-row_is : (c : NewCell) (names : List Alias) → names ≡ definitions_of c.object → row_of c.id c.ns c.stem names ≡ called (attached c)
-row_is c names e = ap (row_of c.id c.ns c.stem) (e ∙ sym (append-nil (definitions_of c.object)))
+row_is : (c : NewCell) (names weak : List Alias) → names ≡ definitions_of c.object → weak ≡ weak_definitions_of c.object → row_of c.id c.ns c.stem names weak ≡ called (attached c)
+row_is c names weak e f = ap₂ (row_of c.id c.ns c.stem) (e ∙ sym (append-nil (definitions_of c.object))) f
 
 one_longer : {X : Type 0} (xs : List X) (x : X) → length (xs ++ x ∷ []) ≡ suc (length xs)
 one_longer xs x = let l = length-append xs (x ∷ []) in omega arith
@@ -34,12 +30,6 @@ one_longer xs x = let l = length-append xs (x ∷ []) in omega arith
 -- each place has its cell
 pub as_many : (spaces : SpacesState) (next : ℕ) (g : Gathered) → IsGrowing spaces next g → length g.cells.items ≡ length (new_of g)
 as_many spaces next g growing = ap length (sym growing.joined.placed) ∙ length-map (new_of g) placed_of
-
--- no new cell has a WEAK symbol
-pub new_no_weak : (spaces : SpacesState) (next : ℕ) (g : Gathered) → IsGrowing spaces next g → HaveNoWeak (new_of g)
-new_no_weak spaces next g growing =
-    In-All (λ (c : Cell). IsTrue (has_no_weak c.object)) (new_of g) (λ c i.
-    (All-In (λ (p : NewCell). IsLoadable p.object) g.cells.items growing.loadable c.placed (subst (λ (ps : List NewCell). In c.placed ps) growing.joined.placed (map-In placed_of (new_of g) c i))).plain)
 
 -- the new cell of the place
 pub cell_there : (spaces : SpacesState) (next : ℕ) (g : Gathered) → IsGrowing spaces next g → (place : ℕ) (p : NewCell) → place < length (new_of g) → p ≡ get_or g.cells.items place p
@@ -60,8 +50,8 @@ numbered_more from (x ∷ cells) c all is zero d e = all zero d e
 numbered_more from (x ∷ cells) c all is (suc k) d e =
     let h = numbered_more (suc from) cells c (λ j y at. let g = all (suc j) y at in omega (arith, g)) (omega (arith, is)) k d e in omega (arith, h)
 
-module _ (spaces : SpacesState) (next : ℕ) (old new : Gathered) (c : NewCell) (names : List Alias) (growing : IsGrowing spaces next old) (named : names ≡ definitions_of c.object)
-    (rows : new.ahead.fresh ≡ old.ahead.fresh ++ row_of c.id c.ns c.stem names ∷ []) (cells : new.cells.items ≡ old.cells.items ++ c ∷ []) where
+module _ (spaces : SpacesState) (next : ℕ) (old new : Gathered) (c : NewCell) (names weak : List Alias) (growing : IsGrowing spaces next old) (named : names ≡ definitions_of c.object) (held : weak ≡ weak_definitions_of c.object)
+    (rows : new.ahead.fresh ≡ old.ahead.fresh ++ row_of c.id c.ns c.stem names weak ∷ []) (cells : new.cells.items ≡ old.cells.items ++ c ∷ []) where
   abbrev with_one : List Cell
   with_one = new_of old ++ attached c ∷ []
 
@@ -74,8 +64,8 @@ module _ (spaces : SpacesState) (next : ℕ) (old new : Gathered) (c : NewCell) 
   fresh_are : new.ahead.fresh ≡ map called with_one
   fresh_are =
       rows
-      ∙ ap (λ (all : List SpaceCell). all ++ row_of c.id c.ns c.stem names ∷ []) (sym growing.joined.called)
-      ∙ ap (λ (row : SpaceCell). map called (new_of old) ++ row ∷ []) (row_is c names named)
+      ∙ ap (λ (all : List SpaceCell). all ++ row_of c.id c.ns c.stem names weak ∷ []) (sym growing.joined.called)
+      ∙ ap (λ (row : SpaceCell). map called (new_of old) ++ row ∷ []) (row_is c names weak named held)
       ∙ sym (map-append called (new_of old) (attached c ∷ []))
 
   pub one_more : new_of new ≡ with_one
@@ -83,7 +73,7 @@ module _ (spaces : SpacesState) (next : ℕ) (old new : Gathered) (c : NewCell) 
 
   pub grown_by_one : c.ns < length spaces.namespaces → c.id.0 ≡ next + length (new_of old) → length spaces.cells + length (new_of old) < 1024 → IsLoadable c.object
       → new.ahead.namespaces ≡ old.ahead.namespaces → new.ahead.present ≡ old.ahead.present
-      → new.ahead.cells ≡ old.ahead.cells ++ row_of c.id c.ns c.stem names ∷ []
+      → new.ahead.cells ≡ old.ahead.cells ++ row_of c.id c.ns c.stem names weak ∷ []
       → IsGrowing spaces next new
   grown_by_one there number room loadable same_spaces same_present all_rows =
       let cs : List Cell = new_of old in
@@ -94,9 +84,9 @@ module _ (spaces : SpacesState) (next : ℕ) (old new : Gathered) (c : NewCell) 
         present = same_present ∙ growing.present;
         cells =
             all_rows
-            ∙ ap (λ (all : List SpaceCell). all ++ row_of c.id c.ns c.stem names ∷ []) growing.cells
-            ∙ append_assoc spaces.cells (map called cs) (row_of c.id c.ns c.stem names ∷ [])
-            ∙ ap (λ (row : SpaceCell). spaces.cells ++ (map called cs ++ row ∷ [])) (row_is c names named)
+            ∙ ap (λ (all : List SpaceCell). all ++ row_of c.id c.ns c.stem names weak ∷ []) growing.cells
+            ∙ append_assoc spaces.cells (map called cs) (row_of c.id c.ns c.stem names weak ∷ [])
+            ∙ ap (λ (row : SpaceCell). spaces.cells ++ (map called cs ++ row ∷ [])) (row_is c names weak named held)
             ∙ ap (λ (all : List SpaceCell). spaces.cells ++ all) (sym (map-append called cs (attached c ∷ [])) ∙ ap (map called) (sym one_more));
         joined = joined_by with_one new.cells.items new.ahead.fresh items_are fresh_are;
         attached = All-same (λ (d : Cell). d.standing ≡ Attached) (new_of new) with_one one_more (All-push (λ (d : Cell). d.standing ≡ Attached) cs (attached c) growing.attached refl);

@@ -1,12 +1,10 @@
 -- The first need that lacks a provider.
-use Rattle.std.proofs.Common.{◌≡◌, refl, sym, ◌∙◌, ap, subst, arith, ℕ, zero, suc, ◌<◌, ◌≤◌, ◌⊎◌, inl, inr, Bool, true, false, cond, List, [], ◌∷◌, ◌++◌, length, map}
-use Rattle.std.specs.Prelude.{Option, Some, None, All, IsTrue, not, filter, is_some, is_none, slice_get, nat_le}
+use Rattle.std.proofs.Common.{◌≡◌, refl, sym, ◌∙◌, ap, subst, arith, ℕ, zero, suc, ◌<◌, ◌≤◌, Bool, true, false, cond, List, [], ◌∷◌, ◌++◌, length, map}
+use Rattle.std.specs.Prelude.{Option, Some, None, All, not, filter, is_some, is_none, slice_get, nat_le}
 use Rattle.std.proofs.lemmas.Bool.Decides.{nat_tests}
 use Rattle.std.proofs.lemmas.List.Elements.{All-head, All-tail, All-same, filter-append}
 use Rattle.cell_num.specs.declared.ids.CellId.{CellId}
-use Rattle.cell_num.specs.Lists.{first, or_else, In}
-use Rattle.cell_num.proofs.Elements.{All-In, In-append}
-use Rattle.cell_object.specs.Parts.{has_no_weak}
+use Rattle.cell_num.specs.Lists.{first, or_else}
 use Rattle.cell_world.specs.declared.state.Namespace.{Namespace}
 use Rattle.cell_world.specs.World.{World, Cell, Standing}
 use Rattle.cell_world.specs.declared.state.Standing.TheVariants.{Attached}
@@ -16,9 +14,8 @@ use Rattle.cell_space.specs.declared.cell.SpaceCell.{SpaceCell}
 use Rattle.cell_space.specs.Machine.{called}
 use Rattle.cell_space.specs.Named.{provider_for}
 use Rattle.cell_space.specs.Spaces.{SpacesState}
-use Rattle.cell_space.proofs.Machines.{strong_provider-called}
-use Rattle.cell_lemmas.proofs.Plain.{strong_alone}
-use Rattle.cell_gather.specs.Gathering.{HaveNoWeak, IsOf}
+use Rattle.cell_space.proofs.Machines.{provider_for-called}
+use Rattle.cell_gather.specs.Gathering.{IsOf}
 use Rattle.cell_gather.specs.Growing.{IsProvided, IsSupplied, AreSupplied, IsNext}
 use Rattle.cell_gather.proofs.Worlds.{grown_is}
 
@@ -102,7 +99,7 @@ all_fresh next (c ∷ cells) all =
     ∙ ap (λ cs. c ∷ cs) (all_fresh next cells (All-tail (λ (d : Cell). next ≤ d.id.0) c cells all))
 
 module _ (spaces : SpacesState) (next : ℕ) (given : All (λ c. c.cell.0 < next) spaces.cells) (cells : List Cell) (above : All (λ c. next ≤ c.id.0) cells)
-    (on : All (λ c. c.standing ≡ Attached) cells) (no_weak : HaveNoWeak cells) (w : World) (is : IsOf spaces next w) where
+    (on : All (λ c. c.standing ≡ Attached) cells) (w : World) (is : IsOf spaces next w) where
   pub fresh_are : fresh_cells next (grown w cells) ≡ cells
   fresh_are =
       filter-append (λ (c : Cell). nat_le next c.id.0) w.cells cells
@@ -112,19 +109,11 @@ module _ (spaces : SpacesState) (next : ℕ) (given : All (λ c. c.cell.0 < next
   abbrev provided : ℕ → List ℕ → Option Provider
   provided ns name = provider_for (chain spaces.namespaces ns) Attached name (spaces.cells ++ map called cells)
 
-  none_weak : (c : Cell) → In c (grown w cells).cells → has_no_weak c.object ≡ true
-  none_weak c i = go (In-append w.cells cells c i)
-    where
-      go : In c w.cells ⊎ In c cells → has_no_weak c.object ≡ true
-      go (inl j) = All-In (λ (d : Cell). IsTrue (has_no_weak d.object)) w.cells is.no_weak c j
-      go (inr j) = All-In (λ (d : Cell). IsTrue (has_no_weak d.object)) cells no_weak c j
-
   provider_is : (c : Cell) → c.standing ≡ Attached → (name : List ℕ) → provider_of (grown w cells) c name ≡ provided c.ns name
   provider_is c here name =
-      let of = grown_is spaces next w is.has cells in
+      let of = grown_is spaces next w is cells in
       ap (λ (s : Standing). provider_as (grown w cells) s c.ns name) here
-      ∙ strong_alone (grown w cells) none_weak Attached c.ns name
-      ∙ strong_provider-called (grown w cells) c.ns name Attached
+      ∙ provider_for-called (grown w cells) c.ns name Attached
       ∙ ap (λ (sp : List Namespace). provider_for (chain sp c.ns) Attached name (map called (grown w cells).cells)) of.namespaces
       ∙ ap (λ (cs : List SpaceCell). provider_for (chain spaces.namespaces c.ns) Attached name cs) of.cells
 

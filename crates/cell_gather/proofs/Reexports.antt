@@ -1,6 +1,6 @@
 -- The names that new cells take on, as the definitions say it of a machine and as the spaces do.
 use Rattle.std.proofs.Common.{◌≡◌, refl, sym, ◌∙◌, ap, ap₂, arith, ℕ, suc, ◌+◌, ◌<◌, ◌≤◌, Bool, true, false, cond, List, [], ◌∷◌, ◌++◌, length, map}
-use Rattle.std.specs.Prelude.{All, IsTrue, Option, Some, None, ◌==◌, find, fold, is_some, option_and_then, option_map}
+use Rattle.std.specs.Prelude.{All, Option, Some, None, ◌==◌, find, fold, is_some, option_and_then, option_map}
 use Rattle.std.specs.List.{cons_option}
 use Rattle.std.specs.Option.{option_or}
 use Rattle.std.proofs.lemmas.Bool.Decides.{nat_tests}
@@ -8,35 +8,23 @@ use Rattle.std.proofs.lemmas.List.{length-map, map-append}
 use Rattle.std.proofs.lemmas.List.Elements.{All-head, All-same, All-tail}
 use Rattle.std.proofs.lemmas.List.Folds.{find-append}
 use Rattle.cell_num.specs.declared.ids.CellId.{CellId}
-use Rattle.cell_num.proofs.Elements.{All-In, found-In}
-use Rattle.cell_object.specs.Parts.{has_no_weak}
-use Rattle.cell_world.specs.declared.state.NewCell.{NewCell}
 use Rattle.cell_world.specs.Reexport.{Exchange, heir_of, successor_of, take_on, with_alias, with_reexports}
 use Rattle.cell_world.specs.World.{World, Alias, Cell, cell_of}
-use Rattle.cell_world.specs.Names.{clash_name, names_of, symbol_in, weak_symbol_named}
-use Rattle.cell_lemmas.proofs.Plain.{weak_none}
+use Rattle.cell_world.specs.Names.{names_of, weak_symbol_named}
 use Rattle.cell_space.specs.declared.cell.SpaceCell.{SpaceCell}
 use Rattle.cell_space.specs.Machine.{called}
 use Rattle.cell_space.specs.Named.{cell_numbered}
 use Rattle.cell_space.specs.Spaces.{SpacesState}
 use Rattle.cell_gather.specs.declared.want.Want.{Want}
 use Rattle.cell_world.specs.Gather.{grown}
-use Rattle.cell_gather.specs.Gathering.{HaveNoWeak, IsOf, exchanges_from, renamed}
+use Rattle.cell_gather.specs.Gathering.{IsOf, exchanges_from, renamed}
 use Rattle.cell_gather.specs.Growing.{with_new}
 use Rattle.cell_gather.specs.Renaming.{hand_on_now, heir_now, new_numbered, renamed_now, take_all_now, take_now}
-use Rattle.cell_gather.proofs.Renames.{all_by_place}
 use Rattle.cell_gather.proofs.Worlds.{clash_name_is, grown_is, remade}
 
-and_then_found : {X Y : Type 0} (f g : X → Option Y) (o : Option X) → ((x : X) → o ≡ Some x → f x ≡ g x) → option_and_then f o ≡ option_and_then g o
-and_then_found f g None e = refl
-and_then_found f g (Some x) e = e x refl
-
-else_part : {X : Type 0} (b : Bool) (x y : X) → b ≡ false → cond b x y ≡ y
-else_part true x y e = absurd (cc e)
-else_part false x y e = refl
-
-no_weak_name : (c : Cell) (name : List ℕ) → has_no_weak c.object ≡ true → is_some (weak_symbol_named c name) ≡ false
-no_weak_name c name none = ap (λ (rows : List Alias). is_some (symbol_in rows name)) (weak_none c none)
+and_then_same : {X Y : Type 0} (f g : X → Option Y) → ((x : X) → f x ≡ g x) → (o : Option X) → option_and_then f o ≡ option_and_then g o
+and_then_same f g e None = refl
+and_then_same f g e (Some x) = e x
 
 lower_differs : (a b : ℕ) → a < b → (a == b) ≡ false
 lower_differs a b lt = grind (arith, nat_tests)
@@ -74,11 +62,10 @@ module _ (spaces : SpacesState) (next : ℕ) (given : All (λ c. c.cell.0 < next
     cell_is : (cells : List Cell) → cell_of (grown w cells) n ≡ new_numbered cells n
     cell_is cells = find-append (λ (c : Cell). c.id.0 == n) w.cells cells ∙ ap (λ (o : Option Cell). option_or o (new_numbered cells n)) (none_lower n w.cells below)
 
-    heir_is : (cells : List Cell) (name : List ℕ) (c : Cell) → has_no_weak c.object ≡ true → heir_of (grown w cells) c name ≡ heir_now spaces cells c name
-    heir_is cells name c none =
-        else_part (is_some (weak_symbol_named c name)) None (elim (clash_name (grown w cells) c.ns name) as (λ _. Option ℕ) [ None ↦ successor_of c name | Some holder ↦ None ]) (no_weak_name c name none)
-        ∙ ap (λ (o : Option ℕ). elim o as (λ _. Option ℕ) [ None ↦ successor_of c name | Some holder ↦ None ])
-        (clash_name_is (with_new spaces cells) (next + length cells) (grown w cells) (grown_is spaces next w is.has cells) c.ns name)
+    heir_is : (cells : List Cell) (name : List ℕ) (c : Cell) → heir_of (grown w cells) c name ≡ heir_now spaces cells c name
+    heir_is cells name c =
+        ap (λ (o : Option ℕ). cond (is_some (weak_symbol_named c name)) None (elim o as (λ _. Option ℕ) [ None ↦ successor_of c name | Some holder ↦ None ]))
+        (clash_name_is (with_new spaces cells) (next + length cells) (grown w cells) (grown_is spaces next w is cells) c.ns name)
 
     changed : (a : Alias) (cells : List Cell) → (let v : World = record (grown w cells) { cells = map (with_alias n a) (w.cells ++ cells) } in v) ≡ grown w (map (with_alias n a) cells)
     changed a cells =
@@ -93,29 +80,16 @@ module _ (spaces : SpacesState) (next : ℕ) (given : All (λ c. c.cell.0 < next
     taken cells name None = refl
     taken cells name (Some symbol) = changed (record { name = name; symbol = symbol }) cells
 
-    one_is : (a : Alias) (cells : List Cell) → HaveNoWeak cells → take_on n (grown w cells) a ≡ grown w (take_now spaces n cells a.name)
-    one_is a cells none =
+    one_is : (a : Alias) (cells : List Cell) → take_on n (grown w cells) a ≡ grown w (take_now spaces n cells a.name)
+    one_is a cells =
         ap (takes cells a.name)
         (ap (option_and_then (λ (c : Cell). heir_of (grown w cells) c a.name)) (cell_is cells)
-        ∙ and_then_found (λ (c : Cell). heir_of (grown w cells) c a.name) (λ (c : Cell). heir_now spaces cells c a.name) (new_numbered cells n) (λ c e.
-        heir_is cells a.name c (All-In (λ (d : Cell). IsTrue (has_no_weak d.object)) cells none c (found-In (λ (d : Cell). d.id.0 == n) cells c e).0)))
+        ∙ and_then_same (λ (c : Cell). heir_of (grown w cells) c a.name) (λ (c : Cell). heir_now spaces cells c a.name) (heir_is cells a.name) (new_numbered cells n))
         ∙ taken cells a.name (option_and_then (λ (c : Cell). heir_now spaces cells c a.name) (new_numbered cells n))
 
-    -- nor has one of them a WEAK symbol then
-    none_taken : (cells : List Cell) (name : List ℕ) → HaveNoWeak cells → HaveNoWeak (take_now spaces n cells name)
-    none_taken cells name none = go (option_and_then (λ c. heir_now spaces cells c name) (new_numbered cells n))
-      where
-        go : (o : Option ℕ) → HaveNoWeak (elim o as (λ _. List Cell) [ None ↦ cells | Some symbol ↦ map (with_alias n (record { name = name; symbol = symbol })) cells ])
-        go None = none
-        go (Some symbol) = all_by_place n (record { name = name; symbol = symbol }) (λ (p : NewCell). IsTrue (has_no_weak p.object)) cells none
-
-    all_is : (names : List Alias) (cells : List Cell) → HaveNoWeak cells → fold (take_on n) (grown w cells) names ≡ grown w (take_all_now spaces n cells names)
-    all_is [] cells none = refl
-    all_is (a ∷ names) cells none = ap (λ (v : World). fold (take_on n) v names) (one_is a cells none) ∙ all_is names (take_now spaces n cells a.name) (none_taken cells a.name none)
-
-    none_all_taken : (names : List Alias) (cells : List Cell) → HaveNoWeak cells → HaveNoWeak (take_all_now spaces n cells names)
-    none_all_taken [] cells none = none
-    none_all_taken (a ∷ names) cells none = none_all_taken names (take_now spaces n cells a.name) (none_taken cells a.name none)
+    all_is : (names : List Alias) (cells : List Cell) → fold (take_on n) (grown w cells) names ≡ grown w (take_all_now spaces n cells names)
+    all_is [] cells = refl
+    all_is (a ∷ names) cells = ap (λ (v : World). fold (take_on n) v names) (one_is a cells) ∙ all_is names (take_now spaces n cells a.name)
 
     abbrev handed : List Cell → Option SpaceCell → List Cell
     handed cells o = elim o as (λ _. List Cell) [ None ↦ cells | Some old ↦ take_all_now spaces n cells old.names ]
@@ -123,31 +97,26 @@ module _ (spaces : SpacesState) (next : ℕ) (given : All (λ c. c.cell.0 < next
     abbrev exchanged : Option Cell → Option Exchange
     exchanged o = option_map (λ old. record { old = old; fresh = n }) o
 
-    none_handed : (cells : List Cell) (o : Option SpaceCell) → HaveNoWeak cells → HaveNoWeak (handed cells o)
-    none_handed cells None none = none
-    none_handed cells (Some old) none = none_all_taken old.names cells none
+    old_is : (cells : List Cell) (o : Option Cell) (rest : List Exchange) → with_reexports (grown w cells) (cons_option (exchanged o) rest) ≡ with_reexports (grown w (handed cells (option_map called o))) rest
+    old_is cells None rest = refl
+    old_is cells (Some old) rest = ap (λ (v : World). with_reexports v rest) (all_is (names_of old) cells)
 
-    old_is : (cells : List Cell) (o : Option Cell) (rest : List Exchange) → HaveNoWeak cells → with_reexports (grown w cells) (cons_option (exchanged o) rest) ≡ with_reexports (grown w (handed cells (option_map called o))) rest
-    old_is cells None rest none = refl
-    old_is cells (Some old) rest none = ap (λ (v : World). with_reexports v rest) (all_is (names_of old) cells none)
-
-    want_is : (cells : List Cell) (o : Option CellId) (rest : List Exchange) → HaveNoWeak cells
+    want_is : (cells : List Cell) (o : Option CellId) (rest : List Exchange)
         → with_reexports (grown w cells) (cons_option (exchanged (option_and_then (λ (id : CellId). cell_of w id.0) o)) rest)
         ≡ with_reexports (grown w (handed cells (option_and_then (λ (id : CellId). cell_numbered spaces.cells id.0) o))) rest
-    want_is cells None rest none = refl
-    want_is cells (Some id) rest none =
-        old_is cells (cell_of w id.0) rest none
+    want_is cells None rest = refl
+    want_is cells (Some id) rest =
+        old_is cells (cell_of w id.0) rest
         ∙ ap (λ (o : Option SpaceCell). with_reexports (grown w (handed cells o)) rest)
         (sym (number_called id.0 w.cells) ∙ ap (λ (cs : List SpaceCell). cell_numbered cs id.0) is.cells)
 
-  wants_are : (wants : List Want) (n : ℕ) → next ≤ n → (cells : List Cell) → HaveNoWeak cells → with_reexports (grown w cells) (exchanges_from w n wants) ≡ grown w (renamed_now spaces n cells wants)
-  wants_are [] n high cells none = refl
-  wants_are (want ∷ wants) n high cells none =
-      want_is n high cells want.replaces (exchanges_from w (suc n) wants) none
+  wants_are : (wants : List Want) (n : ℕ) → next ≤ n → (cells : List Cell) → with_reexports (grown w cells) (exchanges_from w n wants) ≡ grown w (renamed_now spaces n cells wants)
+  wants_are [] n high cells = refl
+  wants_are (want ∷ wants) n high cells =
+      want_is n high cells want.replaces (exchanges_from w (suc n) wants)
       ∙ wants_are wants (suc n) (omega (arith, high)) (hand_on_now spaces n cells want)
-      (none_handed n high cells (option_and_then (λ (id : CellId). cell_numbered spaces.cells id.0) want.replaces) none)
 
   -- the names of all cells that are replaced
-  pub renamed_are : (wants : List Want) (cells : List Cell) → HaveNoWeak cells → renamed w wants true (grown w cells) ≡ grown w (renamed_now spaces next cells wants)
-  renamed_are wants cells none =
-      ap (λ (n : ℕ). with_reexports (grown w cells) (exchanges_from w n wants)) is.number ∙ wants_are wants next (omega arith) cells none
+  pub renamed_are : (wants : List Want) (cells : List Cell) → renamed w wants true (grown w cells) ≡ grown w (renamed_now spaces next cells wants)
+  renamed_are wants cells =
+      ap (λ (n : ℕ). with_reexports (grown w cells) (exchanges_from w n wants)) is.number ∙ wants_are wants next (omega arith) cells

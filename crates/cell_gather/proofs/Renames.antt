@@ -1,11 +1,11 @@
 -- A new cell with one more name.
 use Rattle.std.proofs.Common.{◌≡◌, refl, sym, ◌∙◌, ap, ap₂, subst, arith, ℕ, zero, suc, ◌+◌, ◌<◌, ◌≤◌, Bool, true, false, cond, List, [], ◌∷◌, ◌++◌, length, map, append_assoc}
-use Rattle.std.specs.Prelude.{All, Err, Ok, OnOk, Result, Option, Some, None, ◌==◌, option_and_then, slice_get}
+use Rattle.std.specs.Prelude.{All, Err, Ok, OnOk, Result, Option, Some, None, ◌==◌, is_some, option_and_then, slice_get}
 use Rattle.std.proofs.lemmas.List.{length-map}
 use Rattle.std.proofs.lemmas.List.Elements.{All-map, All-same, All-weaker}
 use Rattle.cell_world.specs.declared.state.NewCell.{NewCell}
 use Rattle.cell_world.specs.Coherent.{IsLoadable}
-use Rattle.cell_world.specs.Names.{definitions_of}
+use Rattle.cell_world.specs.Names.{definitions_of, weak_definitions_of, weak_symbol_named}
 use Rattle.cell_world.specs.Reexport.{successor_of, with_alias}
 use Rattle.cell_world.specs.World.{Alias, Cell, Standing}
 use Rattle.cell_world.specs.declared.state.Standing.TheVariants.{Attached}
@@ -17,9 +17,9 @@ use Rattle.cell_space.specs.Spaces.{SpacesState}
 use Rattle.cell_space.proofs.Joined.{cells_are, joined_by}
 use Rattle.cell_space.proofs.Unclaimed.{lacks_free}
 use Rattle.cell_gather.specs.declared.gathering.Gathered.{Gathered}
-use Rattle.cell_gather.specs.declared.heirs.Heirs.{Heirs}
+use Rattle.cell_gather.specs.declared.heirs.Heritage.{Heritage}
 use Rattle.cell_gather.specs.Growing.{IsGrowing, new_of}
-use Rattle.cell_gather.specs.Renaming.{AreHeirs, IsNew, heir_now, new_numbered, take_now}
+use Rattle.cell_gather.specs.Renaming.{AreHeirs, IsNew, heir_now, heir_there, new_numbered, take_now}
 use Rattle.cell_gather.proofs.Depots.{found_all}
 
 placed_by : (b : Bool) (a : Alias) (c : Cell) → (let d : Cell = cond b (record c { aliases = c.aliases ++ a ∷ [] }) c in d.placed) ≡ c.placed
@@ -32,7 +32,7 @@ standing_by false a c = refl
 
 called_by : (b : Bool) (a : Alias) (c : Cell) → called (cond b (record c { aliases = c.aliases ++ a ∷ [] }) c) ≡ cond b (record (called c) { names = (called c).names ++ a ∷ [] }) (called c)
 called_by true a c =
-    ap (λ (names : List Alias). let s : SpaceCell = record { cell = c.id; ns = c.ns; stem = c.stem; state = c.standing; names = names } in s)
+    ap (λ (names : List Alias). let s : SpaceCell = record { cell = c.id; ns = c.ns; stem = c.stem; state = c.standing; names = names; weak = weak_definitions_of c.object } in s)
     (sym (append_assoc (definitions_of c.object) c.aliases (a ∷ [])))
 called_by false a c = refl
 
@@ -83,12 +83,13 @@ module _ (n : ℕ) (a : Alias) where
   still_found number (c ∷ cells) cell e =
       found_by number (c.id.0 == number) c (new_numbered cells number) (new_numbered (map (with_alias n a) cells) number) cell refl (still_found number cells cell) e
 
-  pub still_new : (cells : List Cell) (number ns : ℕ) (h : Heirs) → IsNew cells number ns h → IsNew (map (with_alias n a) cells) number ns h
+  pub still_new : (cells : List Cell) (number ns : ℕ) (h : Heritage) → IsNew cells number ns h → IsNew (map (with_alias n a) cells) number ns h
   still_new cells number ns h new = record {
     cell = with_alias n a new.cell;
     found = still_found number cells new.cell new.found;
     ns_is = ap (λ (p : NewCell). p.ns) (placed_same new.cell) ∙ new.ns_is;
-    heirs = subst (λ (p : NewCell). AreHeirs (definitions_of p.object) h) (sym (placed_same new.cell)) new.heirs;
+    heirs = subst (λ (p : NewCell). AreHeirs (definitions_of p.object) h.heirs) (sym (placed_same new.cell)) new.heirs;
+    weak = subst (λ (p : NewCell). h.weak ≡ weak_definitions_of p.object) (sym (placed_same new.cell)) new.weak;
   }
 
   module _ (spaces : SpacesState) (next : ℕ) (old new : Gathered) (growing : IsGrowing spaces next old) (items : new.cells.items ≡ old.cells.items)
@@ -133,6 +134,10 @@ module _ (n : ℕ) (a : Alias) where
           few = λ some. let few = growing.few (omega (arith, some, long)) in omega (arith, few, long);
         }
 
+not_weak : (b : Bool) (heir : Option ℕ) (symbol : ℕ) → cond b None heir ≡ Some symbol → heir ≡ Some symbol
+not_weak true heir symbol e = absurd (cc e)
+not_weak false heir symbol e = e
+
 free_by : (o : Option ℕ) (heir : Option ℕ) (symbol : ℕ) → elim o as (λ _. Option ℕ) [ None ↦ heir | Some holder ↦ None ] ≡ Some symbol → o ≡ None
 free_by None heir symbol e = refl
 free_by (Some holder) heir symbol e = absurd (cc e)
@@ -148,7 +153,7 @@ numbered_called (d ∷ cells) n c e = by (d.id.0 == n) (new_numbered cells n) (c
 found_standing : (cells : List Cell) (n : ℕ) (c : Cell) → All (λ d. d.standing ≡ Attached) cells → new_numbered cells n ≡ Some c → c.standing ≡ Attached
 found_standing cells n c all e = found_all (λ d. d.standing ≡ Attached) (λ d. d.id.0 == n) c cells all e
 
-module _ (spaces : SpacesState) (next : ℕ) (old : Gathered) (growing : IsGrowing spaces next old) (n ns : ℕ) (there : ns < length spaces.namespaces) (h : Heirs) (new : IsNew (new_of old) n ns h) (name : List ℕ) where
+module _ (spaces : SpacesState) (next : ℕ) (old : Gathered) (growing : IsGrowing spaces next old) (n ns : ℕ) (there : ns < length spaces.namespaces) (h : Heritage) (new : IsNew (new_of old) n ns h) (name : List ℕ) where
   abbrev takes : Option ℕ → List Cell
   takes heir = elim heir as (λ _. List Cell) [ None ↦ new_of old | Some symbol ↦ map (with_alias n (record { name = name; symbol = symbol })) (new_of old) ]
 
@@ -167,7 +172,8 @@ module _ (spaces : SpacesState) (next : ℕ) (old : Gathered) (growing : IsGrowi
   pub heir_lacks : (heir : Option ℕ) (symbol : ℕ) → heir ≡ heir_now spaces (new_of old) new.cell name → heir ≡ Some symbol → LacksName old.ahead.fresh n name
   heir_lacks heir symbol e some =
       let free : clash_name spaces.namespaces new.cell.ns name (spaces.cells ++ map called (new_of old)) ≡ None =
-      free_by (clash_name spaces.namespaces new.cell.ns name (spaces.cells ++ map called (new_of old))) (successor_of new.cell name) symbol (sym e ∙ some)
+      free_by (clash_name spaces.namespaces new.cell.ns name (spaces.cells ++ map called (new_of old))) (successor_of new.cell name) symbol
+      (not_weak (is_some (weak_symbol_named new.cell name)) (heir_there spaces (new_of old) new.cell name) symbol (sym e ∙ some))
       in
       let found = numbered_called (new_of old) n new.cell new.found in
       let on : is_in Attached (called new.cell) ≡ true = ap (λ (s : Standing). is_state Attached s) (found_standing (new_of old) n new.cell growing.attached new.found) in

@@ -1,24 +1,19 @@
 -- What new cells have stays there when more are added.
-use Rattle.std.proofs.Common.{◌≡◌, refl, sym, ◌∙◌, ap, subst, arith, ℕ, zero, suc, ◌+◌, ◌<◌, ◌≤◌, true, List, [], ◌∷◌, ◌++◌, length, map, get_or, take, drop, append_assoc, take-append-drop, ◌⊎◌, inl, inr}
-use Rattle.std.specs.Prelude.{Option, Some, None, All, is_some, slice_get}
+use Rattle.std.proofs.Common.{◌≡◌, refl, sym, ◌∙◌, ap, subst, arith, ℕ, zero, suc, ◌+◌, ◌<◌, ◌≤◌, List, [], ◌∷◌, ◌++◌, length, map, get_or, take, drop, append_assoc, take-append-drop, ◌⊎◌, inl, inr}
+use Rattle.std.specs.Prelude.{Option, Some, All, is_some, slice_get}
 use Rattle.std.proofs.lemmas.List.{map-append, drop_more, take_all}
 use Rattle.std.proofs.lemmas.List.Elements.{All-weaker, All-more, All-same}
 use Rattle.std.proofs.lemmas.Bool.{cases_lt}
 use Rattle.cell_num.specs.declared.ids.CellId.{CellId}
-use Rattle.cell_num.specs.Lists.{or_else}
 use Rattle.cell_world.specs.World.{Cell}
-use Rattle.cell_world.specs.Names.{Provider, chain, needs_of}
+use Rattle.cell_world.specs.Names.{chain, needs_of}
 use Rattle.cell_world.specs.declared.state.Standing.TheVariants.{Attached}
 use Rattle.cell_space.specs.declared.cell.SpaceCell.{SpaceCell}
 use Rattle.cell_space.specs.Machine.{called}
-use Rattle.cell_space.specs.Named.{first_provider}
+use Rattle.cell_space.specs.Named.{provider_for}
 use Rattle.cell_space.specs.Spaces.{SpacesState}
 use Rattle.cell_gather.specs.Growing.{IsProvided, IsSupplied, AreSupplied, IsTurnOf, IsNext}
-use Rattle.cell_space.proofs.Layered.{first_provider-append}
-
-still_some : (a b : Option Provider) → is_some a ≡ true → is_some (or_else a b) ≡ true
-still_some (Some p) b e = refl
-still_some None b e = cc
+use Rattle.cell_space.proofs.Nearests.{provided_more}
 
 pub within : {X : Type 0} (xs : List X) (k : ℕ) (x : X) → slice_get xs k ≡ Some x → k < length xs
 within [] k x e = absurd (cc e)
@@ -53,9 +48,8 @@ module _ (spaces : SpacesState) (cells added : List Cell) where
   pub more_provided : (ns : ℕ) (name : List ℕ) → IsProvided spaces cells ns name → IsProvided spaces (cells ++ added) ns name
   more_provided ns name e =
       let way : List ℕ = chain spaces.namespaces ns in
-      ap (λ (cs : List SpaceCell). is_some (first_provider way Attached name cs)) more_are
-      ∙ ap (λ (o : Option Provider). is_some o) (first_provider-append way Attached name (spaces.cells ++ map called cells) (map called added))
-      ∙ still_some (first_provider way Attached name (spaces.cells ++ map called cells)) (first_provider way Attached name (map called added)) e
+      ap (λ (cs : List SpaceCell). is_some (provider_for way Attached name cs)) more_are
+      ∙ provided_more way name (spaces.cells ++ map called cells) (map called added) e
 
   more_names : (ns : ℕ) (names : List (List ℕ)) → All (IsProvided spaces cells ns) names → All (IsProvided spaces (cells ++ added) ns) names
   more_names ns names all = All-weaker (IsProvided spaces cells ns) (IsProvided spaces (cells ++ added) ns) (λ name e. more_provided ns name e) names all

@@ -14,7 +14,6 @@ use Rattle.cell_space.specs.Spaces.{SpacesState}
 use Rattle.cell_world.specs.declared.fail.Fail.{Fail}
 use Rattle.cell_gather.specs.declared.gathering.Gathered.{Gathered}
 use Rattle.cell_gather.specs.Growing.{AreSupplied, Ends, IsGrowing, IsLed, IsNext, IsOneMore, Leads, new_of}
-use Rattle.cell_gather.proofs.Growths.{new_no_weak}
 use Rattle.cell_gather.proofs.Lacks.{first_lack_is}
 use Rattle.cell_gather.proofs.Supplies.{within, next_stays}
 use Rattle.cell_gather.proofs.Turns.{Lacks, led_on, led_once, leads_on, refused, turn_leads}
@@ -35,7 +34,7 @@ module _ (files : List File) (spaces : SpacesState) (next : ℕ) (given : All (�
   brings c w = bring_one (map source_of files) (grown w (new_of mid)) (let need : Need = record { cell = c; name = name } in need)
 
   lacks : Lacks files spaces next (new_of mid) lack
-  lacks w is = first_lack_is spaces next given (new_of mid) growing.above growing.attached (new_no_weak spaces next mid growing) w is place ns id name n none
+  lacks w is = first_lack_is spaces next given (new_of mid) growing.above growing.attached w is place ns id name n none
 
   pub turn_done : (x : Unit {0}) → IsOneMore (new_of mid) (new_of new) → ((c : Cell) → c.ns ≡ ns → c.id ≡ id → Ends spaces next (brings c) (Ok x) (new_of new))
       → IsLed files spaces next old (new_of new)

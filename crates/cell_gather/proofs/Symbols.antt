@@ -7,12 +7,12 @@ use Rattle.cell_num.specs.Lists.{numbered_from, each_pair, equals}
 use Rattle.cell_object.specs.declared.object.Symbol.{Symbol}
 use Rattle.cell_object.specs.declared.object.Bind.{Bind}
 use Rattle.cell_object.specs.declared.object.Bind.TheVariants.{Local, Global, Weak}
-use Rattle.cell_object.specs.Parts.{is_global, is_local, is_defined}
+use Rattle.cell_object.specs.Parts.{is_local, is_defined}
 use Rattle.cell_object.specs.Sound.{may_both_be}
 use Rattle.cell_world.specs.World.{Alias}
-use Rattle.cell_world.specs.Names.{is_definition, has_name}
+use Rattle.cell_world.specs.Names.{has_name}
 use Rattle.cell_space.specs.Rows.{are_apart}
-use Rattle.cell_gather.specs.Appending.{definitions_from}
+use Rattle.cell_gather.specs.Appending.{definitions_from, is_bind, is_defined_as}
 
 -- what passes a test among numbered symbols
 module _ {Y : Type 0} (test : ℕ → Symbol → Bool) (view : ℕ × Symbol → Y) where
@@ -57,8 +57,8 @@ module _ {Y : Type 0} (test : ℕ → Symbol → Bool) (view : ℕ × Symbol →
   pub none_added : (n : ℕ) (s : Symbol) (old : List Y) → test n s ≡ false → old ≡ old ++ passed_from n (s ∷ [])
   none_added n s old off = sym (append-nil old) ∙ ap (λ b. old ++ map view (cond b ((n, s) ∷ []) [])) (sym off)
 
-abbrev pub defines : ℕ → Symbol → Bool
-defines n s = is_definition s
+abbrev pub defines : Bind → ℕ → Symbol → Bool
+defines bind n s = is_defined_as bind s
 
 abbrev pub as_alias : ℕ × Symbol → Alias
 as_alias p = record { name = p.1.name; symbol = p.0 }
@@ -78,40 +78,46 @@ both : (b c : Bool) → b ≡ true → c ≡ true → (b && c) ≡ true
 both true c e f = f
 both false c e f = absurd (cc e)
 
--- two definitions have two names
-two_names : (a b : Bind) (da db same : Bool) → (is_global a && da) ≡ true → (is_global b && db) ≡ true → (is_local a || is_local b || not same) ≡ true → not same ≡ true
-two_names Global Global da db same d e may = may
-two_names Global Local da db same d e may = absurd (cc e)
-two_names Global Weak da db same d e may = absurd (cc e)
-two_names Local b da db same d e may = absurd (cc d)
-two_names Weak b da db same d e may = absurd (cc d)
+-- two definitions of one binding have two names
+two_names : (bind a b : Bind) (da db same : Bool) → is_local bind ≡ false → (is_bind bind a && da) ≡ true → (is_bind bind b && db) ≡ true → (is_local a || is_local b || not same) ≡ true → not same ≡ true
+two_names Local a b da db same named d e may = absurd (cc named)
+two_names Global Global Global da db same named d e may = may
+two_names Global Global Local da db same named d e may = absurd (cc e)
+two_names Global Global Weak da db same named d e may = absurd (cc e)
+two_names Global Local b da db same named d e may = absurd (cc d)
+two_names Global Weak b da db same named d e may = absurd (cc d)
+two_names Weak Weak Weak da db same named d e may = may
+two_names Weak Weak Local da db same named d e may = absurd (cc e)
+two_names Weak Weak Global da db same named d e may = absurd (cc e)
+two_names Weak Local b da db same named d e may = absurd (cc d)
+two_names Weak Global b da db same named d e may = absurd (cc d)
 
 abbrev differs : Alias → Alias → Bool
 differs a b = not (equals a.name b.name)
 
-module _ (a : ℕ) (s : Symbol) (here : is_definition s ≡ true) where
-  one_differs : (b : Bool) (n : ℕ) (t : Symbol) (rest : List (ℕ × Symbol)) → is_definition t ≡ b → may_both_be s t ≡ true → list_all (differs (as_alias (a, s))) (map as_alias rest) ≡ true
+module _ (bind : Bind) (named : is_local bind ≡ false) (a : ℕ) (s : Symbol) (here : is_defined_as bind s ≡ true) where
+  one_differs : (b : Bool) (n : ℕ) (t : Symbol) (rest : List (ℕ × Symbol)) → is_defined_as bind t ≡ b → may_both_be s t ≡ true → list_all (differs (as_alias (a, s))) (map as_alias rest) ≡ true
       → list_all (differs (as_alias (a, s))) (map as_alias (cond b ((n, t) ∷ rest) rest)) ≡ true
   one_differs true n t rest is may all =
-      both (not (equals s.name t.name)) _ (two_names s.bind t.bind (is_defined s.home) (is_defined t.home) (equals s.name t.name) here is may) all
+      both (not (equals s.name t.name)) _ (two_names bind s.bind t.bind (is_defined s.home) (is_defined t.home) (equals s.name t.name) named here is may) all
   one_differs false n t rest is may all = all
 
-  all_differ : (n : ℕ) (symbols : List Symbol) → list_all (may_both_be s) symbols ≡ true → list_all (differs (as_alias (a, s))) (definitions_from n symbols) ≡ true
+  all_differ : (n : ℕ) (symbols : List Symbol) → list_all (may_both_be s) symbols ≡ true → list_all (differs (as_alias (a, s))) (definitions_from bind n symbols) ≡ true
   all_differ n [] e = refl
   all_differ n (t ∷ symbols) e =
-      one_differs (is_definition t) n t (filter (λ p. is_definition p.1) (numbered_from (suc n) symbols)) refl (left (may_both_be s t) _ e) (all_differ (suc n) symbols (right (may_both_be s t) _ e))
+      one_differs (is_defined_as bind t) n t (filter (λ p. is_defined_as bind p.1) (numbered_from (suc n) symbols)) refl (left (may_both_be s t) _ e) (all_differ (suc n) symbols (right (may_both_be s t) _ e))
 
 one_apart : (b : Bool) (n : ℕ) (s : Symbol) (rest : List (ℕ × Symbol)) → (b ≡ true → list_all (differs (as_alias (n, s))) (map as_alias rest) ≡ true) → are_apart (map as_alias rest) ≡ true
     → are_apart (map as_alias (cond b ((n, s) ∷ rest) rest)) ≡ true
 one_apart true n s rest all apart = both (list_all (differs (as_alias (n, s))) (map as_alias rest)) _ (all refl) apart
 one_apart false n s rest all apart = apart
 
-definitions_apart : (n : ℕ) (symbols : List Symbol) → each_pair may_both_be symbols ≡ true → are_apart (definitions_from n symbols) ≡ true
-definitions_apart n [] e = refl
-definitions_apart n (s ∷ symbols) e =
-    one_apart (is_definition s) n s (filter (λ p. is_definition p.1) (numbered_from (suc n) symbols))
-    (λ here. all_differ n s here (suc n) symbols (left (list_all (may_both_be s) symbols) _ e))
-    (definitions_apart (suc n) symbols (right (list_all (may_both_be s) symbols) _ e))
+definitions_apart : (bind : Bind) → is_local bind ≡ false → (n : ℕ) (symbols : List Symbol) → each_pair may_both_be symbols ≡ true → are_apart (definitions_from bind n symbols) ≡ true
+definitions_apart bind named n [] e = refl
+definitions_apart bind named n (s ∷ symbols) e =
+    one_apart (is_defined_as bind s) n s (filter (λ p. is_defined_as bind p.1) (numbered_from (suc n) symbols))
+    (λ here. all_differ bind named n s here (suc n) symbols (left (list_all (may_both_be s) symbols) _ e))
+    (definitions_apart bind named (suc n) symbols (right (list_all (may_both_be s) symbols) _ e))
 
 off : (b : Bool) → not b ≡ true → b ≡ false
 off true e = absurd (cc e)
@@ -133,9 +139,9 @@ front_free (x ∷ xs) r ys e =
     (front_free xs r ys (right (list_all (differs x) (xs ++ r ∷ ys)) _ e))
 
 -- the name of a definition is not there yet
-pub definition_new : (symbols : List Symbol) (place : ℕ) (s : Symbol) (old : List Alias) → each_pair may_both_be symbols ≡ true → place < length symbols → s ≡ get_or symbols place s
-    → old ++ definitions_from (suc place) (drop place symbols) ≡ definitions_from 1 symbols → is_definition s ≡ true → has_name old s.name ≡ false
-definition_new symbols place s old apart lt item far here =
-    front_free old (as_alias (suc place, s)) (definitions_from (suc (place + 1)) (drop (place + 1) symbols))
-    (ap are_apart (ap (λ ys. old ++ ys) (sym (passed_here defines as_alias symbols place s lt item here)) ∙ far)
-    ∙ definitions_apart 1 symbols apart)
+pub definition_new : (bind : Bind) → is_local bind ≡ false → (symbols : List Symbol) (place : ℕ) (s : Symbol) (old : List Alias) → each_pair may_both_be symbols ≡ true → place < length symbols → s ≡ get_or symbols place s
+    → old ++ definitions_from bind (suc place) (drop place symbols) ≡ definitions_from bind 1 symbols → is_defined_as bind s ≡ true → has_name old s.name ≡ false
+definition_new bind named symbols place s old apart lt item far here =
+    front_free old (as_alias (suc place, s)) (definitions_from bind (suc (place + 1)) (drop (place + 1) symbols))
+    (ap are_apart (ap (λ ys. old ++ ys) (sym (passed_here (defines bind) as_alias symbols place s lt item here)) ∙ far)
+    ∙ definitions_apart bind named 1 symbols apart)

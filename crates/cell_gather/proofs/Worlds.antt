@@ -18,7 +18,7 @@ use Rattle.cell_space.specs.Named.{clash_stem, clash_name}
 use Rattle.cell_space.specs.Spaces.{SpacesState}
 use Rattle.cell_space.proofs.Machines.{clash_stem-called, clash_name-called}
 use Rattle.cell_gather.specs.Appending.{clash_among_now, stem_free, names_free, cell_from, append_now}
-use Rattle.cell_gather.specs.Gathering.{HasSpaces}
+use Rattle.cell_gather.specs.Gathering.{IsOf}
 use Rattle.cell_gather.specs.Growing.{with_new}
 use Rattle.cell_gather.proofs.Outcomes.{then_assoc, need_then, refused_then, bind_then}
 
@@ -29,7 +29,7 @@ remade w cells next = record w { cells = cells; next_cell = next }
 abbrev pub with_one : World → NewCell → World
 with_one u c = remade u (u.cells ++ attached c ∷ []) (suc u.next_cell)
 
-module _ (s : SpacesState) (next : ℕ) (u : World) (is : HasSpaces s next u) where
+module _ (s : SpacesState) (next : ℕ) (u : World) (is : IsOf s next u) where
   clash_stem_is : (ns : ℕ) (stem : List ℕ) → names.clash_stem u ns stem ≡ clash_stem s.namespaces ns stem s.cells
   clash_stem_is ns stem =
       clash_stem-called u ns stem
@@ -65,8 +65,8 @@ module _ (s : SpacesState) (next : ℕ) (u : World) (is : HasSpaces s next u) wh
       ∙ sym (ap (λ o. o >>= k) (then_assoc (stem_free s ns stem) (refused_by (clash_among_now s ns (definitions_of object))) (Ok (cell_from next ns f object)))))))
       ∙ sym (ap (λ o. o >>= k) (then_assoc (need (nat_lt total 1024) (TooMany Cells 1024)) (need (nat_le next 65535) (TooMany CellNumbers 65535)) (object_in (source_of f) >>= object_cell)))
 
-module _ (spaces : SpacesState) (next : ℕ) (w : World) (is : HasSpaces spaces next w) where
-  pub grown_is : (cells : List Cell) → HasSpaces (with_new spaces cells) (next + length cells) (grown w cells)
+module _ (spaces : SpacesState) (next : ℕ) (w : World) (is : IsOf spaces next w) where
+  pub grown_is : (cells : List Cell) → IsOf (with_new spaces cells) (next + length cells) (grown w cells)
   grown_is cells =
       record {
         namespaces = is.namespaces;

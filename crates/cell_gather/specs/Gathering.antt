@@ -1,11 +1,9 @@
 -- Which new cells a load or a swap gathers: over the machine that the spaces are those of.
 --     gather sources w wants reexport     the wanted cells after those of w, with names of those that they replace, and then all that they need
---     HasSpaces spaces next w             these are the spaces of the machine w, and that is its next number
---     IsOf spaces next w                  the same of a machine in which no cell has a WEAK symbol
+--     IsOf spaces next w                  these are the spaces of the machine w, and that is its next number
 --     Gathers files spaces next wants reexport result     the new cells, or the refusal
-use Rattle.std.specs.Prelude.{◌≡◌, ◌+◌, ℕ, suc, Bool, true, false, List, [], ◌∷◌, ◌++◌, Option, All, IsTrue, Result, Ok, Err, map, option_and_then, option_map}
+use Rattle.std.specs.Prelude.{◌≡◌, ℕ, suc, Bool, true, false, List, [], ◌∷◌, ◌++◌, Option, All, Result, Ok, Err, map, option_and_then, option_map}
 use Rattle.std.specs.List.{cons_option}
-use Rattle.cell_object.specs.Parts.{has_no_weak}
 use Rattle.cell_world.specs.declared.file.File.{File}
 use Rattle.cell_world.specs.declared.refusal.Refusal.TheVariants.{Unknown}
 use Rattle.cell_world.specs.Coherent.{IsLoadable}
@@ -44,18 +42,10 @@ abbrev pub gather : List Source → World → List Want → Bool → Outcome Wor
 gather sources w wants reexport =
     each (append_wanted sources) w wants >>= (λ appended. bring sources w.next_cell (renamed w wants reexport appended))
 
-pub record HasSpaces (spaces : SpacesState) (next : ℕ) (w : World) : Type 0 where
+pub record IsOf (spaces : SpacesState) (next : ℕ) (w : World) : Type 0 where
   pub namespaces : w.namespaces ≡ spaces.namespaces
   pub cells : map called w.cells ≡ spaces.cells
   pub number : w.next_cell ≡ next
-
-abbrev pub HaveNoWeak : List Cell → Type 0
-HaveNoWeak cells = All (λ c. IsTrue (has_no_weak c.object)) cells
-
-pub record IsOf (spaces : SpacesState) (next : ℕ) (w : World) : Type 0 where
-  pub has : HasSpaces spaces next w
-  pub open has use *
-  pub no_weak : HaveNoWeak w.cells
 
 pub record IsGathered (files : List File) (spaces : SpacesState) (next : ℕ) (wants : List Want) (reexport : Bool) (g : Gathered) : Type 0 where
   -- the new cells, with the names that they took on

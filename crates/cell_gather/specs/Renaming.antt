@@ -1,17 +1,19 @@
 -- The names that new cells take on, by what the spaces say of the machine.
 --     AreHeirs rows h                the table answers for the definitions
---     heir_now s cells c name        the symbol that the new cell has for the name, where nobody on one path has it
+--     heir_there s cells c name      the symbol that the new cell has for the name, where nobody on one path has it
+--     heir_now s cells c name        the same, where the cell doesn't hold the name weakly itself
 --     take_now s n cells name        the new cells, of which that of number n takes on the name where it has an heir for it
 --     renamed_now s n cells wants    the same for all names of the cells that are replaced
-use Rattle.std.specs.Prelude.{◌≡◌, ℕ, suc, ◌==◌, Bool, true, false, List, [], ◌∷◌, ◌++◌, Option, Some, None, filter, find, fold, map, option_and_then, option_map}
+use Rattle.std.specs.Prelude.{◌≡◌, ℕ, suc, ◌==◌, Bool, true, false, List, [], ◌∷◌, ◌++◌, Option, Some, None, filter, find, fold, is_some, map, option_and_then, option_map, if◌then◌else◌}
 use Rattle.cell_num.specs.Lists.{equals, first}
-use Rattle.cell_world.specs.Names.{base_name, definitions_of, has_name, symbol_in}
+use Rattle.cell_world.specs.Names.{base_name, definitions_of, has_name, symbol_in, weak_definitions_of, weak_symbol_named}
 use Rattle.cell_world.specs.Reexport.{successor_of, with_alias}
 use Rattle.cell_world.specs.World.{Alias, Cell}
 use Rattle.cell_space.specs.Machine.{called}
 use Rattle.cell_space.specs.Named.{cell_numbered, clash_name}
 use Rattle.cell_space.specs.Spaces.{SpacesState}
 use Rattle.cell_gather.specs.declared.heirs.Heirs.{Heirs}
+use Rattle.cell_gather.specs.declared.heirs.Heritage.{Heritage}
 use Rattle.cell_gather.specs.declared.want.Want.{Want}
 
 -- the definitions of a base name
@@ -30,9 +32,12 @@ pub record AreHeirs (rows : List Alias) (h : Heirs) : Type 0 where
   pub once : (base : List ℕ) → symbol_in h.once base ≡ first_symbol (of_base base rows)
   pub several : (base : List ℕ) → has_name h.several base ≡ are_several (of_base base rows)
 
-abbrev pub heir_now : SpacesState → List Cell → Cell → List ℕ → Option ℕ
-heir_now s cells c name =
+abbrev pub heir_there : SpacesState → List Cell → Cell → List ℕ → Option ℕ
+heir_there s cells c name =
     elim (clash_name s.namespaces c.ns name (s.cells ++ map called cells)) [ None ↦ successor_of c name | Some holder ↦ None ]
+
+abbrev pub heir_now : SpacesState → List Cell → Cell → List ℕ → Option ℕ
+heir_now s cells c name = if is_some (weak_symbol_named c name) then None else heir_there s cells c name
 
 abbrev pub new_numbered : List Cell → ℕ → Option Cell
 new_numbered cells number = find (λ c. c.id.0 == number) cells
@@ -57,9 +62,10 @@ abbrev pub renamed_now : SpacesState → ℕ → List Cell → List Want → Lis
 renamed_now s number cells [] = cells
 renamed_now s number cells (want ∷ wants) = renamed_now s (suc number) (hand_on_now s number cells want) wants
 
--- the new cell of that number, with its namespace and its heirs
-pub record IsNew (cells : List Cell) (number ns : ℕ) (h : Heirs) : Type 0 where
+-- the new cell of that number, with its namespace, its heirs and what it holds weakly
+pub record IsNew (cells : List Cell) (number ns : ℕ) (h : Heritage) : Type 0 where
   pub cell : Cell
   pub found : new_numbered cells number ≡ Some cell
   pub ns_is : cell.ns ≡ ns
-  pub heirs : AreHeirs (definitions_of cell.object) h
+  pub heirs : AreHeirs (definitions_of cell.object) h.heirs
+  pub weak : h.weak ≡ weak_definitions_of cell.object

@@ -8,6 +8,7 @@ ghost use Rattle.cell_world.specs.World.{attached};
 ghost use Rattle.cell_gather.specs.Gathering.{append_wanted};
 ghost use Rattle.cell_gather.specs.Growing.{new_of, Ends, HavePlain, IsGrowing, IsOneMore};
 
+use crate::definitions::weak_definitions;
 use crate::fresh::Fresh;
 use crate::load::Load;
 use crate::{Gathered, Want};
@@ -25,9 +26,10 @@ impl<'a> Load<'a> {
         ensures growing { OnOk result (IsGrowing self.now.spaces.now self.now.next gathered.new) }
         ensures added { OnOk result (new_of gathered.new ≡ new_of gathered.old ++ attached fresh.cell ∷ []) }
     {
+        let weak = weak_definitions(alloc, &fresh.cell.object)?;
         let stem = fresh.cell.stem.copy(alloc)?;
         let (id, ns) = (fresh.cell.id, fresh.cell.ns);
-        gathered.ahead.append(id, ns, stem, fresh.names)?;
+        gathered.ahead.append(id, ns, stem, fresh.names, weak)?;
         gathered.cells.push(fresh.cell)?;
         Ok(())
     }

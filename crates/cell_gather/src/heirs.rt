@@ -2,10 +2,13 @@
 
 ghost use Rattle.std.specs.Prelude.{◌≡◌, ◌++◌, ◌∷◌, [], ℕ, IfOk, List, OnOk};
 ghost use Rattle.cell_world.specs.Reexport.{symbol_of_one};
+ghost use Rattle.cell_world.specs.Coherent.{IsLoadable};
 ghost use Rattle.cell_world.specs.World.{Alias};
-ghost use Rattle.cell_world.specs.Names.{base_name as base_of};
+ghost use Rattle.cell_world.specs.Names.{base_name as base_of, definitions_of, weak_definitions_of};
 ghost use Rattle.cell_gather.specs.Renaming.{AreHeirs, of_base};
 
+use crate::definitions::{definitions, weak_definitions};
+use cell_object::Object;
 use cell_space::{NameRows, base_name};
 use std::alloc::{AllocError, Global};
 
@@ -72,5 +75,25 @@ impl Heirs {
         ensures { (rows : List Alias) → AreHeirs rows self.now → result ≡ symbol_of_one (of_base (base_of name.now) rows) }
     {
         self.of_base(&name[..base_name(name)])
+    }
+}
+
+/// A new cell's heirs for old names, and the names that it holds weakly, for which it has none.
+#[derive(Drop)]
+pub struct Heritage {
+    pub heirs: Heirs,
+    pub weak: NameRows,
+}
+
+impl Heritage {
+    /// Of the cell of an object.
+    pub fn of(alloc: Global, object: &Object) -> Result<Heritage, AllocError>
+        requires { IsLoadable object.now }
+        ensures heirs { IfOk result (λ h. AreHeirs (definitions_of object.now) h.heirs) }
+        ensures weak { IfOk result (λ h. h.weak ≡ weak_definitions_of object.now) }
+    {
+        let heirs = Heirs::among(alloc, &definitions(alloc, object)?)?;
+        let weak = weak_definitions(alloc, object)?;
+        Ok(Heritage { heirs, weak })
     }
 }

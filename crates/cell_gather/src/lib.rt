@@ -17,6 +17,7 @@ mod supply;
 mod used;
 mod want;
 
+pub use definitions::weak_definitions;
 pub use gathering::{Gathered, gather};
 pub use used::needs;
 pub use want::Want;

@@ -2,17 +2,16 @@
 
 ghost use Rattle.std.specs.Prelude.{◌≡◌, ◌<◌, ◌≤◌, ◌+◌, All, OnOk, Some, false, length};
 ghost use Rattle.std.specs.Option.{ForSome};
-ghost use Rattle.cell_world.specs.Names.{definitions_of};
+ghost use Rattle.cell_world.specs.Names.{definitions_of, weak_definitions_of};
 ghost use Rattle.cell_world.specs.World.{World, Cell as SomeCell};
 ghost use Rattle.cell_space.specs.Path.{IsPath};
 ghost use Rattle.cell_space.specs.Spaces.{HasCell};
 ghost use Rattle.cell_world.specs.Gather.{grown};
 ghost use Rattle.cell_gather.specs.Gathering.{IsOf, renamed};
 ghost use Rattle.cell_gather.specs.Growing.{IsGrowing, new_of};
-ghost use Rattle.cell_gather.specs.Renaming.{AreHeirs, IsNew, hand_on_now, heir_now, renamed_now, take_all_now, take_now};
+ghost use Rattle.cell_gather.specs.Renaming.{AreHeirs, IsNew, hand_on_now, heir_now, heir_there, renamed_now, take_all_now, take_now};
 
-use crate::definitions::definitions;
-use crate::heirs::Heirs;
+use crate::heirs::{Heirs, Heritage};
 use crate::load::Load;
 use crate::{Gathered, Want};
 use cell_num::CellId;
@@ -21,15 +20,39 @@ use std::alloc::{AllocError, Global};
 
 impl<'a> Load<'a> {
     /// The symbol that a new cell on the path has for an old name, where nobody there has the name.
-    fn heir(&self, gathered: &Gathered, path: &Path, heirs: &Heirs, name: &[u8]) -> Option<u32>
+    fn heir_there(
+        &self,
+        gathered: &Gathered,
+        path: &Path,
+        heirs: &Heirs,
+        name: &[u8],
+    ) -> Option<u32>
         requires growing { IsGrowing self.now.spaces.now self.now.next gathered.now }
         requires path { IsPath self.now.spaces.now.namespaces path.now }
-        ensures { (c : SomeCell) → c.ns ≡ path.now.ns → AreHeirs (definitions_of c.object) heirs.now → result ≡ heir_now self.now.spaces.now (new_of gathered.now) c name.now }
+        ensures { (c : SomeCell) → c.ns ≡ path.now.ns → AreHeirs (definitions_of c.object) heirs.now → result ≡ heir_there self.now.spaces.now (new_of gathered.now) c name.now }
     {
         match gathered.ahead.clash_name(path, name) {
             Some(_) => None,
             None => heirs.heir(name),
         }
+    }
+
+    /// The same, where the new cell doesn't hold the name weakly itself.
+    fn heir(
+        &self,
+        gathered: &Gathered,
+        path: &Path,
+        heritage: &Heritage,
+        name: &[u8],
+    ) -> Option<u32>
+        requires growing { IsGrowing self.now.spaces.now self.now.next gathered.now }
+        requires path { IsPath self.now.spaces.now.namespaces path.now }
+        ensures { (c : SomeCell) → c.ns ≡ path.now.ns → AreHeirs (definitions_of c.object) heritage.now.heirs → heritage.now.weak ≡ weak_definitions_of c.object → result ≡ heir_now self.now.spaces.now (new_of gathered.now) c name.now }
+    {
+        if heritage.weak.symbol_of(name).is_some() {
+            return None;
+        }
+        self.heir_there(gathered, path, &heritage.heirs, name)
     }
 
     /// Gives the new cell of a number an old name, where it has an heir for it.
@@ -39,17 +62,17 @@ impl<'a> Load<'a> {
         gathered: &mut Gathered,
         path: &Path,
         cell: CellId,
-        heirs: &Heirs,
+        heritage: &Heritage,
         name: &[u8],
     ) -> Result<(), AllocError>
         requires growing { IsGrowing self.now.spaces.now self.now.next gathered.old }
         requires path { IsPath self.now.spaces.now.namespaces path.now }
-        requires new { IsNew (new_of gathered.old) cell.0 path.now.ns heirs.now }
+        requires new { IsNew (new_of gathered.old) cell.0 path.now.ns heritage.now }
         ensures growing { OnOk result (IsGrowing self.now.spaces.now self.now.next gathered.new) }
-        ensures new { OnOk result (IsNew (new_of gathered.new) cell.0 path.now.ns heirs.now) }
+        ensures new { OnOk result (IsNew (new_of gathered.new) cell.0 path.now.ns heritage.now) }
         ensures named { OnOk result (new_of gathered.new ≡ take_now self.now.spaces.now cell.0 (new_of gathered.old) name.now) }
     {
-        match self.heir(gathered, path, heirs, name) {
+        match self.heir(gathered, path, heritage, name) {
             Some(symbol) => gathered.ahead.add_name(alloc, cell, name, symbol),
             None => Ok(()),
         }
@@ -62,18 +85,18 @@ impl<'a> Load<'a> {
         gathered: &mut Gathered,
         path: &Path,
         cell: CellId,
-        heirs: &Heirs,
+        heritage: &Heritage,
         names: &NameRows,
     ) -> Result<(), AllocError>
         requires growing { IsGrowing self.now.spaces.now self.now.next gathered.old }
         requires path { IsPath self.now.spaces.now.namespaces path.now }
-        requires new { IsNew (new_of gathered.old) cell.0 path.now.ns heirs.now }
+        requires new { IsNew (new_of gathered.old) cell.0 path.now.ns heritage.now }
         ensures growing { OnOk result (IsGrowing self.now.spaces.now self.now.next gathered.new) }
         ensures named { OnOk result (new_of gathered.new ≡ take_all_now self.now.spaces.now cell.0 (new_of gathered.old) names.now) }
     {
         for place in 0..names.len() {
             let (name, _) = names.at(place);
-            self.give(alloc, gathered, path, cell, heirs, name)?;
+            self.give(alloc, gathered, path, cell, heritage, name)?;
         }
         Ok(())
     }
@@ -98,9 +121,16 @@ impl<'a> Load<'a> {
         };
         let cell = &gathered.cells[place];
         let (id, ns) = (cell.id, cell.ns);
-        let heirs = Heirs::among(alloc, &definitions(alloc, &cell.object)?)?;
+        let heritage = Heritage::of(alloc, &cell.object)?;
         let path = gathered.ahead.path(alloc, ns)?;
-        self.give_all(alloc, gathered, &path, id, &heirs, self.spaces.names(old))
+        self.give_all(
+            alloc,
+            gathered,
+            &path,
+            id,
+            &heritage,
+            self.spaces.names(old),
+        )
     }
 
     /// Gives the new cells of the wants the names of the cells that they replace, one after the other.

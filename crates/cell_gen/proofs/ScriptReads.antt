@@ -7,11 +7,12 @@ use Rattle.std.specs.List.{range_with_len}
 use Rattle.std.proofs.lemmas.Bool.Decides.{nat_tests}
 use Rattle.std.proofs.lemmas.List.Splits.{slice_split_none}
 use Rattle.std.proofs.Math.Seq.{take-append_seam, drop-append-add}
+use Rattle.cell_object.specs.Symbols.{is_name_byte as is_visible_byte}
 use Rattle.cell_text.specs.Text.{lines_in}
 use Rattle.cell_world.specs.declared.command.Command.{Command}
 use Rattle.cell_world.specs.declared.command.Command.TheVariants.{Load, Swap, Purge}
 use Rattle.cell_world.specs.declared.command.SwapItem.{SwapItem}
-use Rattle.cell_script.specs.Grammar.{is_name, is_name_byte, is_symbol_byte, is_file, is_equals, first_equals, cell_part, file_part, swap_item, swap_words, swap_items, swap_of, item_count, item_called, cell_called, cell_name, both, file, usual_budget}
+use Rattle.cell_script.specs.Grammar.{is_name, is_name_byte, is_file, is_equals, first_equals, cell_part, file_part, swap_item, swap_words, swap_items, swap_of, item_count, item_called, cell_called, cell_name, both, file, usual_budget}
 use Rattle.cell_script.specs.Script.{add_line, does, reading_of, script_from, script_of}
 use Rattle.cell_script.specs.declared.line.Line.{Line}
 use Rattle.cell_script.specs.declared.command.Reading.TheVariants.{Does}
@@ -29,8 +30,8 @@ is_line_feed b = b == 10
 name_digit : (b : ℕ) → is_ascii_digit b ≡ true → is_name_byte b ≡ true
 name_digit b h = grind (arith, nat_tests)
 
-symbol_digit : (b : ℕ) → is_ascii_digit b ≡ true → is_symbol_byte b ≡ true
-symbol_digit b h = grind (arith, nat_tests)
+visible_digit : (b : ℕ) → is_ascii_digit b ≡ true → is_visible_byte b ≡ true
+visible_digit b h = grind (arith, nat_tests)
 
 no_blank : (b : ℕ) → is_ascii_digit b ≡ true → not (is_blank b) ≡ true
 no_blank b h = grind (arith, nat_tests)
@@ -75,8 +76,8 @@ module _ (d : List ℕ) (h : IsShortNumeral d) where
 
   is_file-replacing : is_file replacing ≡ true
   is_file-replacing =
-      is_word is_symbol_byte 255 replacing (omega arith) (omega (arith, h.few, length-append d (codes "-2.o")))
-      (digits_before is_symbol_byte d (codes "-2.o") symbol_digit h refl)
+      is_word is_visible_byte 255 replacing (omega arith) (omega (arith, h.few, length-append d (codes "-2.o")))
+      (digits_before is_visible_byte d (codes "-2.o") visible_digit h refl)
 
   abbrev item_word : List ℕ
   item_word = cell_word ++ (codes "=" ++ replacing)

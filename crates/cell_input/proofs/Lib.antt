@@ -1,3 +1,4 @@
 pub mod Intake
 pub mod ObjectFiles
 pub mod OrderedNames
+pub mod DistinctFiles

@@ -15,7 +15,7 @@ use Rattle.cell_num.specs.Limits.{max_file_bytes}
 use Rattle.cell_io.specs.Files.{File as HostFile, names_in, folder}
 use Rattle.cell_world.specs.declared.file.File.{File}
 use Rattle.std.specs.declared.result.Result.{Result}
-use Rattle.cell_input.specs.declared.reason.Reason.{Reason}
+use Rattle.cell_input.specs.declared.folder.Refusals.{Refusals}
 use Rattle.cell_io.specs.declared.stop.Stop.{Stop}
 use Rattle.cell_io.specs.declared.stop.Stop.TheVariants.{Refused, ReadFault, OutOfMemory}
 use Rattle.cell_io.specs.Within.{◌>>=◌, Stops}
@@ -72,48 +72,48 @@ pub rest_listed : (dir : List ℕ) (key : String Global) (keys rest : List (Stri
 rest_listed dir key keys rest all e listed = All-rest (Contains (names_in dir all)) (string_bytes key) (map string_bytes rest) (map string_bytes keys) (ap (map string_bytes) e) listed
 
 -- files before those that later names give
-abbrev pub prepend : List File → Result (List File) Reason → Result (List File) Reason
+abbrev pub prepend : {R : Type 0} → List File → Result (List File) R → Result (List File) R
 prepend files (Ok later) = Ok (files ++ later)
-prepend files (Err reason) = Err reason
+prepend files (Err why) = Err why
 
-prepend-more : (files : List File) (file : File) (later : Result (List File) Reason) → prepend files (later >>= λ rest. Ok (file ∷ rest)) ≡ prepend (files ++ file ∷ []) later
+prepend-more : {R : Type 0} (files : List File) (file : File) (later : Result (List File) R) → prepend files (later >>= λ rest. Ok (file ∷ rest)) ≡ prepend (files ++ file ∷ []) later
 prepend-more files file (Ok rest) = ap Ok (sym (append_assoc files (file ∷ []) rest))
-prepend-more files file (Err reason) = refl
+prepend-more files file (Err why) = refl
 
-pub prepend-none : (later : Result (List File) Reason) → prepend [] later ≡ later
+pub prepend-none : {R : Type 0} (later : Result (List File) R) → prepend [] later ≡ later
 prepend-none (Ok rest) = refl
-prepend-none (Err reason) = refl
+prepend-none (Err why) = refl
 
-stops_prepend : (stop : Stop Reason) (files : List File) (later : Result (List File) Reason) → Stops stop later → Stops stop (prepend files later)
+stops_prepend : {R : Type 0} (stop : Stop R) (files : List File) (later : Result (List File) R) → Stops stop later → Stops stop (prepend files later)
 stops_prepend (Refused reason) files later e = ap (prepend files) e
 stops_prepend ReadFault files later e = tt
 stops_prepend OutOfMemory files later e = tt
 
 -- the files of these names, where those before have so many bytes
-abbrev pub taken_after : ℕ → List ℕ → List (String Global) → List HostFile → Result (List File) Reason
-taken_after total dir keys all = files_after total (map string_bytes keys) (folder dir all)
+abbrev pub taken_after : {R : Type 0} → Refusals R → ℕ → List ℕ → List (String Global) → List HostFile → Result (List File) R
+taken_after why total dir keys all = files_after why total (map string_bytes keys) (folder dir all)
 
-abbrev and_later : ℕ → List ℕ → List (String Global) → List HostFile → File → Result (List File) Reason
-and_later total dir rest all file = taken_after (total + length file.bytes) dir rest all >>= λ later. Ok (file ∷ later)
+abbrev and_later : {R : Type 0} → Refusals R → ℕ → List ℕ → List (String Global) → List HostFile → File → Result (List File) R
+and_later why total dir rest all file = taken_after why (total + length file.bytes) dir rest all >>= λ later. Ok (file ∷ later)
 
 -- one more file was taken
-pub takes_more : (dir : List ℕ) (key : String Global) (keys rest : List (String Global)) (all : List HostFile) (total : ℕ) (file : File) (files : List File) (whole : Result (List File) Reason) → keys ≡ key ∷ rest
-    → file_after total (string_bytes key) (folder dir all) ≡ Ok file → prepend files (taken_after total dir keys all) ≡ whole
-    → prepend (files ++ file ∷ []) (taken_after (total + length file.bytes) dir rest all) ≡ whole
-takes_more dir key keys rest all total file files whole e taken far =
-    sym (prepend-more files file (taken_after (total + length file.bytes) dir rest all))
-    ∙ ap (prepend files) (sym (goes_on file (file_after total (string_bytes key) (folder dir all)) (and_later total dir rest all) taken))
-    ∙ ap (λ ks. prepend files (taken_after total dir ks all)) (sym e)
+pub takes_more : {R : Type 0} (why : Refusals R) (dir : List ℕ) (key : String Global) (keys rest : List (String Global)) (all : List HostFile) (total : ℕ) (file : File) (files : List File) (whole : Result (List File) R) → keys ≡ key ∷ rest
+    → file_after why total (string_bytes key) (folder dir all) ≡ Ok file → prepend files (taken_after why total dir keys all) ≡ whole
+    → prepend (files ++ file ∷ []) (taken_after why (total + length file.bytes) dir rest all) ≡ whole
+takes_more why dir key keys rest all total file files whole e taken far =
+    sym (prepend-more files file (taken_after why (total + length file.bytes) dir rest all))
+    ∙ ap (prepend files) (sym (goes_on file (file_after why total (string_bytes key) (folder dir all)) (and_later why total dir rest all) taken))
+    ∙ ap (λ ks. prepend files (taken_after why total dir ks all)) (sym e)
     ∙ far
 
 -- one more file was refused
-pub stops_more : (dir : List ℕ) (key : String Global) (keys rest : List (String Global)) (all : List HostFile) (total : ℕ) (stop : Stop Reason) (files : List File) (whole : Result (List File) Reason) → keys ≡ key ∷ rest
-    → Stops stop (file_after total (string_bytes key) (folder dir all)) → prepend files (taken_after total dir keys all) ≡ whole → Stops stop whole
-stops_more dir key keys rest all total stop files whole e refused far =
-    let here = stops_first stop (file_after total (string_bytes key) (folder dir all)) (and_later total dir rest all) refused in
-    stops_same stop (prepend files (taken_after total dir (key ∷ rest) all)) whole
-    (sym far ∙ ap (λ ks. prepend files (taken_after total dir ks all)) e)
-    (stops_prepend stop files (taken_after total dir (key ∷ rest) all) here)
+pub stops_more : {R : Type 0} (why : Refusals R) (dir : List ℕ) (key : String Global) (keys rest : List (String Global)) (all : List HostFile) (total : ℕ) (stop : Stop R) (files : List File) (whole : Result (List File) R) → keys ≡ key ∷ rest
+    → Stops stop (file_after why total (string_bytes key) (folder dir all)) → prepend files (taken_after why total dir keys all) ≡ whole → Stops stop whole
+stops_more why dir key keys rest all total stop files whole e refused far =
+    let here = stops_first stop (file_after why total (string_bytes key) (folder dir all)) (and_later why total dir rest all) refused in
+    stops_same stop (prepend files (taken_after why total dir (key ∷ rest) all)) whole
+    (sym far ∙ ap (λ ks. prepend files (taken_after why total dir ks all)) e)
+    (stops_prepend stop files (taken_after why total dir (key ∷ rest) all) here)
 
 pub rest_of : (t : List ℕ) (i : ℕ) → take (length t - i) (drop i t) ≡ drop i t
 rest_of t i = ap (λ k. take k (drop i t)) (sym (length-drop i t)) ∙ take-length (drop i t)

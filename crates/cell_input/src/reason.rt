@@ -1,5 +1,6 @@
 //! Why there is nothing to work on.
 
+use crate::folder::Refusals;
 use cell_num::{MAX_ALL_BYTES, MAX_FILE_BYTES, MAX_FILES, MAX_NAMES, MAX_SCRIPT_BYTES};
 
 /// What there is too much of.
@@ -20,27 +21,27 @@ pub enum Reason {
     TooLarge { what: What, limit: u64 },
 }
 
-pub const TOO_MANY_NAMES: Reason = Reason::TooLarge {
-    what: What::Names,
-    limit: MAX_NAMES as u64,
-};
-
-pub const TOO_MANY_FILES: Reason = Reason::TooLarge {
-    what: What::Files,
-    limit: MAX_FILES as u64,
-};
-
-pub const FILE_TOO_LONG: Reason = Reason::TooLarge {
-    what: What::FileBytes,
-    limit: MAX_FILE_BYTES as u64,
-};
-
-pub const FILES_TOO_LONG: Reason = Reason::TooLarge {
-    what: What::AllBytes,
-    limit: MAX_ALL_BYTES,
-};
-
-pub const SCRIPT_TOO_LONG: Reason = Reason::TooLarge {
-    what: What::ScriptBytes,
-    limit: MAX_SCRIPT_BYTES as u64,
+/// What refuses a run, each for its cause.
+pub const REFUSALS: Refusals<Reason> = Refusals {
+    absent: Reason::NoScript,
+    names: Reason::TooLarge {
+        what: What::Names,
+        limit: MAX_NAMES as u64,
+    },
+    files: Reason::TooLarge {
+        what: What::Files,
+        limit: MAX_FILES as u64,
+    },
+    file_bytes: Reason::TooLarge {
+        what: What::FileBytes,
+        limit: MAX_FILE_BYTES as u64,
+    },
+    all_bytes: Reason::TooLarge {
+        what: What::AllBytes,
+        limit: MAX_ALL_BYTES,
+    },
+    text_bytes: Reason::TooLarge {
+        what: What::ScriptBytes,
+        limit: MAX_SCRIPT_BYTES as u64,
+    },
 };

@@ -2,7 +2,7 @@
 use Rattle.std.proofs.Common.{◌≡◌, refl, ◌∙◌, ap, subst, arith, ℕ, List, [], length, Ok}
 use Rattle.std.specs.Prelude.{is_none, nat_le, nat_lt, decimal}
 use Rattle.cell_world.specs.declared.command.Command.{Command}
-use Rattle.cell_world.specs.declared.command.Command.TheVariants.{Ns, Load, Spawn, Step, Run, Kill, Swap, Unload, Purge, Tasks, Find, Deps, Users, Map, Dump}
+use Rattle.cell_world.specs.declared.command.Command.TheVariants.{Ns, Load, Spawn, Step, Run, Kill, Swap, Unload, Purge, Tasks, Find, Deps, Users, Map, Dump, DumpAll}
 use Rattle.cell_num.specs.declared.ids.CellId.{CellId}
 use Rattle.cell_world.specs.declared.refusal.Many.TheVariants.{Namespaces, Tasks as ManyTasks, TaskNumbers}
 use Rattle.cell_world.specs.declared.refusal.Refusal.TheVariants.{NameTaken, NoEntry, TooMany, Unknown}
@@ -84,3 +84,4 @@ module _ (sources : List Source) (w : World) (h : IsCoherent w) (d : Done) where
   outcome_counts (Users cell) e = leaves _ (ok_same _ d (bind_ok (present_cell w cell) _ d e).2) refl refl refl
   outcome_counts Map e = leaves _ (ok_same _ d e) refl refl refl
   outcome_counts (Dump cell section) e = dump_counts cell section e
+  outcome_counts DumpAll e = leaves _ (ok_same _ d e) refl refl refl

@@ -1,7 +1,7 @@
 -- Each command keeps the machine coherent.
 use Rattle.std.proofs.Common.{◌≡◌, subst, ap, ℕ, List, Ok}
 use Rattle.cell_world.specs.declared.command.Command.{Command}
-use Rattle.cell_world.specs.declared.command.Command.TheVariants.{Ns, Load, Spawn, Step, Run, Kill, Swap, Unload, Purge, Tasks, Find, Deps, Users, Map, Dump}
+use Rattle.cell_world.specs.declared.command.Command.TheVariants.{Ns, Load, Spawn, Step, Run, Kill, Swap, Unload, Purge, Tasks, Find, Deps, Users, Map, Dump, DumpAll}
 use Rattle.cell_world.specs.World.{World}
 use Rattle.cell_world.specs.Gather.{Source}
 use Rattle.cell_world.specs.Answer.{Done, present_cell}
@@ -45,6 +45,7 @@ outcome_coherent sources w (Deps cell) sound c d h = subst IsCoherent (deps_same
 outcome_coherent sources w (Users cell) sound c d h = subst IsCoherent (users_same w cell d h) c
 outcome_coherent sources w Map sound c d h = subst IsCoherent (map_same w d h) c
 outcome_coherent sources w (Dump cell section) sound c d h = subst IsCoherent (dump_same w cell section d h) c
+outcome_coherent sources w DumpAll sound c d h = subst IsCoherent (ap (λ (x : Done). x.world) (ok_same _ d h)) c
 
 pub next_coherent : (sources : List Source) (w : World) (command : Command) → AreSound sources → IsCoherent w → IsCoherent (next sources w command).world
 next_coherent sources w command sound c = answered w (outcome_of sources w command) c (outcome_coherent sources w command sound c)

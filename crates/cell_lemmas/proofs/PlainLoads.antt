@@ -1,5 +1,5 @@
 -- Cells that are attached to a machine without a WEAK symbol change nothing in the others, so the new ones alone decide.
-use Rattle.std.proofs.Common.{◌≡◌, refl, sym, ◌∙◌, ap, ap₂, ℕ, Bool, true, false, List, [], ◌++◌, map, Some, None}
+use Rattle.std.proofs.Common.{◌≡◌, refl, sym, ◌∙◌, ap, ap₂, ℕ, true, false, List, [], ◌++◌, map, Some, None}
 use Rattle.std.specs.Prelude.{filter, filter_map, flat_map, fold, nat_lt}
 use Rattle.cell_num.specs.Lists.{each_pair, numbered, or_else, In}
 use Rattle.cell_object.specs.declared.object.Entry.{Entry}
@@ -13,7 +13,6 @@ use Rattle.cell_world.specs.Changed.{FieldAt, changed_fields, changed_in, differ
 use Rattle.cell_world.specs.Torn.{first_torn}
 use Rattle.cell_world.specs.Linking.{link_refusal}
 use Rattle.cell_world.specs.Coherent.{IsCoherent, IsReady, is_supplied}
-use Rattle.cell_lemmas.specs.Firm.{firm_target}
 use Rattle.cell_lemmas.specs.Grown.{HasAttached, IsRegrown, links_from, patch_at, with_fields}
 use Rattle.cell_num.proofs.Elements.{Has, all-In, filter_map_same, filter_none, flat_same, get-In, In-numbered}
 use Rattle.cell_num.proofs.Sublists.{In-fixed}

@@ -1,6 +1,6 @@
 -- What `load NS STEM` gathers, by its one wanted file.
 use Rattle.std.proofs.Common.{◌≡◌, refl, sym, ◌∙◌, ap, subst, arith, ℕ, ◌<◌, ◌≤◌, true, false, List, [], ◌∷◌, ◌++◌, map, length}
-use Rattle.std.specs.Prelude.{Option, Some, None, Result, Ok, Err, All, IsTrue}
+use Rattle.std.specs.Prelude.{Option, Some, None, Result, Ok, Err, All}
 use Rattle.std.proofs.lemmas.List.{length-map}
 use Rattle.cell_world.specs.declared.file.File.{File}
 use Rattle.cell_world.specs.declared.refusal.Refusal.{Refusal}
@@ -16,8 +16,6 @@ use Rattle.cell_depot.specs.Files.{are_apart}
 use Rattle.cell_depot.specs.Found.{IsOnly}
 use Rattle.cell_lemmas.specs.Loads.{gathered_by}
 use Rattle.cell_lemmas.proofs.Loads.{older}
-use Rattle.cell_lemmas.proofs.Plain.{ready_plain}
-use Rattle.cell_object.specs.Parts.{has_no_weak}
 use Rattle.cell_space.specs.Machine.{called}
 use Rattle.cell_space.specs.Joined.{placed_of}
 use Rattle.cell_space.proofs.Joined.{cells_are}
@@ -69,10 +67,7 @@ module _ (sources : List Source) (w : World) (ns stem : List ℕ) where
 
 module _ (m : Machine) (sound : IsSound m) where
   pub is_of : IsOf m.spaces m.next (world_of m)
-  is_of = record {
-    has = record { namespaces = refl; cells = sound.joined.called; number = refl };
-    no_weak = In-All (λ (c : Cell). IsTrue (has_no_weak c.object)) (world_of m).cells (ready_plain (world_of m) sound.coherent.ready);
-  }
+  is_of = record { namespaces = refl; cells = sound.joined.called; number = refl }
 
   pub as_many : length m.cells.items ≡ length m.spaces.cells
   as_many =

@@ -12,10 +12,15 @@ use Rattle.cell_link.specs.declared.value.FieldValue.{FieldValue}
 use Rattle.cell_space.specs.declared.cell.SpaceCell.{SpaceCell}
 use Rattle.cell_world.specs.declared.state.LinkRow.{LinkRow}
 use Rattle.cell_world.specs.declared.state.NewCell.{NewCell}
+use Rattle.cell_world.specs.Coherent.{IsLoadable}
 use Rattle.cell_world.specs.Names.{names_of}
+use Rattle.cell_num.specs.Lists.{In}
+use Rattle.cell_num.proofs.Elements.{All-In, In-All, In-map, In-right}
+use Rattle.cell_lemmas.specs.Loads.{placed_after, placed_cells}
+use Rattle.cell_space.specs.Joined.{placed_of}
 use Rattle.cell_world.specs.Relink.{Patch}
 use Rattle.cell_world.specs.Place.{with_region}
-use Rattle.cell_world.specs.World.{Alias, World, Region}
+use Rattle.cell_world.specs.World.{Alias, Cell, World, Region}
 use Rattle.cell_machine.specs.declared.machine.Machine.{Machine}
 use Rattle.cell_machine.specs.declared.staged.Staged.{Staged}
 use Rattle.cell_machine.specs.Machine.{keys_of, world_of}
@@ -44,6 +49,15 @@ ready_same old new same changed rows s r = record {
 -- each staged cell has its names
 pub as_many : (m : Machine) (changed : List Patch) (rows : List LinkRow) (s : Staged) → IsReadyToAdd m changed rows s → length s.names.items ≡ length s.cells.items
 as_many m changed rows s r = ap length r.staged.names ∙ (length-map r.new names_of ∙ new_count (world_of m) r.new s r.staged)
+
+-- and an object that may be loaded
+pub all_loadable : (m : Machine) (changed : List Patch) (rows : List LinkRow) (s : Staged) → IsReadyToAdd m changed rows s → All (λ c. IsLoadable c.object) s.cells.items
+all_loadable m changed rows s r =
+    In-All (λ (c : NewCell). IsLoadable c.object) s.cells.items (λ c i.
+    let new : List Cell = placed_cells r.staged.starts r.new in
+    let later : World = placed_after r.staged.starts (world_of m) r.new in
+    let d = In-map placed_of new c (subst (λ (cs : List NewCell). In c cs) r.staged.cells i) in
+    subst (λ (p : NewCell). IsLoadable p.object) (sym d.2) (All-In (λ (x : Cell). IsLoadable x.object) later.cells r.there.linkable.objects d.0 (In-right (world_of m).cells new d.0 d.1)))
 
 -- with other room there is as much as is there
 pub change_same : (old new : Machine) → IsSame old new → (s : Staged) (patches : List FieldValue) (moves : List LinkRow) → CanChange old s patches moves → CanChange new s patches moves

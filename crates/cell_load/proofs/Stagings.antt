@@ -1,12 +1,10 @@
 -- Gathered cells that are placed and linked have landed, and are staged.
 use Rattle.std.proofs.Common.{◌≡◌, refl, sym, ◌∙◌, ap, subst, arith, ℕ, Bool, true, List, [], ◌∷◌, ◌++◌, map, length, Option}
-use Rattle.std.specs.Prelude.{Ok, Err, All, IsTrue, nat_lt}
+use Rattle.std.specs.Prelude.{Ok, Err, All, nat_lt}
 use Rattle.std.proofs.lemmas.List.{length-map}
 use Rattle.cell_num.specs.Lists.{each_pair, In}
 use Rattle.cell_object.specs.declared.object.Object.{Object}
-use Rattle.cell_object.specs.Parts.{has_no_weak}
 use Rattle.cell_object.specs.Sound.{IsSoundObject}
-use Rattle.cell_world.specs.Coherent.{IsLoadable}
 use Rattle.cell_world.specs.declared.fail.Fail.{Fail}
 use Rattle.cell_world.specs.declared.fail.Fail.TheVariants.{Refused, OutOfMemory}
 use Rattle.cell_world.specs.declared.layout.Starts.{Starts}
@@ -148,9 +146,6 @@ module _ (m : Machine) (g : Gathered) (can : CanStage m g) (extra : ℕ) where
       joined = all_joined;
       ordered = ordered;
       low = λ c i. let d = in_place c i in subst IsLow (sym d.2) (is_low W there.linkable can.low d.0 d.1);
-      no_weak = λ c i.
-          let d = in_place c i in
-          subst (λ (p : NewCell). IsTrue (has_no_weak p.object)) (sym d.2) (All-In (λ (x : Cell). IsLoadable x.object) W.cells there.linkable.objects d.0 d.1).plain;
     }
 
     pub can_link_all : All (CanLink m.spaces.namespaces) cells

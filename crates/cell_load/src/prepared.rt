@@ -1,11 +1,13 @@
 //! What the parts of the machine take over from staged cells.
 
-ghost use Rattle.std.specs.Prelude.{◌≡◌, IfOk, length, map};
+ghost use Rattle.std.specs.Prelude.{◌≡◌, All, IfOk, length, map};
 ghost use Rattle.cell_commit.specs.Cells.{arrived};
 ghost use Rattle.cell_machine.specs.Staged.{arrival, arrivals};
+ghost use Rattle.cell_world.specs.Coherent.{IsLoadable};
 ghost use Rattle.cell_load.specs.Adding.{listed, numbers_in};
 
 use cell_commit::{CellSections, Newcomer};
+use cell_gather::weak_definitions;
 use cell_space::NameRows;
 use cell_world::NewCell;
 use std::alloc::{AllocError, Global};
@@ -24,7 +26,8 @@ impl Prepared {
         cells: &[NewCell],
         names: Vec<NameRows>,
     ) -> Result<Prepared, AllocError>
-        requires { length names.items ≡ length cells.now }
+        requires named { length names.items ≡ length cells.now }
+        requires loadable { All (λ c. IsLoadable c.object) cells.now }
         ensures newcomers { IfOk result (λ p. map arrived p.newcomers.items ≡ arrivals cells.now names.items) }
         ensures sections { IfOk result (λ p. map listed p.sections.items ≡ map numbers_in cells.now) }
     {
@@ -41,7 +44,8 @@ fn newcomers(
     cells: &[NewCell],
     names: Vec<NameRows>,
 ) -> Result<Vec<Newcomer>, AllocError>
-    requires { length names.items ≡ length cells.now }
+    requires named { length names.items ≡ length cells.now }
+    requires loadable { All (λ c. IsLoadable c.object) cells.now }
     ensures { IfOk result (λ new. map arrived new.items ≡ arrivals cells.now names.items) }
 {
     let mut newcomers = Vec::new(alloc);
@@ -54,6 +58,7 @@ fn newcomers(
 
 /// What the cell is called.
 fn newcomer(alloc: Global, cell: &NewCell, names: NameRows) -> Result<Newcomer, AllocError>
+    requires { IsLoadable cell.now.object }
     ensures { IfOk result (λ new. arrived new ≡ arrival cell.now names) }
 {
     Ok(Newcomer {
@@ -61,6 +66,7 @@ fn newcomer(alloc: Global, cell: &NewCell, names: NameRows) -> Result<Newcomer, 
         ns: cell.ns,
         stem: cell.stem.copy(alloc)?,
         names,
+        weak: weak_definitions(alloc, &cell.object)?,
     })
 }
 

@@ -47,7 +47,7 @@ fn name_count(newcomers: &[Newcomer]) -> Result<u32, AllocError>
 {
     let mut n = 0u32;
     for newcomer in newcomers {
-        n = plus(n, newcomer.names.len())?;
+        n = plus(plus(n, newcomer.weak.len())?, newcomer.names.len())?;
     }
     Ok(n)
 }

@@ -16,8 +16,7 @@ use Rattle.cell_space.specs.Named.{provider_for}
 use Rattle.cell_world.specs.declared.state.Standing.TheVariants.{Attached}
 use Rattle.cell_placed.proofs.Symbols.{at_place, provided_by_places}
 use Rattle.cell_space.proofs.Joined.{found_placed, is_numbered}
-use Rattle.cell_space.proofs.Machines.{strong_provider-called}
-use Rattle.cell_lemmas.proofs.Plain.{ready_plain, strong_alone}
+use Rattle.cell_space.proofs.Machines.{provider_for-called}
 use Rattle.cell_machine.specs.declared.machine.Machine.{Machine}
 use Rattle.cell_machine.specs.Machine.{IsSound, world_of}
 use Rattle.cell_machine.proofs.Joined.{cell_in}
@@ -51,7 +50,7 @@ module _ (m : Machine) (sound : IsSound m) where
   found_low n c e = cell_low c (found-In (is_numbered n) m.cells.items c (found_is n ∙ sym e)).0
 
   told : (ns : ℕ) (name : List ℕ) → provider_for (chain w.namespaces ns) Attached name m.spaces.cells ≡ attached_provider w ns name
-  told ns name = sym (strong_alone w (ready_plain w sound.coherent.ready) Attached ns name ∙ strong_provider-called w ns name Attached ∙ ap (provider_for (chain w.namespaces ns) Attached name) sound.joined.called)
+  told ns name = sym (provider_for-called w ns name Attached ∙ ap (provider_for (chain w.namespaces ns) Attached name) sound.joined.called)
 
   module _ (ns : ℕ) (name : List ℕ) (t : Option Target) where
     pub nobody : t ≡ None → None ≡ provider_for (chain w.namespaces ns) Attached name m.spaces.cells → t ≡ option_and_then (provided_target w) (attached_provider w ns name)

@@ -6,7 +6,7 @@ use Rattle.std.proofs.lemmas.List.{length-map}
 use Rattle.cell_num.specs.Lists.{each_pair, In}
 use Rattle.cell_world.specs.World.{World, Cell, Standing}
 use Rattle.cell_world.specs.declared.state.Standing.TheVariants.{Attached}
-use Rattle.cell_world.specs.Names.{names_of}
+use Rattle.cell_world.specs.Names.{names_of, weak_definitions_of}
 use Rattle.cell_world.specs.declared.layout.Starts.{Starts}
 use Rattle.cell_num.proofs.Elements.{All-In, filter-Passes}
 use Rattle.cell_lemmas.specs.Loads.{ManyTaken, placed_after, placed_cell, placed_cells}
@@ -40,7 +40,7 @@ pub arrivals_called : (cells : List Cell) → ((c : Cell) → In c cells → c.s
 arrivals_called [] all = refl
 arrivals_called (c ∷ cells) all =
     ap₂ (λ (x : SpaceCell) (xs : List SpaceCell). x ∷ xs)
-    (ap (λ (st : Standing). let x : SpaceCell = record { cell = c.id; ns = c.ns; stem = c.stem; state = st; names = names_of c } in x) (sym (all c (inl refl))))
+    (ap (λ (st : Standing). let x : SpaceCell = record { cell = c.id; ns = c.ns; stem = c.stem; state = st; names = names_of c; weak = weak_definitions_of c.object } in x) (sym (all c (inl refl))))
     (arrivals_called cells (λ x k. all x (inr k)))
 
 module _ (u : World) (new : List Cell) (s : Staged) (st : IsStaged u new s) where

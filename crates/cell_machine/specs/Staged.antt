@@ -1,7 +1,7 @@
 -- What has been staged for a machine: new cells in their places, not linked yet, and what linking gives them.
 --     all_attached cells          the cells, which take part in names under their own
 --     all_fields w cells          what the fields of the cells hold, cell by cell
---     arrivals cells names        what the new cells are called, by their names
+--     arrivals cells names        what the new cells are called, by their names; what they hold weakly is in their objects
 --     AreLinkedIn u new cells space regions fields rows   these are the new cells in their places in u, the space with their runs, and
 --                                 their regions, fields and links
 --     IsStaged u new s            that is what is staged, with the names of the cells
@@ -18,7 +18,7 @@ use Rattle.cell_world.specs.declared.state.Standing.TheVariants.{Attached}
 use Rattle.cell_world.specs.Coherent.{IsCoherent, IsReady}
 use Rattle.cell_world.specs.Fit.{first_misfit}
 use Rattle.cell_world.specs.Gather.{fresh_cells}
-use Rattle.cell_world.specs.Names.{names_of}
+use Rattle.cell_world.specs.Names.{names_of, weak_definitions_of}
 use Rattle.cell_world.specs.Place.{page_table}
 use Rattle.cell_world.specs.Relink.{Patch, patched, patches_of}
 use Rattle.cell_world.specs.Target.{targets_of}
@@ -44,7 +44,7 @@ abbrev pub all_fields : World → List Cell → List FieldValue
 all_fields w cells = flat_map (λ c. field_values c.placed (targets_of w c)) cells
 
 abbrev pub arrival : NewCell → List Alias → SpaceCell
-arrival c names = record { cell = c.id; ns = c.ns; stem = c.stem; state = Attached; names = names }
+arrival c names = record { cell = c.id; ns = c.ns; stem = c.stem; state = Attached; names = names; weak = weak_definitions_of c.object }
 
 abbrev pub arrivals : List NewCell → List (List Alias) → List SpaceCell
 arrivals [] names = []

@@ -1,6 +1,6 @@
 -- The first need that nobody provides, by what the spaces answer.
 use Rattle.std.proofs.Common.{◌≡◌, refl, sym, ◌∙◌, ap, ap₂, ℕ, suc, ◌&&◌, ◌||◌, ◌+◌, ◌<◌, ◌≤◌, Bool, true, false, cond, not, List, [], ◌∷◌, map, length, drop, get_or}
-use Rattle.std.specs.Prelude.{IsTrue, Option, Some, None, Err, filter, find, is_none, option_map, unwrap_or}
+use Rattle.std.specs.Prelude.{Option, Some, None, Err, filter, find, is_none, option_map, unwrap_or}
 use Rattle.std.proofs.lemmas.List.{drop_more}
 use Rattle.std.proofs.Math.ListN.{drop_of_length-le}
 use Rattle.std.specs.List.{list_any}
@@ -11,20 +11,18 @@ use Rattle.cell_world.specs.declared.refusal.Refusal.{Refusal}
 use Rattle.cell_world.specs.declared.refusal.Refusal.TheVariants.{Missing}
 use Rattle.cell_world.specs.declared.state.Namespace.{Namespace}
 use Rattle.cell_world.specs.declared.state.NewCell.{NewCell}
-use Rattle.cell_world.specs.World.{World, Cell, Standing}
+use Rattle.cell_world.specs.World.{World, Standing}
 use Rattle.cell_world.specs.Gather.{first_lack, lacks_of, missing}
 use Rattle.cell_object.specs.declared.object.Object.{Object}
 use Rattle.cell_object.specs.declared.object.Symbol.{Symbol}
-use Rattle.cell_object.specs.Parts.{has_no_weak, is_global, is_undefined}
-use Rattle.cell_num.proofs.Elements.{All-In}
-use Rattle.cell_lemmas.proofs.Plain.{strong_alone}
+use Rattle.cell_object.specs.Parts.{is_global, is_undefined}
 use Rattle.cell_world.specs.Names.{chain, is_used, needs_of, provider_of}
 use Rattle.cell_space.specs.Ahead.{AheadState}
 use Rattle.cell_space.specs.Named.{cell_numbered, provider_for}
 use Rattle.cell_space.specs.Spaces.{SpacesState}
 use Rattle.cell_world.specs.declared.state.Standing.TheVariants.{Attached}
 use Rattle.cell_space.specs.declared.cell.SpaceCell.{SpaceCell}
-use Rattle.cell_space.proofs.Machines.{strong_provider-called}
+use Rattle.cell_space.proofs.Machines.{provider_for-called}
 use Rattle.cell_target.specs.Scene.{in_state}
 use Rattle.cell_plan.specs.Known.{is_lacking, is_open}
 use Rattle.cell_plan.specs.Coverage.{Covers, IsAhead, as_it_stands, first_lost, lost_by, others_in}
@@ -39,8 +37,7 @@ module _ (w : World) (ahead : AheadState) (is : IsAhead w ahead) (c : NewCell) (
   same : (name : List ℕ) → lacks name ≡ nobody name
   same name =
       ap is_none
-      (strong_alone w (All-In (λ (d : Cell). IsTrue (has_no_weak d.object)) w.cells is.no_weak) s c.ns name
-      ∙ strong_provider-called w c.ns name s
+      (provider_for-called w c.ns name s
       ∙ ap₂ (λ (spaces : List Namespace) (cells : List SpaceCell). provider_for (chain spaces c.ns) s name cells) is.namespaces is.cells)
 
   by_names : (names : List (List ℕ)) → option_map missing (first (map (λ name. record { cell = in_state c s; name = name }) (filter lacks names))) ≡ option_map (λ name. Missing name c.id) (find nobody names)

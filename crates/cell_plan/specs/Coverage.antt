@@ -1,12 +1,11 @@
 -- Whether cells have what they need, in the machine that names are looked up in.
---     IsAhead w ahead        w has these namespaces, and cells that are called so, of which none has a WEAK symbol
+--     IsAhead w ahead        w has these namespaces, and cells that are called so
 --     lost_by w c            the refusal for the first need of the cell that nobody provides
 --     first_lost w cells     the first such refusal of the cells
 --     Covers o result        the answer is that refusal, or none, or want of memory
 --     others_in spaces old users   the users that aren't old themselves, as they stand
-use Rattle.std.specs.Prelude.{◌≡◌, ℕ, not, All, IsTrue, List, Option, Some, None, Result, Ok, Err, filter, map, option_map, unwrap_or}
+use Rattle.std.specs.Prelude.{◌≡◌, ℕ, not, List, Option, Some, None, Result, Ok, Err, filter, map, option_map, unwrap_or}
 use Rattle.cell_num.specs.Lists.{first, holds}
-use Rattle.cell_object.specs.Parts.{has_no_weak}
 use Rattle.cell_world.specs.declared.fail.Fail.{Fail}
 use Rattle.cell_world.specs.declared.fail.Fail.TheVariants.{Refused, OutOfMemory}
 use Rattle.cell_world.specs.declared.refusal.Refusal.{Refusal}
@@ -23,7 +22,6 @@ use Rattle.cell_target.specs.Scene.{in_state}
 pub record IsAhead (w : World) (ahead : AheadState) : Type 0 where
   pub namespaces : w.namespaces ≡ ahead.namespaces
   pub cells : map called w.cells ≡ ahead.cells
-  pub no_weak : All (λ c. IsTrue (has_no_weak c.object)) w.cells
 
 abbrev pub lost_by : World → Cell → Option Refusal
 lost_by w c = option_map missing (first (lacks_of w c))

@@ -14,18 +14,20 @@ use Rattle.cell_num.specs.declared.ids.SecKey.{SecKey}
 use Rattle.cell_num.specs.declared.ids.Why.{Why}
 use Rattle.cell_num.specs.declared.ids.Why.TheVariants.{Returned, Trap, Budget}
 use Rattle.cell_text.specs.Number.{hex, hex_byte}
+use Rattle.cell_world.specs.declared.line.DumpLine.{DumpLine}
 use Rattle.cell_world.specs.declared.reply.Found.{Found}
 use Rattle.cell_world.specs.declared.reply.LinkLine.{LinkLine}
 use Rattle.cell_world.specs.declared.reply.MapCell.{MapCell}
 use Rattle.cell_world.specs.declared.reply.MapSection.{MapSection}
 use Rattle.cell_world.specs.declared.reply.Reply.{Reply}
-use Rattle.cell_world.specs.declared.reply.Reply.TheVariants.{Ns, Load, Spawn, Step, Run, Kill, Swap, Unload, Purge, Tasks, Find, Deps, Users, Map, Dump}
+use Rattle.cell_world.specs.declared.reply.Reply.TheVariants.{Ns, Load, Spawn, Step, Run, Kill, Swap, Unload, Purge, Tasks, Find, Deps, Users, Map, Dump, DumpAll}
 use Rattle.cell_world.specs.declared.reply.TaskLine.{TaskLine}
 use Rattle.cell_world.specs.declared.reply.TaskRun.{TaskRun}
 use Rattle.cell_world.specs.declared.reply.TaskState.{TaskState}
 use Rattle.cell_world.specs.declared.reply.TaskState.TheVariants.{Ready, Done, Fault}
 use Rattle.cell_world.specs.declared.refusal.Refusal.{Refusal}
 use Rattle.cell_world.specs.declared.refusal.Refusal.TheVariants.{Unknown, NameTaken, NotRunnable, TooMany, NoObject, Ambiguous, BadObject, Duplicate, Missing, NoEntry, Exhausted, Overflow, Torn, Transfer, Held}
+use Rattle.cell_dumped.specs.Texts.{line_text}
 use Rattle.cell_print.specs.Words.{many_word, kind_word, cause_word}
 
 -- the parts of a line, and a line feed
@@ -139,6 +141,10 @@ abbrev pub link_line : LinkLine → List ℕ
 link_line l =
     line (codes "  " ∷ place_word l.user l.offset ∷ codes " " ∷ kind_word l.kind ∷ codes " -> " ∷ key_word l.target ∷ [])
 
+-- a line of the whole machine's dump
+abbrev pub dump_line : DumpLine → List ℕ
+dump_line l = line (codes "  " ∷ line_text l ∷ [])
+
 -- what keeps a cell: a task, or another cell
 abbrev pub holder_word : Holder → List ℕ
 holder_word (TaskHolder task) = task_word task
@@ -169,6 +175,7 @@ reply_lines n (Deps cell links) = answer_line n (codes "ok deps") (cell_word cel
 reply_lines n (Users cell links) = answer_line n (codes "ok users") (cell_word cell ∷ []) ++ flat_map link_line links
 reply_lines n (Map cells) = answer_line n (codes "ok map") [] ++ flat_map cell_lines cells
 reply_lines n (Dump key start bytes) = answer_line n (codes "ok dump") (key_word key ∷ []) ++ rows start bytes
+reply_lines n (DumpAll lines) = answer_line n (codes "ok dumpall") [] ++ flat_map dump_line lines
 
 abbrev pub place_in : CellId → ℕ → ℕ → List ℕ
 place_in cell section offset = place_word (record { cell = cell; section = section }) offset

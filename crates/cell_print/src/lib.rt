@@ -1,6 +1,7 @@
 //! The lines of a transcript.
 #![tactic(auto)]
 
+mod dump;
 mod line;
 mod links;
 mod map;

@@ -5,6 +5,7 @@ ghost use Rattle.cell_world.specs.declared.reply.Reply.TheVariants.{Step};
 ghost use Rattle.cell_print.specs.Lines.{reply_lines, row, rows, lines_of, Extends};
 
 use crate::Piece::{Cells, Dec, Found, Hex, Key, Name, Task, Text};
+use crate::dump::put_dump;
 use crate::links::{put_deps, put_users};
 use crate::map::put_cells;
 use crate::put_answer;
@@ -97,6 +98,10 @@ pub fn put_reply(line: u32, reply: &Reply, into: &mut Vec<u8>) -> Result<(), All
         Reply::Dump { key, start, bytes } => {
             put_answer(line, b"ok dump", &[Key(*key)], into)?;
             put_rows(*start, bytes.as_slice(), into)
+        }
+        Reply::DumpAll { lines } => {
+            put_answer(line, b"ok dumpall", &[], into)?;
+            put_dump(lines.as_slice(), into)
         }
     }
 }

@@ -13,7 +13,7 @@ use Rattle.cell_gen.specs.Generated.{generated_files, generated_script}
 use Rattle.cell_world.specs.declared.file.File.{File}
 use Rattle.cell_run.specs.Machine.{MayStart}
 use Rattle.cell_run.specs.Run.{input_for}
-use Rattle.cell_run.proofs.DistinctFiles.{apart}
+use Rattle.cell_input.proofs.DistinctFiles.{apart}
 
 pub objects_may_start : (files : List File) → AreObjectFiles files → MayStart files
 objects_may_start files h = record { few = h.few; small = h.small; named = h.named; apart = apart files h.ordered }

@@ -4,4 +4,3 @@ pub mod Telling
 pub mod Inputs
 pub mod Words
 pub mod Whole
-pub mod DistinctFiles

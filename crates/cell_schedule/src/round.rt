@@ -32,7 +32,7 @@ fn is_ready(tasks: &Tasks, number: u32) -> bool
     }
 }
 
-/// The ready tasks, by their numbers.
+/// The ready tasks, ascending by number.
 fn due_tasks(alloc: Global, tasks: &Tasks, turns: u32) -> Result<Vec<Due>, AllocError>
     ensures ready { IfOk result (λ due. map (λ d. d.task) due.items ≡ filter (can_turn tasks.now) (map (λ t. t.number) tasks.now.tasks)) }
     ensures room { IfOk result (λ due. HaveRoom turns due.items) }

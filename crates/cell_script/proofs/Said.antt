@@ -2,13 +2,14 @@
 use Rattle.std.proofs.Common.{◌≡◌, refl, ap, ◌∙◌, arith, ℕ, ◌+◌, Bool, true, false, cond, ◌&&◌, List, [], ◌∷◌}
 use Rattle.std.proofs.lemmas.Bool.{lt-ltb}
 use Rattle.std.specs.Prelude.{Option, Some, None, Result, Ok, Err, bytes_eq, codes, drop, length, map, nat_lt, option_and_then, option_map, take}
+use Rattle.cell_num.specs.Lists.{where_true}
 use Rattle.cell_world.specs.declared.command.SwapItem.{SwapItem}
 use Rattle.cell_world.specs.declared.command.Command.{Command}
-use Rattle.cell_world.specs.declared.command.Command.TheVariants.{Ns, Load, Spawn, Step, Run, Kill, Unload, Purge, Find, Map, Tasks, Deps, Users, Dump}
+use Rattle.cell_world.specs.declared.command.Command.TheVariants.{Ns, Load, Spawn, Step, Run, Kill, Unload, Purge, Find, Map, Tasks, Deps, Users, Dump, DumpAll}
 use Rattle.cell_script.specs.declared.command.Reading.{Reading}
 use Rattle.cell_script.specs.declared.command.Reading.TheVariants.{Nothing, Does, Bad}
 use Rattle.cell_script.specs.declared.line.Line.{Line}
-use Rattle.cell_script.specs.Grammar.{Form, after_option, all_three, alone, are_different, argument, both, both_around, cell_names, cell_part, command_in, each_said, forms, has_option, item_count, name, number, several, single, swap_by, swap_item, swap_items, swap_of, swap_words, symbol, transfer_of, turns_of_one, turns_of_run}
+use Rattle.cell_script.specs.Grammar.{Form, after_option, all_three, alone, are_different, argument, both, both_around, cell_names, cell_part, command_in, each_said, forms, has_option, is_name, item_count, name, number, several, single, swap_by, swap_item, swap_items, swap_of, swap_words, symbol, transfer_of, turns_of_one, turns_of_run}
 use Rattle.cell_script.specs.Script.{add_line, are_said, does, is_comment, is_said, reading_in, reading_of, script_from}
 use Rattle.cell_text.specs.Text.{words_of}
 
@@ -41,16 +42,19 @@ module _ {A B : Type 0} (one : List ℕ → Option A) (other : List ℕ → Opti
       go (Some x) = mapped (made x) (h x) (other b)
   both_said (a ∷ b ∷ c ∷ words) = tt
 
-  around_said : (middle : List ℕ) (words : List (List ℕ)) → IsSaid (both_around middle one other made words)
-  around_said middle [] = tt
-  around_said middle (a ∷ []) = tt
-  around_said middle (a ∷ m ∷ []) = tt
-  around_said middle (a ∷ m ∷ b ∷ []) = go (bytes_eq m middle)
-    where
-      go : (t : Bool) → IsSaid (cond t (both one other made (a ∷ b ∷ [])) None)
-      go true = both_said (a ∷ b ∷ [])
-      go false = tt
-  around_said middle (a ∷ m ∷ b ∷ c ∷ words) = tt
+-- a namespace's name is spelled as such
+ns_said : (words : List (List ℕ)) → IsSaid (both_around (codes "under") name name (λ fresh parent. Ns fresh parent) words)
+ns_said [] = tt
+ns_said (a ∷ []) = tt
+ns_said (a ∷ m ∷ []) = tt
+ns_said (a ∷ m ∷ b ∷ []) = go (bytes_eq m (codes "under")) (is_name a) refl (name b)
+  where
+    go : (t n : Bool) → is_name a ≡ n → (o : Option (List ℕ)) → IsSaid (cond t (option_and_then (λ (x : List ℕ). option_map (λ (y : List ℕ). Ns x y) o) (where_true n a)) None)
+    go false n e o = tt
+    go true false e o = tt
+    go true true e None = tt
+    go true true e (Some y) = e
+ns_said (a ∷ m ∷ b ∷ c ∷ words) = tt
 
 three_said : {A B C : Type 0} (one : List ℕ → Option A) (other : List ℕ → Option B) (last : List ℕ → Option C) (made : A → B → C → Command) → ((a : A) (b : B) (c : C) → is_said (made a b c) ≡ true)
     → (words : List (List ℕ)) → IsSaid (all_three one other last made words)
@@ -119,7 +123,7 @@ in_forms (form ∷ rest) all word words = go (bytes_eq word form.word) (in_forms
 
 all_forms : AreSaid forms
 all_forms = (
-  around_said name name (λ fresh parent. Ns fresh parent) (λ a b. refl) (codes "under"),
+  ns_said,
   (
     both_said name name (λ ns stem. Load ns stem) (λ a b. refl),
     (
@@ -148,7 +152,10 @@ all_forms = (
                             single_said (λ cell. Users cell) (λ a. refl) number,
                             (
                               both_said number number (λ cell section. Dump cell section) (λ a b. refl),
-                              tt,
+                              (
+                                alone_said DumpAll refl,
+                                tt,
+                              ),
                             ),
                           ),
                         ),

@@ -5,11 +5,12 @@
 use Rattle.std.specs.Prelude.{ℕ, nat_lt, nat_le, Bool, false, not, ◌&&◌, ◌||◌, ◌==◌, ◌+◌, List, [], ◌∷◌, map, length, take, drop, position, unwrap_or, is_none, Option, Some, None, if◌then◌else◌, bytes_eq, codes, option_map, option_and_then}
 use Rattle.std.specs.List.{list_all, slice_split}
 use Rattle.cell_num.specs.Lists.{where_true, equals, each_pair}
+use Rattle.cell_object.specs.Symbols.{is_global_name, is_name_byte as is_visible_byte}
 use Rattle.cell_text.specs.Number.{number_in, hex_number_in}
 use Rattle.cell_world.specs.declared.command.CellName.{CellName}
 use Rattle.cell_world.specs.declared.command.SwapItem.{SwapItem}
 use Rattle.cell_world.specs.declared.command.Command.{Command}
-use Rattle.cell_world.specs.declared.command.Command.TheVariants.{Ns, Load, Spawn, Step, Run, Kill, Swap, Unload, Purge, Find, Map, Tasks, Deps, Users, Dump}
+use Rattle.cell_world.specs.declared.command.Command.TheVariants.{Ns, Load, Spawn, Step, Run, Kill, Swap, Unload, Purge, Find, Map, Tasks, Deps, Users, Dump, DumpAll}
 use Rattle.cell_script.specs.declared.transfer.Transfer.{Transfer}
 
 abbrev pub is_name_byte : ℕ → Bool
@@ -19,19 +20,12 @@ is_name_byte b = (nat_le 97 b && nat_le b 122) || (nat_le 48 b && nat_le b 57) |
 abbrev pub is_name : List ℕ → Bool
 is_name word = nat_lt 0 (length word) && nat_le (length word) 64 && list_all is_name_byte word
 
-abbrev pub is_symbol_byte : ℕ → Bool
-is_symbol_byte b = nat_le 33 b && nat_le b 126
-
--- 1 to 1024 bytes of 0x21 to 0x7E
-abbrev pub is_symbol : List ℕ → Bool
-is_symbol word = nat_lt 0 (length word) && nat_le (length word) 1024 && list_all is_symbol_byte word
-
--- what a word says: a name, a symbol, or a decimal number of at most 2^32 - 1
+-- what a word says: a name, a symbol as a GLOBAL's name is spelled, or a decimal number of at most 2^32 - 1
 abbrev pub name : List ℕ → Option (List ℕ)
 name word = where_true (is_name word) word
 
 abbrev pub symbol : List ℕ → Option (List ℕ)
-symbol word = where_true (is_symbol word) word
+symbol word = where_true (is_global_name word) word
 
 abbrev pub number : List ℕ → Option ℕ
 number word = number_in 4294967295 word
@@ -100,7 +94,7 @@ cell_names words = if are_different words then each_said cell_name words else No
 
 -- 1 to 255 bytes of 0x21 to 0x7E
 abbrev pub is_file : List ℕ → Bool
-is_file word = nat_lt 0 (length word) && nat_le (length word) 255 && list_all is_symbol_byte word
+is_file word = nat_lt 0 (length word) && nat_le (length word) 255 && list_all is_visible_byte word
 
 abbrev pub file : List ℕ → Option (List ℕ)
 file word = where_true (is_file word) word
@@ -157,7 +151,7 @@ abbrev pub after_routines : List (List ℕ) → List (List ℕ)
 after_routines (word ∷ routine ∷ words) = if bytes_eq word (codes "transfer") then after_routines words else word ∷ routine ∷ words
 after_routines words = words
 
--- how many turns all routines may have together where the line doesn't say it
+-- the budget where the line says none: how many turns all routines may have together
 abbrev pub usual_budget : ℕ
 usual_budget = 10000
 
@@ -214,6 +208,7 @@ forms =
     ∷ record { word = codes "deps"; arguments = single number (λ cell. Deps cell) }
     ∷ record { word = codes "users"; arguments = single number (λ cell. Users cell) }
     ∷ record { word = codes "dump"; arguments = both number number (λ cell section. Dump cell section) }
+    ∷ record { word = codes "dumpall"; arguments = alone DumpAll }
     ∷ []
 
 abbrev pub command_in : List Form → List ℕ → List (List ℕ) → Option Command

@@ -1,14 +1,14 @@
 -- The reading of a script.
 --     reading_of line      what a line says
 --     script_of text       the commands of a script, or the number of the first line without a reading
---     is_said command      a line of a script can say the command: a swap names a cell at least
+--     is_said command      a line of a script can say the command: a new namespace's name is spelled as such, and a swap names a cell at least
 use Rattle.std.specs.Prelude.{◌≡◌, ℕ, ◌+◌, Bool, true, false, nat_lt, length, ◌==◌, List, [], ◌∷◌, Option, Some, None, if◌then◌else◌, Ok, Err}
 use Rattle.std.specs.declared.result.Result.{Result}
 use Rattle.std.specs.List.{list_all}
 use Rattle.cell_text.specs.Text.{lines_in, words_of}
 use Rattle.cell_world.specs.declared.command.Command.{Command}
-use Rattle.cell_world.specs.declared.command.Command.TheVariants.{Swap}
-use Rattle.cell_script.specs.Grammar.{forms, command_in}
+use Rattle.cell_world.specs.declared.command.Command.TheVariants.{Ns, Swap}
+use Rattle.cell_script.specs.Grammar.{forms, command_in, is_name}
 use Rattle.cell_script.specs.declared.line.Line.{Line}
 use Rattle.cell_script.specs.declared.command.Reading.{Reading}
 use Rattle.cell_script.specs.declared.command.Reading.TheVariants.{Nothing, Does, Bad}
@@ -53,6 +53,7 @@ Reads (Err (BadLine n)) script = script ≡ Err n
 Reads (Err OutOfMemory) script = Unit {0}
 
 abbrev pub is_said : Command → Bool
+is_said (Ns fresh parent) = is_name fresh
 is_said (Swap items reexport strict routines budget) = nat_lt 0 (length items)
 is_said _ = true
 

@@ -1,7 +1,7 @@
 //! The words of one line.
 
 ghost use Rattle.std.specs.Prelude.{◌≡◌, List, [], ◌∷◌, map, codes, IfOk};
-ghost use Rattle.cell_world.specs.declared.command.Command.TheVariants.{Ns, Load, Spawn, Step, Run, Kill, Unload, Purge, Find, Map, Tasks, Deps, Users, Dump};
+ghost use Rattle.cell_world.specs.declared.command.Command.TheVariants.{Ns, Load, Spawn, Step, Run, Kill, Unload, Purge, Find, Map, Tasks, Deps, Users, Dump, DumpAll};
 ghost use Rattle.cell_script.specs.Grammar.{name, symbol, number, turns_of_one, turns_of_run, argument, alone, single, both, all_three, both_around, several, cell_names, swap_words, forms, command_in};
 ghost use Rattle.cell_script.specs.Script.{is_comment, reading_in};
 
@@ -82,6 +82,8 @@ fn read_command(
         Ok(read_users(arguments))
     } else if word == b"dump".as_slice() {
         Ok(read_dump(arguments))
+    } else if word == b"dumpall".as_slice() {
+        Ok(read_dump_all(arguments))
     } else {
         Ok(None)
     }
@@ -259,4 +261,14 @@ fn read_dump(arguments: &[&[u8]]) -> Option<Command>
     let cell = read_number(cell)?;
     let section = read_number(section)?;
     Some(Command::Dump { cell, section })
+}
+
+/// `dumpall`
+fn read_dump_all(arguments: &[&[u8]]) -> Option<Command>
+    ensures { result ≡ alone DumpAll (map (λ word. word.now) arguments.now) }
+{
+    match arguments {
+        [] => Some(Command::DumpAll),
+        _ => None,
+    }
 }

@@ -12,4 +12,4 @@ mod words;
 pub use cell_world::Command;
 pub use line::{Line, Script};
 pub use read::{ScriptFail, read_script};
-pub use words::is_name;
+pub use words::{is_file, is_name, is_symbol};

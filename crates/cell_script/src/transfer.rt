@@ -7,7 +7,7 @@ use crate::words::{is_symbol, read_turns_of_one};
 use cell_num::{Listed, Name};
 use std::alloc::{AllocError, Global};
 
-/// How many turns all routines may have together where the line doesn't say it.
+/// The budget where the line says none: how many turns all routines may have together.
 const USUAL_BUDGET: u32 = 10000;
 
 /// The routines of a swap, and how many turns all may have together.

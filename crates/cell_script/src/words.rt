@@ -2,7 +2,8 @@
 
 ghost use Rattle.std.specs.Prelude.{◌≡◌};
 ghost use Rattle.std.specs.List.{list_all};
-ghost use Rattle.cell_script.specs.Grammar.{is_name, is_name_byte, is_symbol, is_symbol_byte, is_file, number, turns_of_one, turns_of_run, argument};
+ghost use Rattle.cell_object.specs.Symbols.{is_global_name, is_name_byte as is_visible_byte};
+ghost use Rattle.cell_script.specs.Grammar.{is_name, is_name_byte, is_file, number, turns_of_one, turns_of_run, argument};
 
 use cell_text::{read_dec, read_hex};
 
@@ -65,28 +66,28 @@ fn is_name_byte(b: u8) -> bool
     (b >= b'a' && b <= b'z') || (b >= b'0' && b <= b'9') || b == b'_'
 }
 
-/// Whether the word may be the name of a symbol: 1 to 1024 bytes of 0x21 to 0x7e.
+/// Whether the word may be the name of a GLOBAL symbol: 1 to 1024 bytes of 0x21 to 0x7e.
 pub fn is_symbol(word: &[u8]) -> bool
-    ensures { result ≡ is_symbol word.now }
+    ensures { result ≡ is_global_name word.now }
 {
-    !word.is_empty() && word.len() <= 1024 && has_symbol_bytes(word)
+    !word.is_empty() && word.len() <= 1024 && has_visible_bytes(word)
 }
 
-fn has_symbol_bytes(word: &[u8]) -> bool
-    ensures { result ≡ list_all is_symbol_byte word.now }
+fn has_visible_bytes(word: &[u8]) -> bool
+    ensures { result ≡ list_all is_visible_byte word.now }
 {
-    word.iter().all(|b| is_symbol_byte(*b))
+    word.iter().all(|b| is_visible_byte(*b))
 }
 
 /// Whether the word may be the name of a file: 1 to 255 bytes of 0x21 to 0x7e.
 pub fn is_file(word: &[u8]) -> bool
     ensures { result ≡ is_file word.now }
 {
-    !word.is_empty() && word.len() <= 255 && has_symbol_bytes(word)
+    !word.is_empty() && word.len() <= 255 && has_visible_bytes(word)
 }
 
-fn is_symbol_byte(b: u8) -> bool
-    ensures { result ≡ is_symbol_byte b }
+fn is_visible_byte(b: u8) -> bool
+    ensures { result ≡ is_visible_byte b }
 {
     b >= 0x21 && b <= 0x7e
 }

@@ -2,7 +2,7 @@
 use Rattle.std.proofs.Common.{◌≡◌, ℕ, zero, suc, ◌+◌, ◌*◌, ◌<◌, ◌≤◌, take, Bool, true, false, cond, List, [], ◌∷◌, ◌++◌, Some, None, length, get_or, inl, inr, refl, ap, sym, subst, ◌∙◌, arith}
 use Rattle.std.specs.Map.{lookup}
 use Rattle.std.specs.Prelude.{Option, Result, Ok, Err, OnOk, OnErr, ◌⊎◌, All, IsSome, is_some, slice_get, not, ◌&&◌, ◌||◌, ◌==◌, nat_eq}
-use Rattle.std.proofs.lemmas.List.Elements.{All-filter, All-map, All-head, All-tail, All-same, All-push, All-cons, All-weaker, All-take, All-more}
+use Rattle.std.proofs.lemmas.List.Elements.{All-filter, All-map, All-head, All-tail, All-same, All-push, All-cons, All-nil, All-weaker, All-take, All-more}
 use Rattle.std.proofs.lemmas.List.{take_all, length-map}
 use Rattle.cell_world.specs.World.{Alias}
 use Rattle.cell_space.specs.Hash.{stem_hash, name_hash}
@@ -14,7 +14,7 @@ use Rattle.cell_space.specs.declared.index.Holder.{Holder}
 use Rattle.cell_space.specs.declared.index.Holder.TheVariants.{One, Many}
 use Rattle.cell_space.specs.Named.{is_numbered, is_in, put_into, with_cell, with_state, without, cell_numbered}
 use Rattle.cell_space.specs.Rising.{IsRising}
-use Rattle.cell_space.specs.Index.{held, attached_at, claimed, may_be, IsTaken, Grows, AreHeld, AreTaken, IsCellTaken, IsListed, IsWhole, anywhere, hashes, name_hashes}
+use Rattle.cell_space.specs.Index.{held, attached_at, claimed, may_be, IsTaken, Grows, AreHeld, AreTaken, IsCellTaken, IsListed, IsWhole, anywhere, hashes, hashes_of, name_hashes}
 use Rattle.cell_space.proofs.Changes.{All-with_cell, All-find}
 use Rattle.cell_space.proofs.Rising.{attached_there, numbered_there, same_number, itself, left, right}
 
@@ -127,10 +127,10 @@ module _ (cells : List SpaceCell) (rising : IsRising cells) where
   listed_more : (n : ℕ) (f g : ℕ → ℕ → Option Holder) (c : SpaceCell) → (is_in Attached c ≡ true → attached_at cells c.cell.0 ≡ true) → Grows cells n f g → IsListed f c → IsListed g c
   listed_more n f g c known grows listed = (all_in c.ns listed.0, all_in anywhere listed.1)
     where
-      all_in : (ns : ℕ) → All (λ hash. IsTaken c.cell.0 (is_in Attached c) (f ns hash)) (hashes c.stem c.names) → All (λ hash. IsTaken c.cell.0 (is_in Attached c) (g ns hash)) (hashes c.stem c.names)
+      all_in : (ns : ℕ) → All (λ hash. IsTaken c.cell.0 (is_in Attached c) (f ns hash)) (hashes_of c) → All (λ hash. IsTaken c.cell.0 (is_in Attached c) (g ns hash)) (hashes_of c)
       all_in ns all = λ i h below.
           let taken = all i h below in
-          let hash = get_or (hashes c.stem c.names) i h in
+          let hash = get_or (hashes_of c) i h in
           record {
             there = grows.there ns hash taken.there;
             answers = λ on. grows.answers ns hash c.cell.0 (or_right (c.cell.0 == n) (attached_at cells c.cell.0) (known on)) (taken.answers on);
@@ -209,7 +209,36 @@ module _ (P : ℕ → Type 0) (rows : List Alias) where
       by (a ∷ rs) zero r e h = let same : a ≡ r = cc in subst (λ (x : Alias). P (name_hash x.name)) same (All-head P (name_hash a.name) (name_hashes rs) h)
       by (a ∷ rs) (suc j) r e h = by rs j r e (All-tail P (name_hash a.name) (name_hashes rs) h)
 
+-- the hashes of two lists of names
+module _ (P : ℕ → Type 0) where
+  pub hashes_joined : (xs ys : List Alias) → All P (name_hashes xs) → All P (name_hashes ys) → All P (name_hashes (xs ++ ys))
+  hashes_joined [] ys front back = back
+  hashes_joined (a ∷ xs) ys front back =
+      All-cons P (name_hash a.name) (name_hashes (xs ++ ys)) (All-head P (name_hash a.name) (name_hashes xs) front) (hashes_joined xs ys (All-tail P (name_hash a.name) (name_hashes xs) front) back)
+
+  pub hashes_front : (xs ys : List Alias) → All P (name_hashes (xs ++ ys)) → All P (name_hashes xs)
+  hashes_front [] ys all = All-nil P
+  hashes_front (a ∷ xs) ys all =
+      All-cons P (name_hash a.name) (name_hashes xs) (All-head P (name_hash a.name) (name_hashes (xs ++ ys)) all) (hashes_front xs ys (All-tail P (name_hash a.name) (name_hashes (xs ++ ys)) all))
+
+  pub hashes_back : (xs ys : List Alias) → All P (name_hashes (xs ++ ys)) → All P (name_hashes ys)
+  hashes_back [] ys all = all
+  hashes_back (a ∷ xs) ys all = hashes_back xs ys (All-tail P (name_hash a.name) (name_hashes (xs ++ ys)) all)
+
 module _ (cells : List SpaceCell) (n : ℕ) (f g : ℕ → ℕ → Option Holder) (ns : ℕ) (grows : Grows cells n f g) where
+  -- the first names are taken in, and then the others
+  pub rows_taken : (attached : Bool) (xs ys : List Alias) → All (λ h. IsTaken n attached (f ns h)) (name_hashes xs) → All (λ h. IsTaken n attached (g ns h)) (name_hashes ys)
+      → All (λ h. IsTaken n attached (g ns h)) (name_hashes (xs ++ ys))
+  rows_taken attached xs ys front back =
+      hashes_joined (λ h. IsTaken n attached (g ns h)) xs ys
+      (All-weaker (λ h. IsTaken n attached (f ns h)) (λ h. IsTaken n attached (g ns h)) (λ h t. taken_more cells n attached f g ns h grows t) (name_hashes xs) front) back
+
+  -- there is room for the others then, or they are there
+  pub back_ready : (xs ys : List Alias) (a b before now : ℕ) → before ≤ now + a → (a + b ≤ before) ⊎ All (λ h. IsSome (f ns h)) (name_hashes (xs ++ ys)) → (b ≤ now) ⊎ All (λ h. IsSome (g ns h)) (name_hashes ys)
+  back_ready xs ys a b before now room (inl le) = inl (omega arith)
+  back_ready xs ys a b before now room (inr all) =
+      inr (All-weaker (λ h. IsSome (f ns h)) (λ h. IsSome (g ns h)) (λ h t. grows.there ns h t) (name_hashes ys) (hashes_back (λ h. IsSome (f ns h)) xs ys all))
+
   pub names_more : (attached : Bool) (rows : List Alias) (i : ℕ) (row : Alias) → slice_get rows i ≡ Some row → IsTaken n attached (g ns (name_hash row.name))
       → All (λ h. IsTaken n attached (f ns h)) (take i (name_hashes rows)) → All (λ h. IsTaken n attached (g ns h)) (take (i + 1) (name_hashes rows))
   names_more attached rows i row at one all =
@@ -227,10 +256,10 @@ module _ (cells : List SpaceCell) (n : ℕ) (f g : ℕ → ℕ → Option Holder
   name_ready rows i row before now at lt room (inl le) = inl (omega arith)
   name_ready rows i row before now at lt room (inr all) = inr (grows.there ns (name_hash row.name) (hash_in (λ h. IsSome (f ns h)) rows i row at all))
 
-  pub names_ready : (stem : List ℕ) (rows : List Alias) (before now : ℕ) → before ≤ now + 1
-      → (length rows < before) ⊎ All (λ h. IsSome (f ns h)) (hashes stem rows) → (length rows ≤ now) ⊎ All (λ h. IsSome (g ns h)) (name_hashes rows)
-  names_ready stem rows before now room (inl lt) = inl (omega arith)
-  names_ready stem rows before now room (inr all) =
+  pub names_ready : (stem : List ℕ) (rows : List Alias) (count before now : ℕ) → before ≤ now + 1
+      → (count < before) ⊎ All (λ h. IsSome (f ns h)) (hashes stem rows) → (count ≤ now) ⊎ All (λ h. IsSome (g ns h)) (name_hashes rows)
+  names_ready stem rows count before now room (inl lt) = inl (omega arith)
+  names_ready stem rows count before now room (inr all) =
       inr (All-weaker (λ h. IsSome (f ns h)) (λ h. IsSome (g ns h)) (λ h t. grows.there ns h t) (name_hashes rows) (All-tail (λ h. IsSome (f ns h)) (stem_hash stem) (name_hashes rows) all))
 
 -- a cell is taken in anywhere, and then in its namespace
@@ -246,17 +275,21 @@ pub first_ready : (f : ℕ → ℕ → Option Holder) (ns : ℕ) (all : List ℕ
 first_ready f ns all count before (inl lt) = inl (omega arith)
 first_ready f ns all count before (inr held) = inr held.1
 
-pub stem_ready : (f : ℕ → ℕ → Option Holder) (ns : ℕ) (stem : List ℕ) (rows : List Alias) (before : ℕ)
-    → (length rows < before) ⊎ All (λ h. IsSome (f ns h)) (hashes stem rows) → (0 < before) ⊎ IsSome (f ns (stem_hash stem))
-stem_ready f ns stem rows before (inl lt) = inl (omega arith)
-stem_ready f ns stem rows before (inr all) = inr (All-head (λ h. IsSome (f ns h)) (stem_hash stem) (name_hashes rows) all)
+pub front_ready : (f : ℕ → ℕ → Option Holder) (ns : ℕ) (xs ys : List Alias) (a b before : ℕ) → (a + b ≤ before) ⊎ All (λ h. IsSome (f ns h)) (name_hashes (xs ++ ys)) → (a ≤ before) ⊎ All (λ h. IsSome (f ns h)) (name_hashes xs)
+front_ready f ns xs ys a b before (inl le) = inl (omega arith)
+front_ready f ns xs ys a b before (inr all) = inr (hashes_front (λ h. IsSome (f ns h)) xs ys all)
+
+pub stem_ready : (f : ℕ → ℕ → Option Holder) (ns : ℕ) (stem : List ℕ) (rows : List Alias) (count before : ℕ)
+    → (count < before) ⊎ All (λ h. IsSome (f ns h)) (hashes stem rows) → (0 < before) ⊎ IsSome (f ns (stem_hash stem))
+stem_ready f ns stem rows count before (inl lt) = inl (omega arith)
+stem_ready f ns stem rows count before (inr all) = inr (All-head (λ h. IsSome (f ns h)) (stem_hash stem) (name_hashes rows) all)
 
 pub ok_more : {A E : Type 0} (r : Result A E) (P Q : Type 0) → (P → Q) → OnOk r P → OnOk r Q
 ok_more (Ok x) P Q more p = more p
 ok_more (Err e) P Q more p = p
 
 -- a cell that the index answers for has its hashes there
-pub again_ready : (f : ℕ → ℕ → Option Holder) (cells : List SpaceCell) (n : ℕ) (c : SpaceCell) → IsWhole f cells → cell_numbered cells n ≡ Some c → AreHeld f c.ns (hashes c.stem c.names)
+pub again_ready : (f : ℕ → ℕ → Option Holder) (cells : List SpaceCell) (n : ℕ) (c : SpaceCell) → IsWhole f cells → cell_numbered cells n ≡ Some c → AreHeld f c.ns (hashes_of c)
 again_ready f cells n c whole found =
     let listed : IsListed f c = All-find (IsListed f) (is_numbered n) cells c whole.each found in
     (λ i h below. (listed.0 i h below).there, λ i h below. (listed.1 i h below).there)
@@ -265,14 +298,10 @@ number_by : (b : Bool) (d c : SpaceCell) (n : ℕ) (rest : Option SpaceCell) →
 number_by true d c n rest is later e = let found : d ≡ c = cc in ap (λ (x : SpaceCell). x.cell.0) (sym found) ∙ same_number d.cell.0 n is
 number_by false d c n rest is later e = later e
 
-found_number : (cells : List SpaceCell) (n : ℕ) (c : SpaceCell) → cell_numbered cells n ≡ Some c → c.cell.0 ≡ n
+pub found_number : (cells : List SpaceCell) (n : ℕ) (c : SpaceCell) → cell_numbered cells n ≡ Some c → c.cell.0 ≡ n
 found_number [] n c e = absurd (cc e)
 found_number (d ∷ cells) n c e = number_by (is_numbered n d) d c n (cell_numbered cells n) refl (found_number cells n c) e
 
-pub again_taken : (g : ℕ → ℕ → Option Holder) (cells : List SpaceCell) (n : ℕ) (c : SpaceCell) (stem : List ℕ) → cell_numbered cells n ≡ Some c → stem ≡ c.stem
-    → AreTaken g c.ns n true (hashes stem c.names) → (d : SpaceCell) → cell_numbered cells n ≡ Some d → IsCellTaken g true d
-again_taken g cells n c stem found is all d other =
-    let same : c ≡ d = cc in
-    let OfStem : List ℕ → Type 0 = λ s. AreTaken g c.ns n true (hashes s c.names) in
-    let OfNumber : ℕ → Type 0 = λ m. AreTaken g c.ns m true (hashes c.stem c.names) in
-    subst (IsCellTaken g true) same (subst OfNumber (sym (found_number cells n c found)) (subst OfStem is all))
+pub again_taken : (g : ℕ → ℕ → Option Holder) (cells : List SpaceCell) (n : ℕ) (c : SpaceCell) → cell_numbered cells n ≡ Some c → IsCellTaken g true c
+    → (d : SpaceCell) → cell_numbered cells n ≡ Some d → IsCellTaken g true d
+again_taken g cells n c found taken d other = let same : c ≡ d = cc in subst (IsCellTaken g true) same taken

@@ -11,7 +11,7 @@ use Rattle.cell_num.specs.Lists.{first, equals, holds, or_else}
 use Rattle.cell_world.specs.World.{Standing}
 use Rattle.cell_world.specs.declared.state.Standing.TheVariants.{Attached, Detached}
 use Rattle.cell_space.specs.declared.cell.SpaceCell.{SpaceCell}
-use Rattle.cell_space.specs.Named.{is_in, is_state, provider_at, first_provider, provider_for, cell_at, number_of}
+use Rattle.cell_space.specs.Named.{is_in, is_state, provider_at, first_provider, strong_provider, cell_at, number_of}
 use Rattle.cell_space.specs.Ahead.{has_stem_in, is_there_in}
 
 pub first-append : {X : Type 0} (xs ys : List X) → first (xs ++ ys) ≡ or_else (first xs) (first ys)
@@ -47,10 +47,10 @@ or_assoc None b (Some y) d e = ap (λ o. or_else o (Some y)) e
 or_assoc (Some x) b c d e = refl
 
 -- the new cells are attached
-pub provider_for-append : (spaces : List ℕ) (state : Standing) (name : List ℕ) (xs ys : List SpaceCell) → All (λ c. is_in Attached c ≡ true) ys
-    → provider_for spaces state name (xs ++ ys) ≡ or_else (provider_for spaces state name xs) (provider_for spaces Attached name ys)
-provider_for-append spaces Attached name xs ys on = first_provider-append spaces Attached name xs ys
-provider_for-append spaces (Detached k) name xs ys on =
+pub strong_provider-append : (spaces : List ℕ) (state : Standing) (name : List ℕ) (xs ys : List SpaceCell) → All (λ c. is_in Attached c ≡ true) ys
+    → strong_provider spaces state name (xs ++ ys) ≡ or_else (strong_provider spaces state name xs) (strong_provider spaces Attached name ys)
+strong_provider-append spaces Attached name xs ys on = first_provider-append spaces Attached name xs ys
+strong_provider-append spaces (Detached k) name xs ys on =
     ap (λ o. or_else o (first_provider spaces Attached name (xs ++ ys))) (first_provider-append spaces (Detached k) name xs ys)
     ∙ ap (or_else (or_else (first_provider spaces (Detached k) name xs) (first_provider spaces (Detached k) name ys))) (first_provider-append spaces Attached name xs ys)
     ∙ or_assoc (first_provider spaces (Detached k) name xs) (first_provider spaces (Detached k) name ys) (first_provider spaces Attached name xs) (first_provider spaces Attached name ys) (none_aside spaces k name ys on)

@@ -11,6 +11,7 @@ pub mod Keeping
 pub mod Machines
 pub mod Joined
 pub mod Layered
+pub mod Nearests
 pub mod Chains
 pub mod Appended
 pub mod Renaming

@@ -1,5 +1,5 @@
 -- One more name for the cell of a number.
-use Rattle.std.proofs.Common.{◌≡◌, refl, sym, ◌∙◌, ap, subst, arith, ℕ, zero, suc, ◌<◌, Bool, true, false, cond, List, [], ◌∷◌, ◌++◌, Some, None, length, get_or}
+use Rattle.std.proofs.Common.{◌≡◌, refl, sym, ◌∙◌, ap, subst, arith, ℕ, zero, suc, ◌<◌, Bool, true, false, cond, List, [], ◌∷◌, ◌++◌, Some, None, length, get_or, append_assoc}
 use Rattle.std.specs.Prelude.{All, Err, IsSomeAnd, Ok, OnErr, OnOk, Option, Result, option_map, ◌==◌, nat_lt}
 use Rattle.std.proofs.Math.ListN.{set}
 use Rattle.std.proofs.lemmas.Bool.Decides.{nat_tests}
@@ -13,7 +13,7 @@ use Rattle.cell_space.specs.Ahead.{AreAhead}
 use Rattle.cell_world.specs.Before.{AreBefore}
 use Rattle.cell_space.specs.Keys.{number_in}
 use Rattle.cell_space.specs.Hash.{name_hash}
-use Rattle.cell_space.specs.Index.{AreTaken, Grows, IsListed, IsTaken, anywhere, hashes, name_hashes}
+use Rattle.cell_space.specs.Index.{AreTaken, Grows, IsListed, IsTaken, anywhere, hashes, hashes_of, name_hashes, rows_of}
 use Rattle.cell_space.specs.Named.{LacksName, cell_numbered, is_in, is_numbered, take_name, with_name}
 use Rattle.cell_space.specs.Rising.{IsRising}
 use Rattle.cell_world.specs.Names.{has_name}
@@ -129,9 +129,9 @@ module _ (g : ℕ → ℕ → Option Holder) (n ns : ℕ) (a : Alias) where
   listed_named false c listed more = listed
   listed_named true c listed more =
       let both = more refl in
-      let all = hashes-more c.stem c.names a in (
-        subst (λ hs. All (λ h. IsTaken c.cell.0 (is_in Attached c) (g c.ns h)) hs) (sym all) (taken_in c.ns c.cell.0 (is_in Attached c) (hashes c.stem c.names) listed.0 both.0),
-        subst (λ hs. All (λ h. IsTaken c.cell.0 (is_in Attached c) (g anywhere h)) hs) (sym all) (taken_in anywhere c.cell.0 (is_in Attached c) (hashes c.stem c.names) listed.1 both.1),
+      let all = ap (hashes c.stem) (sym (append_assoc c.weak c.names (a ∷ []))) ∙ hashes-more c.stem (rows_of c) a in (
+        subst (λ hs. All (λ h. IsTaken c.cell.0 (is_in Attached c) (g c.ns h)) hs) (sym all) (taken_in c.ns c.cell.0 (is_in Attached c) (hashes_of c) listed.0 both.0),
+        subst (λ hs. All (λ h. IsTaken c.cell.0 (is_in Attached c) (g anywhere h)) hs) (sym all) (taken_in anywhere c.cell.0 (is_in Attached c) (hashes_of c) listed.1 both.1),
       )
 
 module _ (present : SpacesState) (namespaces : List Namespace) (fresh : List SpaceCell) (f : ℕ → ℕ → Option Holder) (ahead : AreAhead present namespaces fresh f) where

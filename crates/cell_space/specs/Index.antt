@@ -1,11 +1,12 @@
 -- Which cell may have a stem or a name, by namespace and hash.
 --     held index ns hash         what the index has there
 --     claimed cells n b holder   what it has there once the cell of that number is added, attached or not
+--     rows_of c                  all that the cell holds, weak names first
 --     IsTaken n b holder         the cell is answered for: the entry is there, and, if the cell is attached, may be of it
 --     Grows cells n f g          each attached cell that f answers for, and the cell of that number, g answers for
 --     anywhere                   where the index has what it holds of a hash in whatever namespace
 --     IsWhole f cells            the index answers for each cell, in its namespace and anywhere
-use Rattle.std.specs.Prelude.{◌≡◌, ℕ, ◌==◌, nat_eq, Bool, true, false, not, ◌&&◌, ◌||◌, List, ◌∷◌, Option, Some, None, IsSome, All, map, if◌then◌else◌}
+use Rattle.std.specs.Prelude.{◌≡◌, ℕ, ◌+◌, ◌==◌, nat_eq, Bool, true, false, not, ◌&&◌, ◌||◌, List, ◌∷◌, ◌++◌, Option, Some, None, IsSome, All, length, map, if◌then◌else◌}
 use Rattle.std.specs.Option.{option_map_or}
 use Rattle.indexmap.specs.IndexMap.{get}
 use Rattle.cell_world.specs.World.{Alias}
@@ -13,7 +14,7 @@ use Rattle.cell_space.specs.declared.index.Index.{Index}
 use Rattle.cell_space.specs.declared.index.Holder.{Holder}
 use Rattle.cell_space.specs.declared.index.Holder.TheVariants.{One, Many}
 use Rattle.cell_space.specs.declared.word.WordKind.{WordKind}
-use Rattle.cell_space.specs.declared.word.WordKind.TheVariants.{Stem, Name}
+use Rattle.cell_space.specs.declared.word.WordKind.TheVariants.{Stem, Name, Weak}
 use Rattle.cell_world.specs.declared.state.Standing.TheVariants.{Attached}
 use Rattle.cell_space.specs.declared.cell.SpaceCell.{SpaceCell}
 use Rattle.cell_num.specs.Lists.{equals}
@@ -60,6 +61,16 @@ name_hashes names = map (λ a. name_hash a.name) names
 abbrev pub hashes : List ℕ → List Alias → List ℕ
 hashes stem names = stem_hash stem ∷ name_hashes names
 
+abbrev pub rows_of : SpaceCell → List Alias
+rows_of c = c.weak ++ c.names
+
+abbrev pub row_count : SpaceCell → ℕ
+row_count c = length c.weak + length c.names
+
+-- those of its stem and of all these
+abbrev pub hashes_of : SpaceCell → List ℕ
+hashes_of c = hashes c.stem (rows_of c)
+
 -- the entries of the hashes are there, in the namespace and anywhere
 abbrev pub AreHeld : (ℕ → ℕ → Option Holder) → ℕ → List ℕ → Type 0
 AreHeld f ns all = All (λ hash. IsSome (f ns hash)) all × All (λ hash. IsSome (f anywhere hash)) all
@@ -70,7 +81,7 @@ AreTaken f ns number attached all =
     All (λ hash. IsTaken number attached (f ns hash)) all × All (λ hash. IsTaken number attached (f anywhere hash)) all
 
 abbrev pub IsCellTaken : (ℕ → ℕ → Option Holder) → Bool → SpaceCell → Type 0
-IsCellTaken f attached c = AreTaken f c.ns c.cell.0 attached (hashes c.stem c.names)
+IsCellTaken f attached c = AreTaken f c.ns c.cell.0 attached (hashes_of c)
 
 abbrev pub IsListed : (ℕ → ℕ → Option Holder) → SpaceCell → Type 0
 IsListed f c = IsCellTaken f (is_in Attached c) c
@@ -78,14 +89,16 @@ IsListed f c = IsCellTaken f (is_in Attached c) c
 pub record IsWhole (f : ℕ → ℕ → Option Holder) (cells : List SpaceCell) : Type 0 where
   pub each : All (IsListed f) cells
 
--- it is the stem, or a name of the cell
+-- it is the stem, or a name that the cell holds, strongly or weakly
 abbrev pub has_word : WordKind → List ℕ → SpaceCell → Bool
 has_word Stem word c = equals c.stem word
 has_word Name word c = has_name c.names word
+has_word Weak word c = has_name c.weak word
 
 abbrev pub word_hash : WordKind → List ℕ → ℕ
 word_hash Stem word = stem_hash word
 word_hash Name word = name_hash word
+word_hash Weak word = name_hash word
 
 -- the cell is attached in the namespace and has the word
 abbrev pub is_at : ℕ → WordKind → List ℕ → SpaceCell → Bool

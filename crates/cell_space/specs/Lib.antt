@@ -1,5 +1,6 @@
 pub mod Rows
 pub mod Named
+pub mod Nearest
 pub mod Rising
 pub mod Keys
 pub mod Hash

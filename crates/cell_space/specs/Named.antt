@@ -1,9 +1,11 @@
--- Cells by what they are called, and who provides a name. No cell holds one weakly, as far as is known here.
+-- Cells by what they are called, and who provides a name.
 --     is_in state c                      the cell is in that state
 --     cell_numbered cells n              the cell of that number
 --     of_called                          what the rules on names ask of a cell, by what it is called
 --     first_provider spaces state name cells   the first cell in that state, in one of the namespaces, that has the name
---     provider_for spaces state name cells     the strong holder for a cell in that state
+--     strong_provider spaces state name cells  the strong holder for a cell in that state
+--     weak_provider spaces state name cells    the weak one
+--     provider_for spaces state name cells     who provides the name for such a cell: a strong holder, or else a weak one
 --     rivals spaces ns cells             the attached cells on one path with the namespace
 --     with_cell c cells                  one more cell, before those of higher numbers
 --     with_name n a cells                the cell of that number with one more name
@@ -12,7 +14,7 @@ use Rattle.cell_num.specs.Lists.{holds}
 use Rattle.cell_world.specs.declared.state.Namespace.{Namespace}
 use Rattle.cell_world.specs.World.{Alias, Standing, is_attached, is_of_group}
 use Rattle.cell_world.specs.declared.state.Standing.TheVariants.{Attached, Detached}
-use Rattle.cell_world.specs.Names.{Naming, Provider, provider_at_by, first_provider_by, strong_by, is_rival_by, rivals_by, clash_stem_by, clash_name_by, cell_at_by, has_name}
+use Rattle.cell_world.specs.Names.{Naming, Provider, provider_at_by, first_provider_by, strong_by, weak_by, provider_by, is_rival_by, rivals_by, clash_stem_by, clash_name_by, cell_at_by, has_name}
 use Rattle.cell_space.specs.declared.cell.SpaceCell.{SpaceCell}
 use Rattle.cell_space.specs.declared.provider.Provider.{Provider as ProviderFound}
 use Rattle.cell_num.specs.declared.ids.CellId.{CellId}
@@ -25,7 +27,7 @@ of_called =
       ns = λ c. c.ns;
       stem = λ c. c.stem;
       names = λ c. c.names;
-      weak_names = λ c. [];
+      weak_names = λ c. c.weak;
       standing = λ c. c.state;
     }
 
@@ -56,8 +58,14 @@ offer spaces state name c = if is_holder spaces state c then provider_at name c 
 abbrev pub first_provider : List ℕ → Standing → List ℕ → List SpaceCell → Option Provider
 first_provider spaces state name cells = first_provider_by of_called spaces name (filter (is_in state) cells)
 
+abbrev pub strong_provider : List ℕ → Standing → List ℕ → List SpaceCell → Option Provider
+strong_provider spaces state name cells = strong_by of_called spaces name cells state
+
+abbrev pub weak_provider : List ℕ → Standing → List ℕ → List SpaceCell → Option Provider
+weak_provider spaces state name cells = weak_by of_called spaces name cells state
+
 abbrev pub provider_for : List ℕ → Standing → List ℕ → List SpaceCell → Option Provider
-provider_for spaces state name cells = strong_by of_called spaces name cells state
+provider_for spaces state name cells = provider_by of_called spaces name cells state
 
 -- the cell is attached and stands on one path with the namespace
 abbrev pub is_rival : List Namespace → ℕ → SpaceCell → Bool

@@ -4,18 +4,22 @@ ghost use Rattle.std.specs.Prelude.{◌≡◌, ◌<◌, ◌++◌, ◌∷◌, [],
 ghost use Rattle.cell_world.specs.Names.{chain as chain_in};
 ghost use Rattle.cell_world.specs.declared.state.Standing.TheVariants.{Attached};
 ghost use Rattle.cell_space.specs.Ahead.{has_stem_in, is_there_in};
+ghost use Rattle.cell_space.specs.Nearest.{nearest_in as nearest_among, weak_in as weak_among};
 ghost use Rattle.cell_space.specs.Path.{IsPath};
-ghost use Rattle.cell_space.specs.Named.{LacksName, with_name, cell_numbered as numbered, provider_for as provider_among, provider_as, number_as, clash_stem as stem_clash, clash_name as name_clash, cell_at as cell_in};
+ghost use Rattle.cell_space.specs.declared.word.WordKind.TheVariants.{Weak};
+ghost use Rattle.cell_space.specs.Named.{LacksName, with_name, cell_numbered as numbered, provider_for as provider_among, strong_provider as strong_among, weak_provider as weak_provider_among, provider_as, number_as, clash_stem as stem_clash, clash_name as name_clash, cell_at as cell_in};
 
 use crate::cell::SpaceCell;
 use crate::chain::Chain;
 use crate::index::Index;
-use crate::lookup::{cell_at, cell_numbered, clash_name, clash_stem, provider_for};
+use crate::lookup::{cell_at, cell_numbered, clash_name, clash_stem, strong_provider};
 use crate::names::NameRows;
+use crate::nearest::weak_in;
 use crate::path::{Path, path_of};
 use crate::provider::Provider;
 use crate::rows::add_name;
 use crate::spaces::Spaces;
+use crate::word::{Word, WordKind};
 use cell_num::{CellId, Name};
 use cell_world::{Namespace, Standing};
 use std::alloc::{AllocError, Global};
@@ -65,24 +69,25 @@ impl<'a> Ahead<'a> {
         ns: u16,
         stem: Name,
         names: NameRows,
+        weak: NameRows,
     ) -> Result<(), AllocError>
         requires there { ns < length self.old.namespaces }
         requires above { All (λ c. c.cell.0 < cell.0) self.old.cells }
-        ensures added { OnOk result (self.new.cells ≡ self.old.cells ++ record { cell = cell; ns = ns; stem = stem; state = Attached; names = names } ∷ []) }
-        ensures fresh { OnOk result (self.new.fresh ≡ self.old.fresh ++ record { cell = cell; ns = ns; stem = stem; state = Attached; names = names } ∷ []) }
+        ensures added { OnOk result (self.new.cells ≡ self.old.cells ++ record { cell = cell; ns = ns; stem = stem; state = Attached; names = names; weak = weak } ∷ []) }
+        ensures fresh { OnOk result (self.new.fresh ≡ self.old.fresh ++ record { cell = cell; ns = ns; stem = stem; state = Attached; names = names; weak = weak } ∷ []) }
         ensures same_namespaces { self.new.namespaces ≡ self.old.namespaces }
         ensures same_present { self.new.present ≡ self.old.present }
     {
-        let bytes = stem.bytes();
-        self.index
-            .claim_all(&self.fresh, ns, bytes, &names, cell.0, true)?;
-        self.fresh.push(SpaceCell {
+        let row = SpaceCell {
             cell,
             ns,
             stem,
             state: Standing::Attached,
             names,
-        })?;
+            weak,
+        };
+        self.index.claim_all(&self.fresh, &row, true)?;
+        self.fresh.push(row)?;
         Ok(())
     }
 
@@ -168,16 +173,27 @@ impl<'a> Ahead<'a> {
         self.provider_for(ns, Standing::Attached, name)
     }
 
-    /// Who provides a name for a cell of that namespace and state. No new cell is put aside.
+    /// Who provides a name for a cell of that namespace and state: a strong holder, or else a weak one.
     pub fn provider_for(&self, ns: u16, state: Standing, name: &[u8]) -> Option<Provider>
         requires { ns < length self.now.namespaces }
         ensures { option_map provider_as result ≡ provider_among (chain_in self.now.namespaces ns) state name.now self.now.cells }
     {
-        match self.present.provider_for(ns, state, name) {
+        match self.strong_provider(ns, state, name) {
+            Some(provider) => Some(provider),
+            None => self.weak_provider(ns, state, name),
+        }
+    }
+
+    /// Who holds a name strongly for a cell of that namespace and state. No new cell is put aside.
+    pub fn strong_provider(&self, ns: u16, state: Standing, name: &[u8]) -> Option<Provider>
+        requires { ns < length self.now.namespaces }
+        ensures { option_map provider_as result ≡ strong_among (chain_in self.now.namespaces ns) state name.now self.now.cells }
+    {
+        match self.present.strong_provider(ns, state, name) {
             Some(provider) => Some(provider),
             None => {
                 let attached = Standing::Attached;
-                provider_for(
+                strong_provider(
                     self.namespaces,
                     &self.index,
                     &self.fresh,
@@ -186,6 +202,42 @@ impl<'a> Ahead<'a> {
                     name,
                 )
             }
+        }
+    }
+
+    /// The attached cell of the namespace itself that holds the name weakly.
+    fn weak_in(&self, ns: u16, word: &Word) -> Option<Provider>
+        requires { word.now.kind ≡ Weak }
+        ensures { option_map provider_as result ≡ weak_among ns Attached word.now.text.now self.now.cells }
+    {
+        match self.present.weak_in(ns, word) {
+            Some(provider) => Some(provider),
+            None => weak_in(&self.index, &self.fresh, ns, word),
+        }
+    }
+
+    /// The nearest attached cell that holds the name weakly, looked for namespace by namespace.
+    fn nearest_attached(&self, ns: u16, name: &[u8]) -> Option<Provider>
+        requires { ns < length self.now.namespaces }
+        ensures { option_map provider_as result ≡ nearest_among (chain_in self.now.namespaces ns) Attached name.now self.now.cells }
+    {
+        let word = Word::of(WordKind::Weak, name);
+        for space in self.chain(ns) {
+            if let Some(provider) = self.weak_in(space, &word) {
+                return Some(provider);
+            }
+        }
+        None
+    }
+
+    /// Who holds a name weakly for a cell of that namespace and state.
+    fn weak_provider(&self, ns: u16, state: Standing, name: &[u8]) -> Option<Provider>
+        requires { ns < length self.now.namespaces }
+        ensures { option_map provider_as result ≡ weak_provider_among (chain_in self.now.namespaces ns) state name.now self.now.cells }
+    {
+        match self.present.nearest_aside(ns, state, name) {
+            Some(provider) => Some(provider),
+            None => self.nearest_attached(ns, name),
         }
     }
 

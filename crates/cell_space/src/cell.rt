@@ -10,7 +10,8 @@ use cell_num::{CellId, Name};
 use cell_world::Standing;
 use std::alloc::{AllocError, Global};
 
-/// A cell: its number, namespace and stem, and the names of its GLOBAL symbols, aliases last.
+/// A cell: its number, namespace and stem, the names of its GLOBAL symbols, aliases last, and those of
+/// the symbols that it defines as WEAK.
 #[derive(Drop)]
 pub struct SpaceCell {
     pub cell: CellId,
@@ -18,6 +19,7 @@ pub struct SpaceCell {
     pub stem: Name,
     pub state: Standing,
     pub names: NameRows,
+    pub weak: NameRows,
 }
 
 pub fn is_state(a: Standing, b: Standing) -> bool
@@ -56,6 +58,12 @@ impl SpaceCell {
         self.names.symbol_of(name).is_some()
     }
 
+    pub(crate) fn has_weak_name(&self, name: &[u8]) -> bool
+        ensures { result ≡ has_name self.now.weak name.now }
+    {
+        self.weak.symbol_of(name).is_some()
+    }
+
     /// Adds a name that the cell lacks.
     pub(crate) fn add_name(
         &mut self,
@@ -79,6 +87,7 @@ impl SpaceCell {
             stem: self.stem.copy(alloc)?,
             state: self.state,
             names: self.names.copy(alloc)?,
+            weak: self.weak.copy(alloc)?,
         })
     }
 }

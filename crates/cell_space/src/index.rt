@@ -7,7 +7,7 @@ ghost use Rattle.indexmap.specs.IndexMap.{spare};
 ghost use Rattle.cell_space.specs.Hash.{name_hash as name_number};
 ghost use Rattle.cell_space.specs.Rising.{IsRising};
 ghost use Rattle.cell_space.specs.Named.{cell_numbered as numbered};
-ghost use Rattle.cell_space.specs.Index.{held, claimed, attached_at, hashes, name_hashes, Grows, IsTaken, AreHeld, AreTaken, IsCellTaken, IsListed, IsWhole};
+ghost use Rattle.cell_space.specs.Index.{held, claimed, attached_at, name_hashes, Grows, IsTaken, AreHeld, AreTaken, IsCellTaken, IsListed, IsWhole, rows_of, row_count, hashes_of};
 
 use crate::cell::SpaceCell;
 use crate::hash::{name_hash, stem_hash};
@@ -156,73 +156,79 @@ impl Index {
         Ok(())
     }
 
-    /// Takes a cell in that has the stem and the names, in a namespace or anywhere.
+    /// Takes in the names that a cell holds, weak ones and strong ones.
+    fn claim_rows(
+        &mut self,
+        cells: &[SpaceCell],
+        ns: u16,
+        cell: &SpaceCell,
+        attached: bool,
+    ) -> Result<(), AllocError>
+        requires { IsRising cells.now }
+        ensures grows { Grows cells.now cell.now.cell.0 (held self.old) (held self.new) }
+        ensures taken { OnOk result (All (λ h. IsTaken cell.now.cell.0 attached (held self.new ns h)) (name_hashes (rows_of cell.now))) }
+        ensures succeeds { (row_count cell.now ≤ spare self.old.holders) ⊎ All (λ h. IsSome (held self.old ns h)) (name_hashes (rows_of cell.now)) → IsOk result }
+        ensures room { spare self.old.holders ≤ spare self.new.holders + row_count cell.now }
+    {
+        let number = cell.cell.0;
+        self.claim_names(cells, ns, &cell.weak, number, attached)?;
+        self.claim_names(cells, ns, &cell.names, number, attached)
+    }
+
+    /// Takes a cell in, in a namespace or anywhere.
     fn claim_in(
         &mut self,
         cells: &[SpaceCell],
         ns: u16,
-        stem: &[u8],
-        names: &NameRows,
-        cell: u32,
+        cell: &SpaceCell,
         attached: bool,
     ) -> Result<(), AllocError>
         requires { IsRising cells.now }
-        ensures grows { Grows cells.now cell (held self.old) (held self.new) }
-        ensures taken { OnOk result (All (λ h. IsTaken cell attached (held self.new ns h)) (hashes stem.now names.now)) }
-        ensures succeeds { (length names.now < spare self.old.holders) ⊎ All (λ h. IsSome (held self.old ns h)) (hashes stem.now names.now) → IsOk result }
-        ensures room { spare self.old.holders ≤ spare self.new.holders + length names.now + 1 }
+        ensures grows { Grows cells.now cell.now.cell.0 (held self.old) (held self.new) }
+        ensures taken { OnOk result (All (λ h. IsTaken cell.now.cell.0 attached (held self.new ns h)) (hashes_of cell.now)) }
+        ensures succeeds { (row_count cell.now < spare self.old.holders) ⊎ All (λ h. IsSome (held self.old ns h)) (hashes_of cell.now) → IsOk result }
+        ensures room { spare self.old.holders ≤ spare self.new.holders + row_count cell.now + 1 }
     {
-        self.claim(cells, ns, stem_hash(stem), cell, attached)?;
-        self.claim_names(cells, ns, names, cell, attached)
+        let stem = cell.stem.bytes();
+        self.claim(cells, ns, stem_hash(stem), cell.cell.0, attached)?;
+        self.claim_rows(cells, ns, cell, attached)
     }
 
-    /// Takes a cell in that has the stem and the names.
+    /// Takes a cell in by its stem and names, as an attached one or one that is put aside.
     pub fn claim_all(
         &mut self,
         cells: &[SpaceCell],
-        ns: u16,
-        stem: &[u8],
-        names: &NameRows,
-        cell: u32,
+        cell: &SpaceCell,
         attached: bool,
     ) -> Result<(), AllocError>
         requires { IsRising cells.now }
-        ensures grows { Grows cells.now cell (held self.old) (held self.new) }
-        ensures taken { OnOk result (AreTaken (held self.new) ns cell attached (hashes stem.now names.now)) }
-        ensures succeeds { (2 * length names.now + 1 < spare self.old.holders) ⊎ AreHeld (held self.old) ns (hashes stem.now names.now) → IsOk result }
-        ensures room { spare self.old.holders ≤ spare self.new.holders + 2 * length names.now + 2 }
+        ensures grows { Grows cells.now cell.now.cell.0 (held self.old) (held self.new) }
+        ensures taken { OnOk result (IsCellTaken (held self.new) attached cell.now) }
+        ensures succeeds { (2 * row_count cell.now + 1 < spare self.old.holders) ⊎ AreHeld (held self.old) cell.now.ns (hashes_of cell.now) → IsOk result }
+        ensures room { spare self.old.holders ≤ spare self.new.holders + 2 * row_count cell.now + 2 }
     {
-        self.claim_in(cells, ANYWHERE, stem, names, cell, attached)?;
-        self.claim_in(cells, ns, stem, names, cell, attached)
+        self.claim_in(cells, ANYWHERE, cell, attached)?;
+        self.claim_in(cells, cell.ns, cell, attached)
     }
 
-    /// Takes a cell in.
+    /// Takes a cell in as it stands.
     fn claim_cell(&mut self, cells: &[SpaceCell], cell: &SpaceCell) -> Result<(), AllocError>
         requires { IsRising cells.now }
         ensures grows { Grows cells.now cell.now.cell.0 (held self.old) (held self.new) }
         ensures taken { OnOk result (IsListed (held self.new) cell.now) }
     {
-        let attached = cell.is_in(Standing::Attached);
-        let stem = cell.stem.bytes();
-        self.claim_all(cells, cell.ns, stem, &cell.names, cell.cell.0, attached)
+        self.claim_all(cells, cell, cell.is_in(Standing::Attached))
     }
 
     /// Takes an attached cell in where there is room for its stem and names, or all are held already. This takes no memory.
-    pub fn claim_reserved(
-        &mut self,
-        cells: &[SpaceCell],
-        ns: u16,
-        stem: &[u8],
-        names: &NameRows,
-        cell: u32,
-    )
+    pub fn claim_reserved(&mut self, cells: &[SpaceCell], cell: &SpaceCell)
         requires rising { IsRising cells.now }
-        requires ready { (2 * length names.now + 1 < spare self.old.holders) ⊎ AreHeld (held self.old) ns (hashes stem.now names.now) }
-        ensures grows { Grows cells.now cell (held self.old) (held self.new) }
-        ensures taken { AreTaken (held self.new) ns cell true (hashes stem.now names.now) }
-        ensures room { spare self.old.holders ≤ spare self.new.holders + 2 * length names.now + 2 }
+        requires ready { (2 * row_count cell.now + 1 < spare self.old.holders) ⊎ AreHeld (held self.old) cell.now.ns (hashes_of cell.now) }
+        ensures grows { Grows cells.now cell.now.cell.0 (held self.old) (held self.new) }
+        ensures taken { IsCellTaken (held self.new) true cell.now }
+        ensures room { spare self.old.holders ≤ spare self.new.holders + 2 * row_count cell.now + 2 }
     {
-        match self.claim_all(cells, ns, stem, names, cell, true) {
+        match self.claim_all(cells, cell, true) {
             Ok(()) => {}
             Err(_) => unreachable!(),
         }
@@ -236,11 +242,10 @@ pub fn claim_again(index: &mut Index, cells: &[SpaceCell], number: u32)
     requires whole { IsWhole (held index.old) cells.now }
     ensures grows { Grows cells.now number (held index.old) (held index.new) }
     ensures taken { (c : SpaceCell) → numbered cells.now number ≡ Some c → IsCellTaken (held index.new) true c }
-    ensures room { (c : SpaceCell) → numbered cells.now number ≡ Some c → spare index.old.holders ≤ spare index.new.holders + 2 * length c.names + 2 }
+    ensures room { (c : SpaceCell) → numbered cells.now number ≡ Some c → spare index.old.holders ≤ spare index.new.holders + 2 * row_count c + 2 }
 {
     if let Some(cell) = cell_numbered(cells, number) {
-        let stem = cell.stem.bytes();
-        index.claim_reserved(cells, cell.ns, stem, &cell.names, number);
+        index.claim_reserved(cells, cell);
     }
 }
 

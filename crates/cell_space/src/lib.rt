@@ -10,6 +10,7 @@ mod index;
 mod lookup;
 mod names;
 mod namespaces;
+mod nearest;
 mod path;
 mod provider;
 mod rows;

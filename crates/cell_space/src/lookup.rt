@@ -4,7 +4,7 @@
 ghost use Rattle.std.specs.Prelude.{◌≡◌, ◌<◌, ◌≤◌, ◌&&◌, ◌==◌, ℕ, All, false, filter_map, find, length, nat_lt, option_map, slice_index_or, true};
 ghost use Rattle.cell_num.specs.Lists.{first};
 ghost use Rattle.cell_world.specs.Names.{chain};
-ghost use Rattle.cell_space.specs.Named.{cell_numbered, provider_for, first_provider, offer, provider_as, number_as, clash_stem, clash_name, cell_at, is_rival, is_holder, is_in};
+ghost use Rattle.cell_space.specs.Named.{cell_numbered, provider_for, strong_provider, first_provider, offer, provider_as, number_as, clash_stem, clash_name, cell_at, is_rival, is_holder, is_in};
 ghost use Rattle.cell_space.specs.Index.{held, has_word, is_at as at, kept_if, IsWhole};
 ghost use Rattle.cell_world.specs.Before.{AreBefore};
 ghost use Rattle.cell_space.specs.Keys.{number_in};
@@ -17,6 +17,7 @@ ghost use Rattle.cell_space.specs.declared.cell.SpaceCell.{SpaceCell as Known};
 use crate::cell::SpaceCell;
 use crate::chain::{chain_of, is_above};
 use crate::index::{ANYWHERE, Holder, Index};
+use crate::nearest::weak_provider;
 use crate::path::Path;
 use crate::provider::Provider;
 use crate::word::{Word, WordKind, has_word, is_at};
@@ -139,7 +140,7 @@ fn first_offer(
     None
 }
 
-/// The first cell in a state that provides the name, where each is asked.
+/// The first cell in a state that holds the name strongly, where each is asked.
 fn first_provider(
     namespaces: &[Namespace],
     ns: u16,
@@ -177,7 +178,12 @@ fn holder_by_walk<'a>(cells: &'a [SpaceCell], ns: u16, word: &Word) -> Option<&'
 }
 
 /// The attached cell of the namespace that has the word.
-fn holder<'a>(index: &Index, cells: &'a [SpaceCell], ns: u16, word: &Word) -> Option<&'a SpaceCell>
+pub fn holder<'a>(
+    index: &Index,
+    cells: &'a [SpaceCell],
+    ns: u16,
+    word: &Word,
+) -> Option<&'a SpaceCell>
     requires rising { IsRising cells.now }
     requires whole { IsWhole (held index.now) cells.now }
     ensures { option_map (λ c. c.now) result ≡ find (at ns word.now.kind word.now.text.now) cells.now }
@@ -358,7 +364,7 @@ fn lowest_rival<'a>(
     }
 }
 
-/// The attached cell that provides the name.
+/// The attached cell that holds the name strongly.
 fn attached_provider(
     namespaces: &[Namespace],
     index: &Index,
@@ -381,7 +387,32 @@ fn attached_provider(
     })
 }
 
-/// The provider for a cell in a state, or for a namespace as for an attached one.
+/// The strong holder for a cell in a state, or for a namespace as for an attached one.
+pub fn strong_provider(
+    namespaces: &[Namespace],
+    index: &Index,
+    cells: &[SpaceCell],
+    ns: u16,
+    state: Standing,
+    name: &[u8],
+) -> Option<Provider>
+    requires rooted { AreRooted namespaces.now }
+    requires there { ns < length namespaces.now }
+    requires rising { IsRising cells.now }
+    requires whole { IsWhole (held index.now) cells.now }
+    ensures { option_map provider_as result ≡ strong_provider (chain namespaces.now ns) state name.now cells.now }
+{
+    if let Standing::Detached(group) = state {
+        let put_aside = first_provider(namespaces, ns, cells, Standing::Detached(group), name);
+        if let Some(provider) = put_aside {
+            return Some(provider);
+        }
+    }
+    attached_provider(namespaces, index, cells, ns, name)
+}
+
+/// The provider for a cell in a state, or for a namespace as for an attached one: a strong holder, or
+/// else a weak one.
 pub fn provider_for(
     namespaces: &[Namespace],
     index: &Index,
@@ -396,13 +427,10 @@ pub fn provider_for(
     requires whole { IsWhole (held index.now) cells.now }
     ensures { option_map provider_as result ≡ provider_for (chain namespaces.now ns) state name.now cells.now }
 {
-    if let Standing::Detached(group) = state {
-        let put_aside = first_provider(namespaces, ns, cells, Standing::Detached(group), name);
-        if let Some(provider) = put_aside {
-            return Some(provider);
-        }
+    match strong_provider(namespaces, index, cells, ns, state, name) {
+        Some(provider) => Some(provider),
+        None => weak_provider(namespaces, index, cells, ns, state, name),
     }
-    attached_provider(namespaces, index, cells, ns, name)
 }
 
 /// The first attached cell on one path with the namespace that has the stem.

@@ -4,19 +4,26 @@ ghost use Rattle.std.specs.Prelude.{◌≡◌, ◌<◌, ◌≤◌, ◌+◌, ◌+
 ghost use Rattle.cell_world.specs.Names.{chain as chain_in};
 ghost use Rattle.cell_world.specs.declared.state.Standing.TheVariants.{Attached, Detached};
 ghost use Rattle.cell_space.specs.Path.{IsPath};
-ghost use Rattle.cell_space.specs.Named.{cell_numbered as numbered, provider_for as provider_among, provider_as, number_as, clash_stem as stem_clash, clash_name as name_clash, cell_at as cell_in, with_cell, with_state, without};
+ghost use Rattle.cell_space.specs.Named.{cell_numbered as numbered, provider_for as provider_among, strong_provider as strong_among, provider_as, number_as, clash_stem as stem_clash, clash_name as name_clash, cell_at as cell_in, with_cell, with_state, without};
+ghost use Rattle.cell_space.specs.Index.{row_count};
+ghost use Rattle.cell_space.specs.Nearest.{nearest_aside as aside_among, weak_in as weak_among};
+ghost use Rattle.cell_space.specs.declared.word.WordKind.TheVariants.{Weak};
 ghost use Rattle.cell_space.specs.Rooted.{AreRooted};
 ghost use Rattle.cell_space.specs.Spaces.{IsThere, HasCell, HasDetached, HasAttached, HasNoRival, kernel, provider_in, namespace_named};
 
 use crate::cell::{SpaceCell, copy_cells};
 use crate::chain::{Chain, chain_of};
 use crate::index::{Index, claim_again, index_of};
-use crate::lookup::{cell_at, cell_numbered, clash_name, clash_stem, provider_for};
+use crate::lookup::{
+    cell_at, cell_numbered, clash_name, clash_stem, provider_for, strong_provider,
+};
 use crate::names::NameRows;
 use crate::namespaces::{copy_namespaces, first_namespace, place_of};
+use crate::nearest::{nearest_aside, weak_in};
 use crate::path::{Path, path_of};
 use crate::provider::{Provider, Scope};
 use crate::rows::{insert_cell, remove_cell, set_state};
+use crate::word::Word;
 use cell_num::{CellId, Name};
 use cell_world::{Namespace, Standing};
 use std::alloc::{AllocError, Global};
@@ -180,6 +187,30 @@ impl Spaces {
         provider_for(&self.namespaces, &self.index, &self.cells, ns, state, name)
     }
 
+    /// Who holds a name strongly for a cell of that namespace and state.
+    pub fn strong_provider(&self, ns: u16, state: Standing, name: &[u8]) -> Option<Provider>
+        requires { ns < length self.now.namespaces }
+        ensures { option_map provider_as result ≡ strong_among (chain_in self.now.namespaces ns) state name.now self.now.cells }
+    {
+        strong_provider(&self.namespaces, &self.index, &self.cells, ns, state, name)
+    }
+
+    /// The nearest cell that holds a name weakly, among those of the group of a cell that is put aside.
+    pub(crate) fn nearest_aside(&self, ns: u16, state: Standing, name: &[u8]) -> Option<Provider>
+        requires { ns < length self.now.namespaces }
+        ensures { option_map provider_as result ≡ aside_among (chain_in self.now.namespaces ns) state name.now self.now.cells }
+    {
+        nearest_aside(&self.namespaces, &self.cells, ns, state, name)
+    }
+
+    /// The attached cell of the namespace itself that holds the name weakly.
+    pub(crate) fn weak_in(&self, ns: u16, word: &Word) -> Option<Provider>
+        requires { word.now.kind ≡ Weak }
+        ensures { option_map provider_as result ≡ weak_among ns Attached word.now.text.now self.now.cells }
+    {
+        weak_in(&self.index, &self.cells, ns, word)
+    }
+
     /// The lowest attached cell on the path that has the stem.
     pub fn clash_stem(&self, path: &Path, stem: &[u8]) -> Option<CellId>
         requires { IsPath self.now.namespaces path.now }
@@ -210,28 +241,27 @@ impl Spaces {
     }
 
     /// Adds an attached cell.
-    pub fn attach(&mut self, cell: CellId, ns: u16, stem: Name, names: NameRows)
+    pub fn attach(&mut self, cell: CellId, ns: u16, stem: Name, names: NameRows, weak: NameRows)
         requires room { 0 < self.old.spare_cells }
-        requires names_room { length names < self.old.spare_names }
+        requires names_room { length weak + length names < self.old.spare_names }
         requires there { ns < length self.old.namespaces }
         requires new { numbered self.old.cells cell.0 ≡ None }
         requires stem_free { stem_clash self.old.namespaces ns stem self.old.cells ≡ None }
         requires names_free { All (λ a. name_clash self.old.namespaces ns a.name self.old.cells ≡ None) names }
-        ensures added { self.new.cells ≡ with_cell (record { cell = cell; ns = ns; stem = stem; state = Attached; names = names }) self.old.cells }
+        ensures added { self.new.cells ≡ with_cell (record { cell = cell; ns = ns; stem = stem; state = Attached; names = names; weak = weak }) self.old.cells }
         ensures same_namespaces { self.new.namespaces ≡ self.old.namespaces }
         ensures room { self.old.spare_cells ≤ self.new.spare_cells + 1 }
-        ensures names_left { self.old.spare_names ≤ self.new.spare_names + length names + 1 }
+        ensures names_left { self.old.spare_names ≤ self.new.spare_names + (length weak + length names) + 1 }
     {
-        let bytes = stem.bytes();
-        self.index
-            .claim_reserved(&self.cells, ns, bytes, &names, cell.0);
         let row = SpaceCell {
             cell,
             ns,
             stem,
             state: Standing::Attached,
             names,
+            weak,
         };
+        self.index.claim_reserved(&self.cells, &row);
         insert_cell(&mut self.cells, row);
     }
 
@@ -253,7 +283,7 @@ impl Spaces {
         ensures state { self.new.cells ≡ with_state Attached cell.0 self.old.cells }
         ensures same_namespaces { self.new.namespaces ≡ self.old.namespaces }
         ensures same_room { self.old.spare_cells ≤ self.new.spare_cells }
-        ensures names_left { (c : SpaceCell) → numbered self.old.cells cell.0 ≡ Some c → self.old.spare_names ≤ self.new.spare_names + length c.names + 1 }
+        ensures names_left { (c : SpaceCell) → numbered self.old.cells cell.0 ≡ Some c → self.old.spare_names ≤ self.new.spare_names + row_count c + 1 }
     {
         claim_again(&mut self.index, &self.cells, cell.0);
         set_state(&mut self.cells, cell.0, Standing::Attached);

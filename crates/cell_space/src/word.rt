@@ -1,4 +1,4 @@
-//! What is looked up: a stem, or a name.
+//! What is looked up: a stem, or a name that is held strongly or weakly.
 
 ghost use Rattle.std.specs.Prelude.{◌≡◌};
 ghost use Rattle.cell_space.specs.Index.{has_word, word_hash, is_at};
@@ -7,11 +7,12 @@ use crate::cell::SpaceCell;
 use crate::hash::{name_hash, stem_hash};
 use cell_world::Standing;
 
-/// Whether a word is a stem or the name of a symbol.
+/// Whether a word is a stem, the name of a symbol or alias, or that of a WEAK symbol.
 #[derive(Clone, Copy, Debug, PartialEq, Eq)]
 pub enum WordKind {
     Stem,
     Name,
+    Weak,
 }
 
 /// A word with its hash, which is made once for all namespaces that it is looked up in.
@@ -28,7 +29,7 @@ fn word_hash(kind: WordKind, text: &[u8]) -> u64
 {
     match kind {
         WordKind::Stem => stem_hash(text),
-        WordKind::Name => name_hash(text),
+        WordKind::Name | WordKind::Weak => name_hash(text),
     }
 }
 
@@ -49,6 +50,7 @@ pub fn has_word(cell: &SpaceCell, kind: WordKind, text: &[u8]) -> bool
     match kind {
         WordKind::Stem => cell.has_stem(text),
         WordKind::Name => cell.has_name(text),
+        WordKind::Weak => cell.has_weak_name(text),
     }
 }
 

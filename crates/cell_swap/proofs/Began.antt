@@ -1,6 +1,6 @@
 -- A machine in which the old cells of a swap are put aside.
 use Rattle.std.proofs.Common.{◌≡◌, refl, sym, ◌∙◌, ap, subst, ℕ, suc, ◌<◌, Bool, true, not, ◌&&◌, List, [], ◌∷◌, inl, inr, length, map}
-use Rattle.std.specs.Prelude.{All, IsSome, IsTrue, Option, Some, None, find}
+use Rattle.std.specs.Prelude.{All, IsSome, Option, Some, None, find}
 use Rattle.std.specs.List.{list_all}
 use Rattle.std.specs.Option.{ForSome}
 use Rattle.std.proofs.lemmas.Bool.{eq-eqb, ltb-true}
@@ -17,9 +17,7 @@ use Rattle.cell_world.specs.declared.state.Standing.TheVariants.{Detached, Attac
 use Rattle.cell_num.proofs.Elements.{In-All, In-map, all-In, find_there, map-In}
 use Rattle.cell_lemmas.proofs.Known.{known_parts}
 use Rattle.cell_lemmas.proofs.KeptPaths.{In-holds}
-use Rattle.cell_lemmas.proofs.Detached.{put, put_in, put_same}
-use Rattle.cell_lemmas.proofs.Plain.{ready_plain}
-use Rattle.cell_object.specs.Parts.{has_no_weak}
+use Rattle.cell_lemmas.proofs.Detached.{put, put_in}
 use Rattle.cell_lemmas.proofs.SetAside.{aside_base}
 use Rattle.cell_space.specs.Joined.{placed_of}
 use Rattle.cell_space.specs.Machine.{called}
@@ -93,16 +91,8 @@ module _ (files : List File) (asked : Asked) (m : Machine) (b : IsBegun files as
   pub placed_are : map placed_of u.cells ≡ m.cells.items
   placed_are = ap (λ (w : World). map placed_of w.cells) (sym aside_is) ∙ parts.joined.placed
 
-  pub none_weak : (c : Cell) → In c u.cells → has_no_weak c.object ≡ true
-  none_weak c i =
-      let d = In-map (put (suc v.swaps) old) v.cells c i in
-      subst (λ (x : Cell). has_no_weak x.object ≡ true) (sym d.2) (put_same (suc v.swaps) old (λ x. has_no_weak x.object) d.0 refl ∙ ready_plain v h.ready d.0 d.1)
-
   pub is_of : IsOf m.spaces m.next u
-  is_of = record {
-    has = record { namespaces = sym b.aside.namespaces; cells = called_are; number = sym b.aside.next };
-    no_weak = In-All (λ (c : Cell). IsTrue (has_no_weak c.object)) u.cells none_weak;
-  }
+  is_of = record { namespaces = sym b.aside.namespaces; cells = called_are; number = sym b.aside.next }
 
   pub as_many : length m.cells.items ≡ length m.spaces.cells
   as_many = ap length (sym placed_are) ∙ (length-map u.cells placed_of ∙ (sym (length-map u.cells called) ∙ ap length called_are))

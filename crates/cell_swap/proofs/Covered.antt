@@ -1,18 +1,16 @@
 -- The first need that nobody provides any more, by the users of the old cells as the spaces tell them.
-use Rattle.std.proofs.Common.{◌≡◌, refl, sym, ◌∙◌, ap, ap₂, subst, ℕ, suc, Bool, true, false, cond, not, true≢false, List, [], ◌∷◌, ◌++◌, map, inl, inr, ◌⊎◌}
-use Rattle.std.specs.Prelude.{IsTrue, Option, Some, None, filter, is_none, option_map}
+use Rattle.std.proofs.Common.{◌≡◌, refl, sym, ◌∙◌, ap, ap₂, subst, ℕ, suc, Bool, true, false, cond, not, true≢false, List, [], ◌∷◌, ◌++◌, map}
+use Rattle.std.specs.Prelude.{Option, Some, None, filter, is_none, option_map}
 use Rattle.std.proofs.lemmas.List.{map-append}
 use Rattle.cell_num.specs.Lists.{first, holds, or_else, In}
 use Rattle.cell_world.specs.declared.file.File.{File}
 use Rattle.cell_world.specs.declared.refusal.Refusal.{Refusal}
 use Rattle.cell_world.specs.declared.state.NewCell.{NewCell}
-use Rattle.cell_world.specs.Coherent.{IsLoadable}
 use Rattle.cell_world.specs.Gather.{Need, first_lack, grown, lacks_of, missing}
 use Rattle.cell_world.specs.Names.{needs_of, provider_of}
 use Rattle.cell_world.specs.SwapCommand.{first_uncovered}
 use Rattle.cell_world.specs.World.{Cell, World}
-use Rattle.cell_num.proofs.Elements.{All-In, In-All, In-append, In-filtered, filter-Passes, map-In, map_same}
-use Rattle.cell_object.specs.Parts.{has_no_weak}
+use Rattle.cell_num.proofs.Elements.{In-filtered, filter-Passes, map_same}
 use Rattle.cell_lemmas.proofs.Relinked.{map_twice}
 use Rattle.cell_lemmas.proofs.Lookups.{filter_swap}
 use Rattle.cell_lemmas.proofs.Detached.{put_out}
@@ -27,7 +25,7 @@ use Rattle.cell_plan.specs.Staying.{is_user}
 use Rattle.cell_plan.proofs.Covering.{uncovered_users}
 use Rattle.cell_swap.specs.declared.asked.Asked.{Asked}
 use Rattle.cell_swap.specs.Planning.{IsBegun, IsGatheredFor}
-use Rattle.cell_swap.proofs.Began.{are, called_are, h, none_weak, old, sources, u, v, wants}
+use Rattle.cell_swap.proofs.Began.{are, called_are, h, old, sources, u, v, wants}
 use Rattle.cell_swap.proofs.SwapLanded.{new_behind, old_attached}
 use Rattle.cell_swap.proofs.Users.{plain, stands, there_aside, users}
 
@@ -68,19 +66,12 @@ module _ (files : List File) (asked : Asked) (m : Machine) (b : IsBegun files as
   abbrev pub G : World
   G = grown (u files asked m b) (new_cells g)
 
-  none_in : (c : Cell) → In c (u files asked m b).cells ⊎ In c (new_cells g) → has_no_weak c.object ≡ true
-  none_in c (inl i) = none_weak files asked m b c i
-  none_in c (inr i) =
-      (All-In (λ (p : NewCell). IsLoadable p.object) g.cells.items gathered.are.objects c.placed
-      (subst (λ (ps : List NewCell). In c.placed ps) gathered.are.placed (map-In placed_of (new_cells g) c i))).plain
-
   pub is_ahead : IsAhead G g.ahead
   is_ahead = record {
     namespaces = sym (gathered.are.namespaces ∙ b.aside.namespaces);
     cells =
         map-append called (u files asked m b).cells (new_cells g)
         ∙ (ap (λ (cs : List SpaceCell). cs ++ map called (new_cells g)) (called_are files asked m b) ∙ sym gathered.are.cells);
-    no_weak = In-All (λ (c : Cell). IsTrue (has_no_weak c.object)) G.cells (λ c i. none_in c (In-append (u files asked m b).cells (new_cells g) c i));
   }
 
   abbrev is_other : Cell → Bool

@@ -14,7 +14,8 @@ use Rattle.cell_machine.specs.Machine.{AreParts, world_of}
 use Rattle.cell_machine.specs.Same.{raised}
 use Rattle.cell_machine.proofs.Same.{counts_same, maps_same, patches_same, world_same}
 use Rattle.cell_machine.proofs.Unchanged.{same_itself}
-use Rattle.cell_load.proofs.Ready.{as_many}
+use Rattle.cell_world.specs.Coherent.{IsLoadable}
+use Rattle.cell_load.proofs.Ready.{all_loadable, as_many}
 use Rattle.cell_swap.specs.declared.asked.Asked.{Asked}
 use Rattle.cell_swap.specs.declared.planning.Plan.{Plan}
 use Rattle.cell_swap.specs.declared.swapping.Ready.{Ready}
@@ -95,6 +96,9 @@ module _ (files : List File) (asked : Asked) (m : Machine) (o : Options) (roots 
   module _ (p : Plan) (is : IsPlan files asked m h.begun o.reexport o.routines.now roots p) where
     pub names_fit : length p.staged.names.items ≡ length p.staged.cells.items
     names_fit = as_many m is.changed (moved m.graph.rows p.moves.items) p.staged is.ready
+
+    pub loadable : All (λ c. IsLoadable c.object) p.staged.cells.items
+    loadable = all_loadable m is.changed (moved m.graph.rows p.moves.items) p.staged is.ready
 
     abbrev pub plan_is : IsPlanned m o p
     plan_is = record {

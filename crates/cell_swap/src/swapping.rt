@@ -5,6 +5,7 @@ ghost use Rattle.cell_machine.specs.Does.{Does};
 ghost use Rattle.cell_machine.specs.Machine.{IsSound, world_of};
 ghost use Rattle.cell_machine.specs.Same.{IsSame};
 ghost use Rattle.cell_world.specs.Answer.{ids};
+ghost use Rattle.cell_world.specs.Coherent.{IsLoadable};
 ghost use Rattle.cell_world.specs.Gather.{source_of};
 ghost use Rattle.cell_num.specs.Limits.{max_file_bytes};
 ghost use Rattle.cell_world.specs.SwapCommand.{next_swap};
@@ -132,6 +133,7 @@ impl Ready {
         requires order { IsTrue (each_pair (λ a b. nat_lt a.id.0 b.id.0) plan.staged.cells.items) }
         requires begins { All (λ b. b.offset < 2 ^ 32) plan.begins.items }
         requires names { length plan.staged.names.items ≡ length plan.staged.cells.items }
+        requires loadable { All (λ c. IsLoadable c.object) plan.staged.cells.items }
         requires bound { All (λ x. IsTrue (is_bound machine.old.graph.rows x.user x.entry)) plan.moves.items }
         requires apart { AreApart plan.moves.items }
         ensures ready { IfOk result (IsReadyFor machine.old old.now options.now plan machine.new) }

@@ -1,4 +1,3 @@
 pub mod MoreNamespaces
-pub mod Readings
 pub mod Steps
 pub mod SwapSaid

@@ -14,6 +14,7 @@ use Rattle.cell_world.specs.declared.refusal.Refusal.TheVariants.{Unknown}
 use Rattle.cell_world.specs.declared.reply.Reply.{Reply}
 use Rattle.cell_world.specs.declared.reply.Reply.TheVariants.{Dump as DumpDone}
 use Rattle.cell_world.specs.Answer.{Done, done, present_cell, space_of, fresh_by}
+use Rattle.cell_world.specs.DumpAllCommand.{next_dump_all}
 use Rattle.cell_world.specs.DumpCommand.{next_dump}
 use Rattle.cell_world.specs.FindCommand.{next_find}
 use Rattle.cell_world.specs.Following.{Follows}
@@ -42,8 +43,9 @@ use Rattle.cell_change_law.proofs.ByLoad.{load_is}
 use Rattle.cell_change_law.proofs.BySwap.{swap_is}
 use Rattle.cell_load.proofs.Sources.{sources_sound}
 use Rattle.cell_num.specs.Limits.{max_file_bytes}
-use Rattle.cell_system.specs.Readings.{AreRead}
-use Rattle.cell_system.proofs.Readings.{outcome_read}
+use Rattle.cell_origin_law.specs.Readings.{AreRead}
+use Rattle.cell_origin_law.specs.Spelled.{AreNamed, IsSpelled}
+use Rattle.cell_origin_law.proofs.Commands.{outcome_keeps}
 use Rattle.cell_system.specs.Step.{IsStep, counts_of, state_of}
 
 -- the reply, where there is one, tells of no cell and of no field
@@ -103,16 +105,17 @@ module _ (m : Machine) where
     pub does : (result : Result Reply Fail) → Does said counts m result n → IsStep (state_of files m) command result (state_of files n)
     does result h = record { files = refl; answer = answers said counts result n h }
 
-    same_read : world_of n ≡ world_of m → AreRead (map source_of files) (world_of m) → AreRead (map source_of files) (world_of n)
-    same_read same read = subst (AreRead (map source_of files)) (sym same) read
+    -- what the machine has of its files
+    abbrev Keeps : World → Type 0
+    Keeps w = AreRead (map source_of files) w × IsSpelled w
 
-    pub still_read : (result : Result Reply Fail) → is_said command ≡ true → All (λ f. length f.bytes ≤ max_file_bytes) files → are_apart files ≡ true → IsSound m → AreRead (map source_of files) (world_of m)
-        → Does said counts m result n → AreRead (map source_of files) (world_of n)
-    still_read (Ok reply) told small apart sound read h =
-        outcome_read (map source_of files) (pairs-map (λ (f : Source) (g : Source). not (equals f.name g.name)) source_of files ∙ apart) (world_of m) read command (sources_sound files small) told sound.coherent
+    pub still_kept : (result : Result Reply Fail) → is_said command ≡ true → All (λ f. length f.bytes ≤ max_file_bytes) files → are_apart files ≡ true → AreNamed (map source_of files) → IsSound m → AreRead (map source_of files) (world_of m) → IsSpelled (world_of m)
+        → Does said counts m result n → AreRead (map source_of files) (world_of n) × IsSpelled (world_of n)
+    still_kept (Ok reply) told small apart named sound read spelled h =
+        outcome_keeps (map source_of files) (sources_sound files small) (pairs-map (λ (f : Source) (g : Source). not (equals f.name g.name)) source_of files ∙ apart) named (world_of m) sound.coherent read spelled command told
         (answer_in (world_of n) reply) h.is.step
-    still_read (Err (Refused refusal)) told small apart sound read h = same_read (world_left counts.undone refusal n h.1) read
-    still_read (Err OutOfMemory) told small apart sound read h = same_read (world_same m n h) read
+    still_kept (Err (Refused refusal)) told small apart named sound read spelled h = subst Keeps (sym (world_left counts.undone refusal n h.1)) (read, spelled)
+    still_kept (Err OutOfMemory) told small apart named sound read spelled h = subst Keeps (sym (world_same m n h)) (read, spelled)
 
 -- a load and a swap, by what the changes do that they ask for
 module _ (m : Machine) (sound : IsSound m) (files : List File) (small : All (λ f. length f.bytes ≤ max_file_bytes) files) (counts : Counts) (result : Result Reply Fail) (n : Machine) where
@@ -149,3 +152,6 @@ module _ (m : Machine) (sound : IsSound m) where
 
   pub shows_dump : (cell section : ℕ) (result : Result Reply Fail) → Follows (answer_in (world_of m)) result (next_dump (world_of m) cell section) → Does (next_dump (world_of m) cell section) no_stack m result m
   shows_dump cell section = shown (next_dump (world_of m) cell section) (dump_quiet (world_of m) cell section)
+
+  pub shows_dump_all : (result : Result Reply Fail) → Follows (answer_in (world_of m)) result (next_dump_all (world_of m)) → Does (next_dump_all (world_of m)) no_stack m result m
+  shows_dump_all = shown (next_dump_all (world_of m)) (refl, refl)

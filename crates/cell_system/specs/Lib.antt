@@ -1,4 +1,3 @@
 pub mod Namespaces
-pub mod Readings
 pub mod State
 pub mod Step

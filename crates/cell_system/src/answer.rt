@@ -18,7 +18,7 @@ use cell_machine::Machine;
 use cell_schedule::{kill, run, spawn, step, tasks};
 use cell_swap::{Options, swap};
 use cell_unload::{purge, unload};
-use cell_view::{deps, dump, find, map, users};
+use cell_view::{deps, dump, dump_all, find, map, users};
 use cell_world::{Command, Reply};
 use std::alloc::Global;
 
@@ -52,6 +52,7 @@ pub fn answer(
         Command::Users { cell } => users(alloc, machine, *cell),
         Command::Map => map(alloc, machine),
         Command::Dump { cell, section } => dump(alloc, machine, *cell, *section),
+        Command::DumpAll => dump_all(alloc, machine),
         Command::Swap {
             items,
             reexport,

@@ -10,7 +10,9 @@ ghost use Rattle.cell_world.specs.Coherent.{IsCoherent};
 ghost use Rattle.cell_world.specs.Gather.{source_of};
 ghost use Rattle.cell_world.specs.Pages.{IsSpace};
 ghost use Rattle.cell_world.specs.World.{empty_world};
-ghost use Rattle.cell_system.specs.Readings.{AreRead};
+ghost use Rattle.cell_world.specs.Undo.{AreBytes};
+ghost use Rattle.cell_origin_law.specs.Readings.{AreRead};
+ghost use Rattle.cell_origin_law.specs.Spelled.{IsSpelled};
 ghost use Rattle.cell_system.specs.Step.{IsStep};
 
 use crate::Fail;
@@ -35,7 +37,8 @@ impl Model for System {
     ghost use Rattle.cell_machine.specs.Machine.{IsSound, world_of};
     ghost use Rattle.cell_num.specs.Limits.{max_file_bytes};
     ghost use Rattle.cell_world.specs.Gather.{source_of};
-    ghost use Rattle.cell_system.specs.Readings.{AreRead};
+    ghost use Rattle.cell_origin_law.specs.Readings.{AreRead};
+    ghost use Rattle.cell_origin_law.specs.Spelled.{AreNamed, IsSpelled};
     ghost use Rattle.cell_system.specs.State.{State};
     ghost use Rattle.cell_system.specs.Step.{state_of};
 
@@ -43,7 +46,7 @@ impl Model for System {
 
     ghost view = { λ s. state_of s.depot s.machine };
 
-    ghost invariant = { λ s. IsSound s.machine × AreRead (map source_of s.depot) (world_of s.machine) × All (λ f. length f.bytes ≤ max_file_bytes) s.depot × (are_apart s.depot ≡ true) };
+    ghost invariant = { λ s. IsSound s.machine × AreRead (map source_of s.depot) (world_of s.machine) × All (λ f. length f.bytes ≤ max_file_bytes) s.depot × (are_apart s.depot ≡ true) × IsSpelled (world_of s.machine) × AreNamed (map source_of s.depot) };
 }
 
 impl System {
@@ -63,14 +66,17 @@ impl System {
         })
     }
 
-    /// Between any two commands the machine is coherent, and the object of each cell is the reading of its file.
+    /// Between any two commands the machine is coherent, the object of each cell is the reading of its file, all names are
+    /// spelled as such, and what the memory holds are bytes.
     /// A turn keeps it coherent, by the law `turn_keeps_coherent` of `cell_laws`: it is so after each turn inside
     /// a command too.
     pub fn coherent(&self)
         ensures coherent { IsCoherent self.now.machine.world }
         ensures read { AreRead (map source_of self.now.files) self.now.machine.world }
+        ensures spelled { IsSpelled self.now.machine.world }
+        ensures bytes { AreBytes self.now.machine.world.regions }
     {
-        let _ = &self.machine;
+        self.machine.memory.holds_bytes();
     }
 
     /// Does a command that a line of a script can say, which are all but a swap of no cell.

@@ -1,5 +1,5 @@
 pub mod Lookups
-pub mod Strong
+pub mod Asking
 pub mod Tabled
 pub mod Seen
 pub mod HighEntries

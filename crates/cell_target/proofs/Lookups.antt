@@ -1,5 +1,5 @@
 -- Look-ups in the machine that is seen.
-use Rattle.std.proofs.Common.{◌≡◌, refl, sym, ◌∙◌, ap, subst, arith, ℕ, zero, suc, ◌<◌, Bool, true, false, cond, inl, inr, List, [], ◌∷◌, ◌++◌, length, get_or}
+use Rattle.std.proofs.Common.{◌≡◌, refl, sym, ◌∙◌, ap, arith, ℕ, zero, suc, ◌<◌, Bool, true, false, cond, inl, inr, List, [], ◌∷◌, ◌++◌, length, get_or}
 use Rattle.std.specs.Prelude.{Option, Some, None, ◌==◌, find, option_map, option_and_then}
 use Rattle.std.specs.Option.{option_or}
 use Rattle.std.proofs.lemmas.List.Folds.{find-append}
@@ -7,18 +7,17 @@ use Rattle.cell_world.specs.declared.state.Namespace.{Namespace}
 use Rattle.cell_world.specs.declared.state.NewCell.{NewCell}
 use Rattle.cell_world.specs.declared.state.Target.{Target}
 use Rattle.cell_world.specs.Target.{provided_target}
-use Rattle.cell_world.specs.World.{World, Cell, cell_of, Standing}
-use Rattle.cell_world.specs.Names.{Provider, chain, provider_for as provider_in}
+use Rattle.cell_world.specs.World.{World, cell_of, Standing}
+use Rattle.cell_world.specs.Names.{Provider, chain}
 use Rattle.cell_num.specs.Lists.{In}
 use Rattle.cell_space.specs.declared.cell.SpaceCell.{SpaceCell}
 use Rattle.cell_space.specs.Joined.{AreJoined, cells_of, placed_of}
-use Rattle.cell_space.specs.Machine.{called}
 use Rattle.cell_space.proofs.Joined.{found_placed, is_numbered}
-use Rattle.cell_space.specs.Named.{provider_for}
-use Rattle.cell_space.proofs.Machines.{strong_provider-called}
-use Rattle.cell_lemmas.proofs.Plain.{strong_alone}
-use Rattle.cell_num.proofs.Elements.{map-In}
-use Rattle.cell_object.specs.Parts.{has_no_weak}
+use Rattle.cell_space.specs.Named.{provider_for, strong_provider}
+use Rattle.cell_space.proofs.Machines.{provider_for-called, strong_provider-called}
+use Rattle.cell_target.specs.Named.{asked_among, provider_asked, target_named}
+use Rattle.cell_target.specs.declared.asked.Asked.{Asked}
+use Rattle.cell_target.specs.declared.asked.Asked.TheVariants.{Anyone, Strong}
 use Rattle.cell_target.specs.Scene.{seen, AreCells}
 
 pub in_get : {X : Type 0} (xs : List X) (i : ℕ) (d : X) → i < length xs → In (get_or xs i d) xs
@@ -52,26 +51,22 @@ module _ (namespaces : List Namespace) (present fresh : List NewCell) (known : L
   pub in_fresh : (o : Option NewCell) → None ≡ find (is_numbered n) present → o ≡ find (is_numbered n) fresh → o ≡ option_map placed_of (cell_of (seen namespaces (present ++ fresh) known) n)
   in_fresh o none e = e ∙ ap (λ p. option_or p (find (is_numbered n) fresh)) none ∙ sym by_parts
 
--- who provides a name is told by the spaces
-module _ (namespaces : List Namespace) (spaces : List SpaceCell) (cells : List NewCell) (are : AreCells spaces cells) (ns : ℕ) (state : Standing) (name : List ℕ) where
+-- who is asked for a name is told by the spaces
+module _ (namespaces : List Namespace) (spaces : List SpaceCell) (cells : List NewCell) (are : AreCells spaces cells) (ns : ℕ) (state : Standing) (name : List ℕ) (asked : Asked) where
   abbrev machine : World
   machine = seen namespaces cells spaces
 
-  no_weak : (c : Cell) → In c machine.cells → has_no_weak c.object ≡ true
-  no_weak c i = are.no_weak c.placed (subst (λ (ps : List NewCell). In c.placed ps) are.joined.placed (map-In placed_of (cells_of cells spaces) c i))
+  provider_told : asked_among (chain namespaces ns) state name spaces asked ≡ provider_asked machine ns name state asked
+  provider_told = go asked
+    where
+      go : (a : Asked) → asked_among (chain namespaces ns) state name spaces a ≡ provider_asked machine ns name state a
+      go Anyone = sym (provider_for-called machine ns name state ∙ ap (provider_for (chain namespaces ns) state name) are.joined.called)
+      go Strong = sym (strong_provider-called machine ns name state ∙ ap (strong_provider (chain namespaces ns) state name) are.joined.called)
 
-  provider_told : provider_for (chain namespaces ns) state name spaces ≡ provider_in machine state ns name
-  provider_told =
-      sym (strong_alone machine no_weak state ns name
-      ∙ strong_provider-called machine ns name state
-      ∙ ap (provider_for (chain namespaces ns) state name) are.joined.called)
-
-  -- the target of a name's provider, where the spaces tell who that is
+  -- the target of that one, where the spaces tell who it is
   module _ (t : Option Target) where
-    pub nobody_there : t ≡ None → None ≡ provider_for (chain namespaces ns) state name spaces
-        → t ≡ option_and_then (provided_target machine) (provider_in machine state ns name)
+    pub nobody_there : t ≡ None → None ≡ asked_among (chain namespaces ns) state name spaces asked → t ≡ target_named machine asked ns state name
     nobody_there e none = e ∙ ap (option_and_then (provided_target machine)) (none ∙ provider_told)
 
-    pub somebody_there : (p : Provider) → Some p ≡ provider_for (chain namespaces ns) state name spaces → t ≡ provided_target machine p
-        → t ≡ option_and_then (provided_target machine) (provider_in machine state ns name)
+    pub somebody_there : (p : Provider) → Some p ≡ asked_among (chain namespaces ns) state name spaces asked → t ≡ provided_target machine p → t ≡ target_named machine asked ns state name
     somebody_there p some e = e ∙ ap (option_and_then (provided_target machine)) (some ∙ provider_told)

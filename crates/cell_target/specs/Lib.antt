@@ -1,4 +1,5 @@
 pub mod Scene
 pub mod Entries
 pub mod Named
+pub mod Asking
 pub mod Highs

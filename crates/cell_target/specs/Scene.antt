@@ -1,10 +1,9 @@
 -- The cells that names are looked up in, as a machine.
 --     seen namespaces cells known   the machine with these namespaces and cells, and nothing else
 --     in_state c state              the cell in that state, under its own names
---     AreCells known cells          places and names are those of the same cells, which stand in the order of their numbers, far below the numbers of 64 bits, and have no WEAK symbol
+--     AreCells known cells          places and names are those of the same cells, which stand in the order of their numbers and far below the numbers of 64 bits
 use Rattle.std.specs.Prelude.{nat_lt, IsTrue, List, []}
 use Rattle.cell_num.specs.Lists.{each_pair, In}
-use Rattle.cell_object.specs.Parts.{has_no_weak}
 use Rattle.cell_world.specs.declared.state.NewCell.{NewCell}
 use Rattle.cell_world.specs.declared.state.Namespace.{Namespace}
 use Rattle.cell_world.specs.World.{World, Cell, empty_world, Standing}
@@ -23,4 +22,3 @@ pub record AreCells (known : List SpaceCell) (cells : List NewCell) : Type 0 whe
   pub joined : AreJoined cells known
   pub ordered : IsTrue (each_pair (λ a b. nat_lt a.id.0 b.id.0) cells)
   pub low : (c : NewCell) → In c cells → IsLow c
-  pub no_weak : (c : NewCell) → In c cells → IsTrue (has_no_weak c.object)

@@ -2,6 +2,7 @@
 //! new ones of a load or a swap, which is not done yet. What the field then holds is `cell_link`.
 #![tactic(auto)]
 
+mod asked;
 mod cells;
 mod entries;
 mod highs;

@@ -1,5 +1,6 @@
 //! Scripts over the same files.
 
+use crate::audited::try_audit;
 use crate::folder::{ObjectFile, outcome};
 use crate::sources::{SourceFile, object_files};
 use cell_run::Status;
@@ -15,11 +16,11 @@ pub struct Case {
     pub text: &'static str,
 }
 
-/// Does a script over these files, with these words, and sees that this comes of it.
+/// Does a script over these files, with these words, and sees that this comes of it, and that the dump of what it leaves is clean.
 pub fn try_script(
     rt: &impl Abort,
     alloc: Global,
-    words: &[&str],
+    words: &[&'static str],
     files: &[ObjectFile],
     script: &str,
     status: Status,
@@ -29,6 +30,9 @@ pub fn try_script(
     let written = std::str::from_utf8(sink.written()).ok().ok_or("UTF-8")?;
     assert!(rt; written == text, "{script} gave {written}");
     assert!(rt; found == status, "{script} gave {found:?}");
+    if found == Status::Done || found == Status::SomeRefused {
+        try_audit(rt, alloc, words, files, script)?;
+    }
     Ok(())
 }
 
@@ -36,7 +40,7 @@ pub fn try_script(
 pub fn try_all(
     rt: &impl Abort,
     alloc: Global,
-    words: &[&str],
+    words: &[&'static str],
     sources: &[SourceFile],
     cases: &[Case],
 ) -> Result<(), Fail> {

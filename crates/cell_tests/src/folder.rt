@@ -88,9 +88,20 @@ pub fn outcome(
     script: &str,
     files: &[ObjectFile],
 ) -> Result<(Status, MemSink), AllocError> {
+    outcome_within(alloc, 10000, words, script, files)
+}
+
+/// The same, with room for so many bytes of its text.
+pub fn outcome_within(
+    alloc: Global,
+    room: usize,
+    words: &[&str],
+    script: &str,
+    files: &[ObjectFile],
+) -> Result<(Status, MemSink), AllocError> {
     let words = words_of(alloc, words)?;
     let mut folder = Folder { script, files };
-    let mut sink = MemSink::new(alloc, 10000, Vec::new(alloc))?;
+    let mut sink = MemSink::new(alloc, room, Vec::new(alloc))?;
     let status = cells(alloc, &words, &mut folder, &mut sink, &mut Shelf::new());
     Ok((status, sink))
 }

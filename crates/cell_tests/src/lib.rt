@@ -2,6 +2,8 @@
 #![tactic(auto)]
 
 #[cfg(test)]
+mod audited;
+#[cfg(test)]
 mod broken;
 #[cfg(test)]
 mod cases;
@@ -9,6 +11,8 @@ mod cases;
 mod command_line;
 #[cfg(test)]
 mod crowded;
+#[cfg(test)]
+mod damaged;
 #[cfg(test)]
 mod faults;
 #[cfg(test)]

@@ -45,7 +45,7 @@ static HASHES: [SourceFile; 9] = [
     },
 ];
 
-static OF_HASHES: [Case; 4] = [
+static OF_HASHES: [Case; 5] = [
     // The name is taken over where one definition has its base name.
     Case {
         script: "load k app\nswap k/log=n#log-02.o\nswap k/log=n#log-02.o reexport\nload k late\n\
@@ -88,6 +88,19 @@ static OF_HASHES: [Case; 4] = [
         text: "1 ok load #1 #2 patched 1\n2 ok load #3 patched 0\n\
             3 ok swap 1 new #4 #5 patched 1 removed #2 #3 kept -\n4 ok find #5.1+4 10004004\n\
             5 ok find #4.1+0 10003000\n6 ok deps #1\n  #1.1+0 CALL_PLT -> #5.1\n",
+    },
+    // In the dump of the whole machine it stands behind the cell, beside one that was put aside, in which a task is.
+    Case {
+        script: "ns u under k\nload k app\nspawn k app::go 0\nstep 1 2\nswap k/log=n#log-04.o reexport\ndumpall\n",
+        status: Status::Done,
+        text: "1 ok ns u\n2 ok load #1 #2 patched 1\n3 ok spawn t1 pc 10000000\n4 ok step t1 turns 2 ready\n\
+            5 ok swap 1 new #3 patched 1 removed - kept #2\n6 ok dumpall\n  space 10000000 1024\n  ns 0 k -\n  \
+            ns 1 u 0\n  cell 1 0 app k#app.o attached\n  place 1 1 10000000\n  \
+            cell 2 0 log k#log-01.o group 1\n  place 2 1 10001000\n  cell 3 0 log n#log-04.o attached\n  \
+            place 3 1 10006000\n  alias 3 0 log::put::h01\n  link 1.1 0 3.1\n  name 0 app::go 1.1+0\n  \
+            name 0 log::put 3.1+4\n  name 0 log::put::h01 3.1+4\n  \
+            bytes 1.1 10000000 97600000e780400067800000\n  bytes 2.1 10001000 67800000\n  \
+            bytes 3.1 10006000 1300000067800000\n  end\n",
     },
 ];
 

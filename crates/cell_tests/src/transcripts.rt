@@ -17,7 +17,7 @@ struct Case {
     text: &'static str,
 }
 
-const CASES: [Case; 19] = [
+const CASES: [Case; 20] = [
     Case {
         script: "load k a\nload k b\ndump 2 1\n",
         files: &["k#a.o", "k#b.o"],
@@ -26,6 +26,26 @@ const CASES: [Case; 19] = [
             2 ok load #2 patched 1\n\
             3 ok dump #2.1\n  \
             10001000 04 00 00 10 00 00 00 00 01 00 00 00 00 00 00 00\n",
+    },
+    Case {
+        script: "load k a\nload k b\ndumpall\n",
+        files: &["k#a.o", "k#b.o"],
+        status: Status::Done,
+        text: "1 ok load #1 patched 0\n\
+            2 ok load #2 patched 1\n\
+            3 ok dumpall\n  \
+            space 10000000 1024\n  \
+            ns 0 k -\n  \
+            cell 1 0 a k#a.o attached\n  \
+            place 1 1 10000000\n  \
+            cell 2 0 b k#b.o attached\n  \
+            place 2 1 10001000\n  \
+            link 2.1 0 1.1\n  \
+            name 0 a::n 1.1+0\n  \
+            name 0 b::p 2.1+0\n  \
+            bytes 1.1 10000000 0700000000000000\n  \
+            bytes 2.1 10001000 04000010000000000100000000000000\n  \
+            end\n",
     },
     Case {
         script: "",

@@ -70,7 +70,7 @@ const SWAPS: [&[u8]; 25] = [
 ];
 
 /// Commands that show or remove, without a reading.
-const SHOWN_OR_REMOVED: [&[u8]; 39] = [
+const SHOWN_OR_REMOVED: [&[u8]; 42] = [
     b"dump 00 0",
     b"dump +1 0",
     b"dump 0x1 0",
@@ -83,6 +83,9 @@ const SHOWN_OR_REMOVED: [&[u8]; 39] = [
     b"find k \x7f",
     b"find k a\r\n",
     b"find k \xc3\xa9",
+    b"dumpall 1",
+    b"dumpall all",
+    b"Dumpall",
     b"map k",
     b"map\r",
     b"maps",

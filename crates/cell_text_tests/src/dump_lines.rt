@@ -2,6 +2,7 @@
 
 use cell_dumped::*;
 use cell_num::{Bytes, Name};
+use cell_world::{DumpLine, Part};
 use std::alloc::{AllocError, Global};
 use std::test::*;
 

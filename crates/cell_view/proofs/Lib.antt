@@ -1,3 +1,8 @@
+pub mod AllLines
+pub mod Behind
+pub mod CellLines
+pub mod ContentLines
+pub mod EachLink
 pub mod Gathering
 pub mod LinkOrder
 pub mod LinksShown

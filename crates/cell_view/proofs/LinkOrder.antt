@@ -1,7 +1,7 @@
 -- The links of a coherent machine rise by user cell and entry, and those into a cell are those into its sections.
-use Rattle.std.proofs.Common.{◌≡◌, refl, sym, ◌∙◌, ap, subst, arith, ℕ, suc, ◌≤◌, ◌<◌, ◌⊎◌, inl, inr, Bool, true, false, not, ◌&&◌, ◌||◌, ◌==◌, List, [], ◌∷◌, ◌++◌}
-use Rattle.std.specs.Prelude.{Option, Some, None, filter, filter_map, flat_map, nat_lt}
-use Rattle.std.specs.List.{list_any, list_all, cons_option}
+use Rattle.std.proofs.Common.{◌≡◌, refl, sym, ◌∙◌, ap, subst, arith, ℕ, ◌<◌, Bool, true, false, not, ◌&&◌, ◌||◌, ◌==◌, List}
+use Rattle.std.specs.Prelude.{Some, filter, nat_lt}
+use Rattle.std.specs.List.{list_any}
 use Rattle.std.specs.List.Sorted.{IsPermutation}
 use Rattle.std.specs.Cmp.{IsStrictWeakOrder}
 use Rattle.std.specs.Ordering.{is_lt, nat_cmp, ordering_then}
@@ -9,19 +9,14 @@ use Rattle.std.proofs.lemmas.Bool.{and_parts, and_from, ltb-true, eqb-true, eq-e
 use Rattle.std.proofs.lemmas.Bool.Decides.{nat_tests}
 use Rattle.std.proofs.lemmas.List.Sorted.{IsPermutation-trans}
 use Rattle.cell_num.specs.declared.ids.SecKey.{SecKey}
-use Rattle.cell_num.specs.Lists.{each_pair, numbered_from, In}
+use Rattle.cell_num.specs.Lists.{each_pair, In}
 use Rattle.cell_object.specs.declared.object.Section.{Section as ObjectSection}
-use Rattle.cell_object.specs.declared.object.Entry.{Entry}
 use Rattle.cell_object.specs.Parts.{section_of}
 use Rattle.cell_world.specs.declared.state.LinkRow.{LinkRow}
-use Rattle.cell_world.specs.declared.state.Target.{Target}
-use Rattle.cell_world.specs.declared.state.Target.TheVariants.{Section, Number}
 use Rattle.cell_world.specs.World.{World, Cell, cell_of, key_of}
 use Rattle.cell_world.specs.Coherent.{IsCoherent}
-use Rattle.cell_world.specs.Relink.{link_of, link_to}
-use Rattle.cell_world.specs.Target.{target_of}
 use Rattle.cell_lemmas.specs.Present.{HasSection, JoinsPresent}
-use Rattle.cell_num.proofs.Elements.{all-In, In-all, All-In, In-append, found-In, any-In, any-Has, map-In, In-map, In-flat_map, pairs-map, pairs_same}
+use Rattle.cell_num.proofs.Elements.{All-In, found-In, any-In, any-Has, map-In, In-map, pairs-map, pairs_same}
 use Rattle.cell_lemmas.proofs.Known.{object_sound}
 use Rattle.cell_lemmas.proofs.Present.{links_present, some_same}
 use Rattle.cell_num.proofs.Sublists.{pairs-filter}

@@ -2,7 +2,7 @@
 --     HasSections graph c     the graph has each section of the cell
 --     links_in rows keys      the links into each of the sections in turn
 --     AreInOrder rows         no link follows one that it is before
-use Rattle.std.specs.Prelude.{◌==◌, nat_lt, Bool, ◌&&◌, ◌||◌, List, Contains, flat_map}
+use Rattle.std.specs.Prelude.{List, Contains, flat_map}
 use Rattle.std.specs.List.Sorted.{IsSortedBy}
 use Rattle.cell_num.specs.declared.ids.SecKey.{SecKey}
 use Rattle.cell_world.specs.declared.state.LinkRow.{LinkRow}

@@ -1,7 +1,7 @@
 -- What showing something comes to.
 --     section_shown c s       a section as it is shown
 --     CanShow m c             the cell's namespace is there, and its places are in the order of their sections
-use Rattle.std.specs.Prelude.{◌≡◌, ◌<◌, nat_lt, IsTrue, length}
+use Rattle.std.specs.Prelude.{◌<◌, nat_lt, IsTrue, length}
 use Rattle.cell_num.specs.Lists.{each_pair}
 use Rattle.cell_object.specs.declared.object.Section.{Section as ObjectSection}
 use Rattle.cell_world.specs.declared.state.NewCell.{NewCell}

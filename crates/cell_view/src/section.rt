@@ -15,13 +15,21 @@ use cell_world::{Fail, Reply};
 use std::alloc::{AllocError, Global};
 
 /// So many bytes from an address on; none where they are not in one region.
+pub fn held(memory: &Memory, addr: u64, size: u32) -> &[u8]
+    ensures { result.now ≡ unwrap_or (read_in memory.now.regions addr size) [] }
+{
+    match memory.bytes(addr, u64::from(size)) {
+        Some(bytes) => bytes,
+        None => &[],
+    }
+}
+
+/// A copy of these bytes.
 fn read(alloc: Global, memory: &Memory, addr: u64, size: u32) -> Result<Bytes, AllocError>
     ensures { IfOk result (λ bytes. bytes ≡ unwrap_or (read_in memory.now.regions addr size) []) }
 {
-    match memory.bytes(addr, u64::from(size)) {
-        Some(bytes) => Ok(Bytes::from_vec(bytes.to_vec(alloc)?)),
-        None => Ok(Bytes::from_vec(Vec::new(alloc))),
-    }
+    let bytes = held(memory, addr, size);
+    Ok(Bytes::from_vec(bytes.to_vec(alloc)?))
 }
 
 /// Shows a section of a cell.

@@ -27,6 +27,8 @@ pub mod LoadCommand
 pub mod FindCommand
 pub mod MapCommand
 pub mod DumpCommand
+pub mod DumpLines
+pub mod DumpAllCommand
 pub mod SpawnCommand
 pub mod TaskCommands
 pub mod LinkCommands

@@ -3,7 +3,7 @@
 use Rattle.std.specs.Prelude.{List, Result, Ok, Err}
 use Rattle.cell_world.specs.declared.refusal.Refusal.{Refusal}
 use Rattle.cell_world.specs.declared.command.Command.{Command}
-use Rattle.cell_world.specs.declared.command.Command.TheVariants.{Ns, Load, Spawn, Step, Run, Kill, Swap, Unload, Purge, Tasks, Find, Deps, Users, Map, Dump}
+use Rattle.cell_world.specs.declared.command.Command.TheVariants.{Ns, Load, Spawn, Step, Run, Kill, Swap, Unload, Purge, Tasks, Find, Deps, Users, Map, Dump, DumpAll}
 use Rattle.cell_world.specs.declared.reply.Reply.{Reply}
 use Rattle.cell_world.specs.World.{World}
 use Rattle.cell_world.specs.Gather.{Source}
@@ -14,6 +14,7 @@ use Rattle.cell_world.specs.Asked.{load_by_change, swap_by_change}
 use Rattle.cell_world.specs.FindCommand.{next_find}
 use Rattle.cell_world.specs.MapCommand.{next_map}
 use Rattle.cell_world.specs.DumpCommand.{next_dump}
+use Rattle.cell_world.specs.DumpAllCommand.{next_dump_all}
 use Rattle.cell_world.specs.SpawnCommand.{next_spawn}
 use Rattle.cell_world.specs.LinkCommands.{next_deps, next_users}
 use Rattle.cell_world.specs.UnloadCommand.{next_unload, next_purge}
@@ -36,6 +37,7 @@ outcome_of sources w (Deps cell) = next_deps w cell
 outcome_of sources w (Users cell) = next_users w cell
 outcome_of sources w Map = next_map w
 outcome_of sources w (Dump cell section) = next_dump w cell section
+outcome_of sources w DumpAll = next_dump_all w
 
 pub record Answered : Type 0 where
   pub answer : Result Reply Refusal

@@ -86,4 +86,6 @@ pub enum Command {
         cell: u32,
         section: u32,
     },
+    /// Show the whole machine.
+    DumpAll,
 }

@@ -7,6 +7,7 @@ mod command;
 mod fail;
 mod file;
 mod layout;
+mod line;
 mod refusal;
 mod reply;
 mod state;
@@ -16,6 +17,7 @@ pub use command::{CellName, Command, SwapItem};
 pub use fail::Fail;
 pub use file::File;
 pub use layout::{Class, Starts};
+pub use line::{DumpLine, Part};
 pub use refusal::{Many, Refusal};
 pub use reply::{Found, LinkLine, MapCell, MapSection, Reply, TaskLine, TaskRun, TaskState};
 pub use state::{

@@ -1,5 +1,6 @@
 //! Replies.
 
+use crate::line::DumpLine;
 use cell_num::{Bytes, Cause, CellId, Listed, Name, RelKind, SecKey};
 
 /// A place in a section, and its address.
@@ -138,5 +139,9 @@ pub enum Reply {
         key: SecKey,
         start: u64,
         bytes: Bytes,
+    },
+    /// What the whole machine is, line by line.
+    DumpAll {
+        lines: Listed<DumpLine>,
     },
 }

@@ -4,4 +4,4 @@ use Rattle.cell_gather.proofs.definitions.definitions_among.Given as goal
 
 -- those so far, and those that are left
 abbrev pub invariant-loop-place : goal.invariant-loop-place
-invariant-loop-place l = l.names ++ definitions_from (suc l.place) (drop l.place l.symbols) ≡ definitions_from 1 l.symbols
+invariant-loop-place l = l.names ++ definitions_from l.bind (suc l.place) (drop l.place l.symbols) ≡ definitions_from l.bind 1 l.symbols

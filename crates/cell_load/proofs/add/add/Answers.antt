@@ -1,5 +1,7 @@
 use Rattle.std.proofs.Common.{◌≡◌, ◌∙◌, sym, ap, ap₂, subst, map, length, List, [], Vec, Global}
+use Rattle.std.specs.Prelude.{All}
 use Rattle.std.proofs.lemmas.List.Elements.{All-nil}
+use Rattle.cell_world.specs.Coherent.{IsLoadable}
 use Rattle.cell_world.specs.declared.state.LinkRow.{LinkRow}
 use Rattle.cell_commit.specs.Cells.{arrived}
 use Rattle.cell_world.specs.declared.state.NewCell.{NewCell}
@@ -8,13 +10,17 @@ use Rattle.cell_machine.specs.Staged.{arrivals}
 use Rattle.cell_load.specs.Adding.{IsReadyToAdd, numbers_in}
 use Rattle.cell_load.proofs.Added.{none_moved}
 use Rattle.cell_load.proofs.Committing.{committable_then}
-use Rattle.cell_load.proofs.Ready.{added_same, as_many}
+use Rattle.cell_load.proofs.Ready.{added_same, all_loadable, as_many}
 use Rattle.cell_load.proofs.add.add.Goals as goal
 
-pub of-requires : goal.of-requires
-of-requires c =
+pub of-requires-clause-named : goal.of-requires-clause-named
+of-requires-clause-named c =
     ap (λ (names : Vec (List Alias) Global). length names.items) c.replace-names.ensures.value
     ∙ (as_many c.args.machine.now _ _ c.args.staged c.requires ∙ ap length (sym c.deref.ensures.value))
+
+pub of-requires-clause-loadable : goal.of-requires-clause-loadable
+of-requires-clause-loadable c =
+    subst (λ (cells : List NewCell). All (λ d. IsLoadable d.object) cells) (sym c.deref.ensures.value) (all_loadable c.args.machine.now _ _ c.args.staged c.requires)
 
 pub commit-requires : goal.commit-requires
 commit-requires c =

@@ -8,7 +8,7 @@ use Rattle.cell_swap.specs.Before.{begun_in}
 use Rattle.cell_swap.specs.Swapped.{IsReadyFor}
 use Rattle.cell_swap.specs.Transferring.{AreOld}
 use Rattle.cell_swap.proofs.AddressesSaid.{old_cells}
-use Rattle.cell_swap.proofs.SwapExchanged.{apart, begins_low, bound, can_finish, names_fit, staged_low, staged_rise, unplanned, was_finished}
+use Rattle.cell_swap.proofs.SwapExchanged.{apart, begins_low, bound, can_finish, loadable, names_fit, staged_low, staged_rise, unplanned, was_finished}
 use Rattle.cell_swap.proofs.swapping.exchange.Goals as goal
 
 pub plan_swap-requires : goal.plan_swap-requires
@@ -33,6 +33,9 @@ of-requires-clause-begins c = begins_low c.args.depot.now c.args.asked.now c.arg
 
 pub of-requires-clause-names : goal.of-requires-clause-names
 of-requires-clause-names c = names_fit c.args.depot.now c.args.asked.now c.args.machine.now c.args.options.now c.args.roots.items c.requires c.in_ok-plan.plan (c.in_ok-plan.ensures c.requires.begun)
+
+pub of-requires-clause-loadable : goal.of-requires-clause-loadable
+of-requires-clause-loadable c = loadable c.args.depot.now c.args.asked.now c.args.machine.now c.args.options.now c.args.roots.items c.requires c.in_ok-plan.plan (c.in_ok-plan.ensures c.requires.begun)
 
 pub of-requires-clause-bound : goal.of-requires-clause-bound
 of-requires-clause-bound c = bound c.args.depot.now c.args.asked.now c.args.machine.now c.args.options.now c.args.roots.items c.requires c.in_ok-plan.plan (c.in_ok-plan.ensures c.requires.begun)

@@ -10,7 +10,7 @@ use Rattle.cell_machine.specs.Machine.{world_of}
 use Rattle.cell_system.specs.Step.{counts_of}
 use Rattle.cell_script.specs.Script.{is_said}
 use Rattle.cell_system.proofs.SwapSaid.{said_swap}
-use Rattle.cell_system.proofs.Steps.{by_load, by_swap, shows_deps, shows_dump, shows_find, shows_map, shows_tasks, shows_users}
+use Rattle.cell_system.proofs.Steps.{by_load, by_swap, shows_deps, shows_dump, shows_dump_all, shows_find, shows_map, shows_tasks, shows_users}
 use Rattle.cell_system.proofs.answer.answer.Goals as goal
 
 pub returns-in-Ns : goal.returns-in-Ns
@@ -59,6 +59,11 @@ pub returns-in-Dump : goal.returns-in-Dump
 returns-in-Dump c =
     subst (λ (k : Command). Does (outcome_of (map source_of c.args.depot.now) (world_of c.args.machine.now) k) (counts_of (map source_of c.args.depot.now) (world_of c.args.machine.now) k) c.args.machine.now c.dump.result c.args.machine.now)
     (sym c.in-Dump.is) (shows_dump c.args.machine.now c.requires.sound c.in-Dump.cell c.in-Dump.section c.dump.result c.dump.ensures)
+
+pub returns-in-DumpAll : goal.returns-in-DumpAll
+returns-in-DumpAll c =
+    subst (λ (k : Command). Does (outcome_of (map source_of c.args.depot.now) (world_of c.args.machine.now) k) (counts_of (map source_of c.args.depot.now) (world_of c.args.machine.now) k) c.args.machine.now c.dump_all.result c.args.machine.now)
+    (sym c.in-DumpAll.is) (shows_dump_all c.args.machine.now c.requires.sound c.dump_all.result c.dump_all.ensures)
 
 pub swap-requires-clause-some : goal.swap-requires-clause-some
 swap-requires-clause-some c =

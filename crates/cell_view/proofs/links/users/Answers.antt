@@ -1,5 +1,4 @@
 use Rattle.std.proofs.Common.{◌∙◌, ap, filter_map, subst, sym}
-use Rattle.cell_world.specs.declared.state.LinkRow.{LinkRow}
 use Rattle.cell_world.specs.declared.state.NewCell.{NewCell}
 use Rattle.cell_world.specs.LinkCommands.{link_line}
 use Rattle.cell_machine.specs.Machine.{section_keys, world_of}

@@ -1,5 +1,5 @@
 use Rattle.std.proofs.Common.{refl, sym, subst}
-use Rattle.cell_dumped.specs.declared.line.DumpLine.{DumpLine}
+use Rattle.cell_world.specs.declared.line.DumpLine.{DumpLine}
 use Rattle.cell_audit.specs.declared.written.WrittenCell.{WrittenCell}
 use Rattle.cell_audit.specs.Kept.{Keeps}
 use Rattle.cell_audit.proofs.Cells.{new_rows, on_ok}

@@ -12,15 +12,15 @@ returns-clause-growing c =
     let cell = c.args.fresh.cell in
     let old = c.args.gathered.now.ahead.cells in
     let known = c.args.gathered.now.ahead.fresh in
-    grown_by_one c.args.self.now.spaces.now c.args.self.now.next c.args.gathered.now (record { cells = c.push.new.self; ahead = c.append.new.self }) cell c.args.fresh.names c.requires.growing c.args.fresh.named
-    (c.in_ok-append.ensures.fresh ∙ ap (λ (x : List ℕ). known ++ row_of cell.id cell.ns x c.args.fresh.names ∷ []) c.in_ok-stem.ensures)
+    grown_by_one c.args.self.now.spaces.now c.args.self.now.next c.args.gathered.now (record { cells = c.push.new.self; ahead = c.append.new.self }) cell c.args.fresh.names c.in_ok-weak.weak c.requires.growing c.args.fresh.named (c.in_ok-weak.ensures {u = tt})
+    (c.in_ok-append.ensures.fresh ∙ ap (λ (x : List ℕ). known ++ row_of cell.id cell.ns x c.args.fresh.names c.in_ok-weak.weak ∷ []) c.in_ok-stem.ensures)
     c.in_ok-push.ensures.items c.requires.there c.requires.number c.requires.room c.args.fresh.loadable c.append.ensures.same_namespaces c.append.ensures.same_present
-    (c.in_ok-append.ensures.added ∙ ap (λ (x : List ℕ). old ++ row_of cell.id cell.ns x c.args.fresh.names ∷ []) c.in_ok-stem.ensures)
+    (c.in_ok-append.ensures.added ∙ ap (λ (x : List ℕ). old ++ row_of cell.id cell.ns x c.args.fresh.names c.in_ok-weak.weak ∷ []) c.in_ok-stem.ensures)
 
 pub returns-clause-added : goal.returns-clause-added
 returns-clause-added c =
     let cell = c.args.fresh.cell in
     let known = c.args.gathered.now.ahead.fresh in
-    one_more c.args.self.now.spaces.now c.args.self.now.next c.args.gathered.now (record { cells = c.push.new.self; ahead = c.append.new.self }) cell c.args.fresh.names c.requires.growing c.args.fresh.named
-    (c.in_ok-append.ensures.fresh ∙ ap (λ (x : List ℕ). known ++ row_of cell.id cell.ns x c.args.fresh.names ∷ []) c.in_ok-stem.ensures)
+    one_more c.args.self.now.spaces.now c.args.self.now.next c.args.gathered.now (record { cells = c.push.new.self; ahead = c.append.new.self }) cell c.args.fresh.names c.in_ok-weak.weak c.requires.growing c.args.fresh.named (c.in_ok-weak.ensures {u = tt})
+    (c.in_ok-append.ensures.fresh ∙ ap (λ (x : List ℕ). known ++ row_of cell.id cell.ns x c.args.fresh.names c.in_ok-weak.weak ∷ []) c.in_ok-stem.ensures)
     c.in_ok-push.ensures.items

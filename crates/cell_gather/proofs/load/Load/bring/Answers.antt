@@ -3,7 +3,7 @@ use Rattle.std.proofs.lemmas.List.Elements.{All-append, All-same}
 use Rattle.cell_world.specs.World.{Cell}
 use Rattle.std.proofs.lemmas.Result.{err_from_is_err_and}
 use Rattle.cell_gather.specs.Growing.{new_of}
-use Rattle.cell_gather.proofs.Growths.{as_many, new_no_weak}
+use Rattle.cell_gather.proofs.Growths.{as_many}
 use Rattle.cell_gather.proofs.Lacks.{no_lack}
 use Rattle.cell_gather.proofs.Supplying.{bring_failed, none_supplied}
 use Rattle.cell_gather.proofs.Turns.{done, led_nowhere, led_on}
@@ -49,7 +49,7 @@ pub returns-clause-ends : goal.returns-clause-ends
 returns-clause-ends c =
     done c.args.self.now.depot.now c.args.self.now.spaces.now c.args.self.now.next (new_of c.args.gathered.now) (new_of c.loop-place.gathered) 1025 c.loop-place.invariant.led c.loop-place.invariant.growing.few (omega arith)
     (λ w is.
-    no_lack c.args.self.now.spaces.now c.args.self.now.next c.args.self.now.given (new_of c.loop-place.gathered) c.loop-place.invariant.growing.above c.loop-place.invariant.growing.attached (new_no_weak c.args.self.now.spaces.now c.args.self.now.next c.loop-place.gathered c.loop-place.invariant.growing) w is c.loop-place.place (let many = as_many c.args.self.now.spaces.now c.args.self.now.next c.loop-place.gathered c.loop-place.invariant.growing in omega (arith, c.loop-place.gathered.cells.ok.0)) c.loop-place.invariant.supplied)
+    no_lack c.args.self.now.spaces.now c.args.self.now.next c.args.self.now.given (new_of c.loop-place.gathered) c.loop-place.invariant.growing.above c.loop-place.invariant.growing.attached w is c.loop-place.place (let many = as_many c.args.self.now.spaces.now c.args.self.now.next c.loop-place.gathered c.loop-place.invariant.growing in omega (arith, c.loop-place.gathered.cells.ok.0)) c.loop-place.invariant.supplied)
 
 pub returns-clause-plain : goal.returns-clause-plain
 returns-clause-plain c = λ plain.

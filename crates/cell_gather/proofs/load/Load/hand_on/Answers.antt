@@ -1,7 +1,7 @@
 use Rattle.std.proofs.Common.{◌≡◌, ◌<◌, ◌+◌, ◌∙◌, ap, length, subst, sym, ℕ, List}
 use Rattle.cell_world.specs.declared.state.NewCell.{NewCell}
-use Rattle.cell_world.specs.Names.{definitions_of}
-use Rattle.cell_world.specs.World.{Alias, Cell}
+use Rattle.cell_world.specs.Names.{definitions_of, weak_definitions_of}
+use Rattle.cell_world.specs.World.{Cell}
 use Rattle.cell_space.proofs.Holding.{ok_more}
 use Rattle.cell_gather.specs.Growing.{new_of}
 use Rattle.cell_gather.specs.Renaming.{AreHeirs, new_numbered, take_all_now}
@@ -28,8 +28,8 @@ give_all-requires-clause-new c =
       found = ap (new_numbered (new_of g)) (sym id_is) ∙ found_at c.args.self.now.next (new_of g) c.requires.growing.numbered c.args.place there.0 there.1;
       ns_is = ap (λ (p : NewCell). p.ns) there.2 ∙ sym (c.in_ok-path.ensures {u = tt}).ns;
       heirs =
-          subst (λ (p : NewCell). AreHeirs (definitions_of p.object) c.in_ok-heirs.heirs) (sym there.2)
-          (subst (λ (rows : List Alias). AreHeirs rows c.in_ok-heirs.heirs) (c.in_ok-definitions.ensures {u = tt}) (c.in_ok-heirs.ensures {u = tt}));
+          subst (λ (p : NewCell). AreHeirs (definitions_of p.object) c.in_ok-heritage.heritage.heirs) (sym there.2) (c.in_ok-heritage.ensures {u = tt}).heirs;
+      weak = subst (λ (p : NewCell). c.in_ok-heritage.heritage.weak ≡ weak_definitions_of p.object) (sym there.2) (c.in_ok-heritage.ensures {u = tt}).weak;
     }
 
 pub returns-clause-named : goal.returns-clause-named

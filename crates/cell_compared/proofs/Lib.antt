@@ -1,0 +1,10 @@
+mod Stepping
+mod Walking
+mod Pieces
+mod Lining
+mod Freshly
+mod Standing
+mod Sized
+mod Scening
+mod Audited
+mod Whole

@@ -1,0 +1,32 @@
+use Rattle.std.proofs.Common.{ap, map, List, refl}
+use Rattle.std.proofs.lemmas.List.{drop_all}
+use Rattle.std.proofs.lemmas.Result.{err_from_is_err_and}
+use Rattle.cell_compared.specs.Left.{left}
+use Rattle.cell_compared.proofs.Pieces.{flattened}
+use Rattle.cell_compared.proofs.Walking.{all_gone, fails_here, goes_on}
+use Rattle.std.specs.Prelude.{flat_map}
+use Rattle.cell_compared.specs.Shown.{links_shown}
+use Rattle.cell_described.specs.declared.cell.DescribedCell.{DescribedCell}
+use Rattle.cell_relinked.specs.Scene.{seen_in, world_of}
+use Rattle.cell_compared.proofs.link_lines.compare_links.Goals as goal
+
+pub returns-in_err-compare_links_in : goal.returns-in_err-compare_links_in
+returns-in_err-compare_links_in c =
+    let p = err_from_is_err_and c.from_residual.result c.from_residual.ensures.1 in
+    let scene = c.args.scene.now in
+    let xs = scene.cells.now in
+    rw (p.1, p.2)
+    (fails_here c.in_err-compare_links_in.field-0.0 (left c.loop-index.cursor) _ _ _ _ (flattened xs xs refl c.loop-index.index c.index-cells-index.result c.loop-index-test.true c.index-cells-index.is (seen_in scene) (links_shown (world_of scene))) c.loop-index.invariant c.in_err-compare_links_in.ensures)
+
+pub loop-index-preserved : goal.loop-index-preserved
+loop-index-preserved c =
+    let scene = c.args.scene.now in
+    let xs = scene.cells.now in
+    goes_on (left c.loop-index.cursor) (left c.compare_links_in.new.cursor) _ _ _ _ (flattened xs xs refl c.loop-index.index c.index-cells-index.result c.loop-index-test.true c.index-cells-index.is (seen_in scene) (links_shown (world_of scene))) c.loop-index.invariant c.in_ok-compare_links_in.ensures
+
+pub returns : goal.returns
+returns c =
+    let scene = c.args.scene.now in
+    let xs = scene.cells.now in
+    let past = c.loop-index-test.false in
+    all_gone (left c.loop-index.cursor) _ _ (ap (λ (ys : List DescribedCell). flat_map (links_shown (world_of scene)) (map (seen_in scene) ys)) (drop_all c.loop-index.index xs past)) c.loop-index.invariant

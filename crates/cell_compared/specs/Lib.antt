@@ -1,0 +1,4 @@
+pub mod Walk
+pub mod Left
+pub mod Shown
+pub mod Said

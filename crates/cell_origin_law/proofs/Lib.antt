@@ -1,0 +1,5 @@
+pub mod Names
+pub mod FileNames
+pub mod Numbers
+pub mod Changes
+pub mod Commands

@@ -1,0 +1,18 @@
+pub mod Gotten
+mod InsideTargets
+mod Chaining
+pub mod Naming
+mod Providing
+mod Strong
+mod Strongly
+mod Tabled
+pub mod Earlier
+pub mod Seeing
+pub mod Moving
+pub mod Fitting
+pub mod Bridging
+mod FirstSeen
+mod Counting
+pub mod OneField
+mod ManyFields
+pub mod Sizes

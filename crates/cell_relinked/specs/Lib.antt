@@ -1,0 +1,7 @@
+pub mod Fit
+pub mod Scene
+pub mod Asked
+pub mod Symbols
+pub mod Entries
+pub mod Linking
+pub mod Contents

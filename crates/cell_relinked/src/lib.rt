@@ -1,0 +1,30 @@
+//! The machine that a dump describes, linked anew: what its cells name, whether they can be linked, and what their sections
+//! hold then.
+#![tactic(auto)]
+
+mod chain;
+mod contents;
+mod entries;
+mod firsts;
+mod ground;
+mod link;
+mod names;
+mod own;
+mod places;
+mod provider;
+mod scene;
+mod section_bytes;
+mod symbols;
+mod targets;
+mod unlinked;
+mod writing;
+
+pub use chain::chain_of;
+pub use contents::relinked_contents;
+pub use entries::Entries;
+pub use ground::{Ground, scene_of};
+pub use names::is_definition;
+pub use places::start_in;
+pub use provider::Provider;
+pub use scene::{Scene, text_at};
+pub use unlinked::check_linked;

@@ -1,0 +1,9 @@
+use Rattle.std.proofs.Common.{◌≡◌}
+use Rattle.cell_world.specs.declared.state.Standing.TheVariants.{Attached}
+use Rattle.cell_world.specs.Names.{chain}
+use Rattle.cell_space.specs.Nearest.{nearest_in}
+use Rattle.cell_space.proofs.nearest.nearest_attached.Given as goal
+
+-- the namespaces that are left decide
+abbrev pub invariant-loop-other : goal.invariant-loop-other
+invariant-loop-other l = nearest_in l.other-iterator Attached l.name l.cells ≡ nearest_in (chain l.namespaces l.ns) Attached l.name l.cells
