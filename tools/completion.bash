@@ -1,4 +1,4 @@
-# Completion for bash, of the words of ./cells, ./cellas, ./build and the tools beside this file. In a shell, or in ~/.bashrc:
+# Completion for bash, of the words of ./cells, ./cellas, ./cellaudit, ./build and the tools beside this file. In a shell, or in ~/.bashrc:
 #
 #     . tools/completion.bash
 #
@@ -57,7 +57,20 @@ _cellas_complete() {
     fi
 }
 
+_cellaudit_complete() {
+    local word=${COMP_WORDS[COMP_CWORD]} operands
+    _cells_operands
+    COMPREPLY=()
+    if [ ${#operands[@]} -eq 0 ]; then
+        compopt -o filenames
+        mapfile -t COMPREPLY < <(compgen -d -- "$word")
+    elif [ ${#operands[@]} -eq 1 ]; then
+        mapfile -t COMPREPLY < <(compgen -W "$(_cells_files "${operands[0]}")" -- "$word")
+    fi
+}
+
 complete -F _cells_complete cells ./cells sweep tools/sweep
 complete -F _cellas_complete cellas ./cellas
-complete -W '--jobs cells cellas' build ./build
+complete -F _cellaudit_complete cellaudit ./cellaudit
+complete -W '--jobs cells cellas cellaudit' build ./build
 complete -f names tools/names explain tools/explain json tools/json why tools/why draw.py tools/draw.py

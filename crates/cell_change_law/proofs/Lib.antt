@@ -1,5 +1,5 @@
-mod Gathering
-mod Placing
+pub mod Gathering
+pub mod Placing
 mod Planning
 mod Answered
 mod Torn
@@ -10,8 +10,8 @@ mod Outcomes
 pub mod ByLoad
 pub mod BySwap
 pub mod Asking
-mod Lost
-mod Plain
+pub mod Lost
+pub mod Plain
 pub mod Settled
 mod Begins
 mod Strict

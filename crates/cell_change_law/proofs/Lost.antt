@@ -30,7 +30,7 @@ use Rattle.cell_change_law.specs.Sound.{IsSound}
 use Rattle.cell_change_law.proofs.Placing.{base, new_group, set_attached, grows, behind, now_is}
 
 -- the same target is in the same cells
-same_in : (numbers : List ℕ) (t u : Target) → is_same_target t u ≡ true → is_target_in numbers (Some t) ≡ is_target_in numbers (Some u)
+pub same_in : (numbers : List ℕ) (t u : Target) → is_same_target t u ≡ true → is_target_in numbers (Some t) ≡ is_target_in numbers (Some u)
 same_in numbers (Section key offset addr) (Section other place at) h =
     ap (λ (n : ℕ). holds numbers n) (eqb-true key.cell.0 other.cell.0 (and_parts (key.cell.0 == other.cell.0) (key.section == other.section) (and_parts (is_same_key key other) (offset == place) h).0).0)
 same_in numbers (Section key offset addr) (Number value) h = absurd (true≢false (sym h))
@@ -95,11 +95,15 @@ module _ (sources : List Source) (sound : AreSound sources) (v : World) (h : IsC
       go true e = absurd (true≢false (sym r.3 ∙ (ap (asks s) (old_standing r.0 r.1 (subst (λ n. holds old n ≡ true) r.2 e)) ∙ unasked s f)))
 
   module _ (c : Cell) (i : In c v.cells) (e : Entry) where
-    -- what another cell named in an old one it doesn't any more
+    -- another cell names nothing in an old one any more
+    pub now_out : holds old c.id.0 ≡ false → is_target_in old (target_of w (now_in w c) e) ≡ false
+    now_out q =
+        ap (λ (z : Cell). is_target_in old (target_of w z e)) (now_is sources sound v h asked good g gathering w placing covered c i ∙ put_out k old c q)
+        ∙ target_out w old c q (asked_out c.standing (new_group v h c i)) e
+
+    -- what it named there it doesn't name
     pub lost_differs : holds old c.id.0 ≡ false → is_target_in old (target_of v c e) ≡ true → differs v w c e ≡ true
-    lost_differs q t = in_and_out old (target_of v c e) (target_of w (now_in w c) e) t
-        (ap (λ (z : Cell). is_target_in old (target_of w z e)) (now_is sources sound v h asked good g gathering w placing covered c i ∙ put_out k old c q)
-        ∙ target_out w old c q (asked_out c.standing (new_group v h c i)) e)
+    lost_differs q t = in_and_out old (target_of v c e) (target_of w (now_in w c) e) t (now_out q)
 
     there : nat_lt (put k old c).ns (length v.namespaces) ≡ true
     there = put_same k old (λ x. nat_lt x.ns (length v.namespaces)) c refl ∙ (known_parts v c (all-In (is_known_cell v) v.cells h.ready.cells c i)).ns

@@ -19,7 +19,7 @@ use Rattle.cell_world.specs.declared.state.LinkRow.{LinkRow}
 use Rattle.cell_world.specs.declared.state.Target.{Target}
 use Rattle.cell_world.specs.declared.state.Target.TheVariants.{Number}
 use Rattle.cell_compared.specs.Shown.{definition_line, name_lines, names_shown}
-use Rattle.cell_relinked.proofs.Naming.{definitions_from}
+use Rattle.cell_bearers.proofs.Naming.{definitions_from}
 
 module _ {X : Type 0} (read xs : List X) (same : read ≡ xs) (i : ℕ) (x : X) (below : i < length read) (here : x ≡ get_or read i x) where
   begins : drop i xs ≡ x ∷ drop (i + 1) xs

@@ -1,4 +1,5 @@
 pub mod Walk
 pub mod Left
 pub mod Shown
+pub mod Asking
 pub mod Said

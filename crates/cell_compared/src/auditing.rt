@@ -6,12 +6,14 @@ ghost use Rattle.cell_audit.specs.Outcome.{Agrees};
 ghost use Rattle.cell_audit.specs.Within.{AreWithin, texts_of};
 ghost use Rattle.cell_num.specs.Limits.{max_file_bytes};
 ghost use Rattle.cell_relinked.specs.Fit.{IsFit};
+ghost use Rattle.cell_relinked.specs.Indexed.{IsIndexed};
 ghost use Rattle.cell_world.specs.Gather.{source_of};
 ghost use Rattle.cell_compared.specs.Said.{said_of};
 
 use crate::compare::compare;
 use crate::cursor::Cursor;
 use cell_audit::{AuditFail, Lines, Told, WrittenDump, read_dump};
+use cell_bearers::{Index, index_of};
 use cell_depot::Depot;
 use cell_described::{Bounds, Described, DescribedCell, describe};
 use cell_object::Object;
@@ -27,6 +29,7 @@ fn audit_described(
     lines: Lines,
 ) -> Result<(), AuditFail>
     requires whole { All (IsFit objects.old.items) ground.now.cells.now }
+    requires indexed { IsIndexed ground.now objects.old.items }
     requires within { AreWithin ground.now.file.now lines }
     requires small { length ground.now.file.now < 2 ^ 32 }
     ensures { Agrees (said_of ground.now objects.old.items (texts_of ground.now.file.now lines)) result }
@@ -43,6 +46,7 @@ fn ground_of<'a>(
     namespaces: &'a [Namespace],
     cells: &'a [DescribedCell],
     told: &'a Told,
+    index: &'a Index,
 ) -> Ground<'a>
     ensures file { result.file.now ≡ file.now }
     ensures base { result.base ≡ bounds.base }
@@ -50,6 +54,7 @@ fn ground_of<'a>(
     ensures namespaces { result.namespaces.now ≡ namespaces.now }
     ensures cells { result.cells.now ≡ cells.now }
     ensures told { result.told.now ≡ told.now }
+    ensures index { result.index.now ≡ index.now }
 {
     let Bounds { base, pages } = bounds;
     Ground {
@@ -59,6 +64,7 @@ fn ground_of<'a>(
         namespaces,
         cells,
         told,
+        index,
     }
 }
 
@@ -82,6 +88,7 @@ pub fn audit(alloc: Global, dump: &[u8], depot: &Depot) -> Result<(), AuditFail>
     let bounds = Bounds { base, pages };
     let described = describe(alloc, bounds, cells, depot)?;
     let Described { cells, mut objects } = described;
-    let ground = ground_of(dump, bounds, &namespaces, &cells, &told);
+    let index = index_of(alloc, dump, &objects, &cells)?;
+    let ground = ground_of(dump, bounds, &namespaces, &cells, &told, &index);
     audit_described(alloc, &ground, &mut objects, lines)
 }

@@ -14,10 +14,11 @@ ghost use Rattle.cell_compared.specs.Walk.{Walks};
 
 use crate::cursor::Cursor;
 use cell_audit::{AuditFail, WrittenAlias};
+use cell_bearers::text_at;
 use cell_described::DescribedCell;
 use cell_num::Name;
 use cell_object::Section;
-use cell_relinked::{Scene, start_in, text_at};
+use cell_relinked::{Scene, start_in};
 use cell_world::DumpLine;
 use std::alloc::{AllocError, Global};
 

@@ -6,6 +6,7 @@ ghost use Rattle.cell_audit.specs.Linking.{unlinked_in};
 ghost use Rattle.cell_described.specs.declared.cell.DescribedCell.{DescribedCell as SomeCell};
 ghost use Rattle.cell_world.specs.declared.line.DumpLine.TheVariants.{End};
 ghost use Rattle.cell_relinked.specs.Fit.{IsFit};
+ghost use Rattle.cell_relinked.specs.Indexed.{IsIndexed};
 ghost use Rattle.cell_relinked.specs.Linking.{seen_by, world_in};
 ghost use Rattle.cell_relinked.specs.Scene.{world_of};
 ghost use Rattle.cell_compared.specs.Left.{left};
@@ -31,7 +32,8 @@ fn compare_linked(
     ground: &Ground,
     objects: &[Object],
 ) -> Result<(), AuditFail>
-    requires { All (IsFit objects.now) ground.now.cells.now }
+    requires whole { All (IsFit objects.now) ground.now.cells.now }
+    requires indexed { IsIndexed ground.now objects.now }
     ensures { Walks (left cursor.old) (linked_shown (world_in ground.now objects.now)) (left cursor.new) result }
 {
     compare_scene(alloc, cursor, &scene_of(ground, objects))
@@ -53,6 +55,7 @@ fn compare_before_end(
     objects: &mut Vec<Object>,
 ) -> Result<(), AuditFail>
     requires whole { All (IsFit objects.old.items) ground.now.cells.now }
+    requires indexed { IsIndexed ground.now objects.old.items }
     requires linked { (c : SomeCell) → In c ground.now.cells.now → unlinked_in (world_in ground.now objects.old.items) (seen_by ground.now objects.old.items c) ≡ None }
     ensures { Walks (left cursor.old) (lines_shown (relinked_in ground.now objects.old.items) (world_in ground.now objects.old.items)) (left cursor.new) result }
 {
@@ -69,6 +72,7 @@ pub fn compare(
     objects: &mut Vec<Object>,
 ) -> Result<(), AuditFail>
     requires whole { All (IsFit objects.old.items) ground.now.cells.now }
+    requires indexed { IsIndexed ground.now objects.old.items }
     requires linked { (c : SomeCell) → In c ground.now.cells.now → unlinked_in (world_in ground.now objects.old.items) (seen_by ground.now objects.old.items c) ≡ None }
     ensures { Walks (left cursor.old) (lines_shown (relinked_in ground.now objects.old.items) (world_in ground.now objects.old.items) ++ End ∷ []) (left cursor.new) result }
 {

@@ -4,11 +4,11 @@ ghost use Rattle.std.specs.Prelude.{◌≡◌, ◌+◌, ◌≤◌, ◌<◌, ◌^
 ghost use Rattle.cell_num.specs.Lists.{In, each_pair};
 ghost use Rattle.cell_object.specs.declared.object.Section.{Section as SomeSection};
 ghost use Rattle.cell_audit.specs.Linking.{unlinked_in};
-ghost use Rattle.cell_described.specs.Faults.{object_at};
 ghost use Rattle.cell_described.specs.declared.cell.DescribedCell.{DescribedCell as SomeCell};
 ghost use Rattle.cell_world.specs.DumpLines.{content_lines};
 ghost use Rattle.cell_world.specs.declared.line.DumpLine.TheVariants.{Content};
 ghost use Rattle.cell_relinked.specs.Fit.{IsFit, start_among};
+ghost use Rattle.cell_relinked.specs.Indexed.{IsIndexed};
 ghost use Rattle.cell_relinked.specs.Linking.{seen_by, world_in};
 ghost use Rattle.cell_compared.specs.Left.{left};
 ghost use Rattle.cell_compared.specs.Shown.{contents_shown, lines_at, relinked_in};
@@ -125,6 +125,7 @@ fn compare_contents_of(
     cell: &DescribedCell,
 ) -> Result<(), AuditFail>
     requires whole { All (IsFit objects.old.items) ground.now.cells.now }
+    requires indexed { IsIndexed ground.now objects.old.items }
     requires fit { IsFit objects.old.items cell.now }
     requires linked { unlinked_in (world_in ground.now objects.old.items) (seen_by ground.now objects.old.items cell.now) ≡ None }
     ensures same { objects.new.items ≡ objects.old.items }
@@ -143,6 +144,7 @@ pub fn compare_contents(
     objects: &mut Vec<Object>,
 ) -> Result<(), AuditFail>
     requires whole { All (IsFit objects.old.items) ground.now.cells.now }
+    requires indexed { IsIndexed ground.now objects.old.items }
     requires linked { (c : SomeCell) → In c ground.now.cells.now → unlinked_in (world_in ground.now objects.old.items) (seen_by ground.now objects.old.items c) ≡ None }
     ensures same { objects.new.items ≡ objects.old.items }
     ensures walks { Walks (left cursor.old) (flat_map (contents_shown (relinked_in ground.now objects.old.items)) (world_in ground.now objects.old.items).cells) (left cursor.new) result }

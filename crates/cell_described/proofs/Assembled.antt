@@ -1,9 +1,9 @@
 -- The cells that were found and placed are those of the described machine.
-use Rattle.std.proofs.Common.{◌≡◌, ℕ, ◌*◌, ◌<◌, false, List, [], ◌∷◌, map, length, Option, Some, None, Err, refl, sym, ap, subst, ◌∙◌}
-use Rattle.std.specs.Prelude.{All, filter_map, unwrap_or}
+use Rattle.std.proofs.Common.{◌≡◌, ℕ, ◌*◌, ◌<◌, true, false, List, [], ◌∷◌, map, length, Option, Some, None, Err, refl, sym, ap, subst, ◌∙◌}
+use Rattle.std.specs.Prelude.{All, filter_map, nat_lt, unwrap_or}
 use Rattle.cell_num.specs.Limits.{page_size}
-use Rattle.cell_num.specs.Lists.{In}
-use Rattle.cell_num.proofs.Elements.{All-In, In-All, In-map, get-In, map-In, map_same}
+use Rattle.cell_num.specs.Lists.{In, each_pair}
+use Rattle.cell_num.proofs.Elements.{All-In, In-All, In-map, get-In, map-In, map_same, pairs-map}
 use Rattle.cell_object.specs.declared.object.Object.{Object}
 use Rattle.cell_world.specs.Coherent.{IsLoadable}
 use Rattle.cell_world.specs.Gather.{Source}
@@ -124,6 +124,14 @@ module _ (sources : List Source) (file : List ℕ) (rows : List Row) (cells : Li
     from ds e d i = In-map described_of found d (subst (In d) e i)
 
     -- an object for each file
+    numbers_rise : (ds : List DescribedCell) → ds ≡ map described_of found → each_pair (λ x y. nat_lt x.id.0 y.id.0) ds ≡ true
+    numbers_rise ds e =
+        ap (each_pair (λ (x y : DescribedCell). nat_lt x.id.0 y.id.0)) e
+        ∙ pairs-map (λ (x y : DescribedCell). nat_lt x.id.0 y.id.0) described_of found
+        ∙ sym (pairs-map (λ (x y : WrittenCell). nat_lt x.cell y.cell) (λ (f : FoundCell). f.cell) found)
+        ∙ ap (each_pair (λ (x y : WrittenCell). nat_lt x.cell y.cell)) a.cells_are
+        ∙ w.rising
+
     objects_shared : (ds : List DescribedCell) → ds ≡ map described_of found → (c d : DescribedCell) → In c ds → In d ds → c.file ≡ d.file → c.object ≡ d.object
     objects_shared ds e c d i j same =
         let x = from ds e c i in
@@ -154,6 +162,7 @@ module _ (sources : List Source) (file : List ℕ) (rows : List Row) (cells : Li
           objects_there = subst (λ (os : List Object). All (λ c. c.object < length os) d.cells.items) (sym os) (objects_there d.cells.items e);
           loadable = subst (All IsLoadable) (sym os) a.loadable;
           stand = subst (λ (os : List Object). All (λ c. Stand (space_of (lines_of rows)) (object_at os c.object).sections c.places) d.cells.items) (sym os) (stand d.cells.items e fault);
+          rising = numbers_rise d.cells.items e;
           shared = objects_shared d.cells.items e;
           used = λ place lt. objects_used d.cells.items e place (subst (λ (xs : List Object). place < length xs) os lt);
         }

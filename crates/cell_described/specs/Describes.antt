@@ -1,8 +1,8 @@
 -- The cells that a dump describes, as the code has them.
 --     cell_seen file objects c             the cell of the machine that it is, where the dump stands in the file
 --     Describes sources file rows result   the cells of the described machine, or the first fault
-use Rattle.std.specs.Prelude.{◌≡◌, ◌<◌, ℕ, suc, List, Option, Some, None, Result, Ok, Err, All, filter_map, length, map, option_map, slice_range}
-use Rattle.cell_num.specs.Lists.{In}
+use Rattle.std.specs.Prelude.{◌≡◌, ◌<◌, ℕ, suc, nat_lt, true, List, Option, Some, None, Result, Ok, Err, All, filter_map, length, map, option_map, slice_range}
+use Rattle.cell_num.specs.Lists.{In, each_pair}
 use Rattle.cell_object.specs.declared.object.Object.{Object}
 use Rattle.cell_world.specs.Coherent.{IsLoadable}
 use Rattle.cell_world.specs.Gather.{Source}
@@ -45,6 +45,8 @@ pub record IsDescribed (sources : List Source) (file : List ℕ) (rows : List Ro
   pub loadable : All IsLoadable d.objects.items
   -- where their sections stand
   pub stand : All (λ c. Stand (space_of (lines_of rows)) (object_at d.objects.items c.object).sections c.places) d.cells.items
+  -- their numbers rise
+  pub rising : each_pair (λ a b. nat_lt a.id.0 b.id.0) d.cells.items ≡ true
   -- an object for each file that a cell names, and no other
   pub shared : (a b : DescribedCell) → In a d.cells.items → In b d.cells.items → a.file ≡ b.file → a.object ≡ b.object
   pub used : (place : ℕ) → place < length d.objects.items → (c : DescribedCell) × In c d.cells.items × (c.object ≡ place)

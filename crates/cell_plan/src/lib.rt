@@ -1,5 +1,5 @@
 //! What a swap changes in cells that stay, and which task stands inside a part of it. The whole plan of
-//! a swap, new cells and routines included, is made in `cell_swap`.
+//! a swap, new cells and routines included, is made in `cell_change`.
 #![tactic(auto)]
 
 mod changed;

@@ -1,10 +1,10 @@
 pub mod Gotten
 mod InsideTargets
 mod Chaining
-pub mod Naming
 mod Providing
 mod Strong
 mod Strongly
+pub mod Provided
 mod Tabled
 pub mod Earlier
 pub mod Seeing

@@ -1,89 +1,90 @@
--- The first cell that has a name.
-use Rattle.std.proofs.Common.{◌≡◌, refl, sym, ◌∙◌, ap, ℕ, ◌+◌, ◌<◌, ◌≤◌, Bool, true, false, true≢false, cond, ◌&&◌, List, ◌∷◌, length, get_or, drop, map}
-use Rattle.std.specs.Prelude.{Option, Some, None, filter, filter_map, is_some, option_map}
-use Rattle.std.specs.List.{cons_option}
-use Rattle.std.proofs.lemmas.List.{drop_more, drop_all}
-use Rattle.cell_num.specs.Lists.{first, holds, or_else}
+-- Who provides a name, by what is seen of cells.
+use Rattle.std.proofs.Common.{◌≡◌, refl, sym, ◌∙◌, ap, subst, ℕ, ◌<◌, List, length, map}
+use Rattle.std.specs.Prelude.{Option, Some, None, All, option_map}
+use Rattle.cell_num.specs.Lists.{or_else}
+use Rattle.cell_num.proofs.Elements.{All-In, In-All}
 use Rattle.cell_audit.specs.Described.{standing_of}
-use Rattle.cell_world.specs.Names.{Provider, chain, first_provider, strong_provider, symbol_named}
-use Rattle.cell_world.specs.World.{Cell, World}
-use Rattle.cell_world.specs.declared.state.Standing.TheVariants.{Attached}
-use Rattle.cell_relinked.specs.declared.provider.Provider.{Provider as FoundProvider}
-use Rattle.cell_relinked.specs.Asked.{first_in, provider_as, stands_as}
+use Rattle.cell_described.specs.Describes.{cell_seen}
+use Rattle.cell_described.specs.declared.cell.DescribedCell.{DescribedCell}
+use Rattle.cell_object.specs.declared.object.Object.{Object}
+use Rattle.cell_world.specs.Names.{Provider, chain, strong_provider}
+use Rattle.cell_bearers.specs.Asked.{first_in, provider_at}
+use Rattle.cell_bearers.specs.Bearers.{bearers_of}
+use Rattle.cell_bearers.specs.declared.bearer.Bearer.{Bearer}
+use Rattle.cell_bearers.specs.declared.first.FirstBearer.{FirstBearer}
+use Rattle.cell_bearers.specs.declared.sight.Sight.{Sight}
+use Rattle.cell_relinked.specs.Asked.{AreBearers, AreSights, IsOfScene, IsOwn, own_first}
+use Rattle.cell_relinked.specs.Fit.{IsFit}
+use Rattle.cell_relinked.specs.Scene.{seen_in, world_of}
+use Rattle.cell_relinked.specs.declared.provider.Sights.{Sights}
+use Rattle.cell_relinked.specs.declared.scene.Scene.{Scene}
 
-module _ {X : Type 0} (seen : X → Cell) (group : Option ℕ) (spaces : List ℕ) (name : List ℕ) where
-  abbrev found : Cell → Option Provider
-  found c = option_map (λ symbol. record { cell = c.id.0; symbol = symbol }) (symbol_named c name)
+module _ (s : Scene) where
+  pub objects_there : All (λ (c : DescribedCell). c.object < length s.objects.now) s.cells.now
+  objects_there = In-All (λ (c : DescribedCell). c.object < length s.objects.now) s.cells.now (λ c i. (All-In (IsFit s.objects.now) s.cells.now s.fit c i).there)
 
-  abbrev pub is_asked : Cell → Bool
-  is_asked c = stands_as group c.standing && holds spaces c.ns
+  -- what is found in the sight is found by a plain look at all cells
+  pub found_in : (sight : Sight) → IsOfScene s sight → (r : Option FirstBearer) (bearers : List Bearer) (name : List ℕ) → AreBearers s name bearers
+      → ((file : List ℕ) (objects : List Object) (name : List ℕ) → bearers ≡ bearers_of file objects sight.cells.now name → All (λ c. c.object < length objects) sight.cells.now
+      → option_map (provider_at sight.cells.now) r ≡ first_in (map (cell_seen file objects) sight.cells.now) sight.asked sight.spaces.now name)
+      → option_map (provider_at s.cells.now) r ≡ first_in (world_of s).cells sight.asked sight.spaces.now name
+  found_in sight of r bearers name are plain =
+      subst (λ (cells : List DescribedCell). option_map (provider_at cells) r ≡ first_in (map (seen_in s) cells) sight.asked sight.spaces.now name) of.cells_are
+      (plain s.file.now s.objects.now name
+      (are ∙ ap (λ (cells : List DescribedCell). bearers_of s.file.now s.objects.now cells name) (sym of.cells_are))
+      (subst (All (λ (c : DescribedCell). c.object < length s.objects.now)) (sym of.cells_are) objects_there))
 
-  abbrev pub first_seen : List X → Option Provider
-  first_seen xs = first_in (map seen xs) group spaces name
-
-  one_more : (c : Cell) (cells : List Cell) → first_in (c ∷ cells) group spaces name ≡ cond (is_asked c) (or_else (found c) (first_in cells group spaces name)) (first_in cells group spaces name)
-  one_more c cells = go (stands_as group c.standing)
+  -- ---- cells of the swap
+  pub own_of : (group : Option ℕ) (spaces : List ℕ) (own : Option Sight) (sight : Sight) → IsOwn s group spaces own → own ≡ Some sight → IsOfScene s sight
+  own_of None spaces None sight is e = absurd (none_some sight e)
     where
-      rest : List Cell
-      rest = filter (λ c. stands_as group c.standing) cells
+      none_some : (x : Sight) → None ≡ Some x → ⊥
+      none_some x h = cc
+  own_of None spaces (Some x) sight is e = absurd is
+  own_of (Some k) spaces None sight is e = absurd is
+  own_of (Some k) spaces (Some x) sight is e = subst (IsOfScene s) (let same : x ≡ sight = cc in same) is.scene
 
-      one : (o : Option Provider) → first (cons_option o (filter_map found (filter (λ c. holds spaces c.ns) (filter (λ c. stands_as group c.standing) cells)))) ≡ or_else o (first_in cells group spaces name)
-      one None = refl
-      one (Some p) = refl
+  pub own_is : (group : Option ℕ) (spaces : List ℕ) (own : Option Sight) (sight : Sight) → IsOwn s group spaces own → own ≡ Some sight → (name : List ℕ) (p : Option Provider)
+      → p ≡ first_in (world_of s).cells sight.asked sight.spaces.now name → p ≡ own_first (world_of s).cells group spaces name
+  own_is None spaces None sight is e name p f = absurd (none_some sight e)
+    where
+      none_some : (x : Sight) → None ≡ Some x → ⊥
+      none_some x h = cc
+  own_is None spaces (Some x) sight is e name p f = absurd is
+  own_is (Some k) spaces None sight is e name p f = absurd is
+  own_is (Some k) spaces (Some x) sight is e name p f =
+      let same : sight ≡ x = cc in
+      f ∙ (ap (λ (y : Sight). first_in (world_of s).cells y.asked y.spaces.now name) same
+      ∙ (ap (λ (g : Option ℕ). first_in (world_of s).cells g x.spaces.now name) is.asked_is ∙ ap (λ (ss : List ℕ). first_in (world_of s).cells (Some k) ss name) is.spaces_are))
 
-      inner : (b : Bool) → first (filter_map found (cond b (c ∷ filter (λ c. holds spaces c.ns) (filter (λ c. stands_as group c.standing) cells)) (filter (λ c. holds spaces c.ns) (filter (λ c. stands_as group c.standing) cells))))
-          ≡ cond b (or_else (found c) (first_in cells group spaces name)) (first_in cells group spaces name)
-      inner true = one (found c)
-      inner false = refl
+  pub own_none : (group : Option ℕ) (spaces : List ℕ) (own : Option Sight) → IsOwn s group spaces own → own ≡ None → (name : List ℕ) → None ≡ own_first (world_of s).cells group spaces name
+  own_none None spaces own is e name = refl
+  own_none (Some k) spaces None is e name = absurd is
+  own_none (Some k) spaces (Some x) is e name = absurd (some_none x e)
+    where
+      some_none : (x : Sight) → Some x ≡ None → ⊥
+      some_none x h = cc
 
-      go : (b : Bool) → first_provider spaces name (cond b (c ∷ filter (λ c. stands_as group c.standing) cells) (filter (λ c. stands_as group c.standing) cells))
-          ≡ cond (b && holds spaces c.ns) (or_else (found c) (first_in cells group spaces name)) (first_in cells group spaces name)
-      go true = inner (holds spaces c.ns)
-      go false = refl
+  -- ---- then attached ones
+  strong_is : (group : Option ℕ) (ns : ℕ) (name : List ℕ)
+      → or_else (own_first (world_of s).cells group (chain s.namespaces.now ns) name) (first_in (world_of s).cells None (chain s.namespaces.now ns) name) ≡ strong_provider (world_of s) (standing_of group) ns name
+  strong_is None ns name = refl
+  strong_is (Some k) ns name = refl
 
-  module _ (xs : List X) (i : ℕ) (d : X) (below : i < length xs) where
-    at : first_seen (drop i xs) ≡ cond (is_asked (seen (get_or xs i d))) (or_else (found (seen (get_or xs i d))) (first_seen (drop (i + 1) xs))) (first_seen (drop (i + 1) xs))
-    at = ap first_seen (drop_more xs i d below) ∙ one_more (seen (get_or xs i d)) (map seen (drop (i + 1) xs))
+  module _ (sights : Sights) (are : AreSights s sights) (ns : ℕ) (name : List ℕ) (spaces : sights.spaces.now ≡ chain s.namespaces.now ns) (own : Option FirstBearer)
+      (first : option_map (provider_at s.cells.now) own ≡ own_first (world_of s).cells sights.group sights.spaces.now name) where
+    own_on : option_map (provider_at s.cells.now) own ≡ own_first (world_of s).cells sights.group (chain s.namespaces.now ns) name
+    own_on = first ∙ ap (λ (ss : List ℕ). own_first (world_of s).cells sights.group ss name) spaces
 
-    pub asked_here : is_asked (seen (get_or xs i d)) ≡ true → (symbol : ℕ) → symbol_named (seen (get_or xs i d)) name ≡ Some symbol
-        → first_seen (drop i xs) ≡ Some (record { cell = (seen (get_or xs i d)).id.0; symbol = symbol })
-    asked_here e symbol n =
-        at ∙ ap (λ (b : Bool). cond b (or_else (found (seen (get_or xs i d))) (first_seen (drop (i + 1) xs))) (first_seen (drop (i + 1) xs))) e
-        ∙ ap (λ (o : Option ℕ). or_else (option_map (λ symbol. let p : Provider = record { cell = (seen (get_or xs i d)).id.0; symbol = symbol } in p) o) (first_seen (drop (i + 1) xs))) n
+    pub strong_own : (b : FirstBearer) → own ≡ Some b → Some (provider_at s.cells.now b) ≡ strong_provider (world_of s) (standing_of sights.group) ns name
+    strong_own b e =
+        ap (λ (o : Option Provider). or_else o (first_in (world_of s).cells None (chain s.namespaces.now ns) name)) (sym (ap (option_map (provider_at s.cells.now)) e) ∙ own_on)
+        ∙ strong_is sights.group ns name
 
-    pub unnamed_here : symbol_named (seen (get_or xs i d)) name ≡ None → first_seen (drop i xs) ≡ first_seen (drop (i + 1) xs)
-    unnamed_here n =
-        at ∙ ap (λ (o : Option ℕ). cond (is_asked (seen (get_or xs i d))) (or_else (option_map (λ symbol. let p : Provider = record { cell = (seen (get_or xs i d)).id.0; symbol = symbol } in p) o) (first_seen (drop (i + 1) xs))) (first_seen (drop (i + 1) xs))) n
-        ∙ same (is_asked (seen (get_or xs i d)))
-      where
-        same : (b : Bool) → cond b (first_seen (drop (i + 1) xs)) (first_seen (drop (i + 1) xs)) ≡ first_seen (drop (i + 1) xs)
-        same true = refl
-        same false = refl
-
-    pub unasked_here : is_asked (seen (get_or xs i d)) ≡ false → first_seen (drop i xs) ≡ first_seen (drop (i + 1) xs)
-    unasked_here e =
-        at ∙ ap (λ (b : Bool). cond b (or_else (found (seen (get_or xs i d))) (first_seen (drop (i + 1) xs))) (first_seen (drop (i + 1) xs))) e
-
-  pub none_asked : (xs : List X) (i : ℕ) → length xs ≤ i → first_seen (drop i xs) ≡ None
-  none_asked xs i le = ap first_seen (drop_all i xs le)
-
--- a cell that was put aside by the same swap comes before attached ones
-pub provider_first : (w : World) (group : Option ℕ) (spaces name : List ℕ) (o : Option FoundProvider) (q : FoundProvider) → is_some group ≡ true → o ≡ Some q
-    → option_map provider_as o ≡ first_in w.cells group spaces name → (ns : ℕ) → spaces ≡ chain w.namespaces ns → Some (provider_as q) ≡ strong_provider w (standing_of group) ns name
-provider_first w None spaces name o q some was e ns same = absurd (true≢false (sym some))
-provider_first w (Some k) spaces name o q some was e ns same =
-    ap (λ (r : Option Provider). or_else r (strong_provider w Attached ns name)) (sym (ap (option_map provider_as) was) ∙ (e ∙ ap (λ (ss : List ℕ). first_in w.cells (Some k) ss name) same))
-
--- and attached ones where no such cell has the name
-pub provider_rest : (w : World) (group : Option ℕ) (spaces name : List ℕ) (o : Option FoundProvider) (r : Option Provider) → o ≡ None → option_map provider_as o ≡ first_in w.cells group spaces name
-    → r ≡ first_in w.cells None spaces name → (ns : ℕ) → spaces ≡ chain w.namespaces ns → r ≡ strong_provider w (standing_of group) ns name
-provider_rest w None spaces name o r was e f ns same = f ∙ ap (λ (ss : List ℕ). first_in w.cells None ss name) same
-provider_rest w (Some k) spaces name o r was e f ns same =
-    f
-    ∙ (ap (λ (ss : List ℕ). first_in w.cells None ss name) same
-    ∙ ap (λ (p : Option Provider). or_else p (strong_provider w Attached ns name)) (sym (ap (option_map provider_as) was) ∙ (e ∙ ap (λ (ss : List ℕ). first_in w.cells (Some k) ss name) same)))
-
-pub provider_attached : (w : World) (group : Option ℕ) (spaces name : List ℕ) (r : Option Provider) → is_some group ≡ false → r ≡ first_in w.cells None spaces name → (ns : ℕ) → spaces ≡ chain w.namespaces ns
-    → r ≡ strong_provider w (standing_of group) ns name
-provider_attached w None spaces name r none f ns same = f ∙ ap (λ (ss : List ℕ). first_in w.cells None ss name) same
-provider_attached w (Some k) spaces name r none f ns same = absurd (true≢false none)
+    pub strong_attached : own ≡ None → (p : Option Provider) → p ≡ first_in (world_of s).cells sights.attached.asked sights.attached.spaces.now name → p ≡ strong_provider (world_of s) (standing_of sights.group) ns name
+    strong_attached e p f =
+        f
+        ∙ (ap (λ (g : Option ℕ). first_in (world_of s).cells g sights.attached.spaces.now name) are.attached.asked_is
+        ∙ (ap (λ (ss : List ℕ). first_in (world_of s).cells None ss name) (are.attached.spaces_are ∙ spaces)
+        ∙ (ap (λ (o : Option Provider). or_else o (first_in (world_of s).cells None (chain s.namespaces.now ns) name)) (sym (ap (option_map (provider_at s.cells.now)) e) ∙ own_on)
+        ∙ strong_is sights.group ns name)))

@@ -1,5 +1,5 @@
 -- What a symbol is that isn't WEAK.
-use Rattle.std.proofs.Common.{◌≡◌, refl, sym, ap, Bool, true, false, cond, List, ℕ}
+use Rattle.std.proofs.Common.{◌≡◌, refl, sym, ap, Bool, true, false, cond}
 use Rattle.std.specs.Prelude.{Option, Some, None, option_and_then}
 use Rattle.cell_num.specs.Lists.{In, or_else}
 use Rattle.cell_object.specs.declared.object.Bind.{Bind}

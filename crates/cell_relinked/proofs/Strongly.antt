@@ -1,6 +1,6 @@
 -- No cell has a WEAK symbol, so a strong holder provides each name, and a symbol is its own where its object defines it.
 use Rattle.std.proofs.Common.{◌≡◌, sym, ◌∙◌, subst, ℕ, List, true, false}
-use Rattle.std.specs.Prelude.{Option, None, option_and_then, option_map}
+use Rattle.std.specs.Prelude.{Option, None, option_and_then}
 use Rattle.cell_num.specs.Lists.{In}
 use Rattle.cell_num.proofs.Elements.{All-In, In-map}
 use Rattle.cell_object.specs.Parts.{has_no_weak, is_global, is_undefined}
@@ -10,13 +10,11 @@ use Rattle.cell_relinked.proofs.Strong
 use Rattle.cell_audit.specs.Described.{standing_of}
 use Rattle.cell_described.specs.Faults.{object_at}
 use Rattle.cell_described.specs.declared.cell.DescribedCell.{DescribedCell}
-use Rattle.cell_world.specs.Names.{provider_for, provider_of, strong_provider}
+use Rattle.cell_world.specs.Names.{Provider, provider_for, provider_of, strong_provider}
 use Rattle.cell_world.specs.Target.{own_target, provided_target, symbol_target}
 use Rattle.cell_world.specs.World.{Cell, World}
-use Rattle.cell_relinked.specs.Asked.{provider_as}
 use Rattle.cell_relinked.specs.Fit.{IsFit, placed_in}
 use Rattle.cell_relinked.specs.Scene.{seen_in, world_of}
-use Rattle.cell_relinked.specs.declared.provider.Provider.{Provider as FoundProvider}
 use Rattle.cell_relinked.specs.declared.scene.Scene.{Scene}
 
 module _ (s : Scene) where
@@ -26,8 +24,8 @@ module _ (s : Scene) where
       subst (λ (d : Cell). has_no_weak d.object ≡ true) (sym from.2) (All-In (IsFit s.objects.now) s.cells.now s.fit from.0 from.1).loadable.plain
 
   -- so the strong holder is the provider
-  pub provider_is : (group : Option ℕ) (ns : ℕ) (name : List ℕ) (o : Option FoundProvider) → option_map provider_as o ≡ strong_provider (world_of s) (standing_of group) ns name
-      → option_map provider_as o ≡ provider_for (world_of s) (standing_of group) ns name
+  pub provider_is : (group : Option ℕ) (ns : ℕ) (name : List ℕ) (o : Option Provider) → o ≡ strong_provider (world_of s) (standing_of group) ns name
+      → o ≡ provider_for (world_of s) (standing_of group) ns name
   provider_is group ns name o e = e ∙ sym (strong_alone (world_of s) no_weak (standing_of group) ns name)
 
   module _ (c : DescribedCell) (fit : IsFit s.objects.now c) (x : Symbol) (there : In x (object_at s.objects.now c.object).symbols) where

@@ -1,18 +1,49 @@
--- Who has a name.
---     stands_as group s        the standing is that of a cell that was put aside by that swap, or else of an attached one
---     first_in w group ns name     the first cell of that standing that stands in the namespace's chain and has the name
---     provider_as p            the provider, whose symbol is counted from 0 there
-use Rattle.std.specs.Prelude.{ℕ, suc, Bool, List, Option, Some, None, filter}
-use Rattle.cell_world.specs.Names.{Provider, first_provider}
-use Rattle.cell_world.specs.World.{Cell, Standing, is_attached, is_of_group}
-use Rattle.cell_relinked.specs.declared.provider.Provider.{Provider as FoundProvider}
+-- What a cell sees that asks for names.
+--     AreBearers scene name bearers         these bear the name
+--     IsOfScene scene sight                 the sight is of the scene's cells
+--     IsOf scene asked spaces sight         and of those that are of that swap, or else attached, and stand in the namespaces
+--     AreSights scene sights                they are of their swap, if there is one, and of attached cells
+--     IsAsking scene c sights               they are what the cell sees
+--     own_first cells group spaces name     the first cell of that swap that stands in the namespaces and has the name
+use Rattle.std.specs.Prelude.{◌≡◌, ℕ, List, Option, Some, None}
+use Rattle.cell_world.specs.Names.{Provider, chain}
+use Rattle.cell_world.specs.World.{Cell}
+use Rattle.cell_described.specs.declared.cell.DescribedCell.{DescribedCell}
+use Rattle.cell_bearers.specs.Asked.{first_in}
+use Rattle.cell_bearers.specs.Bearers.{bearers_of}
+use Rattle.cell_bearers.specs.Sight.{IsSight}
+use Rattle.cell_bearers.specs.declared.bearer.Bearer.{Bearer}
+use Rattle.cell_bearers.specs.declared.sight.Sight.{Sight}
+use Rattle.cell_relinked.specs.declared.provider.Sights.{Sights}
+use Rattle.cell_relinked.specs.declared.scene.Scene.{Scene}
 
-abbrev pub stands_as : Option ℕ → Standing → Bool
-stands_as None s = is_attached s
-stands_as (Some k) s = is_of_group k s
+abbrev pub AreBearers : Scene → List ℕ → List Bearer → Type 0
+AreBearers s name bearers = bearers ≡ bearers_of s.file.now s.objects.now s.cells.now name
 
-abbrev pub first_in : List Cell → Option ℕ → List ℕ → List ℕ → Option Provider
-first_in cells group spaces name = first_provider spaces name (filter (λ c. stands_as group c.standing) cells)
+pub record IsOfScene (s : Scene) (sight : Sight) : Type 0 where
+  pub firsts : IsSight sight
+  pub cells_are : sight.cells.now ≡ s.cells.now
 
-abbrev pub provider_as : FoundProvider → Provider
-provider_as p = record { cell = p.cell.0; symbol = suc p.place }
+pub record IsOf (s : Scene) (asked : Option ℕ) (spaces : List ℕ) (sight : Sight) : Type 0 where
+  pub scene : IsOfScene s sight
+  pub asked_is : sight.asked ≡ asked
+  pub spaces_are : sight.spaces.now ≡ spaces
+
+abbrev pub IsOwn : Scene → Option ℕ → List ℕ → Option Sight → Type 0
+IsOwn s None spaces None = Unit {0}
+IsOwn s None spaces (Some own) = ⊥
+IsOwn s (Some k) spaces None = ⊥
+IsOwn s (Some k) spaces (Some own) = IsOf s (Some k) spaces own
+
+pub record AreSights (s : Scene) (sights : Sights) : Type 0 where
+  pub own : IsOwn s sights.group sights.spaces.now sights.own
+  pub attached : IsOf s None sights.spaces.now sights.attached
+
+pub record IsAsking (s : Scene) (c : DescribedCell) (sights : Sights) : Type 0 where
+  pub are : AreSights s sights
+  pub group : sights.group ≡ c.group
+  pub spaces : sights.spaces.now ≡ chain s.namespaces.now c.ns
+
+abbrev pub own_first : List Cell → Option ℕ → List ℕ → List ℕ → Option Provider
+own_first cells None spaces name = None
+own_first cells (Some k) spaces name = first_in cells (Some k) spaces name

@@ -4,4 +4,5 @@ pub mod Asked
 pub mod Symbols
 pub mod Entries
 pub mod Linking
+pub mod Indexed
 pub mod Contents

@@ -1,7 +1,6 @@
 //! The way from a namespace up to `k`.
 
 ghost use Rattle.std.specs.Prelude.{◌≡◌, IfOk};
-ghost use Rattle.cell_num.specs.Lists.{holds};
 ghost use Rattle.cell_world.specs.Names.{chain};
 
 use cell_world::Namespace;
@@ -24,11 +23,4 @@ pub fn chain_of(alloc: Global, namespaces: &[Namespace], ns: u16) -> Result<Vec<
         next = space.parent;
     }
     Ok(spaces)
-}
-
-/// Whether the namespace is one of these.
-pub fn holds(spaces: &[u16], ns: u16) -> bool
-    ensures { result ≡ holds spaces.now ns }
-{
-    spaces.iter().any(|space| *space == ns)
 }

@@ -1,6 +1,6 @@
 //! What the sections of a cell hold once it is linked anew.
 
-ghost use Rattle.std.specs.Prelude.{◌≡◌, ◌+◌, ◌<◌, ◌^◌, All, IfOk, IsTrue, None, OnOk, length, map, nat_lt};
+ghost use Rattle.std.specs.Prelude.{◌≡◌, ◌+◌, ◌<◌, ◌^◌, All, IfOk, IsTrue, None, length, map, nat_lt};
 ghost use Rattle.cell_num.specs.Lists.{In, each_pair};
 ghost use Rattle.cell_object.specs.declared.object.Section.{Section as SomeSection};
 ghost use Rattle.cell_audit.specs.Linking.{unlinked_in};
@@ -9,6 +9,7 @@ ghost use Rattle.cell_link.specs.Linked.{field_values, first_unfit};
 ghost use Rattle.cell_world.specs.Field.{fields_of};
 ghost use Rattle.cell_relinked.specs.Contents.{first_bytes, relinked};
 ghost use Rattle.cell_relinked.specs.Fit.{IsFit, placed_in, start_among};
+ghost use Rattle.cell_relinked.specs.Indexed.{IsIndexed};
 ghost use Rattle.cell_relinked.specs.Linking.{seen_by, world_in};
 
 use crate::firsts::first_entries;
@@ -78,6 +79,7 @@ pub fn relinked_contents(
     cell: &DescribedCell,
 ) -> Result<Vec<Listed<u8>>, AllocError>
     requires whole { All (IsFit objects.old.items) ground.now.cells.now }
+    requires indexed { IsIndexed ground.now objects.old.items }
     requires fit { IsFit objects.old.items cell.now }
     requires linked { unlinked_in (world_in ground.now objects.old.items) (seen_by ground.now objects.old.items cell.now) ≡ None }
     ensures same { objects.new.items ≡ objects.old.items }

@@ -1,6 +1,6 @@
 //! The fields of a described cell.
 
-ghost use Rattle.std.specs.Prelude.{◌≡◌, ◌<◌, ◌^◌, IfOk, length};
+ghost use Rattle.std.specs.Prelude.{◌≡◌, ◌<◌, IfOk, length};
 ghost use Rattle.cell_described.specs.Faults.{object_at};
 ghost use Rattle.cell_link.specs.Linked.{IsLinked};
 ghost use Rattle.cell_relinked.specs.Fit.{IsFit, placed_in};

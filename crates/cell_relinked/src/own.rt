@@ -1,18 +1,17 @@
 //! The targets of symbols where their objects define them.
 
-ghost use Rattle.std.specs.Prelude.{◌≡◌, ◌<◌, IfSome, length, option_and_then, option_map, suc};
+ghost use Rattle.std.specs.Prelude.{◌≡◌, ◌<◌, length, option_and_then, suc};
 ghost use Rattle.cell_num.specs.Lists.{In};
 ghost use Rattle.cell_described.specs.Faults.{object_at};
 ghost use Rattle.cell_object.specs.Parts.{symbol_at as symbol_with};
 ghost use Rattle.cell_world.specs.Target.{own_target as own, provided_target as provided_at};
-ghost use Rattle.cell_world.specs.World.{cell_of};
-ghost use Rattle.cell_relinked.specs.Asked.{provider_as};
+ghost use Rattle.cell_bearers.specs.Asked.{provider_at};
 ghost use Rattle.cell_relinked.specs.Fit.{IsFit, placed_in};
-ghost use Rattle.cell_relinked.specs.Scene.{seen_in, world_of};
+ghost use Rattle.cell_relinked.specs.Scene.{world_of};
 
 use crate::places::start_in;
-use crate::provider::Provider;
 use crate::scene::Scene;
+use cell_bearers::FirstBearer;
 use cell_described::DescribedCell;
 use cell_num::SecKey;
 use cell_object::{Home, Symbol};
@@ -53,24 +52,11 @@ impl<'a> Scene<'a> {
         self.own_target(cell, symbol)
     }
 
-    /// The cell of that number.
-    fn cell_numbered(&self, number: u32) -> Option<&'a DescribedCell>
-        ensures cell { option_map (λ c. seen_in self.now c.now) result ≡ cell_of (world_of self.now) number }
-        ensures fit { IfSome result (λ c. IsFit self.now.objects.now c.now) }
-    {
-        for index in 0..self.cells.len() {
-            if self.cells[index].id.0 == number {
-                return Some(&self.cells[index]);
-            }
-        }
-        None
-    }
-
     /// The target that a provider's symbol is.
-    pub fn provided_target(&self, provider: &Provider) -> Option<Target>
-        ensures { result ≡ provided_at (world_of self.now) (provider_as provider.now) }
+    pub fn provided_target(&self, provider: &FirstBearer) -> Option<Target>
+        requires { provider.now.cell < length self.now.cells.now }
+        ensures { result ≡ provided_at (world_of self.now) (provider_at self.now.cells.now provider.now) }
     {
-        let cell = self.cell_numbered(provider.cell.0)?;
-        self.target_in(cell, provider.place)
+        self.target_in(&self.cells[provider.cell], provider.symbol)
     }
 }

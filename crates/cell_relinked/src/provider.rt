@@ -1,62 +1,98 @@
 //! Who provides a name.
 
-ghost use Rattle.std.specs.Prelude.{◌≡◌, ◌<◌, ℕ, length, option_map};
+ghost use Rattle.std.specs.Prelude.{◌≡◌, ◌<◌, ℕ, List, IfOk, IfSome, length, option_map};
 ghost use Rattle.cell_audit.specs.Described.{standing_of};
-ghost use Rattle.cell_world.specs.Names.{chain, first_provider, provider_for};
-ghost use Rattle.cell_relinked.specs.Asked.{first_in, provider_as, stands_as};
+ghost use Rattle.cell_bearers.specs.Asked.{first_in, provider_at};
+ghost use Rattle.cell_world.specs.Names.{chain, provider_for};
+ghost use Rattle.cell_relinked.specs.Asked.{AreBearers, AreSights, IsOf, IsOfScene, own_first};
 ghost use Rattle.cell_relinked.specs.Scene.{world_of};
 
-use crate::chain::holds;
 use crate::scene::Scene;
-use cell_num::CellId;
+use cell_bearers::{Bearer, FirstBearer, Sight, sight_of};
+use std::alloc::{AllocError, Global};
 
-/// A cell that has a name, and the place of the symbol there, from 0.
-#[derive(Clone, Copy, Debug, PartialEq, Eq)]
-pub struct Provider {
-    pub cell: CellId,
-    pub place: u64,
-}
-
-/// Whether a cell was put aside by the swap that is asked for, or else is attached.
-fn stands_as(asked: Option<u64>, group: Option<u64>) -> bool
-    ensures { result ≡ stands_as asked (standing_of group) }
-{
-    match (asked, group) {
-        (None, None) => true,
-        (Some(asked), Some(group)) => group == asked,
-        _ => false,
-    }
+/// What a cell sees that asks for names: of the cells in these namespaces those that its swap put aside, if one put it aside,
+/// and the attached ones.
+#[derive(Drop)]
+pub struct Sights<'s> {
+    pub group: Option<u64>,
+    pub spaces: &'s [u16],
+    pub own: Option<Sight<'s>>,
+    pub attached: Sight<'s>,
 }
 
 impl<'a> Scene<'a> {
-    /// The first cell that has the name, among those that stand in the namespaces and were put aside by
-    /// that swap, or else are attached.
-    fn first_in(&self, group: Option<u64>, spaces: &[u16], name: &[u8]) -> Option<Provider>
-        ensures { option_map provider_as result ≡ first_in (world_of self.now).cells group spaces.now name.now }
+    fn sight<'s>(
+        &'s self,
+        alloc: Global,
+        asked: Option<u64>,
+        spaces: &'s [u16],
+    ) -> Result<Sight<'s>, AllocError>
+        ensures { IfOk result (IsOf self.now asked spaces.now) }
     {
-        for index in 0..self.cells.len() {
-            let cell = &self.cells[index];
-            if !stands_as(group, cell.group) || !holds(spaces, cell.ns) {
-                continue;
-            }
-            if let Some(place) = self.symbol_named(cell, name) {
-                let cell = cell.id;
-                return Some(Provider { cell, place });
-            }
-        }
-        None
+        sight_of(alloc, self.objects.len(), self.cells, asked, spaces)
     }
 
-    /// The provider of the name for a cell that was put aside by that swap, or else for an attached one.
-    /// `spaces` is the chain of the cell's namespace.
-    pub fn provider_for(&self, group: Option<u64>, spaces: &[u16], name: &[u8]) -> Option<Provider>
-        ensures { (ns : ℕ) → spaces.now ≡ chain self.now.namespaces.now ns → option_map provider_as result ≡ provider_for (world_of self.now) (standing_of group) ns name.now }
+    /// What a cell sees that was put aside by that swap, or else an attached one. `spaces` is the chain of its namespace.
+    pub fn sights<'s>(
+        &'s self,
+        alloc: Global,
+        group: Option<u64>,
+        spaces: &'s [u16],
+    ) -> Result<Sights<'s>, AllocError>
+        ensures group { IfOk result (λ sights. sights.group ≡ group) }
+        ensures spaces { IfOk result (λ sights. sights.spaces.now ≡ spaces.now) }
+        ensures are { IfOk result (AreSights self.now) }
     {
-        if group.is_some() {
-            if let Some(provider) = self.first_in(group, spaces, name) {
-                return Some(provider);
-            }
+        let attached = self.sight(alloc, None, spaces)?;
+        if group.is_none() {
+            return Ok(Sights {
+                group,
+                spaces,
+                own: None,
+                attached,
+            });
         }
-        self.first_in(None, spaces, name)
+        let own = self.sight(alloc, group, spaces)?;
+        Ok(Sights {
+            group,
+            spaces,
+            own: Some(own),
+            attached,
+        })
+    }
+
+    /// The first cell that is seen and has the name that these bear.
+    fn first_in(&self, sight: &Sight, bearers: &[Bearer]) -> Option<FirstBearer>
+        requires { IsOfScene self.now sight.now }
+        ensures there { IfSome result (λ first. first.cell < length self.now.cells.now) }
+        ensures first { (name : List ℕ) → AreBearers self.now name bearers.now → option_map (provider_at self.now.cells.now) result ≡ first_in (world_of self.now).cells sight.now.asked sight.now.spaces.now name }
+    {
+        sight.first_bearer(bearers)
+    }
+
+    /// The same of those that the swap put aside.
+    fn own_provider(&self, sights: &Sights, bearers: &[Bearer]) -> Option<FirstBearer>
+        requires { AreSights self.now sights.now }
+        ensures there { IfSome result (λ first. first.cell < length self.now.cells.now) }
+        ensures first { (name : List ℕ) → AreBearers self.now name bearers.now → option_map (provider_at self.now.cells.now) result ≡ own_first (world_of self.now).cells sights.now.group sights.now.spaces.now name }
+    {
+        match &sights.own {
+            Some(own) => self.first_in(own, bearers),
+            None => None,
+        }
+    }
+
+    /// The provider of the name that these bear.
+    pub fn provider(&self, sights: &Sights, bearers: &[Bearer]) -> Option<FirstBearer>
+        requires { AreSights self.now sights.now }
+        ensures there { IfSome result (λ first. first.cell < length self.now.cells.now) }
+        ensures provider { (ns : ℕ) (name : List ℕ) → sights.now.spaces.now ≡ chain self.now.namespaces.now ns → AreBearers self.now name bearers.now →
+            option_map (provider_at self.now.cells.now) result ≡ provider_for (world_of self.now) (standing_of sights.now.group) ns name }
+    {
+        match self.own_provider(sights, bearers) {
+            Some(first) => Some(first),
+            None => self.first_in(&sights.attached, bearers),
+        }
     }
 }

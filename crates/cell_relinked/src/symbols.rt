@@ -1,18 +1,20 @@
 //! What the symbols of a cell are.
 
-ghost use Rattle.std.specs.Prelude.{◌≡◌, IfOk, is_none, option_and_then};
-ghost use Rattle.cell_num.specs.Lists.{In};
+ghost use Rattle.std.specs.Prelude.{◌≡◌, ℕ, List, IfOk, Some, is_none, option_and_then, slice_get};
 ghost use Rattle.cell_audit.specs.Linking.{is_lacking};
 ghost use Rattle.cell_described.specs.Faults.{object_at};
 ghost use Rattle.cell_object.specs.Parts.{is_global as global, is_undefined as undefined};
-ghost use Rattle.cell_world.specs.Names.{chain, provider_of};
+ghost use Rattle.cell_world.specs.Names.{provider_of};
 ghost use Rattle.cell_world.specs.Target.{provided_target, symbol_target as target_with};
+ghost use Rattle.cell_relinked.specs.Asked.{AreBearers, IsAsking};
 ghost use Rattle.cell_relinked.specs.Fit.{IsFit};
 ghost use Rattle.cell_relinked.specs.Scene.{seen_in, world_of};
 ghost use Rattle.cell_relinked.specs.Symbols.{AreOf};
 
 use crate::chain::chain_of;
+use crate::provider::Sights;
 use crate::scene::Scene;
+use cell_bearers::Bearer;
 use cell_described::DescribedCell;
 use cell_object::{Bind, Home, Symbol};
 use cell_world::Target;
@@ -45,13 +47,13 @@ fn is_global(symbol: &Symbol) -> bool
 }
 
 impl<'a> Scene<'a> {
-    /// What a name is for a cell in whose namespace's chain these are.
-    fn need(&self, cell: &DescribedCell, spaces: &[u16], name: &[u8]) -> Known
-        requires { spaces.now ≡ chain self.now.namespaces.now cell.now.ns }
-        ensures target { result.target ≡ option_and_then (provided_target (world_of self.now)) (provider_of (world_of self.now) (seen_in self.now cell.now) name.now) }
-        ensures lacking { result.lacking ≡ is_none (provider_of (world_of self.now) (seen_in self.now cell.now) name.now) }
+    /// What the name that these bear is for the cell that has these sights.
+    fn need(&self, cell: &DescribedCell, sights: &Sights, bearers: &[Bearer]) -> Known
+        requires { IsAsking self.now cell.now sights.now }
+        ensures target { (name : List ℕ) → AreBearers self.now name bearers.now → result.target ≡ option_and_then (provided_target (world_of self.now)) (provider_of (world_of self.now) (seen_in self.now cell.now) name) }
+        ensures lacking { (name : List ℕ) → AreBearers self.now name bearers.now → result.lacking ≡ is_none (provider_of (world_of self.now) (seen_in self.now cell.now) name) }
     {
-        match self.provider_for(cell.group, spaces, name) {
+        match self.provider(sights, bearers) {
             Some(provider) => Known {
                 target: self.provided_target(&provider),
                 lacking: false,
@@ -63,10 +65,11 @@ impl<'a> Scene<'a> {
         }
     }
 
-    fn known(&self, cell: &DescribedCell, spaces: &[u16], symbol: &Symbol) -> Known
-        requires spaces { spaces.now ≡ chain self.now.namespaces.now cell.now.ns }
+    /// What the cell's symbol at that place is.
+    fn known(&self, cell: &DescribedCell, sights: &Sights, place: usize, symbol: &Symbol) -> Known
+        requires asking { IsAsking self.now cell.now sights.now }
         requires fit { IsFit self.now.objects.now cell.now }
-        requires there { In symbol.now (object_at self.now.objects.now cell.now.object).symbols }
+        requires there { slice_get (object_at self.now.objects.now cell.now.object).symbols place ≡ Some symbol.now }
         ensures target { result.target ≡ target_with (world_of self.now) (seen_in self.now cell.now) symbol.now symbol.now.home }
         ensures lacking { result.lacking ≡ is_lacking (world_of self.now) (seen_in self.now cell.now) symbol.now }
     {
@@ -82,7 +85,7 @@ impl<'a> Scene<'a> {
                 lacking: false,
             };
         }
-        self.need(cell, spaces, symbol.name.as_slice())
+        self.need(cell, sights, self.index.of_symbol(cell.object, place))
     }
 
     /// What the symbols of the cell are.
@@ -91,11 +94,12 @@ impl<'a> Scene<'a> {
         ensures { IfOk result (AreOf (world_of self.now) (seen_in self.now cell.now)) }
     {
         let spaces = chain_of(alloc, self.namespaces, cell.ns)?;
+        let sights = self.sights(alloc, cell.group, &spaces)?;
         let mut targets = Vec::new(alloc);
         let mut lacking = Vec::new(alloc);
         let symbols = self.object(cell).symbols.as_slice();
         for index in 0..symbols.len() {
-            let known = self.known(cell, &spaces, &symbols[index]);
+            let known = self.known(cell, &sights, index, &symbols[index]);
             targets.push(known.target)?;
             lacking.push(known.lacking)?;
         }

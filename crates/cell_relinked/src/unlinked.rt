@@ -5,6 +5,7 @@ ghost use Rattle.cell_audit.specs.Linking.{unlinked_in};
 ghost use Rattle.cell_audit.specs.Outcome.{FailsBy};
 ghost use Rattle.cell_relinked.specs.Entries.{AreEntries};
 ghost use Rattle.cell_relinked.specs.Fit.{IsFit};
+ghost use Rattle.cell_relinked.specs.Indexed.{IsIndexed};
 ghost use Rattle.cell_relinked.specs.Linking.{earlier, lined, seen_by, unlinked, world_in};
 
 use crate::entries::Entries;
@@ -36,6 +37,7 @@ pub fn find_entries(
     cell: &DescribedCell,
 ) -> Result<Entries, AllocError>
     requires whole { All (IsFit objects.now) ground.now.cells.now }
+    requires indexed { IsIndexed ground.now objects.now }
     requires fit { IsFit objects.now cell.now }
     ensures { IfOk result (AreEntries (world_in ground.now objects.now) (seen_by ground.now objects.now cell.now)) }
 {
@@ -50,6 +52,7 @@ fn unlinked_in(
     cell: &DescribedCell,
 ) -> Result<Option<u32>, AllocError>
     requires whole { All (IsFit objects.old.items) ground.now.cells.now }
+    requires indexed { IsIndexed ground.now objects.old.items }
     requires fit { IsFit objects.old.items cell.now }
     ensures same { objects.new.items ≡ objects.old.items }
     ensures place { IfOk result (λ place. place ≡ unlinked_in (world_in ground.now objects.old.items) (seen_by ground.now objects.old.items cell.now)) }
@@ -68,7 +71,8 @@ pub fn check_linked(
     ground: &Ground,
     objects: &mut Vec<Object>,
 ) -> Result<(), AuditFail>
-    requires { All (IsFit objects.old.items) ground.now.cells.now }
+    requires whole { All (IsFit objects.old.items) ground.now.cells.now }
+    requires indexed { IsIndexed ground.now objects.old.items }
     ensures same { objects.new.items ≡ objects.old.items }
     ensures linked { OnOk result (unlinked (world_in ground.now objects.old.items) (map (lined ground.now objects.old.items) ground.now.cells.now) ≡ Ok tt) }
     ensures fault { IfErr result (λ fault. FailsBy fault (unlinked (world_in ground.now objects.old.items) (map (lined ground.now objects.old.items) ground.now.cells.now))) }

@@ -1,6 +1,6 @@
 //! Fields that are written into what sections hold.
 
-ghost use Rattle.std.specs.Prelude.{◌≡◌, ◌≤◌, ◌+◌, ℕ, IsTrue, IfNone, IfSome, List, None, find, length, map, nat_lt, ◌==◌};
+ghost use Rattle.std.specs.Prelude.{◌≡◌, ◌≤◌, ◌+◌, ℕ, IsTrue, IfSome, List, None, find, length, map, nat_lt, ◌==◌};
 ghost use Rattle.cell_num.specs.Bits.{bytes_of};
 ghost use Rattle.cell_num.specs.Kinds.{width_of};
 ghost use Rattle.cell_num.specs.Lists.{In, each_pair};

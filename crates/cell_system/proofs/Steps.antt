@@ -1,5 +1,5 @@
 -- A command's answer, as the machine's parts give it, is the plain machine's.
-use Rattle.std.proofs.Common.{◌≡◌, ◌≤◌, ◌<◌, Bool, refl, sym, ◌∙◌, ap, ap₂, subst, arith, ℕ, List, [], length, Option, None, Some, map}
+use Rattle.std.proofs.Common.{◌≡◌, ◌≤◌, refl, sym, ◌∙◌, ap, ap₂, subst, arith, ℕ, List, [], length, Option, None, Some, map}
 use Rattle.std.specs.Prelude.{All, Result, Ok, Err, decimal, not, true, unwrap_or}
 use Rattle.cell_num.specs.Lists.{equals}
 use Rattle.cell_num.proofs.Elements.{pairs-map}
@@ -35,12 +35,9 @@ use Rattle.cell_machine.specs.Same.{IsSame}
 use Rattle.cell_machine.proofs.Counts.{counts_stand}
 use Rattle.cell_machine.proofs.Same.{maps_same, patches_same, sound_back, sound_same, world_back, world_same}
 use Rattle.cell_machine.proofs.Unchanged.{same_itself}
-use Rattle.cell_world.specs.declared.command.SwapItem.{SwapItem}
-use Rattle.cell_world.specs.Asked.{load_by_change, swap_by_change}
+use Rattle.cell_world.specs.Asked.{load_by_change}
 use Rattle.cell_world.specs.LoadCommand.{next_load}
-use Rattle.cell_world.specs.SwapCommand.{next_swap}
 use Rattle.cell_change_law.proofs.ByLoad.{load_is}
-use Rattle.cell_change_law.proofs.BySwap.{swap_is}
 use Rattle.cell_load.proofs.Sources.{sources_sound}
 use Rattle.cell_num.specs.Limits.{max_file_bytes}
 use Rattle.cell_origin_law.specs.Readings.{AreRead}
@@ -117,15 +114,10 @@ module _ (m : Machine) where
     still_kept (Err (Refused refusal)) told small apart named sound read spelled h = subst Keeps (sym (world_left counts.undone refusal n h.1)) (read, spelled)
     still_kept (Err OutOfMemory) told small apart named sound read spelled h = subst Keeps (sym (world_same m n h)) (read, spelled)
 
--- a load and a swap, by what the changes do that they ask for
+-- a load, by what the change does that it asks for
 module _ (m : Machine) (sound : IsSound m) (files : List File) (small : All (λ f. length f.bytes ≤ max_file_bytes) files) (counts : Counts) (result : Result Reply Fail) (n : Machine) where
   pub by_load : (ns stem : List ℕ) → Does (next_load (map source_of files) (world_of m) ns stem) counts m result n → Does (load_by_change (map source_of files) (world_of m) ns stem) counts m result n
   by_load ns stem h = subst (λ (o : Outcome Done). Does o counts m result n) (load_is (map source_of files) (sources_sound files small) (world_of m) sound.coherent ns stem) h
-
-  pub by_swap : (items : List SwapItem) (reexport strict : Bool) (words : List (List ℕ)) (budget : ℕ) → 0 < length items
-      → Does (next_swap (map source_of files) (world_of m) items reexport strict words budget) counts m result n → Does (swap_by_change (map source_of files) (world_of m) items reexport strict words budget) counts m result n
-  by_swap items reexport strict words budget some h =
-      subst (λ (o : Outcome Done). Does o counts m result n) (swap_is (map source_of files) (sources_sound files small) (world_of m) sound.coherent reexport strict words budget items some) h
 
 module _ (m : Machine) (sound : IsSound m) where
   -- what is shown changes nothing

@@ -15,7 +15,7 @@ use Rattle.cell_world.specs.Outcome.{Outcome}
 use Rattle.cell_world.specs.World.{World}
 use Rattle.cell_machine.specs.declared.machine.Machine.{Machine}
 use Rattle.cell_machine.specs.Does.{Answers, Counts, no_stack, one_stack, state_of as machine_state}
-use Rattle.cell_swap.specs.Counted.{swap_counts}
+use Rattle.cell_change.specs.Counted.{swap_counts}
 use Rattle.cell_system.specs.State.{State}
 
 abbrev pub state_of : List File → Machine → State
@@ -26,7 +26,7 @@ said_to s command = outcome_of (map source_of s.files) s.machine.world command
 
 abbrev pub counts_of : List Source → World → Command → Counts
 counts_of sources w (Spawn ns symbol arg) = one_stack
-counts_of sources w (Swap items reexport strict routines budget) = swap_counts sources w items reexport routines
+counts_of sources w (Swap items reexport strict routines budget) = swap_counts sources w items reexport strict routines budget
 counts_of sources w _ = no_stack
 
 pub record IsStep (old : State) (command : Command) (result : Result Reply Fail) (new : State) : Type 0 where

@@ -12,11 +12,11 @@ ghost use Rattle.cell_system.specs.Step.{counts_of};
 
 use crate::Fail;
 use crate::namespaces::add_namespace;
+use cell_change::{Options, swap};
 use cell_depot::Depot;
 use cell_load::load;
 use cell_machine::Machine;
 use cell_schedule::{kill, run, spawn, step, tasks};
-use cell_swap::{Options, swap};
 use cell_unload::{purge, unload};
 use cell_view::{deps, dump, dump_all, find, map, users};
 use cell_world::{Command, Reply};

@@ -5,17 +5,27 @@ use Rattle.cell_described.specs.Faults.{object_at}
 use Rattle.cell_object.specs.declared.object.Object.{Object}
 use Rattle.cell_object.specs.declared.object.Symbol.{Symbol}
 use Rattle.cell_relinked.specs.Scene.{world_of}
-use Rattle.cell_relinked.proofs.Naming.{definitions_from}
+use Rattle.cell_bearers.proofs.Naming.{definitions_from}
+use Rattle.cell_relinked.proofs.Gotten.{got_there}
+use Rattle.cell_relinked.proofs.Provided.{symbol_bearers}
 use Rattle.cell_compared.specs.Left.{left}
 use Rattle.cell_compared.specs.Shown.{name_lines}
 use Rattle.cell_compared.proofs.Pieces.{one_symbol}
 use Rattle.cell_compared.proofs.Walking.{all_gone, fails_here, goes_on}
 use Rattle.cell_compared.proofs.name_lines.compare_definitions.Goals as goal
 
+pub expect_definition-requires-clause-bearers : goal.expect_definition-requires-clause-bearers
+expect_definition-requires-clause-bearers c =
+    let scene = c.args.asked.now.scene.now in
+    let xs = (object_at scene.objects.now c.args.cell.now.object).symbols in
+    let same = c.as_slice-symbols.ensures ∙ ap (λ (o : Object). o.symbols) c.object.ensures in
+    c.of_symbol-bearers.ensures
+    ∙ symbol_bearers scene c.args.cell.now c.requires.fit c.loop-index.index c.index-symbols-index.result (got_there c.as_slice-symbols.result.now xs same c.loop-index.index c.index-symbols-index.result c.index-symbols-index.is c.loop-index-test.true)
+
 pub returns-in_err-expect_definition : goal.returns-in_err-expect_definition
 returns-in_err-expect_definition c =
     let p = err_from_is_err_and c.from_residual.result c.from_residual.ensures.1 in
-    let scene = c.args.scene.now in
+    let scene = c.args.asked.now.scene.now in
     let w = world_of scene in
     let ns = c.args.asked.now.ns in
     let read = c.as_slice-symbols.result.now in
@@ -26,7 +36,7 @@ returns-in_err-expect_definition c =
 
 pub loop-index-preserved : goal.loop-index-preserved
 loop-index-preserved c =
-    let scene = c.args.scene.now in
+    let scene = c.args.asked.now.scene.now in
     let w = world_of scene in
     let ns = c.args.asked.now.ns in
     let read = c.as_slice-symbols.result.now in
@@ -36,7 +46,7 @@ loop-index-preserved c =
 
 pub returns : goal.returns
 returns c =
-    let scene = c.args.scene.now in
+    let scene = c.args.asked.now.scene.now in
     let w = world_of scene in
     let ns = c.args.asked.now.ns in
     let read = c.as_slice-symbols.result.now in

@@ -1,6 +1,8 @@
 use Rattle.std.proofs.Common.{ap, map, sym, ℕ, [], List, arith, length, ◌<◌, ◌≤◌, ◌∙◌}
 use Rattle.std.proofs.lemmas.List.{drop_all}
 use Rattle.std.proofs.lemmas.Result.{err_from_is_err_and}
+use Rattle.cell_bearers.specs.Bearers.{bearers_of}
+use Rattle.cell_relinked.proofs.Gotten.{got}
 use Rattle.cell_compared.specs.Left.{left}
 use Rattle.cell_compared.proofs.Pieces.{named_on}
 use Rattle.cell_compared.proofs.Walking.{all_gone, fails_here, fails_same, goes_on}
@@ -13,10 +15,19 @@ use Rattle.cell_world.specs.DumpLines.{provider_line}
 use Rattle.cell_relinked.specs.Scene.{world_of}
 use Rattle.cell_compared.proofs.name_lines.compare_further.Goals as goal
 
+pub expect_name-requires-clause-bearers : goal.expect_name-requires-clause-bearers
+expect_name-requires-clause-bearers c =
+    let scene = c.args.asked.now.scene.now in
+    let xs = c.args.cell.now.aliases.items in
+    let below : c.loop-index.index < length xs = let test = c.loop-index-test.true in let end = c.len-index-end.ensures in let size = c.args.cell.now.aliases.ok.0 in omega (arith, test, end, size) in
+    c.of_alias-bearers.ensures
+    ∙ (scene.indexed.aliases c.args.place c.loop-index.index c.args.cell.now c.index-alias.result.now c.requires.there (got xs c.loop-index.index c.index-alias.result.now below c.index-alias.ensures)
+    ∙ ap (bearers_of scene.file.now scene.objects.now scene.cells.now) (sym c.text_at-name.ensures))
+
 pub returns-in_err-expect_name : goal.returns-in_err-expect_name
 returns-in_err-expect_name c =
     let p = err_from_is_err_and c.from_residual.result c.from_residual.ensures.1 in
-    let scene = c.args.scene.now in
+    let scene = c.args.asked.now.scene.now in
     let w = world_of scene in
     let ns = c.args.asked.now.ns in
     let xs = c.args.cell.now.aliases.items in
@@ -27,7 +38,7 @@ returns-in_err-expect_name c =
 
 pub loop-index-preserved : goal.loop-index-preserved
 loop-index-preserved c =
-    let scene = c.args.scene.now in
+    let scene = c.args.asked.now.scene.now in
     let w = world_of scene in
     let ns = c.args.asked.now.ns in
     let xs = c.args.cell.now.aliases.items in
@@ -36,7 +47,7 @@ loop-index-preserved c =
 
 pub returns : goal.returns
 returns c =
-    let scene = c.args.scene.now in
+    let scene = c.args.asked.now.scene.now in
     let w = world_of scene in
     let ns = c.args.asked.now.ns in
     let xs = c.args.cell.now.aliases.items in

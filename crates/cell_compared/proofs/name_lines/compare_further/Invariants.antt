@@ -9,5 +9,5 @@ use Rattle.cell_compared.proofs.name_lines.compare_further.Given as goal
 -- what is left of the dump, against what is left of the lines
 abbrev pub invariant-loop-index : goal.invariant-loop-index
 invariant-loop-index l =
-    walk (left l.cursor) (name_lines (world_of l.scene) l.asked.ns (map (alias_seen l.scene.file.now) (drop l.index l.cell.aliases.items)))
-    ≡ walk (left l.fn.cursor) (name_lines (world_of l.scene) l.asked.ns (map (alias_seen l.scene.file.now) l.cell.aliases.items))
+    walk (left l.cursor) (name_lines (world_of l.asked.scene.now) l.asked.ns (map (alias_seen l.asked.scene.now.file.now) (drop l.index l.cell.aliases.items)))
+    ≡ walk (left l.fn.cursor) (name_lines (world_of l.asked.scene.now) l.asked.ns (map (alias_seen l.asked.scene.now.file.now) l.cell.aliases.items))

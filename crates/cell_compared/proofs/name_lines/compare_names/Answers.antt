@@ -1,6 +1,7 @@
 use Rattle.std.proofs.Common.{ap, map, List, refl}
 use Rattle.std.proofs.lemmas.List.{drop_all}
 use Rattle.std.proofs.lemmas.Result.{err_from_is_err_and}
+use Rattle.cell_relinked.proofs.Gotten.{got}
 use Rattle.cell_compared.specs.Left.{left}
 use Rattle.cell_compared.proofs.Pieces.{flattened}
 use Rattle.cell_compared.proofs.Walking.{all_gone, fails_here, goes_on}
@@ -9,6 +10,11 @@ use Rattle.cell_compared.specs.Shown.{names_shown}
 use Rattle.cell_described.specs.declared.cell.DescribedCell.{DescribedCell}
 use Rattle.cell_relinked.specs.Scene.{seen_in, world_of}
 use Rattle.cell_compared.proofs.name_lines.compare_names.Goals as goal
+
+pub compare_names_of-requires-clause-there : goal.compare_names_of-requires-clause-there
+compare_names_of-requires-clause-there c =
+    let xs = c.args.scene.now.cells.now in
+    got xs c.loop-index.index c.index-cells-index.result c.loop-index-test.true c.index-cells-index.is
 
 pub returns-in_err-compare_names_of : goal.returns-in_err-compare_names_of
 returns-in_err-compare_names_of c =

@@ -8,6 +8,12 @@ use Rattle.cell_compared.proofs.Pieces.{names_aside, names_attached}
 use Rattle.cell_compared.proofs.Walking.{fails_same, walk_fails, walk_none, walks_both}
 use Rattle.cell_compared.proofs.name_lines.compare_names_of.Goals as goal
 
+pub compare_definitions-requires-clause-asked : goal.compare_definitions-requires-clause-asked
+compare_definitions-requires-clause-asked c = record { are = c.in_ok-sights.ensures.are; group = c.in_ok-sights.ensures.group; spaces = c.in_ok-sights.ensures.spaces ∙ (c.deref.ensures.value ∙ c.in_ok-spaces.ensures) }
+
+pub compare_further-requires-clause-asked : goal.compare_further-requires-clause-asked
+compare_further-requires-clause-asked c = record { are = c.in_ok-sights.ensures.are; group = c.in_ok-sights.ensures.group; spaces = c.in_ok-sights.ensures.spaces ∙ (c.deref.ensures.value ∙ c.in_ok-spaces.ensures) }
+
 pub returns-then-is_some : goal.returns-then-is_some
 returns-then-is_some c =
     let w = world_of c.args.scene.now in

@@ -9,12 +9,12 @@ use Rattle.cell_compared.proofs.name_lines.expect_definition.Goals as goal
 
 pub returns-then-not-is_definition : goal.returns-then-not-is_definition
 returns-then-not-is_definition c =
-    ap (λ (b : Bool). walk (left c.args.cursor.now) (cond b (cons_option (provider_line (world_of c.args.scene.now) c.args.asked.now.ns c.args.symbol.now.name) []) [])) (sym c.if-not-is_definition.ensures)
+    ap (λ (b : Bool). walk (left c.args.cursor.now) (cond b (cons_option (provider_line (world_of c.args.asked.now.scene.now) c.args.asked.now.ns c.args.symbol.now.name) []) [])) (sym c.if-not-is_definition.ensures)
     ∙ walk_none (left c.args.cursor.now)
 
 pub returns : goal.returns
 returns c =
-    let w = world_of c.args.scene.now in
+    let w = world_of c.args.asked.now.scene.now in
     let ns = c.args.asked.now.ns in
     walks_same (left c.args.cursor.now) (left c.expect_name.new.cursor) _ _ c.expect_name.result
     (ap (λ name. cons_option (provider_line w ns name) []) c.as_slice.ensures ∙ ap (λ (b : Bool). cond b (cons_option (provider_line w ns c.args.symbol.now.name) []) []) c.if-not-is_definition.ensures)

@@ -5,12 +5,11 @@ use Rattle.cell_world.specs.declared.command.Command.TheVariants.{Find, Load, Ns
 use Rattle.cell_world.specs.Gather.{source_of}
 use Rattle.cell_world.specs.Next.{outcome_of}
 use Rattle.cell_machine.specs.Does.{Does, no_stack}
-use Rattle.cell_swap.specs.Counted.{swap_counts}
 use Rattle.cell_machine.specs.Machine.{world_of}
 use Rattle.cell_system.specs.Step.{counts_of}
 use Rattle.cell_script.specs.Script.{is_said}
 use Rattle.cell_system.proofs.SwapSaid.{said_swap}
-use Rattle.cell_system.proofs.Steps.{by_load, by_swap, shows_deps, shows_dump, shows_dump_all, shows_find, shows_map, shows_tasks, shows_users}
+use Rattle.cell_system.proofs.Steps.{by_load, shows_deps, shows_dump, shows_dump_all, shows_find, shows_map, shows_tasks, shows_users}
 use Rattle.cell_system.proofs.answer.answer.Goals as goal
 
 pub returns-in-Ns : goal.returns-in-Ns
@@ -74,8 +73,4 @@ pub returns-in-Swap : goal.returns-in-Swap
 returns-in-Swap c =
     subst (λ (k : Command). Does (outcome_of (map source_of c.args.depot.now) (world_of c.args.machine.now) k) (counts_of (map source_of c.args.depot.now) (world_of c.args.machine.now) k) c.args.machine.now c.swap.result c.swap.new.machine)
     (ap₂ (λ (items : List SwapItem) (routines : List (List ℕ)). let k : Command = Swap items c.in-Swap.reexport c.in-Swap.strict routines c.in-Swap.budget in k) c.as_slice-in-Swap-2.ensures c.as_slice-in-Swap.ensures ∙ sym c.in-Swap.is)
-    (by_swap c.args.machine.now c.requires.sound c.args.depot.now c.requires.small
-    (swap_counts (map source_of c.args.depot.now) (world_of c.args.machine.now) c.as_slice-in-Swap-2.result.now c.in-Swap.reexport c.as_slice-in-Swap.result.now) c.swap.result c.swap.new.machine c.as_slice-in-Swap-2.result.now c.in-Swap.reexport c.in-Swap.strict c.as_slice-in-Swap.result.now c.in-Swap.budget
-    (subst (λ (items : List SwapItem). 0 < length items) (sym c.as_slice-in-Swap-2.ensures)
-    (said_swap c.in-Swap.items c.in-Swap.reexport c.in-Swap.strict c.in-Swap.routines c.in-Swap.budget (subst (λ (k : Command). is_said k ≡ true) c.in-Swap.is c.requires.said)))
-    c.swap.ensures)
+    c.swap.ensures

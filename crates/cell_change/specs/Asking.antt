@@ -1,0 +1,38 @@
+-- What a change asks for.
+--     as_said change wants               what the definition is asked for
+--     IsWantOf sources v wanted want     the file, the namespace and the replaced cell of a want, by their names and numbers
+--     AreWantsOf sources v all wants     the same of all wants
+--     IsAsked sources v change           all that the change names is there
+use Rattle.std.specs.Prelude.{◌≡◌, ◌<◌, IsTrue, List, [], ◌∷◌, Some, filter_map, length, map, option_map}
+use Rattle.std.specs.Option.{ForSome}
+use Rattle.cell_world.specs.Answer.{numbers_of}
+use Rattle.cell_world.specs.Change.{Change as ChangeSaid, Want as Wanted}
+use Rattle.cell_world.specs.Gather.{Source, file_named}
+use Rattle.cell_world.specs.World.{World, is_attached}
+use Rattle.cell_num.specs.Lists.{In}
+use Rattle.cell_gather.specs.declared.want.Want.{Want}
+use Rattle.cell_change.specs.declared.change.Change.{Change}
+use Rattle.cell_change.specs.declared.change.Options.{Options}
+
+abbrev pub as_said : Options → List Wanted → ChangeSaid
+as_said o wants = record { wants = wants; reexport = o.reexport; strict = o.strict; routines = o.routines.now; budget = o.budget }
+
+pub record IsWantOf (sources : List Source) (v : World) (wanted : Wanted) (want : Want) : Type 0 where
+  pub file : file_named sources want.file ≡ Some wanted.file
+  pub ns : want.ns ≡ wanted.ns
+  pub there : wanted.ns < length v.namespaces
+  pub replaces : want.replaces ≡ option_map (λ c. c.id) wanted.replaces
+  pub present : ForSome wanted.replaces (λ c. In c v.cells)
+  pub attached : ForSome wanted.replaces (λ c. IsTrue (is_attached c.standing))
+
+abbrev pub AreWantsOf : List Source → World → List Wanted → List Want → Type 0
+AreWantsOf sources v [] [] = Unit {0}
+AreWantsOf sources v [] (want ∷ wants) = ⊥
+AreWantsOf sources v (wanted ∷ all) [] = ⊥
+AreWantsOf sources v (wanted ∷ all) (want ∷ wants) = IsWantOf sources v wanted want × AreWantsOf sources v all wants
+
+-- the replaced cells are those of the wants, in their order
+pub record IsAsked (sources : List Source) (v : World) (change : Change) : Type 0 where
+  pub wants : List Wanted
+  pub are : AreWantsOf sources v wants change.wants.items
+  pub old : map (λ c. c.0) change.replaced.items ≡ numbers_of (filter_map (λ want. want.replaces) wants)

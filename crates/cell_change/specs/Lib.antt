@@ -1,0 +1,11 @@
+pub mod Asking
+pub mod Items
+pub mod OldCells
+pub mod Transferring
+pub mod Planning
+pub mod Exchanged
+pub mod Back
+pub mod Before
+pub mod Counted
+pub mod Entering
+pub mod Sweeping

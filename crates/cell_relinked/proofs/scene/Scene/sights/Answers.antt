@@ -1,0 +1,1 @@
+use Rattle.cell_relinked.proofs.scene.Scene.sights.Goals as goal

@@ -1,9 +1,0 @@
-pub mod Asking
-pub mod OldCells
-pub mod Transferring
-pub mod Planning
-pub mod Swapped
-pub mod Back
-pub mod Before
-pub mod Counted
-pub mod Entering
