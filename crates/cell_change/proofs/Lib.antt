@@ -1,5 +1,3 @@
-pub mod ItemLemmas
-mod SwapSaid
 pub mod Came
 pub mod Bystanders
 pub mod ChangeLanded
@@ -36,7 +34,7 @@ pub mod ChangeEnded
 pub mod Tried
 pub mod Sweeping
 pub mod ChangeLeft
-mod Late
+pub mod Late
 pub mod LinksBefore
 mod BeginsPlain
 mod RoutinesRun

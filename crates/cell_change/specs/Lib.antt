@@ -1,5 +1,4 @@
 pub mod Asking
-pub mod Items
 pub mod OldCells
 pub mod Transferring
 pub mod Planning

@@ -10,9 +10,7 @@ mod entering;
 mod old_cells;
 mod planning;
 mod standing;
-mod swapping;
 mod transferring;
 
 pub use change::{Change, Options};
 pub use changing::{Made, make_change};
-pub use swapping::swap;

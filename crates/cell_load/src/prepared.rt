@@ -8,6 +8,7 @@ ghost use Rattle.cell_load.specs.Adding.{listed, numbers_in};
 
 use cell_commit::{CellSections, Newcomer};
 use cell_gather::weak_definitions;
+use cell_num::{CellId, Listed};
 use cell_space::NameRows;
 use cell_world::NewCell;
 use std::alloc::{AllocError, Global};
@@ -93,4 +94,15 @@ fn sections_of(alloc: Global, cell: &NewCell) -> Result<CellSections, AllocError
         cell: cell.id,
         sections,
     })
+}
+
+/// The numbers of the cells.
+pub fn numbers(alloc: Global, cells: &[NewCell]) -> Result<Listed<CellId>, AllocError>
+    ensures { IfOk result (λ ids. ids ≡ map (λ c. c.id) cells.now) }
+{
+    let mut ids = Vec::new(alloc);
+    for cell in cells {
+        ids.push(cell.id)?;
+    }
+    Ok(Listed::from_vec(ids))
 }

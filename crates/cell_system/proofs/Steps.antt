@@ -35,9 +35,6 @@ use Rattle.cell_machine.specs.Same.{IsSame}
 use Rattle.cell_machine.proofs.Counts.{counts_stand}
 use Rattle.cell_machine.proofs.Same.{maps_same, patches_same, sound_back, sound_same, world_back, world_same}
 use Rattle.cell_machine.proofs.Unchanged.{same_itself}
-use Rattle.cell_world.specs.Asked.{load_by_change}
-use Rattle.cell_world.specs.LoadCommand.{next_load}
-use Rattle.cell_change_law.proofs.ByLoad.{load_is}
 use Rattle.cell_load.proofs.Sources.{sources_sound}
 use Rattle.cell_num.specs.Limits.{max_file_bytes}
 use Rattle.cell_origin_law.specs.Readings.{AreRead}
@@ -113,11 +110,6 @@ module _ (m : Machine) where
         (answer_in (world_of n) reply) h.is.step
     still_kept (Err (Refused refusal)) told small apart named sound read spelled h = subst Keeps (sym (world_left counts.undone refusal n h.1)) (read, spelled)
     still_kept (Err OutOfMemory) told small apart named sound read spelled h = subst Keeps (sym (world_same m n h)) (read, spelled)
-
--- a load, by what the change does that it asks for
-module _ (m : Machine) (sound : IsSound m) (files : List File) (small : All (λ f. length f.bytes ≤ max_file_bytes) files) (counts : Counts) (result : Result Reply Fail) (n : Machine) where
-  pub by_load : (ns stem : List ℕ) → Does (next_load (map source_of files) (world_of m) ns stem) counts m result n → Does (load_by_change (map source_of files) (world_of m) ns stem) counts m result n
-  by_load ns stem h = subst (λ (o : Outcome Done). Does o counts m result n) (load_is (map source_of files) (sources_sound files small) (world_of m) sound.coherent ns stem) h
 
 module _ (m : Machine) (sound : IsSound m) where
   -- what is shown changes nothing

@@ -15,7 +15,7 @@ use Rattle.cell_world.specs.Outcome.{Outcome}
 use Rattle.cell_world.specs.World.{World}
 use Rattle.cell_machine.specs.declared.machine.Machine.{Machine}
 use Rattle.cell_machine.specs.Does.{Answers, Counts, no_stack, one_stack, state_of as machine_state}
-use Rattle.cell_change.specs.Counted.{swap_counts}
+use Rattle.cell_commands.specs.Counted.{swap_counts}
 use Rattle.cell_system.specs.State.{State}
 
 abbrev pub state_of : List File → Machine → State

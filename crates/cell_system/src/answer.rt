@@ -12,9 +12,8 @@ ghost use Rattle.cell_system.specs.Step.{counts_of};
 
 use crate::Fail;
 use crate::namespaces::add_namespace;
-use cell_change::{Options, swap};
+use cell_commands::{Options, load, swap};
 use cell_depot::Depot;
-use cell_load::load;
 use cell_machine::Machine;
 use cell_schedule::{kill, run, spawn, step, tasks};
 use cell_unload::{purge, unload};

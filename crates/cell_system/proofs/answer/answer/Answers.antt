@@ -4,12 +4,12 @@ use Rattle.cell_world.specs.declared.command.SwapItem.{SwapItem}
 use Rattle.cell_world.specs.declared.command.Command.TheVariants.{Find, Load, Ns, Spawn, Swap}
 use Rattle.cell_world.specs.Gather.{source_of}
 use Rattle.cell_world.specs.Next.{outcome_of}
-use Rattle.cell_machine.specs.Does.{Does, no_stack}
+use Rattle.cell_machine.specs.Does.{Does}
 use Rattle.cell_machine.specs.Machine.{world_of}
 use Rattle.cell_system.specs.Step.{counts_of}
 use Rattle.cell_script.specs.Script.{is_said}
 use Rattle.cell_system.proofs.SwapSaid.{said_swap}
-use Rattle.cell_system.proofs.Steps.{by_load, shows_deps, shows_dump, shows_dump_all, shows_find, shows_map, shows_tasks, shows_users}
+use Rattle.cell_system.proofs.Steps.{shows_deps, shows_dump, shows_dump_all, shows_find, shows_map, shows_tasks, shows_users}
 use Rattle.cell_system.proofs.answer.answer.Goals as goal
 
 pub returns-in-Ns : goal.returns-in-Ns
@@ -21,7 +21,7 @@ pub returns-in-Load : goal.returns-in-Load
 returns-in-Load c =
     subst (λ (k : Command). Does (outcome_of (map source_of c.args.depot.now) (world_of c.args.machine.now) k) (counts_of (map source_of c.args.depot.now) (world_of c.args.machine.now) k) c.args.machine.now c.load.result c.load.new.machine)
     (ap₂ (λ (ns stem : List ℕ). let k : Command = Load ns stem in k) c.bytes-in-Load.ensures c.bytes-in-Load-2.ensures ∙ sym c.in-Load.is)
-    (by_load c.args.machine.now c.requires.sound c.args.depot.now c.requires.small no_stack c.load.result c.load.new.machine _ _ c.load.ensures)
+    c.load.ensures
 
 pub returns-in-Spawn : goal.returns-in-Spawn
 returns-in-Spawn c =

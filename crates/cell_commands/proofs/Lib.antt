@@ -1,0 +1,4 @@
+mod Files
+mod ItemLemmas
+mod SwapSaid
+mod LoadSaid

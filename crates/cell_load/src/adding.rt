@@ -1,0 +1,68 @@
+//! Adding what was staged. There is room for all of it, so nothing can fail.
+
+ghost use Rattle.std.specs.Prelude.{◌≡◌, ◌+◌, ◌≤◌, ◌++◌, map, vec_capacity, vec_len};
+ghost use Rattle.cell_commit.specs.Cells.{arrived};
+ghost use Rattle.cell_commit.specs.Commit.{IsLaidOut, all_mapped};
+ghost use Rattle.cell_world.specs.Undo.{AreBytes};
+ghost use Rattle.cell_load.specs.Adding.{IsCommittable, memory_with};
+ghost use Rattle.cell_graph.specs.Moves.{moved};
+ghost use Rattle.cell_machine.specs.Staged.{IsCommitted};
+
+use crate::prepared::Prepared;
+use cell_commit::{
+    add_sections, attach_cells, bind_rows, map_regions, move_rows, patch_fields, write_fields,
+};
+use cell_link::FieldValue;
+use cell_machine::{Machine, Staged};
+use cell_world::{LinkRow, NewCell};
+
+/// Adds the staged cells, for which there is room, and has other cells lead to them: `patches` are
+/// the fields of others that change, and `moves` the links of others as they lead then. This takes
+/// no memory.
+pub fn commit(
+    machine: &mut Machine,
+    staged: Staged,
+    prepared: Prepared,
+    patches: &[FieldValue],
+    moves: &[LinkRow],
+)
+    requires { IsCommittable machine.old staged prepared patches.now moves.now }
+    ensures committed { IsCommitted machine.old (memory_with machine.old.memory staged.regions.items patches.now) (moved machine.old.graph.rows moves.now) (map arrived prepared.newcomers.items) staged machine.new }
+
+    // The new regions stand apart from the others, before a field is written.
+    ensures laid { IsLaidOut (all_mapped machine.old.memory staged.regions.items) }
+    ensures bytes { AreBytes (all_mapped machine.old.memory staged.regions.items).regions }
+{
+    let Staged {
+        cells,
+        names: _,
+        space,
+        regions,
+        fields,
+        rows,
+    } = staged;
+    let Prepared {
+        newcomers,
+        sections,
+    } = prepared;
+    map_regions(&mut machine.memory, regions);
+    machine.memory.laid_out();
+    machine.memory.holds_bytes();
+    patch_fields(&mut machine.memory, patches);
+    write_fields(&mut machine.memory, &fields);
+    add_sections(&mut machine.graph, &sections);
+    move_rows(&mut machine.graph, moves);
+    bind_rows(&mut machine.graph, &rows);
+    attach_cells(&mut machine.spaces, newcomers);
+    machine.space = space;
+    machine.next += cells.len() as u32;
+    append(&mut machine.cells, cells);
+}
+
+/// Appends to a vector that has room.
+fn append(into: &mut Vec<NewCell>, mut cells: Vec<NewCell>)
+    requires { vec_len into.old + vec_len cells ≤ vec_capacity into.old }
+    ensures { into.new.items ≡ into.old.items ++ cells.items }
+{
+    let _ = into.append(&mut cells);
+}
