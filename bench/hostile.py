@@ -22,7 +22,7 @@ WHOLE = 1 << 20
 PROGBITS, SYMTAB, STRTAB, RELA, NOBITS = 1, 2, 3, 4, 8
 WRITE, ALLOC, EXECINSTR = 1, 2, 4
 ABSOLUTE = 0xFFF1
-NONE, R_64, ADD8, ADD64, HI20, PCREL_HI20, PCREL_LO12_I = 0, 2, 33, 36, 26, 23, 24
+NONE, R_64, ADD8, ADD64, HI20, GOT_HI20, PCREL_HI20, PCREL_LO12_I = 0, 2, 33, 36, 26, 20, 23, 24
 
 MOST_SECONDS = 1.0
 MOST_MEGABYTES = 150
@@ -183,6 +183,17 @@ def one_table(row, width, flags=ALLOC | WRITE):
     return make
 
 
+def slots(size):
+    """GOT_HI20 entries, each of which asks for a slot of its own."""
+    file = File()
+    count = (size - 1024) // (24 * 2 + 4)
+    text = file.section(name=1, kind=PROGBITS, flags=ALLOC | EXECINSTR, offset=file.part(bytes(4 * count)), size=4 * count, align=4)
+    symtab = file.symbols([symbol(0)] * count, count)
+    data = b"".join(entry(4 * n, GOT_HI20, n + 1) for n in range(count))
+    file.table(symtab, text, file.part(data), len(data))
+    return file
+
+
 def pairs(last_broken):
     """PCREL_HI20 entries, each with a label and a PCREL_LO12, and perhaps one at the end without."""
 
@@ -239,6 +250,10 @@ KINDS = {
     "one table of ADD8 on one byte": (one_table(lambda number: entry(0, ADD8), 1), LOADED),
     "one table of 64": (one_table(lambda number: entry(8 * number, R_64), 8), LOADED),
     "one table of HI20": (one_table(lambda number: entry(4 * number, HI20), 4, ALLOC | EXECINSTR), LOADED),
+    "a shared table of GOT_HI20": (
+        shared_table(lambda n: [entry(4 * number, GOT_HI20) for number in range(n)], WHOLE // 12, ALLOC | EXECINSTR), NO_MEMORY),
+    "one table of GOT_HI20 on one slot": (one_table(lambda number: entry(4 * number, GOT_HI20), 4, ALLOC | EXECINSTR), LOADED),
+    "as many slots as entries": (slots, LOADED),
     "pairs": (pairs(False), LOADED),
     "pairs, the last one broken": (pairs(True), broken(24)),
     "fields, the last one clashes": (last_clashes, broken(23)),

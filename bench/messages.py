@@ -254,7 +254,17 @@ def refusals():
             "k#a.o": s(".text\n.globl a::f\na::f: jal ra,b::f\n"), "k#b.o": s(".text\n.globl b::f\nb::f: ret\n"),
             "n#b.o": s(".text\n.zero 1040000\n.globl b::f\nb::f: ret\n"), "k#z.o": s(".bss\n.zero 1000000\n")},
         "load k a\nload k z\nswap k/b=n#b.o\n")
+    case(
+        "overflow: load",
+        {
+            "k#a.o": s(".text\n.weak b::f\n.globl a::f\na::f: jal ra,b::f\nb::f: ret\n"),
+            "k#b.o": s(".text\n.zero 1040000\n.globl b::f\nb::f: ret\n"), "k#z.o": s(".bss\n.zero 1000000\n")},
+        "load k a\nload k z\nload k b\n")
+    load(
+        "overflow: weak name", s(".text\n.weak b::f\nla a0,b::f\nret\n"), words=["DIR", "script", "--base", "0x80001000"])
     case("torn", two | {"n#a.o": LEAF}, "load k b\nspawn k b::go 0\nstep 1 1\nswap k/a=n#a.o\n")
+    default = s(".text\n.weak a::f\n.globl b::go\nb::go: call a::f\nret\na::f: ret\n")
+    case("torn: load", {"k#b.o": default, "k#a.o": LEAF}, "load k b\nspawn k b::go 0\nstep 1 1\nload k a\n")
     routine = "{} long mv(void) N(a::mv); long mv(void) {{ {} }} long f(void) N(a::f); long f(void) {{ return 2; }}"
     case("transfer: code", two | {"n#a.o": c(routine.format("", "return 1;"))}, "load k a\nswap k/a=n#a.o transfer a::mv\n")
     case(
@@ -284,6 +294,8 @@ def refusals():
         "volatile(\"\"); }")
     case("held: task", {"k#a.o": old}, "load k a\nspawn k a::g 0\nstep 1 5\nunload k/a\n")
     case("held: cell", two, "load k b\nunload k/a\n")
+    optional = s(".data\n.weak a::f\n.quad a::f\n")
+    case("held: weak", {"k#b.o": optional, "k#a.o": LEAF}, "load k b\nload k a\nunload k/a\n")
     reg = c("long (*hook)(void) N(r::hook); long f(void) N(a::f); long go(void) N(r::go); long go(void) { hook = f; return 0; }")
     load_reg = "load k r\nspawn k r::go 0\nrun 100\n"
     case("held: pointer in data", {"k#a.o": LEAF, "k#r.o": reg}, load_reg + "swap k/a=k#a.o strict\n")
@@ -331,19 +343,19 @@ def objects():
             + b"\x40\x00\x0a\x00\x09\x00"))
     compiled("lto", code, PROFILE + " -flto -frandom-seed=1")
     compiled("lto clang", code, PROFILE + " -flto", CLANG)
-    compiled("PIC", code, PROFILE.replace("-fno-pic", "-fPIC"))
-    compiled("PIC clang", code, PROFILE.replace("-fno-pic", "-fPIC"), CLANG)
-    compiled("PIE", code, PROFILE.replace("-fno-pic", "-fPIE"))
-    compiled("PIE clang", code, PROFILE.replace("-fno-pic", "-fPIE"), CLANG)
+    compiled("fine: PIC", code, PROFILE.replace("-fno-pic", "-fPIC"))
+    compiled("fine: PIC clang", code, PROFILE.replace("-fno-pic", "-fPIC"), CLANG)
+    compiled("fine: PIE", code, PROFILE.replace("-fno-pic", "-fPIE"))
+    compiled("fine: PIE clang", code, PROFILE.replace("-fno-pic", "-fPIE"), CLANG)
     compiled("fine: no -fno-pic", code, PROFILE.replace("-fno-pic", ""))
     compiled("fine: no -fno-pic clang", code, PROFILE.replace("-fno-pic", ""), CLANG)
     compiled(
-        "weak declaration",
+        "fine: weak declaration",
         "extern long n __attribute__((weak)); long go(long) N(p::go); long go(long x) { return x + (&n ? n : 0); }")
     compiled("TLS", "__thread long n N(p::n) = 1; long go(long) N(p::go); long go(long x) { return n += x; }")
-    compiled("weak", "long go(long) N(p::go); __attribute__((weak)) long go(long x) { return x; }")
+    compiled("fine: weak", "long go(long) N(p::go); __attribute__((weak)) long go(long x) { return x; }")
     compiled(
-        "weak need",
+        "fine: weak need",
         "long f(long) N(q::f); __attribute__((weak)) long f(long); long go(long) N(p::go); long go(long x) { return f ? f(x) "
         ": 0; }")
     compiled("constructor", "__attribute__((constructor)) static void start(void) { __asm__ volatile(\"\"); }")
@@ -401,7 +413,7 @@ def objects():
         "\"r\"(this) : \"memory\"); } struct D : B { long f(long x) { return x + 1; } }; } extern \"C\" long go(long) "
         "__asm__(NAME); long go(long x) { D d; B *p = &d; __asm__ volatile(\"\" : \"+r\"(p)); return p->f(x); }")
     quoted = pure.replace("NAME", "\"\\\"p::go\\\"\"")
-    load("C++: pure virtual", cxx(quoted.replace("BODY", "= 0;"), PROFILE + " -fno-rtti"))
+    load("fine: C++: pure virtual", cxx(quoted.replace("BODY", "= 0;"), PROFILE + " -fno-rtti"))
     load(
         "fine: C++: virtual with a body", cxx(quoted.replace("BODY", "{ __builtin_trap(); }"), PROFILE + " -fno-rtti"),
         "spawn k p::go 4\nrun 100\n")
@@ -433,7 +445,7 @@ def objects():
     compiled("unicode", "long größe;", PROFILE)
     load("writable code", gnu('.section .both,"awx",@progbits\nnop\n'))
     load("long name", gnu(f'.globl "{"n" * 1025}"\n.data\n"{"n" * 1025}": .word 0\n'))
-    load("got", gnu('.text\nla t0, f\n', MACHINE + " -mno-relax -fpic"))
+    case("fine: as -fpic", data | {"k#p.o": gnu('.text\nla t0, "q::n"\n', MACHINE + " -mno-relax -fpic")}, "load k p\n")
     compiled(
         "fine: switch table",
         "long go(long) N(p::go); long go(long x) { switch (x) { case 0: return 3; case 1: return 9; case 2: return 11; case "

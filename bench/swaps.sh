@@ -2,8 +2,10 @@
 # Prints how long one swap of one cell takes, among 500 and among 1000 cells of ten fields each and with 64 tasks: tasks
 # that have just begun, and tasks whose stacks are full of addresses. The cell that is swapped has ten users' fields and
 # ten of its own. And how long a script takes with 900 loads and then 2,000 swaps of a cell that these 900 name in 1,800
-# fields. It fails where one swap takes more than 3 ms of processor time, with twice the cells more than 2.3 times as long,
-# or that script more than a second. Each script runs five times, and the least time counts: the same run takes up to twice
+# fields. And how long a load and a swap take by which the same fields are bound to a name and let go again, where these 900
+# could do without it; and one load and one unload among 1000 cells of which none has a WEAK symbol. It fails where one swap
+# takes more than 3 ms of processor time, with twice the cells more than 2.3 times as long, that script more than a second,
+# or binding and letting go more than 1.3 times as long as leading the same fields elsewhere. Each script runs five times, and the least time counts: the same run takes up to twice
 # as long where something else shares the processor. Where valgrind is installed, it says too how many instructions a swap
 # takes, which nothing beside it changes.
 #
@@ -32,6 +34,7 @@ runs=5
 most_ms=3
 most_times=2.3
 most_seconds=1
+most_weak=1.3
 failed=0
 
 # at_most WHAT NUMBER LIMIT: says so where the number is above the limit
@@ -176,5 +179,56 @@ all=$(seconds "$users" all)
 swapped 2000 1800
 awk -v a="$loads" -v b="$all" 'BEGIN { printf "900 loads: %.3f s; with 2,000 swaps of 1,800 fields: %.3f s, %.3f ms each\n", a, b, (b - a) / 2 }'
 at_most seconds "$all" $most_seconds
-if $counting; then echo "  $(million "$users" loads some $counted) million instructions each"; fi
+if $counting; then
+    moved_count=$(million "$users" loads some $counted)
+    echo "  $moved_count million instructions each"
+fi
+moved=$(awk -v a="$loads" -v b="$all" 'BEGIN { printf "%.4f", (b - a) / 2 }')
+
+# come_and_go TIMES: so many loads of the crate that has the name, and as many swaps of it for one without the name
+come_and_go() {
+    for _ in $(seq "$1"); do
+        echo 'load k x'
+        echo 'swap k/x=n#e.o'
+        echo 'unload k/e'
+    done
+}
+
+weak=$work/weak
+mkdir -p "$weak"
+cp "$users/k#x.o" "$weak"
+printf '' | assemble "$weak" 'n#e.o'
+printf '.rodata\n.weak x::v\n.quad x::v, x::v\n' | assemble "$weak" 'k#u1.o'
+for i in $(seq 2 900); do cp "$weak/k#u1.o" "$weak/k#u$i.o"; done
+cp "$users/loads" "$weak/loads"
+{ cat "$weak/loads"; come_and_go 1000; } > "$weak/all"
+{ cat "$weak/loads"; come_and_go $((counted / 2)); } > "$weak/some"
+loads=$(seconds "$weak" loads)
+all=$(seconds "$weak" all)
+swapped 1000 1800
+if [ "$(grep -c 'ok load .* patched 1800$' "$work/text.txt")" != 1000 ]; then
+    echo 'unexpected text'
+    exit 1
+fi
+bound=$(awk -v a="$loads" -v b="$all" 'BEGIN { printf "%.4f", (b - a) / 2 }')
+times=$(growth "$moved" "$bound")
+echo "1,000 loads and 1,000 swaps that bind 1,800 weak fields and let them go: $bound ms each, $times times as long as leading them elsewhere"
+if $counting; then
+    bound_count=$(million "$weak" loads some $counted)
+    echo "  $bound_count million instructions each"
+    at_most 'times the instructions' "$(growth "$moved_count" "$bound_count")" $most_weak
+else
+    at_most times "$times" $most_weak
+fi
+
+printf '.data\n.globl y::v\ny::v: .quad g0::x\n' | assemble "$crowd" 'k#y.o'
+begun 1000 0 > "$crowd/before"
+{ begun 1000 0; for _ in $(seq $swaps); do echo 'load k y'; echo 'unload k/y'; done; } > "$crowd/loads"
+before=$(seconds "$crowd" before)
+with=$(seconds "$crowd" loads)
+awk -v a="$before" -v b="$with" -v n=$swaps 'BEGIN { printf "a load and an unload among 1000 cells without WEAK symbols: %.3f ms\n", (b - a) * 1000 / n }'
+if $counting; then
+    { begun 1000 0; for _ in $(seq $counted); do echo 'load k y'; echo 'unload k/y'; done; } > "$crowd/loads"
+    echo "  $(million "$crowd" before loads $counted) million instructions"
+fi
 exit $failed

@@ -44,6 +44,9 @@ class Symbol:
     def is_global(self):
         return self.info >> 4 == 1
 
+    def is_weak(self):
+        return self.info >> 4 == 2
+
     def is_place(self):
         """Whether it is a function or a variable, and no label of an assembler."""
         return self.info & 15 < 3 and 0 < self.section < 0xFF00 and self.name and not self.name.startswith(".L")
@@ -118,10 +121,21 @@ class Object:
     def definitions(self):
         return [s for s in self.symbols if s.is_global() and self.is_loaded(s.section)]
 
+    def weak_definitions(self):
+        return [s for s in self.symbols if s.is_weak() and self.is_loaded(s.section)]
+
+    def asked_for(self):
+        """The undefined symbols that an entry of a loaded section has."""
+        used = {entry.symbol for table in self.tables if self.is_loaded(table.info) for entry in self.entries(table)}
+        return [s for s in self.symbols if s.number in used and s.section == 0]
+
     def needs(self):
         """The undefined GLOBAL names that an entry of a loaded section has."""
-        used = {entry.symbol for table in self.tables if self.is_loaded(table.info) for entry in self.entries(table)}
-        return [s for s in self.symbols if s.number in used and s.is_global() and s.section == 0]
+        return [s for s in self.asked_for() if s.is_global()]
+
+    def weak_needs(self):
+        """The WEAK ones, which are 0 where nobody has them."""
+        return [s for s in self.asked_for() if s.is_weak()]
 
     def place(self, section, offset):
         """The name of a place: the last function or variable that begins before it, and the distance."""
@@ -129,7 +143,7 @@ class Object:
         if not begun:
             name = self.sections[section].name if section < len(self.sections) else f"section {section}"
             return f"{name}+0x{offset:x}" if offset else name
-        last = max(begun, key=lambda s: (s.value, s.is_global()))
+        last = max(begun, key=lambda s: (s.value, s.is_global() or s.is_weak()))
         return f"{last.name}+0x{offset - last.value:x}" if offset > last.value else last.name
 
 

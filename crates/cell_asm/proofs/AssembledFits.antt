@@ -1,9 +1,10 @@
 -- The lines of a source that is assembled.
-use Rattle.std.specs.Prelude.{◌≡◌, ◌≤◌, ◌<◌, ◌^◌, ◌+◌}
-use Rattle.cell_asm.proofs.Facts.{ℕ, List, Result, Ok, Err, Some, None, refl, [], length, sym, subst, arith, true, false, slice_index_or, and_parts, Option, find, IfOk, All, is_none, IsWhole, IsRuled, image, IsSoundObject, IsWritable, has_lost, object_unless, object_from, placed_lines, assembled, Assembles, line_of, AreInside, HasRoom, fault_after, laid_after, offset_of, twice_of, object_of, largest, marks_in, taken, is_long, may_stand, lays_nothing, Object, AsmKind, Laid, Fill, Prog, Note, Zero, Part, Line, AsmFail, Progress, In-All}
+use Rattle.std.specs.Prelude.{◌≡◌, ◌≤◌, ◌<◌, ◌^◌, ◌+◌, ◌||◌}
+use Rattle.cell_asm.proofs.Facts.{ℕ, List, Result, Ok, Err, Some, None, refl, [], length, sym, subst, arith, true, false, slice_index_or, and_parts, Option, find, IfOk, All, is_none, IsWhole, IsRuled, image, IsReadable, IsWritable, has_lost, object_unless, object_from, placed_lines, assembled}
+use Rattle.cell_asm.proofs.Facts.{Assembles, line_of, AreInside, HasRoom, fault_after, laid_after, offset_of, twice_of, object_of, largest, marks_in, taken, is_long, may_stand, lays_nothing, Object, AsmKind, Laid, Fill, Prog, Note, Zero, Part, Line, AsmFail, Progress, In-All, rebound_of}
 use Rattle.std.specs.declared.result.Result.{}
 use Rattle.cell_elf.proofs.LoadableCounts.{reads_passed}
-use Rattle.cell_elf.proofs.Soundness.{object_sound}
+use Rattle.cell_elf.proofs.Soundness.{object_readable}
 use Rattle.cell_image.proofs.RoundTrip.{read_again}
 use Rattle.cell_asm.proofs.ListLemmas.{ok_once}
 use Rattle.cell_asm.proofs.EntriesFit.{not_past, largest_most, no_fault}
@@ -29,7 +30,7 @@ by_lines source o (Ok lines) read e = by_lost source o lines (find (has_lost lin
 by_lines source o (Err fault) read e = absurd cc
 
 -- What a source is assembled to can be written: it keeps the rules, so that it is read again, and what is
--- read is sound.
+-- read is readable.
 
 lines_ruled : (source : List ℕ) (lines : List Laid) → placed_lines source ≡ Ok lines → find (has_lost lines) lines ≡ None → length source < 2 ^ 31 → IsRuled (object_of lines)
 lines_ruled source lines read kept h = record {
@@ -57,7 +58,7 @@ writable : (object : Object) → IsRuled object → IsWritable object
 writable object r =
     let passed = reads_passed (image object) object (read_again object r) in
     record {
-      sound = subst IsSoundObject passed.1 (object_sound (image object) passed.0);
+      readable = subst IsReadable passed.1 (object_readable (image object) passed.0);
       sections = λ k s e. let h = r.sections k s e in record { numbered = h.numbered; name = h.name; bare = bare_of s.fill s.bytes s.size h.whole };
       symbols = λ k s e. let h = r.symbols k s e in record { name = h.name; first = h.first; last = h.last; filed = h.filed; value = h.value; size = h.size };
       entries = λ k e at. let h = r.storable k e at in record { offset = h.offset; symbol = h.symbol; addend = h.addend };
@@ -88,7 +89,7 @@ room_by (Some part) offset line s l g =
 
 pub placed_room : (p : Progress) (n : ℕ) (line : Line) → fault_after p line ≡ None → AreInside line.statement → HasRoom (laid_after p n line)
 placed_room p n line e g =
-    let a = no_fault p.chosen (offset_of p) (twice_of p line.label) line e in
+    let a = no_fault p.chosen (offset_of p) (twice_of p line.label || rebound_of p line.statement) line e in
     room_by p.chosen (offset_of p) line a.stands a.room g
 
 -- the object of a source can be written

@@ -1,7 +1,9 @@
 -- What holds of each line in its place.
 --     all_stand source lines        each line of a source has a good statement, which may stand there and has room
-use Rattle.std.specs.Prelude.{◌≡◌, ◌+◌, ◌-◌, ◌*◌, ◌%◌, ◌^◌, ◌≤◌, ◌==◌, ◌∷◌, ◌++◌, if◌then◌else◌}
-use Rattle.cell_asm.proofs.Facts.{ℕ, Bool, true, false, not, List, Ok, None, refl, zero, suc, cond, [], Some, sym, ap, ◌∙◌, pow-suc, arith, subst, append-nil, inl, inr, length, length-append, nat_tests, length-map, filter-append, sum_by-cons, sum_by-append, In-one, Option, filter, sum_by, flat_map, nat_lt, width_of, last, or_else, where_true, is_clash, lines_in, placed_lines, line_of, entries_of, entries_in, parts_of, entry_of, entries, marks_in, choices, size_at, taken, is_long, is_twice, may_stand, placed, fault_at, fault_by, is_at, is_in, takes, size_in, largest, AsmKindSection as Section, Twice, Long, Part, Line, Laid, Text, Code, Narrow, Wide, Statement, StatementZeros as Zeros, StatementAlign as Align, Bytes, Entry, Bss, In, In-flat_map, In-filtered, filter-In, filter-Passes}
+use Rattle.std.specs.Prelude.{◌≡◌, ◌+◌, ◌-◌, ◌*◌, ◌%◌, ◌^◌, ◌≤◌, ◌==◌, ◌∷◌, ◌++◌, if◌then◌else◌, ◌||◌}
+use Rattle.cell_asm.proofs.Facts.{ℕ, Bool, true, false, not, List, Ok, None, refl, zero, suc, cond, [], Some, sym, ap, ◌∙◌, pow-suc, arith, subst, append-nil, inl, inr, length, length-append, nat_tests, length-map, filter-append, sum_by-cons, sum_by-append, In-one, Option, filter, sum_by, flat_map}
+use Rattle.cell_asm.proofs.Facts.{nat_lt, width_of, last, or_else, where_true, is_clash, lines_in, placed_lines, line_of, entries_of, entries_in, parts_of, entry_of, entries, marks_in, choices, size_at, taken, is_long, is_twice, may_stand, placed, fault_at, fault_by, is_at, is_in, takes, size_in}
+use Rattle.cell_asm.proofs.Facts.{largest, AsmKindSection as Section, Twice, Long, Part, Line, Laid, Text, Code, Narrow, Wide, Statement, StatementZeros as Zeros, StatementAlign as Align, Bytes, Entry, Bss, In, In-flat_map, In-filtered, filter-In, filter-Passes, is_rebound}
 use Rattle.std.proofs.Math.Nat.{dvd-mod_iff}
 use Rattle.std.proofs.lemmas.Nat.Gcd.{dvd_of_mod-eq-zero, mod-eq-zero_of_dvd}
 use Rattle.cell_asm.proofs.GoodBlocks.{IsGoodStatement, IsFrom, line_origin, Apart, behind, line_apart, statement_marks}
@@ -29,8 +31,8 @@ no_fault part offset twice line e =
     record { stands = r.0; new = r.1.0; room = r.1.1 }
 
 -- the line has no fault behind those before it
-pub allowed : (before : List Laid) (line : Line) → fault_at before line ≡ None → IsAllowed (last (choices before)) (size_at (last (choices before)) before) (is_twice before line.label) line
-allowed before line e = no_fault (last (choices before)) (size_at (last (choices before)) before) (is_twice before line.label) line e
+pub allowed : (before : List Laid) (line : Line) → fault_at before line ≡ None → IsAllowed (last (choices before)) (size_at (last (choices before)) before) (is_twice before line.label || is_rebound before line.statement) line
+allowed before line e = no_fault (last (choices before)) (size_at (last (choices before)) before) (is_twice before line.label || is_rebound before line.statement) line e
 
 pub record IsStanding (l : Laid) : Type 0 where
   pub good : IsGoodStatement l.line.statement

@@ -4,7 +4,9 @@
 --     IsGoodStatement s                a statement has such bytes
 --     piece_sound                      bytes stay sound with a good piece more
 use Rattle.std.specs.Prelude.{◌≡◌, ◌≤◌, ◌+◌, ◌*◌, ◌^◌, ◌%◌, ◌/◌, ◌∷◌, ◌++◌, ◌⊎◌, ◌||◌}
-use Rattle.cell_asm.proofs.Facts.{ℕ, zero, suc, Bool, true, false, List, [], length, inl, inr, pos, Some, None, refl, sym, subst, ap, ◌∙◌, length-append, arith, map, true≢false, or_right, and-false, w64, list_any, Option, FitsSigned, bytes_of, width_of, is_instruction, is_stacking, is_pcrel_lo12, is_pcrel_hi20, is_shared, is_clash, is_known_kind, marks_at, marks_of, appended, empty, entry_of, entries_of, marks_in, is_made, taken, takes, lays_nothing, RelKind, PcrelHi20, PcrelLo12I, PcrelLo12S, Mark, Block, Content, Code, Narrow, Wide, Fix, Piece, Statement, StatementZeros as Zeros, StatementAlign as Align, Bytes, Entry, Part, Text, Rodata, Data, Bss, Laid, In, In-append, In-map, In-one}
+use Rattle.cell_asm.proofs.Facts.{ℕ, zero, suc, Bool, true, false, List, [], length, inl, inr, pos, Some, None, refl, sym, subst, ap, ◌∙◌, length-append, arith, map, true≢false, or_right, and-false, w64, list_any, Option, FitsSigned, bytes_of, width_of, is_instruction, is_stacking, is_pcrel_lo12}
+use Rattle.cell_asm.proofs.Facts.{is_upper_pcrel, is_shared, is_clash, marks_at, marks_of, appended, empty, entry_of, entries_of, marks_in, is_made, taken, takes, lays_nothing, RelKind, PcrelHi20, PcrelLo12I, PcrelLo12S, Mark, Block, Content, Code, Narrow, Wide, Fix, Piece, Statement}
+use Rattle.cell_asm.proofs.Facts.{StatementZeros as Zeros, StatementAlign as Align, Bytes, Entry, Part, Text, Rodata, Data, Bss, Laid, In, In-append, In-map, In-one, GotHi20, is_got_hi20}
 use Rattle.cell_asm.proofs.ListLemmas.{Pairwise, pairwise_one, pairwise_join, itself, le_trans, least, not_less, same_test}
 
 abbrev pub is_code : Content → Bool
@@ -13,24 +15,28 @@ is_code Narrow = false
 is_code Wide = false
 
 -- the kinds that name the label of another entry, and that entry's, are of instructions
-label_code : (kind : RelKind) → (is_pcrel_lo12 kind || is_pcrel_hi20 kind) ≡ true → is_instruction kind ≡ true
+label_code : (kind : RelKind) → (is_pcrel_lo12 kind || is_upper_pcrel kind) ≡ true → is_instruction kind ≡ true
 label_code PcrelHi20 e = refl
+label_code GotHi20 e = refl
 label_code PcrelLo12I e = refl
 label_code PcrelLo12S e = refl
 label_code _ e = absurd cc
 
 pub lo12_code : (kind : RelKind) → is_pcrel_lo12 kind ≡ true → is_instruction kind ≡ true
-lo12_code kind e = label_code kind (ap (λ b. b || is_pcrel_hi20 kind) e)
+lo12_code kind e = label_code kind (ap (λ b. b || is_upper_pcrel kind) e)
 
-pub hi20_code : (kind : RelKind) → is_pcrel_hi20 kind ≡ true → is_instruction kind ≡ true
-hi20_code kind e = label_code kind (or_right (is_pcrel_lo12 kind) (is_pcrel_hi20 kind) e)
+pub upper_code : (kind : RelKind) → is_upper_pcrel kind ≡ true → is_instruction kind ≡ true
+upper_code kind e = label_code kind (or_right (is_pcrel_lo12 kind) (is_upper_pcrel kind) e)
+
+-- the kinds to whose symbol nothing is added
+abbrev pub is_unmoved : RelKind → Bool
+is_unmoved kind = is_pcrel_lo12 kind || is_got_hi20 kind
 
 pub record IsGoodFix (content : Content) (f : Fix) : Type 0 where
-  pub known : is_known_kind f.kind ≡ true
   pub addend : FitsSigned w64 f.addend
   -- the kinds of instructions stand at instructions alone
   pub code : is_instruction f.kind ≡ is_code content
-  pub plain : is_pcrel_lo12 f.kind ≡ true → f.addend ≡ pos 0
+  pub plain : is_unmoved f.kind ≡ true → f.addend ≡ pos 0
   pub made : is_made f.target ≡ true → is_pcrel_lo12 f.kind ≡ true
 
 -- two kinds that add to a field of one width
@@ -55,8 +61,8 @@ pub record IsWithin (content : Content) (low high : ℕ) (m : Mark) : Type 0 whe
   pub from : low ≤ m.at
   pub inside : m.at + width_of m.fix.kind ≤ high
   pub fours : InFours content m.at
-  -- a %pcrel_hi stands first
-  pub head : is_pcrel_hi20 m.fix.kind ≡ true → m.at ≡ 0
+  -- a %pcrel_hi or %got_pcrel_hi stands first
+  pub head : is_upper_pcrel m.fix.kind ≡ true → m.at ≡ 0
 
 abbrev pub AreWithin : Content → ℕ → ℕ → List Mark → Type 0
 AreWithin content low high marks = ((m : Mark) → In m marks → IsWithin content low high m) × AllApart marks
@@ -71,7 +77,7 @@ pub record IsSound (content : Content) (b : Block) : Type 0 where
   pub whole : InFours content (length b.bytes)
 
 abbrev pub any_upper : List Mark → Bool
-any_upper marks = list_any (λ m. is_pcrel_hi20 m.fix.kind) marks
+any_upper marks = list_any (λ m. is_upper_pcrel m.fix.kind) marks
 
 pub record IsGoodBlock (content : Content) (b : Block) : Type 0 where
   pub sound : IsSound content b

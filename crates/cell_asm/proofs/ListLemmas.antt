@@ -5,7 +5,9 @@
 --     AreApart t xs           no element passes the test of one before it
 --     adds t xs x             the element behind the others, unless one of them passes its test
 use Rattle.std.specs.Prelude.{◌≡◌, ◌⊎◌, ◌||◌, ◌∷◌, ◌++◌, ◌+◌, ◌*◌, ◌≤◌, ◌<◌, if◌then◌else◌, ◌==◌}
-use Rattle.cell_asm.proofs.Facts.{Result, Ok, refl, sym, subst, inl, inr, ℕ, zero, suc, Bool, true, false, cond, List, [], ap, ◌∙◌, map, Some, None, slice_get, not, length, take, drop, zero-add, arith, or_left, or_right, nat_tests, length-take, length-drop, length-flat_map, list_any-append, sum_by-cons, prefix_len-drop_yes, prefix_len-drop_no, prefix_len-drop_all, suffix_len-take_yes, suffix_len-take_no, suffix_len-le-length, prefix_len-le-length, list_any, position_or_len, slice_get-map, option_map, filter, flat_map, fold, sum_by, IfSome, nat_lt, nat_le, position, Option, is_some, or_else, where_true, In, In-append, get-In, none-In, In-one, has_key, number_from, is_key, Key}
+use Rattle.cell_asm.proofs.Facts.{Result, Ok, refl, sym, subst, inl, inr, ℕ, zero, suc, Bool, true, false, cond, List, [], ap, ◌∙◌, map, Some, None, slice_get, not, length, take, drop, zero-add, arith, or_left, or_right, nat_tests, length-take, length-drop, length-flat_map, list_any-append, sum_by-cons}
+use Rattle.cell_asm.proofs.Facts.{prefix_len-drop_yes, prefix_len-drop_no, prefix_len-drop_all, suffix_len-take_yes, suffix_len-take_no, suffix_len-le-length, prefix_len-le-length, list_any, position_or_len, slice_get-map, option_map, filter, flat_map, fold, sum_by, IfSome, nat_lt, nat_le, position}
+use Rattle.cell_asm.proofs.Facts.{Option, is_some, or_else, where_true, In, In-append, get-In, none-In, In-one, has_key, number_from, is_key, Key}
 
 -- ORDERS AND TESTS
 

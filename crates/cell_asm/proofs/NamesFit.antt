@@ -2,7 +2,10 @@
 --     Yields P r        P holds of the value, where there is one
 --     Finds P o         the same of an option
 use Rattle.std.specs.Prelude.{◌≡◌, ◌+◌, ◌/◌, ◌%◌, ◌<◌, ◌≤◌, ◌&&◌, ◌==◌, ◌∷◌, ◌++◌, ◌⊎◌, ◌-◌, if◌then◌else◌}
-use Rattle.cell_asm.proofs.Facts.{Bool, true, false, Result, Ok, Err, Some, None, refl, subst, ℕ, zero, suc, not, List, [], length, codes, decimal, nat_le, nat_lt, inl, inr, arith, cond, map, take, drop, sym, ap, ◌∙◌, length-append, take-append-drop, append_assoc, append-nil, ltb-true, le-leb, ne_eqb, or_from, flat_map-append, nat_tests, list_any, list_all, position_or_len, prefix_len, suffix_len, after_last, slice_split, onto_first, Option, option_map, option_and_then, ok_or, neg_ℤ, flat_map, fold, where_true, or_else, is_global_name, IsPlain, joined, with_value, is_blank, trimmed, operand_texts, spelled, operands as operands_of, is_name, is_name_byte, begins_with_digit, ends, begins, number, key_name, is_sign, less, with_rest, expression, modifier, is_open, front, inside, modified, immediate, operand, AsmKind, Key, KeyNamed as Named, KeyMade as Made, Expression, ExpressionName as Name, Sum, Difference, Whole, Immediate, Number, ImmediatePart as Part, Operand, OperandValue as Value, OperandMemory as Memory, In, In-all, In-none, all-In, In-append, flat_map-In}
+use Rattle.cell_asm.proofs.Facts.{Bool, true, false, Result, Ok, Err, Some, None, refl, subst, ℕ, zero, suc, not, List, [], length, codes, decimal, nat_le, nat_lt, inl, inr, arith, cond, map, take, drop, sym, ap, ◌∙◌, length-append, take-append-drop, append_assoc, append-nil, ltb-true, le-leb, ne_eqb}
+use Rattle.cell_asm.proofs.Facts.{or_from, flat_map-append, nat_tests, list_any, list_all, position_or_len, prefix_len, suffix_len, after_last, slice_split, onto_first, Option, option_map, option_and_then, ok_or, neg_ℤ, flat_map, fold, where_true, or_else, is_global_name, IsPlain, joined, with_value}
+use Rattle.cell_asm.proofs.Facts.{is_blank, trimmed, operand_texts, spelled, operands as operands_of, is_name, is_name_byte, begins_with_digit, ends, begins, number, key_name, is_sign, less, with_rest, expression, modifier, is_open, front, inside, modified, immediate, operand, AsmKind, Key}
+use Rattle.cell_asm.proofs.Facts.{KeyNamed as Named, KeyMade as Made, Expression, ExpressionName as Name, Sum, Difference, Whole, Immediate, Number, ImmediatePart as Part, Operand, OperandValue as Value, OperandMemory as Memory, In, In-all, In-none, all-In, In-append, flat_map-In}
 use Rattle.std.specs.Fmt.{digits, digits_onto, digit_glyph}
 use Rattle.cell_object.specs.Bytes.{is_zero}
 use Rattle.cell_object.specs.Symbols as object_names

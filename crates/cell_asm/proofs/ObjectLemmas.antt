@@ -3,7 +3,10 @@
 --     few lines parts            there are at most four
 --     object_is                  what is made of what is kept is the object
 use Rattle.std.specs.Prelude.{◌≡◌, ◌≤◌, ◌∷◌, ◌++◌, ◌+◌, ◌||◌, ◌&&◌, if◌then◌else◌}
-use Rattle.cell_asm.proofs.Facts.{Bool, true, false, List, [], length, refl, sym, subst, ap, ◌∙◌, ℕ, map, replicate, append_assoc, not, cond, find, Some, None, replicate-append-replicate, map-append, flat_map-append, filter-append, list_any, option_map_or, unwrap_or, fold, flat_map, Option, option_map, filter, bytes_of, is_upper_label, is_lost, has_lost, spot_at, Follows, reference_at, references_of, is_upper_spot, key_lost_by, lost_by, section_kept, Lists, mentioned, Mentions, entry_kept, part_entries, adds_part, parts_of, section_of, sections, symbols, symbol_keys, label_named, part_number, target_key, entry_of, entries_in, entries, object_of, marks_in, is_same_part, choices, is_at, is_in, Part, Text, Rodata, Data, Bss, Laid, Target, TargetNamed as Named, TargetMade as Made, Label, Progress, Reference, Section, Symbol, Entry, Object, Mark, Symbols, map_same, flat_same}
+use Rattle.cell_asm.proofs.Facts.{Bool, true, false, List, [], length, refl, sym, subst, ap, ◌∙◌, ℕ, map, replicate, append_assoc, not, cond, find, Some, None, replicate-append-replicate, map-append, flat_map-append, filter-append, list_any, option_map_or, unwrap_or, fold, flat_map, Option, option_map}
+use Rattle.cell_asm.proofs.Facts.{filter, bytes_of, is_upper_label, is_lost, has_lost, spot_at, Follows, reference_at, references_of, is_upper_spot, key_lost_by, lost_by, section_kept, Lists, mentioned, Mentions, entry_kept, part_entries, adds_part, parts_of, section_of, sections, symbols, symbol_keys}
+use Rattle.cell_asm.proofs.Facts.{label_named, part_number, target_key, entry_of, entries_in, entries, object_of, marks_in, is_same_part, choices, is_at, is_in, Part, Text, Rodata, Data, Bss, Laid, Target, TargetNamed as Named, TargetMade as Made, Label, Progress, Reference, Section, Symbol, Entry}
+use Rattle.cell_asm.proofs.Facts.{Object, Mark, Symbols, map_same, flat_same}
 use Rattle.std.proofs.lemmas.Map.Keys.{IsDistinct-push}
 use Rattle.std.proofs.lemmas.Map.Made.{length-le_from_is_member}
 use Rattle.std.specs.Cmp.{IsEquivalence}

@@ -1,7 +1,13 @@
 -- What is known of names, after one more name, and behind one more line.
 use Rattle.std.specs.Prelude.{◌≡◌, ◌||◌, ◌∷◌, ◌++◌, ◌+◌, ◌<◌, ◌^◌, ◌⊎◌, if◌then◌else◌}
-use Rattle.cell_asm.proofs.Facts.{ℕ, Bool, true, false, List, [], cond, find, map, Some, None, refl, sym, ap, ◌∙◌, append-nil, add-zero, zero-add, suc, length, drop, get_or, Bor, Result, Ok, Err, subst, add-one, arith, append_assoc, inl, inr, drop_more, length-map, map-append, flat_map-append, filter_map-append, filter-append, list_any-append, find-append, sum_by-append, fold-append, or-false, list_any, cons_option, option_or, option_map_or, Option, option_map, is_some, filter, flat_map, sum_by, fold, max, equals, where_true, holds_name, last, or_else, numbered_from, lines_in, Behind, add_line, with_line, placed_line, placed_texts, object_from, object_unless, has_lost, assembled, Assembles, placed_unless, placed_lines, spot_here, declares, spot_at, spot_among, names_in, grown_in, grown_with, bytes_laid, references_of, is_upper_at, Goes as GoesBehind, Places, failure, body_of, offset_of, twice_of, fault_after, laid_after, Adds, Follows, line_of, adds_choice, parts_of, alignment_asked, first_alignment, alignment, bytes_at, contents, global_name, globals, object_of, is_key, makes_label, own_key, made_key, keys_of, label, labels_at, labels, fault_at, is_at, is_in, choice, choices, taken, size_in, size_at, made_in, is_twice, placed, Part, Bss, Statement, StatementGlobal as Global, Laid, Label, AsmKindLabel, KeyNamed as Named, KeyMade as Made, Line, Progress, AsmKind, Stop, StopFault as Fault, StopOutOfMemory as OutOfMemory, Object, AsmFail, AsmFailFault as Faulty, AsmFailOutOfMemory as NoMemory, In, In-append, In-one}
+use Rattle.cell_asm.proofs.Facts.{ℕ, Bool, true, false, List, [], cond, find, map, Some, None, refl, sym, ap, ◌∙◌, append-nil, add-zero, zero-add, suc, length, drop, get_or, Bor, Result, Ok, Err, subst, add-one, arith, append_assoc, inl, inr, drop_more, length-map, map-append, flat_map-append}
+use Rattle.cell_asm.proofs.Facts.{filter_map-append, filter-append, list_any-append, find-append, sum_by-append, fold-append, or-false, list_any, cons_option, option_or, option_map_or, Option, option_map, is_some, filter, flat_map, sum_by, fold, max, equals, where_true, last, or_else, numbered_from}
+use Rattle.cell_asm.proofs.Facts.{lines_in, Behind, add_line, with_line, placed_line, placed_texts, object_from, object_unless, has_lost, assembled, Assembles, placed_unless, placed_lines, spot_here, spot_at, spot_among, names_in, grown_in, grown_with, bytes_laid, references_of, is_upper_at}
+use Rattle.cell_asm.proofs.Facts.{Goes as GoesBehind, Places, failure, body_of, offset_of, twice_of, fault_after, laid_after, Adds, Follows, line_of, adds_choice, parts_of, alignment_asked, first_alignment, alignment, bytes_at, contents, object_of, is_key, makes_label, own_key, made_key, keys_of, label}
+use Rattle.cell_asm.proofs.Facts.{labels_at, labels, fault_at, is_at, is_in, choice, choices, taken, size_in, size_at, made_in, is_twice, placed, Part, Bss, Statement, Laid, Label, AsmKindLabel, KeyNamed as Named, KeyMade as Made, Line, Progress, AsmKind, Stop, StopFault as Fault}
+use Rattle.cell_asm.proofs.Facts.{StopOutOfMemory as OutOfMemory, Object, AsmFail, AsmFailFault as Faulty, AsmFailOutOfMemory as NoMemory, In, In-append, In-one, StatementBind, given, binding_in, is_other, is_rebound, rebound_of}
 use Rattle.cell_asm.proofs.ListLemmas.{ok_once}
+use Rattle.cell_asm.proofs.SymbolLemmas.{or_none}
 use Rattle.cell_asm.proofs.ObjectLemmas.{same_part}
 
 -- ONE MORE LINE
@@ -34,12 +40,13 @@ labels_push lines l = flat_more (λ m. labels_at m.part m.offset (keys_of m)) li
 spot_more : (before : List Laid) (l : Laid) (q : List ℕ) → spot_among (labels (before ++ l ∷ [])) q ≡ or_else (spot_among (labels before) q) (spot_here l.part l.offset l.line.label q)
 spot_more before l q = simp (labels_push before l, find-append, mapped_or, here_is l.part l.offset l.made l.line.label l.line.statement q)
 
-declared : (q : List ℕ) (s : Statement) → list_any (λ other. equals other q) (cons_option (global_name s) []) ≡ declares q s
-declared q (Global name) = or-false (equals name q)
-declared q _ = refl
+or_grouped : {X : Type 0} (a b c : Option X) → or_else (or_else a b) c ≡ or_else a (or_else b c)
+or_grouped None b c = refl
+or_grouped (Some x) b c = refl
 
-global_more : (before : List Laid) (l : Laid) (q : List ℕ) → holds_name (globals (before ++ l ∷ [])) q ≡ (holds_name (globals before) q || declares q l.line.statement)
-global_more before l q = simp (filter_map-append, list_any-append, declared q l.line.statement)
+binding_more : (before : List Laid) (l : Laid) (q : List ℕ) → binding_in (before ++ l ∷ []) q ≡ or_else (binding_in before q) (given q l.line.statement)
+binding_more [] l q = or_none (given q l.line.statement)
+binding_more (m ∷ before) l q = ap (or_else (given q m.line.statement)) (binding_more before l q) ∙ sym (or_grouped (given q m.line.statement) (binding_in before q) (given q l.line.statement))
 
 -- whether a label has the name
 found_is : (p : Label → Bool) (ls : List Label) → is_some (option_map spot_at (find p ls)) ≡ list_any p ls
@@ -63,9 +70,13 @@ twice_is : (p : Progress) (before : List Laid) (name : Option (List ℕ)) → Fo
 twice_is p before None h = refl
 twice_is p before (Some name) h = ap is_some (h.spots name) ∙ found_is (λ l. is_key l.key (Named name)) (labels before)
 
+rebound_is : (p : Progress) (before : List Laid) (s : Statement) → Follows p before → rebound_of p s ≡ is_rebound before s
+rebound_is p before (StatementBind binding name) h = ap (is_other binding) (h.bindings name)
+rebound_is p before _ h = refl
+
 -- what is wrong with the next line
 pub fault_is : (p : Progress) (before : List Laid) (line : Line) → Follows p before → fault_after p line ≡ fault_at before line
-fault_is p before line h = rw (offset_is p before h, twice_is p before line.label h, h.chosen) refl
+fault_is p before line h = rw (offset_is p before h, twice_is p before line.label h, rebound_is p before line.statement h, h.chosen) refl
 
 pub laid_is : (p : Progress) (before : List Laid) (n : ℕ) (line : Line) → Follows p before → laid_after p n line ≡ placed before n line
 laid_is p before n line h = rw (offset_is p before h, h.made, h.chosen) refl
@@ -141,7 +152,7 @@ follows_more p q before l h at a = record {
   bodies = λ part. a.bodies part ∙ ap (λ (g : ℕ × ℕ × List ℕ). if is_in part l then grown_with part l g else g) (h.bodies part) ∙ sym (grown_more part before l (is_in part l) refl at);
   made = a.made ∙ ap (λ n. n + (if makes_label l.line.statement then 1 else 0)) h.made ∙ sym (made_more before l);
   spots = λ q. a.spots q ∙ ap (λ o. or_else o (spot_here l.part l.offset l.line.label q)) (h.spots q) ∙ sym (spot_more before l q);
-  globals = λ q. a.globals q ∙ ap (λ b. b || declares q l.line.statement) (h.globals q) ∙ sym (global_more before l q);
+  bindings = λ q. a.bindings q ∙ ap (λ o. or_else o (given q l.line.statement)) (h.bindings q) ∙ sym (binding_more before l q);
   labels = a.labels ∙ ap (λ ls. ls ++ labels_at l.part l.offset (keys_of l)) h.labels ∙ sym (labels_push before l);
   mentions = a.mentions ∙ ap (λ ns. ns ++ names_in l.line) h.mentions ∙ sym (flat_more (λ m. names_in m.line) before l);
   uppers = λ q. a.uppers q ∙ ap (λ b. b || is_upper_at q l) (h.uppers q) ∙ sym (any_more (is_upper_at q) before l);

@@ -1,7 +1,9 @@
 -- A line that is read: its statement is good, and its names take no more bytes than its text and one.
 --     read_line text line
 use Rattle.std.specs.Prelude.{◌≡◌, ◌≤◌, ◌+◌, ◌-◌, ◌^◌, ◌∷◌, ◌++◌, ◌==◌, if◌then◌else◌}
-use Rattle.cell_asm.proofs.Facts.{ℕ, suc, Bool, true, false, List, [], map, take, drop, length, Result, Ok, Err, Some, None, refl, arith, Option, nat_le, position_or_len, prefix_len, before_first, length-take, where_true, AsmKind, Directive, ExpressionName as Name, Whole, ImmediatePart as Part, Operand, OperandValue as Value, Statement, StatementChoose as Choose, StatementGlobal as Global, StatementZeros as Zeros, StatementAlign as Align, Line, with_value, is_name, label_names, statement_names, names_in, name, Row, directive, mnemonic, count, unit_of, unit, none, one, directed, worded, statement, is_inked, read_with, statement_in, spelled, operand_texts, first_word, after_word, has_label, label_name, labelled, line_of, code_of, operands}
+use Rattle.cell_asm.proofs.Facts.{ℕ, suc, Bool, true, false, List, [], map, take, drop, length, Result, Ok, Err, Some, None, refl, arith, Option, nat_le, position_or_len, prefix_len, before_first, length-take, where_true, AsmKind, Directive, ExpressionName as Name, Whole, ImmediatePart as Part, Operand}
+use Rattle.cell_asm.proofs.Facts.{OperandValue as Value, Statement, StatementChoose as Choose, StatementZeros as Zeros, StatementAlign as Align, Line, with_value, is_name, label_names, statement_names, names_in, name, Row, directive, mnemonic, count, unit_of, unit, none, one, directed, worded}
+use Rattle.cell_asm.proofs.Facts.{statement, is_inked, read_with, statement_in, spelled, operand_texts, first_word, after_word, has_label, label_name, labelled, line_of, code_of, operands, StatementBind}
 use Rattle.cell_asm.specs.declared.kind.AsmKind.TheVariants as faults
 use Rattle.cell_asm.specs.declared.mnemonic.Directive.TheVariants as directives
 use Rattle.cell_asm.proofs.ListLemmas.{take_le, drop_le, le_trans, itself, le_of}
@@ -36,7 +38,7 @@ one_name _ = tt
 
 directed_read : (d : Directive) (os : List Operand) → Yields (IsRead (all_names os)) (directed d os)
 directed_read (directives.Choose part) os = none_read os (Choose part) (record { good = tt; part = λ m h. none_named m })
-directed_read directives.Global os = one_read (λ all n. IsPart (n ∷ []) (all_names all)) name (λ n. Global n) os one_name (λ n p. record { good = tt; part = p })
+directed_read (directives.Bind binding) os = one_read (λ all n. IsPart (n ∷ []) (all_names all)) name (λ n. StatementBind binding n) os one_name (λ n p. record { good = tt; part = p })
 directed_read (directives.Numbers w) os = numbers_good w os
 directed_read directives.Zeros os = one_read (λ all. Any) count (λ n. Zeros n) os (λ o. yields_any (count o)) (λ n u. record { good = tt; part = λ m h. none_named m })
 directed_read directives.Align os = one_read (λ all. IsUnit) unit (λ n. Align n) os (λ o. unit_good (count o)) (λ n u. record { good = u; part = λ m h. none_named m })

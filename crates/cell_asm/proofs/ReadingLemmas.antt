@@ -1,6 +1,8 @@
 -- Values that are read one after the other, and the earliest of their faults.
 use Rattle.std.specs.Prelude.{◌≡◌, ◌<◌, ◌+◌, ◌∷◌, ◌==◌, ◌⊎◌, ◌*◌, ◌%◌, ◌≤◌, ◌-◌, if◌then◌else◌}
-use Rattle.cell_asm.proofs.Facts.{ℕ, Bool, true, false, List, [], map, length, get_or, take, Result, Ok, Err, Some, None, refl, sym, ap, ◌∙◌, arith, Bor, inl, inr, cond, drop, nat_tests, map_more, map-append, take_all, take-append-drop, fold-append, is_ascii_digit, slice_split, list_all, Option, ok_or, nat_lt, find, option_map, bytes_eq, fold, joined, gathered, put, miscounted, filled, spelled, trimmed, operand_texts, statement_in, read_with, first_word, after_word, operands, row_of, held, is_hex_digit, statement, AsmKind, AsmKindWord as Word, Operand, Slot, Fields, In-all, all-In}
+use Rattle.cell_asm.proofs.Facts.{ℕ, Bool, true, false, List, [], map, length, get_or, take, Result, Ok, Err, Some, None, refl, sym, ap, ◌∙◌, arith, Bor, inl, inr, cond, drop, nat_tests, map_more, map-append, take_all, take-append-drop, fold-append, is_ascii_digit, slice_split, list_all, Option, ok_or}
+use Rattle.cell_asm.proofs.Facts.{nat_lt, find, option_map, bytes_eq, fold, joined, gathered, put, miscounted, filled, spelled, trimmed, operand_texts, statement_in, read_with, first_word, after_word, operands, row_of, held, is_hex_digit, statement, AsmKind, AsmKindWord as Word, Operand, Slot, Fields}
+use Rattle.cell_asm.proofs.Facts.{In-all, all-In}
 use Rattle.cell_asm.proofs.ListLemmas.{not_less}
 
 -- what is gathered with one value more

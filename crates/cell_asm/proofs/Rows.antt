@@ -1,6 +1,6 @@
 -- Sources, computed by the definitions.
 use Rattle.std.specs.Prelude.{◌≡◌, ◌∷◌}
-use Rattle.cell_asm.proofs.Facts.{refl, ℕ, ℤ, pos, List, [], true, false, length, Result, Ok, Err, codes, join_with_byte, RelKind, Abs64, CallPlt, PcrelHi20, PcrelLo12I, Hi20, Add32, Sub32, Object, Section, Symbol, Entry, Local, BindGlobal as Global, NoType, Undef, Inside, Prog, Zero, AsmKind, assembled}
+use Rattle.cell_asm.proofs.Facts.{refl, ℕ, ℤ, pos, List, [], true, false, length, Result, Ok, Err, codes, join_with_byte, RelKind, Abs64, CallPlt, PcrelHi20, PcrelLo12I, Hi20, Add32, Sub32, Object, Section, Symbol, Entry, Home, Local, BindGlobal as Global, BindWeak as Weak, NoType, Undef, Inside, Prog, Zero, AsmKind, assembled}
 use Rattle.cell_asm.specs.declared.kind.AsmKind.TheVariants as faults
 
 abbrev lines : List (List ℕ) → List ℕ
@@ -42,6 +42,25 @@ a_number = refl
 an_address : assembled (lines (codes ".rodata" ∷ codes ".globl b::p" ∷ codes "b::p: .quad a::n+4, 1" ∷ []))
     ≡ object (rodata 1 (0 ∷ 0 ∷ 0 ∷ 0 ∷ 0 ∷ 0 ∷ 0 ∷ 0 ∷ 1 ∷ 0 ∷ 0 ∷ 0 ∷ 0 ∷ 0 ∷ 0 ∷ 0 ∷ []) ∷ []) (defined (codes "b::p") 1 0 ∷ undefined (codes "a::n") ∷ []) (entry 1 0 Abs64 2 (pos 4) ∷ [])
 an_address = refl
+
+abbrev weakly : List ℕ → Home → Symbol
+weakly name home = record { name = name; bind = Weak; sort = NoType; home = home; value = 0; size = 0 }
+
+-- a WEAK name that is needed, and one that is defined
+a_weak_need : assembled (lines (codes ".rodata" ∷ codes ".weak v::w" ∷ codes ".quad v::w" ∷ []))
+    ≡ object (rodata 1 (0 ∷ 0 ∷ 0 ∷ 0 ∷ 0 ∷ 0 ∷ 0 ∷ 0 ∷ []) ∷ []) (weakly (codes "v::w") Undef ∷ []) (entry 1 0 Abs64 1 (pos 0) ∷ [])
+a_weak_need = refl
+
+a_weak_definition : assembled (lines (codes ".rodata" ∷ codes "v::w: .quad 0" ∷ codes ".weak v::w" ∷ []))
+    ≡ object (rodata 1 (0 ∷ 0 ∷ 0 ∷ 0 ∷ 0 ∷ 0 ∷ 0 ∷ 0 ∷ []) ∷ []) (weakly (codes "v::w") (Inside 1) ∷ []) []
+a_weak_definition = refl
+
+-- one binding a name, both ways round
+weak_after_global : assembled (lines (codes ".globl v::w" ∷ codes ".globl v::w" ∷ codes ".weak v::w" ∷ [])) ≡ Err (3, faults.Twice)
+weak_after_global = refl
+
+global_after_weak : assembled (lines (codes ".weak v::w" ∷ codes ".globl v::w" ∷ [])) ≡ Err (2, faults.Twice)
+global_after_weak = refl
 
 -- an upper part; an object's section of its own for each that is chosen
 an_upper_part : assembled (lines (codes ".text" ∷ codes "lui a0,%hi(h::x)" ∷ codes ".data" ∷ codes ".zero 5" ∷ codes ".globl h::x" ∷ codes "h::x: .byte 1" ∷ []))

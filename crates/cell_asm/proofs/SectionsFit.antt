@@ -1,7 +1,9 @@
 -- The sections of an assembled source can be written.
 --     sections_fit source lines    each section is as it must be
 use Rattle.std.specs.Prelude.{◌≡◌, ◌+◌, ◌*◌, ◌/◌, ◌%◌, ◌^◌, ◌<◌, ◌≤◌, ◌&&◌, ◌∷◌, ◌⊎◌}
-use Rattle.cell_asm.proofs.Facts.{ℕ, zero, suc, max, true, false, List, [], map, length, replicate, slice_get, Some, Ok, refl, sym, subst, ◌∙◌, inl, inr, length-append, arith, Bool, filter, flat_map, fold, nat_le, range_with_len, and_parts, cases_lt, length-replicate, bytes_of, Section, Part, Text, Bss, Statement, StatementZeros as Zeros, StatementAlign as Align, Laid, IsPlain, IsWhole, IsWritableSection, is_in, gap, taken, size_in, parts_of, part_name, is_text, first_alignment, alignment_asked, alignment, padding, bytes_at, contents, fill_of, may_write, section_of, sections, placed_lines, In-numbers, In, all-In, In-filtered, filter-Passes, In-map}
+use Rattle.cell_asm.proofs.Facts.{ℕ, zero, suc, max, true, false, List, [], map, length, replicate, slice_get, Some, Ok, refl, sym, subst, ◌∙◌, inl, inr, length-append, arith, Bool, filter, flat_map, fold, nat_le, range_with_len, and_parts, cases_lt, length-replicate, bytes_of, Section, Part, Text, Bss}
+use Rattle.cell_asm.proofs.Facts.{Statement, StatementZeros as Zeros, StatementAlign as Align, Laid, IsPlain, IsWhole, IsWritableSection, is_in, gap, taken, size_in, parts_of, part_name, is_text, first_alignment, alignment_asked, alignment, padding, bytes_at, contents, fill_of, may_write, section_of}
+use Rattle.cell_asm.proofs.Facts.{sections, placed_lines, In-numbers, In, all-In, In-filtered, filter-Passes, In-map}
 use Rattle.cell_object.specs.Sections.{is_alignment}
 use Rattle.cell_asm.proofs.ListLemmas.{le_of, get_map, flat_length, total_same, sum_is_total}
 use Rattle.cell_asm.proofs.GoodBlocks.{IsUnit, IsGoodStatement}

@@ -1,7 +1,11 @@
 -- How many bytes the names of a source's symbols take.
 --     symbols_cost source lines
 use Rattle.std.specs.Prelude.{◌≡◌, ◌+◌, ◌*◌, ◌≤◌, ◌∷◌, ◌++◌, ◌^◌, ◌<◌, ◌⊎◌, if◌then◌else◌, ◌==◌}
-use Rattle.cell_asm.proofs.Facts.{ℕ, suc, Bool, true, false, cond, not, List, [], map, length, codes, Ok, Some, None, inl, inr, refl, subst, sym, ap, ◌∙◌, zero-add, true≢false, arith, replicate, length-append, lit≤, and_parts, map-append, length-map, length-replicate, filter-append, sum_by-cons, Option, decimal, filter, is_none, sum_by, IsWhole, is_pcrel_hi20, numbered_from, section_rows, local_count, offset_after, has_entries, content, symbols_part, table, own_names, table_name, names_before_tables, parts_before_tables, parts_before_strings, parts_before_names, onto, pieces, lines_in, placed_lines, globals, local_labels, label_names, mentions, other_names, key_name, symbols, parts_of, part_name, section_of, sections, entries, object_of, marks_in, is_same_part, is_at, is_in, placed, is_made, makes_label, may_stand, lays_nothing, taken, size_in, own_key, made_key, keys_of, label, labels_at, labels, is_key, holds_key, Symbol, Mark, Part, Text, Statement, Line, Laid, Label, Key, KeyNamed as Named, KeyMade as Made, Section, Entry, Object, Fill, Prog, Note, Zero, In-one, length-filter_le, In, In-left, filter-In, any-Has, any-In, In-append, In-filtered, In-map, In-numbered, get-In, names_in, nat_le, all-In}
+use Rattle.cell_asm.proofs.Facts.{ℕ, suc, Bool, true, false, cond, not, List, [], map, length, codes, Ok, Some, None, inl, inr, refl, subst, sym, ap, ◌∙◌, zero-add, true≢false, arith, replicate, length-append, lit≤, and_parts, map-append, length-map, length-replicate, filter-append, sum_by-cons, Option}
+use Rattle.cell_asm.proofs.Facts.{decimal, filter, is_none, sum_by, IsWhole, is_upper_pcrel, numbered_from, section_rows, local_count, offset_after, has_entries, content, symbols_part, table, own_names, table_name, names_before_tables, parts_before_tables, parts_before_strings, parts_before_names, onto}
+use Rattle.cell_asm.proofs.Facts.{pieces, lines_in, placed_lines, local_labels, label_names, mentions, other_names, key_name, symbols, parts_of, part_name, section_of, sections, entries, object_of, marks_in, is_same_part, is_at, is_in, placed, is_made, makes_label, may_stand, lays_nothing, taken}
+use Rattle.cell_asm.proofs.Facts.{size_in, own_key, made_key, keys_of, label, labels_at, labels, is_key, holds_key, Symbol, Mark, Part, Text, Statement, Line, Laid, Label, Key, KeyNamed as Named, KeyMade as Made, Section, Entry, Object, Fill, Prog, Note, Zero, In-one, length-filter_le, In, In-left}
+use Rattle.cell_asm.proofs.Facts.{filter-In, any-Has, any-In, In-append, In-filtered, In-map, In-numbered, get-In, names_in, nat_le, all-In, is_bound}
 use Rattle.cell_image.proofs.Headers.{rows_count}
 use Rattle.cell_image.proofs.Places.{even_length}
 use Rattle.cell_image.proofs.Stands.{entry_length}
@@ -11,9 +15,8 @@ use Rattle.cell_object.specs.ImageParts.{padded, entries_for, relocated, filled,
 use Rattle.cell_object.specs.ImageParts as parts
 use Rattle.cell_object.specs.Rows.{entry_bytes}
 use Rattle.cell_object.specs.Strings.{string, string_table}
-use Rattle.cell_asm.specs.Objects as objects
 use Rattle.cell_asm.proofs.EntriesFit.{IsStanding, all_stand, section_fits, few_entries}
-use Rattle.cell_asm.proofs.GoodBlocks.{AreMarks, is_code, hi20_code, content_of, statement_marks, statement_taken, none_laid}
+use Rattle.cell_asm.proofs.GoodBlocks.{AreMarks, is_code, upper_code, content_of, statement_marks, statement_taken, none_laid}
 use Rattle.cell_asm.proofs.ListLemmas.{total, total-append, total-map, total_split, fold_total, total_le, flat_length, flat_most, le_of, le_trans, itself}
 use Rattle.cell_asm.proofs.NamesFit.{cost, cost_flat, made_short}
 use Rattle.cell_asm.proofs.ObjectLemmas.{few}
@@ -80,8 +83,8 @@ line_makes l true e s =
     let st : Statement = l.line.statement in
     let marks : AreMarks (content_of st) (taken st l.offset) (marks_in st) = statement_marks st l.offset s.good in
     let r : (m : Mark) × In m (marks_in st) × (is_made m.fix.target ≡ true) = any-Has (λ m. is_made m.fix.target) (marks_in st) e in
-    let u : (m : Mark) × In m (marks_in st) × (is_pcrel_hi20 m.fix.kind ≡ true) = any-Has (λ m. is_pcrel_hi20 m.fix.kind) (marks_in st) (made_head st r.0 s.good r.1 r.2) in
-    let text : is_in Text l ≡ true = in_text_by l.part l.line u.0 s.stands u.1 (sym (marks.stand.0 u.0 u.1).fix.code ∙ hi20_code u.0.fix.kind u.2) in
+    let u : (m : Mark) × In m (marks_in st) × (is_upper_pcrel m.fix.kind ≡ true) = any-Has (λ m. is_upper_pcrel m.fix.kind) (marks_in st) (made_head st r.0 s.good r.1 r.2) in
+    let text : is_in Text l ≡ true = in_text_by l.part l.line u.0 s.stands u.1 (sym (marks.stand.0 u.0 u.1).fix.code ∙ upper_code u.0.fix.kind u.2) in
     subst (λ c. 1 ≤ 2 * (if c then taken st l.offset else 0)) (sym text) (omega (arith, some_there (marks_in st) r.0 r.1, marks.few))
 line_makes l false e s = omega arith
 
@@ -101,7 +104,7 @@ label_cost x = suc (length (key_name x.key))
 
 module _ (lines : List Laid) where
   abbrev is_local : Label → Bool
-  is_local x = not (objects.is_global (globals lines) x.key)
+  is_local x = not (is_bound lines x.key)
 
   -- the name of a LOCAL label
   abbrev is_own : List ℕ → Bool

@@ -2,14 +2,18 @@
 --     mnemonic_good text                            the row that is found is a good one
 --     instruction_good row os, numbers_good w os    good bytes, with names of the operands
 use Rattle.std.specs.Prelude.{◌≡◌, ◌≤◌, ◌<◌, ◌+◌, ◌%◌, ◌^◌, ◌||◌, ◌∷◌, ◌++◌, if◌then◌else◌, ◌&&◌}
-use Rattle.cell_asm.proofs.Facts.{Result, ℕ, Bool, true, false, not, List, [], length, ℤ, pos, negsuc, Ok, Err, Some, None, inl, inr, refl, sym, subst, ap, ◌∙◌, true≢false, append-nil, cond, arith, Option, nat_le, int_le, FitsSigned, flat_map, find, option_map, bytes_eq, list_any, list_all, option_map_or, w64, and_parts, or_from, or-false, nat_tests, flat_map-append, RelKind, PcrelHi20, PcrelLo12I, PcrelLo12S, Op, AsmKind, Then, Expression, ExpressionName as Name, Sum, Difference, Modifier, Whole, Hi, Lo, PcrelHi, PcrelLo, Immediate, Number, ImmediatePart as Part, Operand, OperandValue as Value, OperandMemory as Memory, Form, Address, Slot, Rd, Rs1, Rs2, Fields, Width, Byte, Half, WidthWord as Word, Quad, Content, Code, Mark, Block, Piece, Fix, TargetMade as Made, Field, Statement, Bytes, width_of, is_instruction, is_pcrel_lo12, is_pcrel_hi20, is_known_kind, with_value, marks_at, appended, empty, is_made, target_names, statement_names, is_bare, fix, within, entry, fitting, kind_of, plain, under, field, value, Row, row_of, mnemonics, mnemonic, unfilled, put, miscounted, filled, made_fix, block, instruction, layout_of, stored, datum, numbers, In, all-In, any-Has}
+use Rattle.cell_asm.proofs.Facts.{Result, ℕ, Bool, true, false, not, List, [], length, ℤ, pos, negsuc, Ok, Err, Some, None, inl, inr, refl, sym, subst, ap, ◌∙◌, true≢false, append-nil, cond, arith, Option, nat_le, int_le, FitsSigned, flat_map, find, option_map, bytes_eq, list_any, list_all}
+use Rattle.cell_asm.proofs.Facts.{option_map_or, w64, and_parts, or_from, or-false, nat_tests, flat_map-append, RelKind, PcrelHi20, PcrelLo12I, PcrelLo12S, Op, AsmKind, Then, Expression, ExpressionName as Name, Sum, Difference, Modifier, Whole, Hi, Lo, PcrelHi, PcrelLo, Immediate, Number}
+use Rattle.cell_asm.proofs.Facts.{ImmediatePart as Part, Operand, OperandValue as Value, OperandMemory as Memory, Form, Address, Slot, Rd, Rs1, Rs2, Fields, Width, Byte, Half, WidthWord as Word, Quad, Content, Code, Mark, Block, Piece, Fix, TargetMade as Made, Field, Statement, Bytes, width_of}
+use Rattle.cell_asm.proofs.Facts.{is_instruction, is_upper_pcrel, with_value, marks_at, appended, empty, is_made, target_names, statement_names, is_bare, fix, within, entry, fitting, kind_of, plain, under, field, value, Row, row_of, mnemonics, mnemonic, unfilled, put, miscounted, filled, made_fix}
+use Rattle.cell_asm.proofs.Facts.{block, instruction, layout_of, stored, datum, numbers, In, all-In, any-Has, GotHi20, GotPcrelHi}
 use Rattle.cell_asm.specs.declared.kind.AsmKind.TheVariants as faults
 use Rattle.cell_asm.specs.declared.mnemonic.Slot.TheVariants as slots
 use Rattle.cell_asm.specs.Wanted.{register, memory}
 use Rattle.cell_asm.specs.Statements as statements
 use Rattle.cell_asm.proofs.ListLemmas.{itself, le_of}
 use Rattle.cell_asm.proofs.NamesFit.{Any, Yields, yields_value, yields_joined, yields_any, yields_weaker, yields_gathered, Finds, IsNamed, none_named, IsPart, part_in, expression_names, immediate_names, operand_names, all_names}
-use Rattle.cell_asm.proofs.GoodBlocks.{is_code, any_upper, lo12_code, hi20_code, IsGoodFix, AreStacking, InFours, IsWithin, AreWithin, IsSound, IsGoodStatement, IsGoodPiece, one_there, both_there, piece_sound, empty_sound}
+use Rattle.cell_asm.proofs.GoodBlocks.{is_code, any_upper, lo12_code, upper_code, IsGoodFix, AreStacking, InFours, IsWithin, AreWithin, IsSound, IsGoodStatement, IsGoodPiece, one_there, both_there, piece_sound, empty_sound, is_unmoved}
 
 -- ENTRIES
 
@@ -23,26 +27,25 @@ within_fits : (n : ℤ) → (int_le (negsuc 0x7fffffffffffffff) n && int_le n (p
 within_fits (pos m) e = record { sfits = small m e }
 within_fits (negsuc m) e = record { sfits = small m (and_parts (nat_le m 0x7fffffffffffffff) true e).0 }
 
-low_bare : (kind : RelKind) → is_pcrel_lo12 kind ≡ true → is_bare kind ≡ true
-low_bare PcrelLo12I e = refl
-low_bare PcrelLo12S e = refl
-low_bare _ e = absurd cc
+unmoved_bare : (kind : RelKind) → is_unmoved kind ≡ true → is_bare kind ≡ true
+unmoved_bare PcrelLo12I e = refl
+unmoved_bare PcrelLo12S e = refl
+unmoved_bare GotHi20 e = refl
+unmoved_bare _ e = absurd cc
 
 -- a kind whose field is within so many bytes of instructions, or of numbers
 abbrev is_fit : Content → ℕ → RelKind → Bool
-is_fit content width kind = is_known_kind kind && (nat_le (width_of kind) width && (if is_code content then is_instruction kind else not (is_instruction kind)))
+is_fit content width kind = nat_le (width_of kind) width && (if is_code content then is_instruction kind else not (is_instruction kind))
 
 record IsFit (content : Content) (width : ℕ) (kind : RelKind) : Type 0 where
-  known : is_known_kind kind ≡ true
   fits : width_of kind ≤ width
   code : is_instruction kind ≡ is_code content
 
 fit_of : (content : Content) (width : ℕ) (kind : RelKind) → is_fit content width kind ≡ true → IsFit content width kind
 fit_of content width kind e =
     let code : Bool = if is_code content then is_instruction kind else not (is_instruction kind) in
-    let p = and_parts (is_known_kind kind) (nat_le (width_of kind) width && code) e in
-    let q = and_parts (nat_le (width_of kind) width) code p.1 in
-    record { known = p.0; fits = le_of (width_of kind) width q.0; code = same (is_instruction kind) (is_code content) q.1 }
+    let q = and_parts (nat_le (width_of kind) width) code e in
+    record { fits = le_of (width_of kind) width q.0; code = same (is_instruction kind) (is_code content) q.1 }
   where
     same : (a b : Bool) → (if b then a else not a) ≡ true → a ≡ b
     same a true e = e
@@ -54,16 +57,16 @@ module _ (test : RelKind → Bool) where
   record IsGiven (ns : List (List ℕ)) (f : Fix) : Type 0 where
     kind : test f.kind ≡ true
     addend : FitsSigned w64 f.addend
-    plain : is_pcrel_lo12 f.kind ≡ true → f.addend ≡ pos 0
+    plain : is_unmoved f.kind ≡ true → f.addend ≡ pos 0
     own : is_made f.target ≡ false
     named : target_names f.target ≡ ns
 
-  fix_given : (kind : RelKind) (n : List ℕ) (by : ℤ) → test kind ≡ true → FitsSigned w64 by → (is_pcrel_lo12 kind ≡ true → by ≡ pos 0) → IsGiven (n ∷ []) (fix kind n by)
+  fix_given : (kind : RelKind) (n : List ℕ) (by : ℤ) → test kind ≡ true → FitsSigned w64 by → (is_unmoved kind ≡ true → by ≡ pos 0) → IsGiven (n ∷ []) (fix kind n by)
   fix_given kind n by t near low = record { kind = t; addend = near; plain = low; own = refl; named = refl }
 
   sum_given : (kind : RelKind) (n : List ℕ) (by : ℤ) (b : Bool) → (int_le (negsuc 0x7fffffffffffffff) by && int_le by (pos 0x7fffffffffffffff)) ≡ b → is_bare kind ≡ false → test kind ≡ true
       → Yields (IsGiven (n ∷ [])) (with_value (fix kind n) (if b then Ok by else Err faults.Range))
-  sum_given kind n by true e bare t = fix_given kind n by t (within_fits by e) (λ low. absurd (true≢false (sym (low_bare kind low) ∙ bare)))
+  sum_given kind n by true e bare t = fix_given kind n by t (within_fits by e) (λ low. absurd (true≢false (sym (unmoved_bare kind low) ∙ bare)))
   sum_given kind n by false e bare t = tt
 
   moved_given : (kind : RelKind) (n : List ℕ) (by : ℤ) (b : Bool) → is_bare kind ≡ b → test kind ≡ true
@@ -78,7 +81,7 @@ module _ (test : RelKind → Bool) where
   entry_given (Some kind) (Difference a b) t = tt
 
   given_good : (content : Content) (width : ℕ) (ns : List (List ℕ)) (f : Fix) → IsFit content width f.kind → IsGiven ns f → IsGoodFix content f
-  given_good content width ns f k g = record { known = k.known; addend = g.addend; code = k.code; plain = g.plain; made = λ e. absurd (true≢false (sym e ∙ g.own)) }
+  given_good content width ns f k g = record { addend = g.addend; code = k.code; plain = g.plain; made = λ e. absurd (true≢false (sym e ∙ g.own)) }
 
 -- THE ROWS OF THE TABLE
 
@@ -90,7 +93,7 @@ makes (Some t) = t.made
 -- which kinds the operands' entry may have: a label is made at %pcrel_hi
 abbrev is_first : Option Then → RelKind → Bool
 is_first None kind = is_fit Code 4 kind
-is_first (Some t) kind = if t.made then is_pcrel_hi20 kind else is_fit Code 8 kind
+is_first (Some t) kind = if t.made then is_upper_pcrel kind else is_fit Code 8 kind
 
 -- the form that no number has
 abbrev is_address : Form → Bool
@@ -98,7 +101,7 @@ is_address Address = true
 is_address _ = false
 
 abbrev modifiers : List Modifier
-modifiers = Whole ∷ Hi ∷ Lo ∷ PcrelHi ∷ PcrelLo ∷ []
+modifiers = Whole ∷ Hi ∷ Lo ∷ PcrelHi ∷ PcrelLo ∷ GotPcrelHi ∷ []
 
 abbrev kinds_fit : Option Then → Form → Bool
 kinds_fit t form = list_all (λ m. option_map_or (is_first t) (kind_of form m) true) modifiers
@@ -143,6 +146,7 @@ modifier_in Hi = inr (inl refl)
 modifier_in Lo = inr (inr (inl refl))
 modifier_in PcrelHi = inr (inr (inr (inl refl)))
 modifier_in PcrelLo = inr (inr (inr (inr (inl refl))))
+modifier_in GotPcrelHi = inr (inr (inr (inr (inr (inl refl)))))
 
 number_good : (b : Bool) (form : Form) (n : ℤ) → (not b || is_address form) ≡ true → Yields (λ z. b ≡ false) (fitting form n)
 number_good b Address n e = tt
@@ -216,9 +220,10 @@ code_sound bytes n marks e some fours few h = record {
 first_mark : (n : ℕ) (f : Fix) → IsGoodFix Code f → width_of f.kind ≤ n → IsWithin Code 0 n (record { at = 0; fix = f })
 first_mark n f g w = record { fix = g; from = omega arith; inside = omega (arith, w); fours = λ wide. refl; head = λ u. refl }
 
-hi20_fit : (kind : RelKind) → is_pcrel_hi20 kind ≡ true → is_fit Code 4 kind ≡ true
-hi20_fit PcrelHi20 e = refl
-hi20_fit _ e = absurd cc
+upper_fit : (kind : RelKind) → is_upper_pcrel kind ≡ true → is_fit Code 4 kind ≡ true
+upper_fit PcrelHi20 e = refl
+upper_fit GotHi20 e = refl
+upper_fit _ e = absurd cc
 
 part_one : (ns ms all : List (List ℕ)) → ns ≡ ms → IsPart ms all → IsPart (ns ++ []) all
 part_one ns ms all e p = subst (λ xs. IsPart xs all) (sym (append-nil ns ∙ e)) p
@@ -228,7 +233,7 @@ abbrev low : Mark
 low = record { at = 4; fix = record { kind = PcrelLo12I; target = Made; addend = pos 0 } }
 
 low_there : IsWithin Code 0 8 low
-low_there = record { fix = record { known = refl; addend = zero_fits; code = refl; plain = λ e. refl; made = λ e. refl }; from = omega arith; inside = omega arith; fours = λ wide. refl; head = λ u. absurd (true≢false (sym u)) }
+low_there = record { fix = record { addend = zero_fits; code = refl; plain = λ e. refl; made = λ e. refl }; from = omega arith; inside = omega arith; fours = λ wide. refl; head = λ u. absurd (true≢false (sym u)) }
 
 module _ (all : List (List ℕ)) where
   -- one entry for all bytes, or none
@@ -247,15 +252,15 @@ module _ (all : List (List ℕ)) where
       }
 
   -- an entry at each of two instructions
-  two_good : (bytes : List ℕ) (f : Fix) → length bytes ≡ 8 → (ns : List (List ℕ)) × IsGiven is_pcrel_hi20 ns f × IsPart ns all → IsRead all (Bytes Code (record { bytes = bytes; marks = record { at = 0; fix = f } ∷ low ∷ [] }))
+  two_good : (bytes : List ℕ) (f : Fix) → length bytes ≡ 8 → (ns : List (List ℕ)) × IsGiven is_upper_pcrel ns f × IsPart ns all → IsRead all (Bytes Code (record { bytes = bytes; marks = record { at = 0; fix = f } ∷ low ∷ [] }))
   two_good bytes f e h =
-      let k : IsFit Code 4 f.kind = fit_of Code 4 f.kind (hi20_fit f.kind h.1.kind) in
+      let k : IsFit Code 4 f.kind = fit_of Code 4 f.kind (upper_fit f.kind h.1.kind) in
       let wide : width_of f.kind ≤ 4 = k.fits in
       let m : Mark = record { at = 0; fix = f } in
       record {
         good = record {
           sound = code_sound bytes 8 (m ∷ low ∷ []) e (omega arith) refl (omega arith)
-              (both_there Code 0 8 m low (first_mark 8 f (given_good is_pcrel_hi20 Code 4 h.0 f k h.1) (omega (arith, wide))) low_there (inl (omega (arith, wide))));
+              (both_there Code 0 8 m low (first_mark 8 f (given_good is_upper_pcrel Code 4 h.0 f k h.1) (omega (arith, wide))) low_there (inl (omega (arith, wide))));
           made = λ u. ap (λ b. b || any_upper (low ∷ [])) h.1.kind;
         };
         part = part_one (target_names f.target) h.0 all h.1.named h.2;
@@ -327,7 +332,7 @@ module _ (w : Width) where
   there l ns n f fours g =
       let k : IsFit content bytes f.kind = fit_of content bytes f.kind g.kind in
       let wide : width_of f.kind ≤ bytes = k.fits in
-      record { fix = given_good (is_fit content bytes) content bytes ns f k g; from = itself n; inside = omega (arith, wide); fours = fours; head = λ u. absurd (true≢false (sym (hi20_code f.kind u) ∙ k.code ∙ l.code)) }
+      record { fix = given_good (is_fit content bytes) content bytes ns f k g; from = itself n; inside = omega (arith, wide); fours = fours; head = λ u. absurd (true≢false (sym (upper_code f.kind u) ∙ k.code ∙ l.code)) }
 
   entry_datum : (l : IsLayout) (e : Expression) → Yields (IsDatum (Value (Part Whole e))) (with_value (λ f. statements.filled w 0 (Some f) None) (entry (layout_of w).address e))
   entry_datum l e =

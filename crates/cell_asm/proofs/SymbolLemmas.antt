@@ -2,18 +2,15 @@
 --     added            a map from keys, after one more key
 --     all_symbols      the symbols that are made are those of the lines
 use Rattle.std.specs.Prelude.{◌≡◌, ◌==◌, ◌||◌, ◌∷◌, ◌++◌, ◌+◌, if◌then◌else◌}
-use Rattle.cell_asm.proofs.Facts.{ℕ, Bool, true, false, cond, List, Some, None, refl, ap, sym, ◌∙◌, arith, not, [], map, subst, length, is_some, append_assoc, nat_tests, length_push, map-append, list_any-append, get, list_any, option_map_or, nat_cmp, is_eq, Option, option_map, filter, fold, equals, or_else, where_true, holds_name, known, spot_at, Follows, is_global_in, locals_in, number_of, has_key, keys_with, mentioned, home_in, symbol_in, other_in, local_in, Lists, Mentions, is_global, globals, local_labels, adds_name, other_names, mentions, home_at, label_named, number_in, number_from, symbol, global_symbol, local_symbol, symbols, symbol_keys, key_name, is_key, labels, holds_key, Key, KeyNamed as Named, KeyMade as Made, Numbering, Symbol, Local, Inside, Laid, Label, Spot, Progress, Symbols, Bind, BindGlobal as Global, NoType, Home, map_same, fold_same, filter_same}
+use Rattle.cell_asm.proofs.Facts.{ℕ, Bool, true, false, cond, List, Some, None, refl, ap, sym, ◌∙◌, arith, not, [], map, subst, length, is_some, append_assoc, nat_tests, length_push, map-append, list_any-append, get, list_any, option_map_or, nat_cmp, is_eq, Option, option_map, filter, fold, equals}
+use Rattle.cell_asm.proofs.Facts.{or_else, where_true, holds_name, known, spot_at, Follows, locals_in, number_of, has_key, keys_with, mentioned, home_in, symbol_in, other_in, local_in, Lists, Mentions, local_labels, adds_name, other_names, mentions, home_at, label_named, number_in, number_from, symbol}
+use Rattle.cell_asm.proofs.Facts.{local_symbol, symbols, symbol_keys, key_name, is_key, labels, holds_key, Key, KeyNamed as Named, KeyMade as Made, Numbering, Symbol, Local, Inside, Laid, Label, Spot, Progress, Symbols, Bind, NoType, Home, map_same, fold_same, filter_same, binding_in, is_bound}
+use Rattle.cell_asm.proofs.Facts.{bind_given, other_symbol, is_bound_in}
 use Rattle.cell_asm.proofs.ListLemmas.{number_more, numbered_if}
 
 pub or_none : {X : Type 0} (o : Option X) → or_else o None ≡ o
 or_none None = refl
 or_none (Some x) = refl
-
--- whether there is a value, after one more
-pub some_more : {X : Type 0} (o : Option X) (b : Bool) (x : X) → is_some (or_else o (where_true b x)) ≡ (is_some o || b)
-some_more None true x = refl
-some_more None false x = refl
-some_more (Some y) b x = refl
 
 -- a value for a key that had none
 pub taken : {X : Type 0} (b : Bool) (v : X) (old : Option X) → (b ≡ true → old ≡ None) → cond b (Some v) old ≡ or_else old (where_true b v)
@@ -38,14 +35,14 @@ pub ruleset added = (added_name, added_made)
 
 -- LOCAL LABELS
 
-global_same : (kept : Progress) (lines : List Laid) (key : Key) → Follows kept lines → is_global_in kept.globals key ≡ is_global (globals lines) key
-global_same kept lines (Named name) h = h.globals name
-global_same kept lines (Made n) h = refl
+bound_same : (kept : Progress) (lines : List Laid) (key : Key) → Follows kept lines → is_bound_in kept.bindings key ≡ is_bound lines key
+bound_same kept lines (Named name) h = ap is_some (h.bindings name)
+bound_same kept lines (Made n) h = refl
 
 locals_are : (kept : Progress) (lines : List Laid) → Follows kept lines → locals_in kept kept.labels.items ≡ local_labels lines
 locals_are kept lines h =
     ap (locals_in kept) h.labels
-    ∙ filter_same (λ l. not (is_global_in kept.globals l.key)) (λ l. not (is_global (globals lines) l.key)) (labels lines) (λ l k. ap not (global_same kept lines l.key h))
+    ∙ filter_same (λ l. not (is_bound_in kept.bindings l.key)) (λ l. not (is_bound lines l.key)) (labels lines) (λ l k. ap not (bound_same kept lines l.key h))
 
 -- OTHER NAMES
 
@@ -85,8 +82,14 @@ module _ (kept : Progress) (lines : List Laid) (h : Follows kept lines) where
   symbol_is key bind None = refl
   symbol_is key bind (Some l) = ap (λ ps. symbol key bind (Inside (number_in ps l.part)) l.offset) h.parts
 
+  other_is : (name : List ℕ) → other_in kept name ≡ other_symbol lines name
+  other_is name =
+      ap (λ b. symbol_in kept (Named name) (bind_given b) (known kept.spots name)) (h.bindings name)
+      ∙ ap (symbol_in kept (Named name) (bind_given (binding_in lines name))) (h.spots name)
+      ∙ symbol_is (Named name) (bind_given (binding_in lines name)) (label_named lines name)
+
   symbols_are : map (local_in kept) (local_labels lines) ++ map (other_in kept) (other_names lines) ≡ symbols lines
-  symbols_are = rw (map_same (local_in kept) (local_symbol lines) (local_labels lines) (λ l k. symbol_is l.key Local (Some l)), map_same (other_in kept) (global_symbol lines) (other_names lines) (λ name k. ap (symbol_in kept (Named name) Global) (h.spots name) ∙ symbol_is (Named name) Global (label_named lines name))) refl
+  symbols_are = rw (map_same (local_in kept) (local_symbol lines) (local_labels lines) (λ l k. symbol_is l.key Local (Some l)), map_same (other_in kept) (other_symbol lines) (other_names lines) (λ name k. other_is name)) refl
 
   -- the symbols that are mentioned are those of the lines
   pub all_symbols : (s : Symbols) → Mentions s kept (fold (mentioned kept) [] kept.mentions.items) → Lists s (symbol_keys lines) (symbols lines)
@@ -125,10 +128,11 @@ mention_known s kept names name e h =
     subst (λ ns. Mentions s kept ns) (sym (ap (λ b. if b then names else names ++ name ∷ []) found)) h
 
 -- a new name
-pub mention_new : (old new : Symbols) (kept : Progress) (names : List (List ℕ)) (name n : List ℕ) (spot : Option Spot) → is_some (number_of old.numbers (Named name)) ≡ false → n ≡ name → spot ≡ known kept.spots name
-    → Mentions old kept names → Lists new (keys_with kept names ++ Named n ∷ []) ((map (local_in kept) (locals_in kept kept.labels.items) ++ map (other_in kept) names) ++ symbol_in kept (Named n) Global spot ∷ [])
+pub mention_new : (old new : Symbols) (kept : Progress) (names : List (List ℕ)) (name n : List ℕ) (spot : Option Spot) (bind : Bind) → is_some (number_of old.numbers (Named name)) ≡ false → n ≡ name → spot ≡ known kept.spots name
+    → bind ≡ bind_given (known kept.bindings name)
+    → Mentions old kept names → Lists new (keys_with kept names ++ Named n ∷ []) ((map (local_in kept) (locals_in kept kept.labels.items) ++ map (other_in kept) names) ++ symbol_in kept (Named n) bind spot ∷ [])
     → Mentions new kept (mentioned kept names name)
-mention_new old new kept names name n spot e is at h more =
+mention_new old new kept names name n spot bind e is at bound h more =
     let locals = locals_in kept kept.labels.items in
     let found : has_key (keys_with kept names) (Named name) ≡ false = there old _ _ (Named name) h ∙ e in
-    rw (found, push_map (map (λ l. l.key) locals) (λ m. Named m) names name, push_map (map (local_in kept) locals) (other_in kept) names name, ← at, ← is) more
+    rw (found, push_map (map (λ l. l.key) locals) (λ m. Named m) names name, push_map (map (local_in kept) locals) (other_in kept) names name, ← bound, ← at, ← is) more

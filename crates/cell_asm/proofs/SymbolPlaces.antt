@@ -1,8 +1,12 @@
 -- No two labels have the same key.
 --     labels_once source lines      two labels of the lines with the same key are one
 use Rattle.std.specs.Prelude.{◌≡◌, ◌+◌, ◌≤◌, ◌==◌, ◌∷◌, ◌++◌, ◌⊎◌, ◌-◌, ◌||◌, if◌then◌else◌, ◌<◌}
-use Rattle.cell_asm.proofs.Facts.{ℕ, Bool, true, false, List, [], inl, inr, Ok, Some, None, refl, sym, ap, subst, ◌∙◌, zero-add, true≢false, arith, zero, suc, not, map, length, slice_get, and_right, slice_get_within, bytes_eq-Decides, list_any, option_map_or, unwrap_or, Option, is_some, filter, find, fold, bytes_eq, equals, is_unusable_symbol, is_unusable, lines_in, placed_lines, part_number, is_global, globals, local_labels, mentions, adds_name, other_names, label_named, home_at, local_symbol, global_symbol, symbols, symbol_keys, number_from, symbol_number, makes_label, made_in, placed, own_key, keys_of, label, labels_at, labels, is_twice, is_key, holds_key, Part, Laid, Label, Key, KeyNamed as Named, KeyMade as Made, Symbol, Inside, In-one, In, In-map, any-In, In-left, In-right, In-filtered, filter-In, found-In, find_there, any-Has, map-In, none-In, ne_eqb, or_from, list_any-append}
+use Rattle.cell_asm.proofs.Facts.{ℕ, Bool, true, false, List, [], inl, inr, Ok, Some, None, refl, sym, ap, subst, ◌∙◌, zero-add, true≢false, arith, zero, suc, not, map, length, slice_get, and_right, slice_get_within, bytes_eq-Decides, list_any, option_map_or, unwrap_or, Option, is_some, filter, find}
+use Rattle.cell_asm.proofs.Facts.{fold, bytes_eq, equals, is_unusable_symbol, is_unusable, lines_in, placed_lines, part_number, local_labels, mentions, adds_name, other_names, label_named, home_at, local_symbol, other_symbol, symbols, symbol_keys, number_from, symbol_number, makes_label, made_in}
+use Rattle.cell_asm.proofs.Facts.{placed, own_key, keys_of, label, labels_at, labels, is_twice, is_key, holds_key, Part, Laid, Label, Key, KeyNamed as Named, KeyMade as Made, Symbol, Inside, In-one, In, In-map, any-In, In-left, In-right, In-filtered, filter-In, found-In, find_there, any-Has, map-In}
+use Rattle.cell_asm.proofs.Facts.{none-In, ne_eqb, or_from, list_any-append, Binding, BindingGlobal, BindingWeak, binding_in, is_rebound, is_bound, bind_given}
 use Rattle.cell_num.specs.Lists.{each_pair}
+use Rattle.cell_object.specs.Parts.{is_local}
 use Rattle.cell_num.proofs.Elements.{pairs-In}
 use Rattle.cell_num.proofs.Sublists.{pairs-append}
 use Rattle.cell_asm.proofs.EntriesFit.{allowed}
@@ -69,6 +73,10 @@ line_makes (Some part) offset n m (Some name) true h = ap (λ c. c || false) (h 
 line_makes (Some part) offset n m (Some name) false h = refl
 
 -- the keys of a new line are none of those before
+first_false : (a b : Bool) → (a || b) ≡ false → a ≡ false
+first_false true b e = e
+first_false false b e = refl
+
 fresh : (before : List Laid) (own : Option (List ℕ)) (b : Bool) (n : ℕ) → is_twice before own ≡ false → holds_key (labels before) (Made n) ≡ false → (k : Key) → In k (own_key own ++ (if b then Made n ∷ [] else []))
     → holds_key (labels before) k ≡ false
 fresh before None true n twice next k i = ap (holds_key (labels before)) (In-one k (Made n) i) ∙ next
@@ -81,7 +89,7 @@ goes : Goes AreOnce
 goes before n text line h e f =
     let new : Laid = placed before n line in
     let b : Bool = makes_label line.statement in
-    let twice : is_twice before line.label ≡ false = (allowed before line f).new in
+    let twice : is_twice before line.label ≡ false = first_false (is_twice before line.label) (is_rebound before line.statement) (allowed before line f).new in
     let next : holds_key (labels before) (Made new.made) ≡ false = h.made new.made (omega arith) in
     record {
       once = ap (each_pair keys_apart) (labels_push before new)
@@ -122,19 +130,28 @@ module _ {A B X Y : Type 0} (f : A → X) (g : B → X) (h : A → Y) (k : B →
   get_both (a ∷ xs) ys zero x e = inl (a, inl refl, cc, refl)
   get_both (a ∷ xs) ys (suc i) x e = next_both a xs ys i x (get_both xs ys i x e)
 
--- the symbol at a place, of a label that no directive makes GLOBAL, or of another name
+-- the symbol at a place, of a label that no directive gives a binding, or of another name
 record IsSymbolAt (lines : List Laid) (i : ℕ) (key : Key) : Type 0 where
   s : Symbol
   there : slice_get (symbols lines) i ≡ Some s
   usable : is_unusable_symbol (Some s) ≡ false
-  comes : ((l : Label) × In l (local_labels lines) × (key ≡ l.key) × (s ≡ local_symbol lines l)) ⊎ ((name : List ℕ) × (key ≡ Named name) × (s ≡ global_symbol lines name))
+  comes : ((l : Label) × In l (local_labels lines) × (key ≡ l.key) × (s ≡ local_symbol lines l)) ⊎ ((name : List ℕ) × (key ≡ Named name) × (s ≡ other_symbol lines name))
+
+-- a name that isn't LOCAL has another binding
+pub never_local : (given : Option Binding) → is_local (bind_given given) ≡ false
+never_local None = refl
+never_local (Some BindingGlobal) = refl
+never_local (Some BindingWeak) = refl
+
+other_usable : (lines : List Laid) (name : List ℕ) → is_unusable_symbol (Some (other_symbol lines name)) ≡ false
+other_usable lines name = rw (never_local (binding_in lines name)) refl
 
 symbol_at : (lines : List Laid) (i : ℕ) (x : Key) → slice_get (symbol_keys lines) i ≡ Some x → IsSymbolAt lines i x
-symbol_at lines i x e = go (get_both (λ (l : Label). l.key) (λ n. Named n) (local_symbol lines) (global_symbol lines) (local_labels lines) (other_names lines) i x e)
+symbol_at lines i x e = go (get_both (λ (l : Label). l.key) (λ n. Named n) (local_symbol lines) (other_symbol lines) (local_labels lines) (other_names lines) i x e)
   where
-    go : IsBoth (λ (l : Label). l.key) (λ n. Named n) (local_symbol lines) (global_symbol lines) (local_labels lines) (other_names lines) i x → IsSymbolAt lines i x
+    go : IsBoth (λ (l : Label). l.key) (λ n. Named n) (local_symbol lines) (other_symbol lines) (local_labels lines) (other_names lines) i x → IsSymbolAt lines i x
     go (inl r) = record { s = local_symbol lines r.0; there = r.3; usable = refl; comes = inl (r.0, r.1, r.2, refl) }
-    go (inr r) = record { s = global_symbol lines r.0; there = r.2; usable = refl; comes = inr (r.0, r.1, refl) }
+    go (inr r) = record { s = other_symbol lines r.0; there = r.2; usable = other_usable lines r.0; comes = inr (r.0, r.1, refl) }
 
 -- THE NUMBER OF A KEY
 
@@ -228,7 +245,7 @@ mentioned_there lines name h = mentioned_by lines name (holds_key (local_labels 
 pub made_there : (lines : List Laid) (l : Label) (n : ℕ) → In l (labels lines) → l.key ≡ Made n → has_symbol lines (Made n) ≡ true
 made_there lines l n h e =
     ap (has_symbol lines) (sym e)
-    ∙ local_there lines l (filter-In (λ m. not (is_global (globals lines) m.key)) (labels lines) l h (ap (λ k. not (is_global (globals lines) k)) e))
+    ∙ local_there lines l (filter-In (λ m. not (is_bound lines m.key)) (labels lines) l h (ap (λ k. not (is_bound lines k)) e))
 
 -- THE SYMBOL OF A LABEL
 
@@ -253,9 +270,9 @@ name_found lines l name once h e =
 by_place : (lines : List Laid) (l : Label) (n i : ℕ) → AreOncePlaced lines → In l (labels lines) → n ≡ i + 1 → IsSymbolAt lines i l.key → IsLabelSymbol lines l n
 by_place lines l n i once h e at = go at.comes
   where
-    go : ((m : Label) × In m (local_labels lines) × (l.key ≡ m.key) × (at.s ≡ local_symbol lines m)) ⊎ ((name : List ℕ) × (l.key ≡ Named name) × (at.s ≡ global_symbol lines name)) → IsLabelSymbol lines l n
+    go : ((m : Label) × In m (local_labels lines) × (l.key ≡ m.key) × (at.s ≡ local_symbol lines m)) ⊎ ((name : List ℕ) × (l.key ≡ Named name) × (at.s ≡ other_symbol lines name)) → IsLabelSymbol lines l n
     go (inl r) =
-        let same : r.0 ≡ l = once r.0 l (In-filtered (λ m. not (is_global (globals lines) m.key)) (labels lines) r.0 r.1) h (sym r.2) in
+        let same : r.0 ≡ l = once r.0 l (In-filtered (λ m. not (is_bound lines m.key)) (labels lines) r.0 r.1) h (sym r.2) in
         record { i = i; s = at.s; numbered = e; symbol_is = at.there; home_is = ap (λ x. x.home) r.3 ∙ ap (λ m. Inside (part_number lines m.part)) same; value_is = ap (λ x. x.value) r.3 ∙ ap (λ m. m.offset) same }
     go (inr r) =
         let found : label_named lines r.0 ≡ Some l = name_found lines l r.0 once h r.1 in

@@ -1,17 +1,18 @@
 -- Each line stands in a section that is chosen.
 use Rattle.std.specs.Prelude.{◌≡◌, ◌+◌, ◌≤◌, ◌∷◌, ◌++◌, ◌⊎◌, ◌^◌, ◌<◌, ◌&&◌, ◌||◌, if◌then◌else◌}
-use Rattle.cell_asm.proofs.Facts.{ℕ, List, [], inl, inr, Ok, Some, None, refl, sym, subst, ◌∙◌, arith, true, Bool, false, ap, suc, not, map, length, take, slice_get, append-nil, true≢false, or_from, length-map, take-map, filter_map-append, filter-append, list_any-append, slice_get_within, list_any, option_map_or, Option, filter, bytes_eq, IsWithin, IsWritableHome, IsWritableSymbol, last, equals, local_count, defines, IsPlain, lines_in, placed_lines, is_name, parts_of, key_name, label_names, mentions, statement_names, part_number, section_of, sections, globals, local_labels, other_names, label_named, home_at, local_symbol, global_symbol, symbols, object_of, is_same_part, is_at, is_in, choice, choices, size_in, placed, keys_of, labels_at, labels, holds_key, is_key, Part, Laid, Key, KeyNamed as Named, Label, Symbol, In, In-map, In-none, filter_all, filter_none, In-left, In-flat_map, In-filtered, filter-In, found-In, get-In, names_in, makes_label, own_key, KeyMade as Made, In-one}
+use Rattle.cell_asm.proofs.Facts.{ℕ, List, [], inl, inr, Ok, Some, None, refl, sym, subst, ◌∙◌, arith, true, Bool, false, ap, suc, not, map, length, take, slice_get, append-nil, true≢false, or_from, length-map, take-map, filter_map-append, filter-append, list_any-append, slice_get_within, list_any}
+use Rattle.cell_asm.proofs.Facts.{option_map_or, Option, filter, bytes_eq, IsWithin, IsWritableHome, IsWritableSymbol, last, equals, local_count, defines, IsPlain, lines_in, placed_lines, is_name, parts_of, key_name, label_names, mentions, statement_names, part_number, section_of, sections}
+use Rattle.cell_asm.proofs.Facts.{local_labels, other_names, label_named, home_at, local_symbol, other_symbol, symbols, object_of, is_same_part, is_at, is_in, choice, choices, size_in, placed, keys_of, labels_at, labels, holds_key, is_key, Part, Laid, Key, KeyNamed as Named, Label, Symbol, In, In-map}
+use Rattle.cell_asm.proofs.Facts.{In-none, filter_all, filter_none, In-left, In-flat_map, In-filtered, filter-In, found-In, get-In, names_in, makes_label, own_key, KeyMade as Made, In-one, Bind, binding_in, is_bound, bind_given}
 use Rattle.std.proofs.Math.Seq.{take-append-add}
-use Rattle.cell_object.specs.Parts.{is_global, is_local}
-use Rattle.cell_object.specs.declared.object.Bind.TheVariants as binds
-use Rattle.cell_asm.specs.Objects as objects
+use Rattle.cell_object.specs.Parts.{is_external, is_local}
 use Rattle.cell_asm.proofs.EntriesFit.{section_small, stacked}
 use Rattle.cell_asm.proofs.ListLemmas.{fold_there, get_split, get_map, get_mapped, fold_apart, fold_In, before_fails}
 use Rattle.cell_asm.proofs.NamesFit.{key_fits, AreNames, IsGoodName, name_fits}
 use Rattle.cell_asm.proofs.ObjectLemmas.{part_itself, same_part}
 use Rattle.cell_asm.proofs.PlacingLemmas.{Goes, grows, pushed, each_line}
 use Rattle.cell_asm.proofs.ReadLines.{read_line}
-use Rattle.cell_asm.proofs.SymbolPlaces.{names_apart, IsAt, label_at}
+use Rattle.cell_asm.proofs.SymbolPlaces.{never_local, names_apart, IsAt, label_at}
 use Rattle.cell_asm.proofs.WritableEntries.{part_numbered}
 
 abbrev AllChosen : List Laid → Type 0
@@ -90,7 +91,8 @@ labels_fit source lines e m k =
 pub locals_count : (lines : List Laid) → local_count (object_of lines) ≡ length (local_labels lines)
 locals_count lines =
     let own = filter_all (λ s. is_local s.bind) (map (local_symbol lines) (local_labels lines)) (λ s k. ap (λ t. is_local t.bind) (In-map (local_symbol lines) (local_labels lines) s k).2) in
-    let none = filter_none (λ s. is_local s.bind) (map (global_symbol lines) (other_names lines)) (λ s k. ap (λ t. is_local t.bind) (In-map (global_symbol lines) (other_names lines) s k).2) in
+    let none = filter_none (λ s. is_local s.bind) (map (other_symbol lines) (other_names lines)) (λ s k.
+    let at = In-map (other_symbol lines) (other_names lines) s k in ap (λ t. is_local t.bind) at.2 ∙ never_local (binding_in lines at.0)) in
     simp (filter-append, own, none, append-nil, length-map)
 
 -- WHERE A SYMBOL IS
@@ -127,7 +129,7 @@ none_64 = omega arith
 
 local_fits : (source : List ℕ) (lines : List Laid) (k : ℕ) (l : Label) → placed_lines source ≡ Ok lines → slice_get (local_labels lines) k ≡ Some l → IsWritableSymbol (object_of lines) k (local_symbol lines l)
 local_fits source lines k l e h =
-    let fit : IsFitLabel lines l = labels_fit source lines e l (In-filtered (λ m. not (objects.is_global (globals lines) m.key)) (labels lines) l (get-In (local_labels lines) k l h)) in
+    let fit : IsFitLabel lines l = labels_fit source lines e l (In-filtered (λ m. not (is_bound lines m.key)) (labels lines) l (get-In (local_labels lines) k l h)) in
     record {
       name = fit.name;
       first = λ less. refl;
@@ -140,7 +142,7 @@ local_fits source lines k l e h =
       size = none_64;
     }
 
--- GLOBAL SYMBOLS
+-- ALL OTHER SYMBOLS
 
 pub others_named : (source : List ℕ) (lines : List Laid) → placed_lines source ≡ Ok lines → AreNames (other_names lines)
 others_named source lines e name k = go (fold_In names_apart [] (filter (λ n. not (holds_key (local_labels lines) (Named n))) (mentions lines)) name k)
@@ -149,24 +151,28 @@ others_named source lines e name k = go (fold_In names_apart [] (filter (λ n. n
     go (inl i) = absurd i
     go (inr i) = all_named source lines e name (In-filtered (λ n. not (holds_key (local_labels lines) (Named n))) (mentions lines) name i)
 
--- a GLOBAL symbol of that name
+-- a symbol of that name that isn't LOCAL
 abbrev is_defined_as : List ℕ → Symbol → Bool
-is_defined_as name s = is_global s.bind && bytes_eq s.name name
+is_defined_as name s = is_external s.bind && bytes_eq s.name name
 
-globals_define : (lines : List Laid) (names : List (List ℕ)) (name : List ℕ) → ((n : List ℕ) → In n names → equals n name ≡ false) → list_any (is_defined_as name) (map (global_symbol lines) names) ≡ false
-globals_define lines [] name h = refl
-globals_define lines (n ∷ names) name h = or_from (equals n name) (list_any (is_defined_as name) (map (global_symbol lines) names)) (h n (inl refl)) (globals_define lines names name (λ m k. h m (inr k)))
+defined_by : (lines : List Laid) (n name : List ℕ) → is_defined_as name (other_symbol lines n) ≡ equals n name
+defined_by lines n name = ap (λ b. not b && bytes_eq n name) (never_local (binding_in lines n))
+
+others_define : (lines : List Laid) (names : List (List ℕ)) (name : List ℕ) → ((n : List ℕ) → In n names → equals n name ≡ false) → list_any (is_defined_as name) (map (other_symbol lines) names) ≡ false
+others_define lines [] name h = refl
+others_define lines (n ∷ names) name h = or_from (is_defined_as name (other_symbol lines n)) (list_any (is_defined_as name) (map (other_symbol lines) names)) (defined_by lines n name ∙ h n (inl refl)) (others_define lines names name (λ m k. h m (inr k)))
 
 not_defined : (lines : List Laid) (k j : ℕ) (name : List ℕ) → k ≡ length (map (local_symbol lines) (local_labels lines)) + j → slice_get (other_names lines) j ≡ Some name
     → defines (take k (symbols lines)) name ≡ false
 not_defined lines k j name e h =
     rw (e, take-append-add, take-map, list_any-append)
-    (or_from _ _ (In-none (is_defined_as name) (map (local_symbol lines) (local_labels lines)) (λ s i. ap (is_defined_as name) (In-map (local_symbol lines) (local_labels lines) s i).2)) (globals_define lines (take j (other_names lines)) name (λ n i. before_fails names_apart (other_names lines) j name n (fold_apart names_apart [] (filter (λ m. not (holds_key (local_labels lines) (Named m))) (mentions lines)) tt) h i)))
+    (or_from _ _ (In-none (is_defined_as name) (map (local_symbol lines) (local_labels lines)) (λ s i. ap (is_defined_as name) (In-map (local_symbol lines) (local_labels lines) s i).2)) (others_define lines (take j (other_names lines)) name (λ n i. before_fails names_apart (other_names lines) j name
+    n (fold_apart names_apart [] (filter (λ m. not (holds_key (local_labels lines) (Named m))) (mentions lines)) tt) h i)))
 
-home_by : (source : List ℕ) (lines : List Laid) (o : Option Label) → placed_lines source ≡ Ok lines → ((l : Label) → o ≡ Some l → In l (labels lines))
-    → IsWritableHome (sections lines) binds.Global (option_map_or (λ l. l.offset) o 0) (home_at lines o)
-home_by source lines None e h = tt
-home_by source lines (Some l) e h =
+home_by : (source : List ℕ) (lines : List Laid) (bind : Bind) (o : Option Label) → placed_lines source ≡ Ok lines → ((l : Label) → o ≡ Some l → In l (labels lines))
+    → IsWritableHome (sections lines) bind (option_map_or (λ l. l.offset) o 0) (home_at lines o)
+home_by source lines bind None e h = tt
+home_by source lines bind (Some l) e h =
     let fit : IsFitLabel lines l = labels_fit source lines e l (h l refl) in
     label_within lines l.part l.offset fit.chosen fit.inside
 
@@ -174,19 +180,19 @@ value_by : (source : List ℕ) (lines : List Laid) (o : Option Label) → placed
 value_by source lines None e h = none_64
 value_by source lines (Some l) e h = offset_fits source lines l e (labels_fit source lines e l (h l refl))
 
-global_fits : (source : List ℕ) (lines : List Laid) (k j : ℕ) (name : List ℕ) → placed_lines source ≡ Ok lines → k ≡ length (map (local_symbol lines) (local_labels lines)) + j
-    → slice_get (other_names lines) j ≡ Some name → IsWritableSymbol (object_of lines) k (global_symbol lines name)
-global_fits source lines k j name e place h =
+other_fits : (source : List ℕ) (lines : List Laid) (k j : ℕ) (name : List ℕ) → placed_lines source ≡ Ok lines → k ≡ length (map (local_symbol lines) (local_labels lines)) + j
+    → slice_get (other_names lines) j ≡ Some name → IsWritableSymbol (object_of lines) k (other_symbol lines name)
+other_fits source lines k j name e place h =
     let good : IsGoodName name = name_fits name (others_named source lines e name (get-In (other_names lines) j name h)) in
     let known : (l : Label) → label_named lines name ≡ Some l → In l (labels lines) = λ l is. (found-In (λ m. is_key m.key (Named name)) (labels lines) l is).0 in
     record {
       name = good.plain;
       first = λ less. absurd (omega (arith, place, length-map (local_labels lines) (local_symbol lines), locals_count lines, less));
-      last = λ more. refl;
-      sort = refl;
+      last = λ more. ap not (never_local (binding_in lines name));
+      sort = ap (λ b. not b && false) (never_local (binding_in lines name));
       filed = λ is. absurd (true≢false (sym is));
-      home = home_by source lines (label_named lines name) e known;
-      named = rw (good.good, not_defined lines k j name place h) refl;
+      home = home_by source lines (bind_given (binding_in lines name)) (label_named lines name) e known;
+      named = rw (never_local (binding_in lines name), good.good, not_defined lines k j name place h) refl;
       value = value_by source lines (label_named lines name) e known;
       size = none_64;
     }
@@ -194,15 +200,15 @@ global_fits source lines k j name e place h =
 -- ALL SYMBOLS
 
 symbol_by : (source : List ℕ) (lines : List Laid) (k : ℕ) (s : Symbol) → placed_lines source ≡ Ok lines
-    → (slice_get (map (local_symbol lines) (local_labels lines)) k ≡ Some s) ⊎ ((j : ℕ) × (k ≡ length (map (local_symbol lines) (local_labels lines)) + j) × (slice_get (map (global_symbol lines) (other_names lines)) j ≡ Some s))
+    → (slice_get (map (local_symbol lines) (local_labels lines)) k ≡ Some s) ⊎ ((j : ℕ) × (k ≡ length (map (local_symbol lines) (local_labels lines)) + j) × (slice_get (map (other_symbol lines) (other_names lines)) j ≡ Some s))
     → IsWritableSymbol (object_of lines) k s
 symbol_by source lines k s e (inl h) =
     let r : (l : Label) × (slice_get (local_labels lines) k ≡ Some l) × (s ≡ local_symbol lines l) = get_map (local_symbol lines) (local_labels lines) k s h in
     subst (IsWritableSymbol (object_of lines) k) (sym r.2) (local_fits source lines k r.0 e r.1)
 symbol_by source lines k s e (inr t) =
-    let r : (name : List ℕ) × (slice_get (other_names lines) t.0 ≡ Some name) × (s ≡ global_symbol lines name) = get_map (global_symbol lines) (other_names lines) t.0 s t.2 in
-    subst (IsWritableSymbol (object_of lines) k) (sym r.2) (global_fits source lines k t.0 r.0 e t.1 r.1)
+    let r : (name : List ℕ) × (slice_get (other_names lines) t.0 ≡ Some name) × (s ≡ other_symbol lines name) = get_map (other_symbol lines) (other_names lines) t.0 s t.2 in
+    subst (IsWritableSymbol (object_of lines) k) (sym r.2) (other_fits source lines k t.0 r.0 e t.1 r.1)
 
 pub symbols_fit : (source : List ℕ) (lines : List Laid) → placed_lines source ≡ Ok lines → (k : ℕ) (s : Symbol) → slice_get (symbols lines) k ≡ Some s → IsWritableSymbol (object_of lines) k s
 symbols_fit source lines e k s h =
-    symbol_by source lines k s e (get_split (map (local_symbol lines) (local_labels lines)) (map (global_symbol lines) (other_names lines)) k s h)
+    symbol_by source lines k s e (get_split (map (local_symbol lines) (local_labels lines)) (map (other_symbol lines) (other_names lines)) k s h)

@@ -3,7 +3,11 @@
 --     entries_of_part      its entries are those with its number
 --     entries_grouped      all entries are those of the first section, of the second, and so on
 use Rattle.std.specs.Prelude.{◌≡◌, ◌+◌, ◌<◌, ◌==◌, ◌||◌, ◌∷◌, ◌++◌, ◌&&◌, ◌%◌, ◌^◌, ◌≤◌}
-use Rattle.cell_asm.proofs.Facts.{ℕ, zero, suc, Bool, true, false, not, cond, List, [], inl, map, length, slice_get, Ok, Some, None, refl, sym, ap, ◌∙◌, append-nil, one-add, true≢false, arith, pos, subst, int_eq, take, and_parts, and_from, not-false, lt-ltb, ne_eqb, and-false, nat_tests, filter-append, slice_get_within, list_any, position_or_len, option_map_or, filter, flat_map, Option, find, IsStorable, IsWritableEntry, is_instruction, is_pcrel_lo12, is_pcrel_hi20, numbered_from, is_unpaired, is_unusable, placed_lines, has_upper, is_upper_label, is_lost, is_lost_mark, has_lost, parts_of, part_number, section_of, sections, entries_in, entries, label_named, entries_of, target_names, statement_names, label_names, mentions, symbols, symbol_number, target_key, entry_of, fill_of, is_text, object_of, marks_in, is_same_part, is_in, choices, may_stand, is_made, own_key, made_key, keys_of, label, labels_at, labels, is_key, Entry, Part, Laid, Inside, Text, Target, Mark, Statement, Bytes, Label, Key, KeyNamed as Named, KeyMade as Made, Section, Zero, Bss, In, map-In, In-right, filter-In, flat_map-In, unfound-In, found-In, any-Has, any-In, none-In, In-flat_map, get-In, filter_all, filter_none, In-none, is_clash}
+use Rattle.cell_asm.proofs.Facts.{ℕ, zero, suc, Bool, true, false, not, cond, List, [], inl, map, length, slice_get, Ok, Some, None, refl, sym, ap, ◌∙◌, append-nil, one-add, true≢false, arith, pos, subst, int_eq, take, and_parts, and_from, not-false, lt-ltb, ne_eqb, and-false, nat_tests, filter-append}
+use Rattle.cell_asm.proofs.Facts.{slice_get_within, list_any, position_or_len, option_map_or, filter, flat_map, Option, find, IsStorable, IsWritableEntry, is_instruction, is_pcrel_lo12, is_upper_pcrel, numbered_from, is_unpaired, is_unusable, placed_lines, has_upper, is_upper_label, is_lost}
+use Rattle.cell_asm.proofs.Facts.{is_lost_mark, has_lost, parts_of, part_number, section_of, sections, entries_in, entries, label_named, entries_of, target_names, statement_names, label_names, mentions, symbols, symbol_number, target_key, entry_of, fill_of, is_text, object_of, marks_in, is_same_part}
+use Rattle.cell_asm.proofs.Facts.{is_in, choices, may_stand, is_made, own_key, made_key, keys_of, label, labels_at, labels, is_key, Entry, Part, Laid, Inside, Text, Target, Mark, Statement, Bytes, Label, Key, KeyNamed as Named, KeyMade as Made, Section, Zero, Bss, In, map-In, In-right, filter-In}
+use Rattle.cell_asm.proofs.Facts.{flat_map-In, unfound-In, found-In, any-Has, any-In, none-In, In-flat_map, get-In, filter_all, filter_none, In-none, is_clash, is_got_hi20, is_past_slot, or_right}
 use Rattle.cell_object.specs.ImageParts.{entries_for}
 use Rattle.cell_object.specs.Relocations.{has_label}
 use Rattle.cell_asm.specs.declared.statement.Target.TheVariants as targets
@@ -85,8 +89,10 @@ module _ (source : List ℕ) (lines : List Laid) (read : placed_lines source ≡
       sym (in_order (entries_in lines) (part_number lines) own_section (section_of lines) (entries_for (entries lines)) (parts_of lines) 1
       (λ n part e. ap (entries_for (entries lines)) (sym (one_more n)) ∙ entries_of_part n part e))
 
--- Each entry of the kinds PCREL_LO12 names the label of one of the kind PCREL_HI20 in its section.
+-- Each entry of the kinds PCREL_LO12 names the label of one of the kind PCREL_HI20 or GOT_HI20 in its section, and one of the
+-- kind GOT_HI20 has no addend.
 --     entry_paired      is_unpaired is false
+--     entry_bare        is_past_slot is false
 
 -- THE ENTRY OF THE UPPER PART
 
@@ -94,7 +100,7 @@ module _ (source : List ℕ) (lines : List Laid) (read : placed_lines source ≡
 pub record HasUpper (es : List Entry) (at : ℕ) : Type 0 where
   pub e : Entry
   pub there : In e es
-  pub upper : is_pcrel_hi20 e.kind ≡ true
+  pub upper : is_upper_pcrel e.kind ≡ true
   pub stands : e.offset ≡ at
 
 -- a line with an upper part has the entry at its offset
@@ -108,9 +114,9 @@ line_upper lines part l i p s h =
       stands = ap (λ n. l.offset + n) r.2 ∙ omega arith;
     }
   where
-    head_of : (s : Statement) → IsGoodStatement s → any_upper (marks_in s) ≡ true → (m : Mark) × In m (marks_in s) × (m.at ≡ 0) × (is_pcrel_hi20 m.fix.kind ≡ true)
+    head_of : (s : Statement) → IsGoodStatement s → any_upper (marks_in s) ≡ true → (m : Mark) × In m (marks_in s) × (m.at ≡ 0) × (is_upper_pcrel m.fix.kind ≡ true)
     head_of (Bytes content b) g t =
-        let r : (m : Mark) × In m b.marks × (is_pcrel_hi20 m.fix.kind ≡ true) = any-Has (λ m. is_pcrel_hi20 m.fix.kind) b.marks t in
+        let r : (m : Mark) × In m b.marks × (is_upper_pcrel m.fix.kind ≡ true) = any-Has (λ m. is_upper_pcrel m.fix.kind) b.marks t in
         (r.0, r.1, (g.sound.marks_are.stand.0 r.0 r.1).head r.2, r.2)
     head_of _ g t = absurd (true≢false (sym t))
 
@@ -209,7 +215,7 @@ module _ (source : List ℕ) (lines : List Laid) (read : placed_lines source ≡
       let home : s.s.home ≡ Inside (part_number lines Text) = s.home_is ∙ ap (λ q. Inside (part_number lines q)) u.in_text in
       rw (s.numbered, one_less s.i, s.symbol_is, home)
       (and_from _ _ (not_zero s.i) (and_from _ _ (same_test (part_number lines Text) section (sym at))
-      (any-In (λ e. is_pcrel_hi20 e.kind && e.offset == s.s.value) (entries_in lines Text) u.upper.e u.upper.there (and_from _ _ u.upper.upper (same_test u.upper.e.offset s.s.value (u.upper.stands ∙ sym s.value_is))))))
+      (any-In (λ e. is_upper_pcrel e.kind && e.offset == s.s.value) (entries_in lines Text) u.upper.e u.upper.there (and_from _ _ u.upper.upper (same_test u.upper.e.offset s.s.value (u.upper.stands ∙ sym s.value_is))))))
 
   text_label : (part : Part) (e : Entry) (o : Origin source lines read part e) → is_pcrel_lo12 o.comes.m.fix.kind ≡ true → has_label e.section (entries_in lines part) (symbols lines) e.symbol ≡ true
   text_label part e o low =
@@ -228,10 +234,21 @@ module _ (source : List ℕ) (lines : List Laid) (read : placed_lines source ≡
   by_kind part e true h k =
       let o : Origin source lines read part e = entry_origin source lines read part e k in
       let low : is_pcrel_lo12 o.comes.m.fix.kind ≡ true = ap (λ x. is_pcrel_lo12 x.kind) (sym o.comes.is) ∙ h in
-      rw (h, ap (λ x. int_eq x.addend (pos 0)) o.comes.is ∙ ap (λ z. int_eq z (pos 0)) (o.comes.within.fix.plain low), text_label part e o low) refl
+      rw (h, ap (λ x. int_eq x.addend (pos 0)) o.comes.is ∙ ap (λ z. int_eq z (pos 0)) (o.comes.within.fix.plain (ap (λ b. b || is_got_hi20 o.comes.m.fix.kind) low)), text_label part e o low) refl
 
   pub entry_paired : (part : Part) (e : Entry) → In e (entries_in lines part) → is_unpaired (symbols lines) (entries_in lines part) e.section e.kind e.addend e.symbol ≡ false
   entry_paired part e k = by_kind part e (is_pcrel_lo12 e.kind) refl k
+
+  got_by : (part : Part) (e : Entry) (b : Bool) → is_got_hi20 e.kind ≡ b → In e (entries_in lines part) → is_past_slot e.kind e.addend ≡ false
+  got_by part e false h k = ap (λ b. b && not (int_eq e.addend (pos 0))) h
+  got_by part e true h k =
+      let o : Origin source lines read part e = entry_origin source lines read part e k in
+      let got : is_got_hi20 o.comes.m.fix.kind ≡ true = ap (λ x. is_got_hi20 x.kind) (sym o.comes.is) ∙ h in
+      let unmoved = or_right (is_pcrel_lo12 o.comes.m.fix.kind) (is_got_hi20 o.comes.m.fix.kind) got in
+      rw (h, ap (λ x. int_eq x.addend (pos 0)) o.comes.is ∙ ap (λ z. int_eq z (pos 0)) (o.comes.within.fix.plain unmoved)) refl
+
+  pub entry_bare : (part : Part) (e : Entry) → In e (entries_in lines part) → is_past_slot e.kind e.addend ≡ false
+  entry_bare part e k = got_by part e (is_got_hi20 e.kind) refl k
 
 -- The entries of the object that lines make can be written.
 --     entry_storable       IsStorable of each
@@ -250,7 +267,7 @@ module _ (source : List ℕ) (lines : List Laid) (read : placed_lines source ≡
   storable part e few o =
       let n : symbol_number lines (target_key o.l o.comes.m.fix.target) ≤ length (symbols lines) = number_small lines (target_key o.l o.comes.m.fix.target) in
       subst IsStorable (sym o.comes.is)
-      (record { kind = o.comes.within.fix.known; offset = subst (λ x. x.offset < 2 ^ 32) o.comes.is (omega (arith, o.comes.high, line_room part o.l (stands part e o) o.in_part, largest_most part)); symbol = omega (arith, n, few); addend = o.comes.within.fix.addend })
+      (record { offset = subst (λ x. x.offset < 2 ^ 32) o.comes.is (omega (arith, o.comes.high, line_room part o.l (stands part e o) o.in_part, largest_most part)); symbol = omega (arith, n, few); addend = o.comes.within.fix.addend })
 
   pub entry_storable : length (symbols lines) < 2 ^ 32 → (k : ℕ) (e : Entry) → slice_get (entries lines) k ≡ Some e → IsStorable e
   entry_storable few k e g =
@@ -286,6 +303,7 @@ module _ (source : List ℕ) (lines : List Laid) (read : placed_lines source ≡
           code = coded part e o (is_instruction e.kind) refl;
           apart = In-none (is_clash e) (take k (entries_in lines part)) (λ x j. before_fails is_clash (entries_in lines part) k e x (entries_apart source lines read part) g j);
           paired = entry_paired source lines read kept part e i;
+          bare = entry_bare source lines read kept part e i;
         }
 
     pub entry_writable : (n : ℕ) (s : Section) → slice_get (sections lines) n ≡ Some s → (k : ℕ) (e : Entry) → slice_get (entries_for (entries lines) (n + 1)) k ≡ Some e

@@ -1,7 +1,7 @@
 -- What a source is assembled to.
 --     assembled source      its object, or the number of a line and what is wrong with it
 use Rattle.std.specs.Prelude.{◌≡◌, ◌==◌, ◌&&◌, ◌∷◌, ◌++◌}
-use Rattle.cell_asm.specs.Types.{ℕ, Bool, false, not, List, [], Option, Some, None, Result, Ok, Err, find, fold, list_any, option_map_or, numbered_from, is_pcrel_lo12, is_pcrel_hi20, lines_in, Object, AsmKind, AsmFail, AsmFailFault as Fault, AsmFailOutOfMemory as OutOfMemory, Text, Target, TargetNamed as Named, TargetMade as Made, Mark, Line, Laid, Label}
+use Rattle.cell_asm.specs.Types.{ℕ, Bool, false, not, List, [], Option, Some, None, Result, Ok, Err, find, fold, list_any, option_map_or, numbered_from, is_pcrel_lo12, is_upper_pcrel, lines_in, Object, AsmKind, AsmFail, AsmFailFault as Fault, AsmFailOutOfMemory as OutOfMemory, Text, Target, TargetNamed as Named, TargetMade as Made, Mark, Line, Laid, Label}
 use Rattle.cell_asm.specs.declared.kind.AsmKind.TheVariants as kinds
 use Rattle.cell_asm.specs.Lines.{line_of}
 use Rattle.cell_asm.specs.Places.{marks_in, is_in, is_same_part, placed, fault_at}
@@ -33,11 +33,11 @@ placed_texts texts = fold add_line (Ok []) (numbered_from 1 texts)
 abbrev pub placed_lines : List ℕ → Result (List Laid) (ℕ × AsmKind)
 placed_lines source = placed_texts (lines_in source)
 
--- an instruction with %pcrel_hi
+-- an instruction with %pcrel_hi or %got_pcrel_hi
 abbrev pub has_upper : Laid → Bool
-has_upper l = list_any (λ m. is_pcrel_hi20 m.fix.kind) (marks_in l.line.statement)
+has_upper l = list_any (λ m. is_upper_pcrel m.fix.kind) (marks_in l.line.statement)
 
--- the label stands in .text at an instruction with %pcrel_hi
+-- the label stands in .text at an instruction with %pcrel_hi or %got_pcrel_hi
 abbrev pub is_upper_label : List Laid → Label → Bool
 is_upper_label lines label =
     is_same_part Text label.part && list_any (λ l. is_in Text l && l.offset == label.offset && has_upper l) lines

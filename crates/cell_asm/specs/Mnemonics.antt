@@ -2,8 +2,11 @@
 --     directive text        the directive of that word
 --     mnemonic text         the instruction of that word, or what is short for instructions
 use Rattle.std.specs.Prelude.{◌∷◌, ◌++◌}
-use Rattle.cell_asm.specs.Types.{ℕ, true, false, List, [], map, codes, Option, Some, None, option_map, find, bytes_eq, pos, Op, Text, Rodata, Data, Bss, Low, LowStore, FormUpper as Upper, FormUpperPcrel as UpperPcrel, FormShift as Shift, FormShiftWord as ShiftWord, Small, FormBranch as Branch, FormJump as Jump, FormCall as Call, Address, Slot, Rd, Rs1, Rs2, SlotValue as Value, SlotMemory as Memory, Fixed, Byte, Half, WidthWord as Word, Quad, Mnemonic, Directive, DirectiveChoose as Choose, DirectiveGlobal as Global, Numbers, DirectiveZeros as Zeros, DirectiveAlign as Align}
-use Rattle.cell_isa.specs.declared.insn.Op.TheVariants.{Lui, Auipc, Jal, Jalr, Beq, Bne, Blt, Bge, Bltu, Bgeu, Lb, Lh, Lw, Ld, Lbu, Lhu, Lwu, Sb, Sh, Sw, Sd, Addi, Slti, Sltiu, Xori, Ori, Andi, Slli, Srli, Srai, Add, Sub, Sll, Slt, Sltu, Xor, Srl, Sra, Or, And, Addiw, Slliw, Srliw, Sraiw, Addw, Subw, Sllw, Srlw, Sraw, Mul, Mulh, Mulhsu, Mulhu, Div, Divu, Rem, Remu, Mulw, Divw, Divuw, Remw, Remuw, Fence, Ecall, Ebreak}
+use Rattle.cell_asm.specs.Types.{ℕ, true, false, List, [], map, codes, Option, Some, None, option_map, find, bytes_eq, pos, Op, Text, Rodata, Data, Bss, Low, LowStore, FormUpper as Upper, FormUpperPcrel as UpperPcrel, FormShift as Shift, FormShiftWord as ShiftWord, Small, FormBranch as Branch}
+use Rattle.cell_asm.specs.Types.{FormJump as Jump, FormCall as Call, Address, Slot, Rd, Rs1, Rs2, SlotValue as Value, SlotMemory as Memory, Fixed, Byte, Half, WidthWord as Word, Quad, Mnemonic, Directive, DirectiveChoose as Choose, DirectiveBind as Bind, BindingGlobal as Global, BindingWeak as Weak}
+use Rattle.cell_asm.specs.Types.{Numbers, DirectiveZeros as Zeros, DirectiveAlign as Align}
+use Rattle.cell_isa.specs.declared.insn.Op.TheVariants.{Lui, Auipc, Jal, Jalr, Beq, Bne, Blt, Bge, Bltu, Bgeu, Lb, Lh, Lw, Ld, Lbu, Lhu, Lwu, Sb, Sh, Sw, Sd, Addi, Slti, Sltiu, Xori, Ori, Andi, Slli, Srli, Srai, Add, Sub, Sll, Slt, Sltu, Xor, Srl, Sra, Or, And, Addiw, Slliw, Srliw, Sraiw, Addw, Subw}
+use Rattle.cell_isa.specs.declared.insn.Op.TheVariants.{Sllw, Srlw, Sraw, Mul, Mulh, Mulhsu, Mulhu, Div, Divu, Rem, Remu, Mulw, Divw, Divuw, Remw, Remuw, Fence, Ecall, Ebreak}
 
 -- the row of a table with that word
 abbrev pub row_of : {A : Type 0} → List (List ℕ × A) → List ℕ → Option A
@@ -12,7 +15,8 @@ row_of rows text = option_map (λ row. row.1) (find (λ row. bytes_eq text row.0
 abbrev pub directives : List (List ℕ × Directive)
 directives =
     (codes ".text", Choose Text) ∷ (codes ".rodata", Choose Rodata) ∷ (codes ".data", Choose Data) ∷ (codes ".bss", Choose Bss)
-    ∷ (codes ".globl", Global)
+    ∷ (codes ".globl", Bind Global)
+    ∷ (codes ".weak", Bind Weak)
     ∷ (codes ".byte", Numbers Byte) ∷ (codes ".half", Numbers Half) ∷ (codes ".word", Numbers Word) ∷ (codes ".quad", Numbers Quad)
     ∷ (codes ".zero", Zeros) ∷ (codes ".align", Align) ∷ []
 

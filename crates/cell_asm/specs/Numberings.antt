@@ -3,9 +3,9 @@
 --     Mentions symbols kept names          the symbols are those of the LOCAL labels, and then of these names
 --     part_entries kept symbols part       the entries of a section
 use Rattle.std.specs.Prelude.{◌≡◌, ◌∷◌, ◌++◌, if◌then◌else◌}
-use Rattle.cell_asm.specs.Types.{ℕ, Bool, List, [], map, length, Option, Some, None, is_some, false, not, filter, get, list_any, option_map_or, unwrap_or, nat_cmp, Section, Symbol, Bind, Local, BindGlobal as Global, Home, Undef, Inside, Entry, Part, Bodies, Reference, Key, KeyNamed as Named, KeyMade as Made, Label, Numbering, Spot, Known, Progress, Symbols}
+use Rattle.cell_asm.specs.Types.{ℕ, Bool, List, [], map, length, Option, Some, None, is_some, false, not, filter, get, list_any, option_map_or, unwrap_or, nat_cmp, Section, Symbol, Bind, Local, Home, Undef, Inside, Entry, Part, Bodies, Reference, Key, KeyNamed as Named, KeyMade as Made, Label, Numbering, Spot, Known, Progress, Symbols, Binding}
 use Rattle.cell_asm.specs.Places.{is_key, is_at}
-use Rattle.cell_asm.specs.Objects.{number_in, number_from, section_of, symbol}
+use Rattle.cell_asm.specs.Objects.{number_in, number_from, section_of, symbol, bind_given}
 use Rattle.cell_asm.specs.Progress.{known, spot_at, body_of}
 
 -- SECTIONS
@@ -46,15 +46,15 @@ abbrev pub local_in : Progress → Label → Symbol
 local_in kept l = symbol_in kept l.key Local (Some (spot_at l))
 
 abbrev pub other_in : Progress → List ℕ → Symbol
-other_in kept name = symbol_in kept (Named name) Global (known kept.spots name)
+other_in kept name = symbol_in kept (Named name) (bind_given (known kept.bindings name)) (known kept.spots name)
 
-abbrev pub is_global_in : Known (Unit {0}) → Key → Bool
-is_global_in globals (Named name) = is_some (known globals name)
-is_global_in globals (Made n) = false
+abbrev pub is_bound_in : Known Binding → Key → Bool
+is_bound_in bindings (Named name) = is_some (known bindings name)
+is_bound_in bindings (Made n) = false
 
--- the labels that no directive makes GLOBAL
+-- the labels that no directive gives a binding
 abbrev pub locals_in : Progress → List Label → List Label
-locals_in kept labels = filter (λ l. not (is_global_in kept.globals l.key)) labels
+locals_in kept labels = filter (λ l. not (is_bound_in kept.bindings l.key)) labels
 
 -- the symbols are those of the LOCAL labels among these
 abbrev pub Locals : Symbols → Progress → List Label → Type 0

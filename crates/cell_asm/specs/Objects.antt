@@ -1,9 +1,10 @@
 -- The object of the lines in their places: sections, symbols and entries.
 use Rattle.std.specs.Prelude.{◌+◌, ◌/◌, ◌∷◌, ◌++◌, if◌then◌else◌}
-use Rattle.cell_asm.specs.Types.{ℕ, suc, max, Bool, true, false, not, List, [], map, codes, decimal, Option, Some, None, filter, filter_map, flat_map, find, position, fold, replicate, list_any, cons_option, option_map_or, unwrap_or, holds_name, bytes_of, Object, Section, Symbol, Entry, Fill, Prog, Zero, Bind, Local, NoType, Home, Undef, Inside, Part, Text, Rodata, Data, Bss, Target, Mark, Statement, StatementGlobal as Global, StatementZeros as Zeros, StatementAlign as Align, Bytes, Laid, Key, KeyNamed as Named, KeyMade as Made, Label}
+use Rattle.cell_asm.specs.Types.{ℕ, suc, max, Bool, true, false, not, List, [], map, codes, decimal, Option, Some, None, filter, flat_map, find, position, fold, replicate, list_any, cons_option, option_map_or, unwrap_or, holds_name, bytes_of, Object, Section, Symbol, Entry, Fill, Prog, Zero, Bind}
+use Rattle.cell_asm.specs.Types.{Local, NoType, Home, Undef, Inside, Part, Text, Rodata, Data, Bss, Target, Mark, Statement, StatementBind, Binding, BindingWeak as Weak, StatementZeros as Zeros, StatementAlign as Align, Bytes, Laid, Key, KeyNamed as Named, KeyMade as Made, Label, is_some}
 use Rattle.cell_object.specs.declared.object.Bind.TheVariants as binds
 use Rattle.cell_asm.specs.declared.statement.Target.TheVariants as targets
-use Rattle.cell_asm.specs.Places.{marks_in, is_same_part, is_in, is_key, holds_key, choice, choices, gap, size_in, labels}
+use Rattle.cell_asm.specs.Places.{marks_in, is_same_part, is_in, is_key, holds_key, choice, choices, gap, size_in, labels, binding_in}
 
 -- SECTIONS, by first use
 
@@ -85,22 +86,14 @@ section_of lines part =
 abbrev pub sections : List Laid → List Section
 sections lines = map (section_of lines) (parts_of lines)
 
--- SYMBOLS: the labels that no directive makes GLOBAL; then all other names
+-- SYMBOLS: the labels that no directive gives a binding; then all other names
 
-abbrev pub global_name : Statement → Option (List ℕ)
-global_name (Global name) = Some name
-global_name _ = None
-
--- the names that a directive makes GLOBAL
-abbrev pub globals : List Laid → List (List ℕ)
-globals lines = filter_map (λ l. global_name l.line.statement) lines
-
-abbrev pub is_global : List (List ℕ) → Key → Bool
-is_global names (Named name) = holds_name names name
-is_global names (Made n) = false
+abbrev pub is_bound : List Laid → Key → Bool
+is_bound lines (Named name) = is_some (binding_in lines name)
+is_bound lines (Made n) = false
 
 abbrev pub local_labels : List Laid → List Label
-local_labels lines = filter (λ l. not (is_global (globals lines) l.key)) (labels lines)
+local_labels lines = filter (λ l. not (is_bound lines l.key)) (labels lines)
 
 -- the names that a statement mentions, in order
 abbrev pub target_names : Target → List (List ℕ)
@@ -108,7 +101,7 @@ target_names (targets.Named name) = name ∷ []
 target_names targets.Made = []
 
 abbrev pub statement_names : Statement → List (List ℕ)
-statement_names (Global name) = name ∷ []
+statement_names (StatementBind binding name) = name ∷ []
 statement_names (Bytes content b) = flat_map (λ m. target_names m.fix.target) b.marks
 statement_names _ = []
 
@@ -147,12 +140,17 @@ symbol key bind home value =
 abbrev pub local_symbol : List Laid → Label → Symbol
 local_symbol lines l = symbol l.key Local (home_at lines (Some l)) l.offset
 
-abbrev pub global_symbol : List Laid → List ℕ → Symbol
-global_symbol lines name =
-    symbol (Named name) binds.Global (home_at lines (label_named lines name)) (option_map_or (λ l. l.offset) (label_named lines name) 0)
+-- a name that isn't LOCAL is GLOBAL where no directive makes it WEAK
+abbrev pub bind_given : Option Binding → Bind
+bind_given (Some Weak) = binds.Weak
+bind_given _ = binds.Global
+
+abbrev pub other_symbol : List Laid → List ℕ → Symbol
+other_symbol lines name =
+    symbol (Named name) (bind_given (binding_in lines name)) (home_at lines (label_named lines name)) (option_map_or (λ l. l.offset) (label_named lines name) 0)
 
 abbrev pub symbols : List Laid → List Symbol
-symbols lines = map (local_symbol lines) (local_labels lines) ++ map (global_symbol lines) (other_names lines)
+symbols lines = map (local_symbol lines) (local_labels lines) ++ map (other_symbol lines) (other_names lines)
 
 -- what the symbols are known by, in their order
 abbrev pub symbol_keys : List Laid → List Key

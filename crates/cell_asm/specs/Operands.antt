@@ -3,7 +3,8 @@
 --     immediate text        a number, or %word(EXPR)
 --     operand text          one of these, or I(reg)
 use Rattle.std.specs.Prelude.{◌||◌, ◌==◌, ◌-◌, ◌∷◌, if◌then◌else◌}
-use Rattle.cell_asm.specs.Types.{ℕ, Bool, List, [], take, drop, length, codes, Option, Some, None, option_map, option_and_then, neg_ℤ, position_or_len, before_last, after_last, where_true, or_else, Expression, ExpressionName as Name, Sum, Difference, Modifier, Whole, Hi, Lo, PcrelHi, PcrelLo, Immediate, Number, ImmediatePart as Part, Operand, OperandValue as Value, OperandMemory as Memory}
+use Rattle.cell_asm.specs.Types.{ℕ, Bool, List, [], take, drop, length, codes, Option, Some, None, option_map, option_and_then, neg_ℤ, position_or_len, before_last, after_last, where_true, or_else, Expression, ExpressionName as Name, Sum, Difference, Modifier, Whole, Hi, Lo, PcrelHi, PcrelLo}
+use Rattle.cell_asm.specs.Types.{GotPcrelHi, Immediate, Number, ImmediatePart as Part, Operand, OperandValue as Value, OperandMemory as Memory}
 use Rattle.cell_asm.specs.Mnemonics.{row_of}
 use Rattle.cell_asm.specs.Names.{number, is_name, register, ends}
 
@@ -26,7 +27,9 @@ expression text =
     if is_name (take end text) then with_rest (take end text) (drop end text) else None
 
 abbrev pub modifiers : List (List ℕ × Modifier)
-modifiers = (codes "%hi", Hi) ∷ (codes "%lo", Lo) ∷ (codes "%pcrel_hi", PcrelHi) ∷ (codes "%pcrel_lo", PcrelLo) ∷ []
+modifiers =
+    (codes "%hi", Hi) ∷ (codes "%lo", Lo) ∷ (codes "%pcrel_hi", PcrelHi) ∷ (codes "%pcrel_lo", PcrelLo)
+    ∷ (codes "%got_pcrel_hi", GotPcrelHi) ∷ []
 
 abbrev pub modifier : List ℕ → Option Modifier
 modifier text = row_of modifiers text

@@ -1,9 +1,11 @@
 -- Where a line stands, by the lines before it; and what is wrong with it there.
 --     placed before n line      the line with its number, section and offset
 --     fault_at before line      the first of Section, Twice, Long that it has there
-use Rattle.std.specs.Prelude.{◌+◌, ◌-◌, ◌%◌, ◌==◌, ◌&&◌, ◌∷◌, ◌++◌, if◌then◌else◌}
+use Rattle.std.specs.Prelude.{◌+◌, ◌-◌, ◌%◌, ◌==◌, ◌&&◌, ◌∷◌, ◌++◌, if◌then◌else◌, ◌||◌}
 use Rattle.cell_num.specs.Limits.{max_section_bytes, max_stored_bytes}
-use Rattle.cell_asm.specs.Types.{ℕ, nat_lt, nat_le, Bool, true, false, not, List, [], map, Option, Some, None, is_none, filter, filter_map, flat_map, sum_by, count_by, length, list_any, equals, last, where_true, or_else, AsmKind, AsmKindSection as Section, Twice, Long, Part, Text, Rodata, Data, Bss, Code, Narrow, Target, TargetNamed as Name, TargetMade as Made, Mark, Statement, Nothing, StatementChoose as Choose, StatementGlobal as Global, StatementZeros as Zeros, StatementAlign as Align, Bytes, Line, Laid, Key, KeyNamed as Named, KeyMade, Label}
+use Rattle.cell_asm.specs.Types.{ℕ, nat_lt, nat_le, Bool, true, false, not, List, [], map, Option, Some, None, is_none, filter, filter_map, flat_map, sum_by, count_by, length, list_any, equals, last, where_true, or_else, AsmKind, AsmKindSection as Section, Twice, Long, Part, Text, Rodata, Data, Bss}
+use Rattle.cell_asm.specs.Types.{Code, Narrow, Target, TargetNamed as Name, TargetMade as Made, Mark, Statement, Nothing, StatementChoose as Choose, StatementBind as Bind, Binding, BindingGlobal as Global, BindingWeak as Weak, StatementZeros as Zeros, StatementAlign as Align, Bytes, Line, Laid, Key}
+use Rattle.cell_asm.specs.Types.{KeyNamed as Named, KeyMade, Label}
 
 abbrev pub is_same_part : Part → Part → Bool
 is_same_part Text Text = true
@@ -112,7 +114,7 @@ takes part statement = true
 abbrev pub lays_nothing : Statement → Bool
 lays_nothing Nothing = true
 lays_nothing (Choose part) = true
-lays_nothing (Global name) = true
+lays_nothing (Bind binding name) = true
 lays_nothing _ = false
 
 abbrev pub may_stand : Option Part → Line → Bool
@@ -124,6 +126,26 @@ abbrev pub is_twice : List Laid → Option (List ℕ) → Bool
 is_twice before None = false
 is_twice before (Some name) = holds_key (labels before) (Named name)
 
+-- the binding that a statement gives the name
+abbrev pub given : List ℕ → Statement → Option Binding
+given q (Bind binding name) = where_true (equals name q) binding
+given q _ = None
+
+-- the binding that a directive gives the name, if one does
+abbrev pub binding_in : List Laid → List ℕ → Option Binding
+binding_in [] q = None
+binding_in (l ∷ lines) q = or_else (given q l.line.statement) (binding_in lines q)
+
+abbrev pub is_other : Binding → Option Binding → Bool
+is_other Global (Some Weak) = true
+is_other Weak (Some Global) = true
+is_other binding _ = false
+
+-- an earlier line gives the name another binding
+abbrev pub is_rebound : List Laid → Statement → Bool
+is_rebound before (Bind binding name) = is_other binding (binding_in before name)
+is_rebound before _ = false
+
 abbrev pub largest : Part → ℕ
 largest Bss = max_section_bytes
 largest _ = max_stored_bytes
@@ -132,7 +154,7 @@ abbrev pub is_long : Option Part → ℕ → Bool
 is_long None size = false
 is_long (Some part) size = nat_lt (largest part) size
 
--- what is wrong with a line, by the section that is chosen, its size, and whether the label is taken
+-- what is wrong with a line, by the section that is chosen, its size, and whether the label or the binding is taken
 abbrev pub fault_by : Option Part → ℕ → Bool → Line → Option AsmKind
 fault_by part offset twice line =
     or_else (where_true (not (may_stand part line)) Section)
@@ -141,4 +163,4 @@ fault_by part offset twice line =
 
 abbrev pub fault_at : List Laid → Line → Option AsmKind
 fault_at before line =
-    let part = last (choices before) in fault_by part (size_at part before) (is_twice before line.label) line
+    let part = last (choices before) in fault_by part (size_at part before) (is_twice before line.label || is_rebound before line.statement) line

@@ -2,11 +2,12 @@
 --     known names q              what is kept for the name
 --     Follows progress lines     what is kept is what the lines so far come to
 use Rattle.std.specs.Prelude.{◌≡◌, ◌+◌, ◌<◌, ◌≤◌, ◌^◌, ◌==◌, ◌&&◌, ◌||◌, ◌++◌, ◌∷◌, if◌then◌else◌}
-use Rattle.cell_asm.specs.Types.{ℕ, max, Bool, false, not, List, [], map, All, Option, Some, None, option_map, is_some, find, flat_map, Result, Ok, Err, get_by, list_any, option_map_or, nat_cmp, is_pcrel_lo12, equals, where_true, holds_name, last, or_else, Part, Text, Rodata, Data, Bss, Statement, StatementGlobal as Global, Line, Laid, Label, Key, KeyNamed as Named, KeyMade as Made, Mark, Spot, Known, Body, Bodies, Reference, AsmKind, Progress, AsmFail, AsmFailFault as Fault, AsmFailOutOfMemory as OutOfMemory, Stop, StopFault as Stopped, StopOutOfMemory as NoMemory}
+use Rattle.cell_asm.specs.Types.{ℕ, max, Bool, false, not, List, [], map, All, Option, Some, None, option_map, is_some, find, flat_map, Result, Ok, Err, get_by, list_any, option_map_or, nat_cmp, is_pcrel_lo12, equals, where_true, last, or_else, Part, Text, Rodata, Data, Bss, Statement}
+use Rattle.cell_asm.specs.Types.{StatementBind as Bind, Line, Laid, Label, Key, KeyNamed as Named, KeyMade as Made, Mark, Spot, Known, Body, Bodies, Reference, AsmKind, Progress, AsmFail, AsmFailFault as Fault, AsmFailOutOfMemory as OutOfMemory, Stop, StopFault as Stopped, StopOutOfMemory as NoMemory}
 use Rattle.std.specs.BTreeSet.{contains}
 use Rattle.std.specs.Cmp.Lexicographic.{slice_cmp}
-use Rattle.cell_asm.specs.Places.{marks_in, is_key, keys_of, labels_at, labels, choices, choice, size_in, made_in, is_in, taken, makes_label, fault_by, is_same_part}
-use Rattle.cell_asm.specs.Objects.{adds_choice, parts_of, alignment_asked, alignment, bytes_at, contents, globals, target_key, label_names, statement_names, mentions}
+use Rattle.cell_asm.specs.Places.{marks_in, is_key, keys_of, labels_at, labels, choices, choice, size_in, made_in, is_in, taken, makes_label, fault_by, is_same_part, given, binding_in, is_other}
+use Rattle.cell_asm.specs.Objects.{adds_choice, parts_of, alignment_asked, alignment, bytes_at, contents, target_key, label_names, statement_names, mentions}
 use Rattle.cell_asm.specs.Assembled.{has_upper}
 
 -- NAMES
@@ -19,11 +20,6 @@ abbrev pub spot_here : Option Part → ℕ → Option (List ℕ) → List ℕ �
 spot_here None offset own q = None
 spot_here (Some part) offset None q = None
 spot_here (Some part) offset (Some name) q = where_true (equals name q) (record { part = part; offset = offset })
-
--- the statement makes the name GLOBAL
-abbrev pub declares : List ℕ → Statement → Bool
-declares q (Global name) = equals name q
-declares q _ = false
 
 abbrev pub spot_at : Label → Spot
 spot_at l = record { part = l.part; offset = l.offset }
@@ -75,7 +71,7 @@ reference_at l m =
 abbrev pub references_of : Laid → List Reference
 references_of l = map (reference_at l) (marks_in l.line.statement)
 
--- an instruction with %pcrel_hi stands in .text at that offset
+-- an instruction with %pcrel_hi or %got_pcrel_hi stands in .text at that offset
 abbrev pub is_upper_at : ℕ → Laid → Bool
 is_upper_at q l = is_in Text l && l.offset == q && has_upper l
 
@@ -88,7 +84,7 @@ pub record Adds (old new : Progress) (l : Laid) : Type 0 where
   pub bodies : (part : Part) → grown (body_of new.bodies part) ≡ (if is_in part l then grown_with part l (grown (body_of old.bodies part)) else grown (body_of old.bodies part))
   pub made : new.made ≡ old.made + (if makes_label l.line.statement then 1 else 0)
   pub spots : (q : List ℕ) → known new.spots q ≡ or_else (known old.spots q) (spot_here l.part l.offset l.line.label q)
-  pub globals : (q : List ℕ) → is_some (known new.globals q) ≡ (is_some (known old.globals q) || declares q l.line.statement)
+  pub bindings : (q : List ℕ) → known new.bindings q ≡ or_else (known old.bindings q) (given q l.line.statement)
   pub labels : new.labels.items ≡ old.labels.items ++ labels_at l.part l.offset (keys_of l)
   pub mentions : new.mentions.items ≡ old.mentions.items ++ names_in l.line
   pub uppers : (q : ℕ) → contains nat_cmp new.uppers q ≡ (contains nat_cmp old.uppers q || is_upper_at q l)
@@ -100,7 +96,7 @@ pub record Follows (progress : Progress) (lines : List Laid) : Type 0 where
   pub bodies : (part : Part) → grown (body_of progress.bodies part) ≡ grown_in part lines
   pub made : progress.made ≡ made_in lines
   pub spots : (q : List ℕ) → known progress.spots q ≡ spot_among (labels lines) q
-  pub globals : (q : List ℕ) → is_some (known progress.globals q) ≡ holds_name (globals lines) q
+  pub bindings : (q : List ℕ) → known progress.bindings q ≡ binding_in lines q
   pub labels : progress.labels.items ≡ labels lines
   pub mentions : progress.mentions.items ≡ mentions lines
   pub uppers : (q : ℕ) → contains nat_cmp progress.uppers q ≡ list_any (is_upper_at q) lines
@@ -113,9 +109,13 @@ offset_of progress = option_map_or (λ part. (body_of progress.bodies part).size
 abbrev pub twice_of : Progress → Option (List ℕ) → Bool
 twice_of progress label = option_map_or (λ name. is_some (known progress.spots name)) label false
 
+abbrev pub rebound_of : Progress → Statement → Bool
+rebound_of progress (Bind binding name) = is_other binding (known progress.bindings name)
+rebound_of progress _ = false
+
 -- what is wrong with a line, by what is kept
 abbrev pub fault_after : Progress → Line → Option AsmKind
-fault_after progress line = fault_by progress.chosen (offset_of progress) (twice_of progress line.label) line
+fault_after progress line = fault_by progress.chosen (offset_of progress) (twice_of progress line.label || rebound_of progress line.statement) line
 
 -- the line, by what is kept
 abbrev pub laid_after : Progress → ℕ → Line → Laid
@@ -139,7 +139,7 @@ abbrev pub failure : Stop → ℕ → AsmFail
 failure (Stopped kind) line = Fault line kind
 failure NoMemory line = OutOfMemory
 
--- %pcrel_lo of a name that has no label at an instruction with %pcrel_hi, by what is kept
+-- %pcrel_lo of a name that has no label at such an instruction, by what is kept
 
 abbrev pub is_upper_spot : Progress → Option Spot → Bool
 is_upper_spot kept None = false

@@ -1,7 +1,8 @@
 -- What a statement says, from its word and its operands.
 --     statement word operands      the statement, or the earliest fault
 use Rattle.std.specs.Prelude.{◌^◌, ◌*◌, ◌-◌, ◌∷◌, if◌then◌else◌}
-use Rattle.cell_asm.specs.Types.{ℕ, nat_le, List, [], map, Option, Some, None, ℤ, pos, negsuc, Result, Ok, Err, modulo_2, RelKind, AsmKind, Width, Byte, Half, WidthWord as Word, Quad, Directive, Difference, Whole, Number, ImmediatePart as Part, Operand, OperandValue as Value, Content, Code, Narrow, Wide, Block, Piece, Fix, Statement, StatementChoose as Choose, StatementGlobal as Global, StatementZeros as Zeros, StatementAlign as Align, Bytes, Layout}
+use Rattle.cell_asm.specs.Types.{ℕ, nat_le, List, [], map, Option, Some, None, ℤ, pos, negsuc, Result, Ok, Err, modulo_2, RelKind, AsmKind, Width, Byte, Half, WidthWord as Word, Quad, Directive, Difference, Whole, Number, ImmediatePart as Part, Operand, OperandValue as Value, Content, Code, Narrow}
+use Rattle.cell_asm.specs.Types.{Wide, Block, Piece, Fix, Statement, StatementChoose as Choose, StatementBind as Bind, StatementZeros as Zeros, StatementAlign as Align, Bytes, Layout}
 use Rattle.cell_num.specs.declared.kinds.RelKind.TheVariants as kinds
 use Rattle.cell_asm.specs.declared.kind.AsmKind.TheVariants as faults
 use Rattle.cell_asm.specs.declared.mnemonic.Directive.TheVariants as directives
@@ -66,7 +67,7 @@ one read make _ = Err faults.Operand
 
 abbrev pub directed : Directive → List Operand → Result Statement AsmKind
 directed (directives.Choose part) operands = none (Choose part) operands
-directed directives.Global operands = one name (λ n. Global n) operands
+directed (directives.Bind binding) operands = one name (λ n. Bind binding n) operands
 directed (directives.Numbers w) operands = with_value (λ b. Bytes (layout_of w).content b) (numbers w operands)
 directed directives.Zeros operands = one count (λ n. Zeros n) operands
 directed directives.Align operands = one unit (λ n. Align n) operands

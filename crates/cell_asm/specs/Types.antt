@@ -1,13 +1,14 @@
 -- The types that the definitions speak of, each under one name here.
 pub use Rattle.cell_num.specs.Bits.{bytes_of, modulo_2}
-pub use Rattle.cell_num.specs.Kinds.{is_pcrel_hi20, is_pcrel_lo12}
+pub use Rattle.cell_num.specs.Kinds.{is_upper_pcrel, is_pcrel_lo12, is_got_hi20}
 pub use Rattle.cell_num.specs.Lists.{equals, holds_name, last, numbered_from, or_else, where_true}
 pub use Rattle.cell_text.specs.Text.{is_filled, lines_in}
 pub use Rattle.std.specs.BTreeMap.{get, get_by}
 pub use Rattle.std.specs.List.{after_last, before_first, before_last, cons_option, ends_with, list_all, list_any, position_or_len, prefix_len, slice_split, starts_with, suffix_len, take_while}
 pub use Rattle.std.specs.Option.{option_map_or, unwrap_or}
 pub use Rattle.std.specs.Ordering.{nat_cmp}
-pub use Rattle.std.specs.Prelude.{All, Bool, Err, List, None, Ok, Option, Result, Some, [], bytes_eq, codes, count_by, decimal, drop, false, filter, filter_map, find, flat_map, fold, if◌then◌else◌, int_le, is_none, is_some, length, map, max, nat_eq, nat_le, nat_lt, neg_ℤ, negsuc, not, ok_or, option_and_then, option_map, pos, position, replicate, suc, sum_by, take, true, ℕ, ℤ, ◌%◌, ◌&&◌, ◌*◌, ◌++◌, ◌+◌, ◌-◌, ◌/◌, ◌<◌, ◌==◌, ◌^◌, ◌||◌, ◌∷◌, ◌≡◌, ◌≤◌}
+pub use Rattle.std.specs.Prelude.{All, Bool, Err, List, None, Ok, Option, Result, Some, [], bytes_eq, codes, count_by, decimal, drop, false, filter, filter_map, find, flat_map, fold, if◌then◌else◌, int_le, is_none, is_some, length, map, max, nat_eq, nat_le, nat_lt, neg_ℤ, negsuc, not, ok_or}
+pub use Rattle.std.specs.Prelude.{option_and_then, option_map, pos, position, replicate, suc, sum_by, take, true, ℕ, ℤ, ◌%◌, ◌&&◌, ◌*◌, ◌++◌, ◌+◌, ◌-◌, ◌/◌, ◌<◌, ◌==◌, ◌^◌, ◌||◌, ◌∷◌, ◌≡◌, ◌≤◌}
 pub use Rattle.cell_asm.specs.declared.statement.Block.{Block}
 pub use Rattle.cell_asm.specs.declared.statement.Draft.{Draft}
 pub use Rattle.cell_asm.specs.declared.statement.Mark.{Mark}
@@ -26,7 +27,7 @@ pub use Rattle.cell_asm.specs.declared.statement.Key.TheVariants.{Named as KeyNa
 pub use Rattle.cell_asm.specs.declared.statement.Label.{Label}
 pub use Rattle.cell_asm.specs.declared.statement.Laid.{Laid}
 pub use Rattle.cell_asm.specs.declared.mnemonic.Directive.{Directive}
-pub use Rattle.cell_asm.specs.declared.mnemonic.Directive.TheVariants.{Choose as DirectiveChoose, Global as DirectiveGlobal, Numbers, Zeros as DirectiveZeros, Align as DirectiveAlign}
+pub use Rattle.cell_asm.specs.declared.mnemonic.Directive.TheVariants.{Choose as DirectiveChoose, Bind as DirectiveBind, Numbers, Zeros as DirectiveZeros, Align as DirectiveAlign}
 pub use Rattle.cell_asm.specs.declared.mnemonic.Mnemonic.{Mnemonic}
 pub use Rattle.cell_asm.specs.declared.mnemonic.Fixed.{Fixed}
 pub use Rattle.cell_asm.specs.declared.mnemonic.Then.{Then}
@@ -38,7 +39,7 @@ pub use Rattle.cell_asm.specs.declared.operand.Expression.TheVariants.{Name as E
 pub use Rattle.cell_asm.specs.declared.operand.Immediate.{Immediate}
 pub use Rattle.cell_asm.specs.declared.operand.Immediate.TheVariants.{Number, Part as ImmediatePart}
 pub use Rattle.cell_asm.specs.declared.operand.Modifier.{Modifier}
-pub use Rattle.cell_asm.specs.declared.operand.Modifier.TheVariants.{Whole, Hi, Lo, PcrelHi, PcrelLo}
+pub use Rattle.cell_asm.specs.declared.operand.Modifier.TheVariants.{Whole, Hi, Lo, PcrelHi, PcrelLo, GotPcrelHi}
 pub use Rattle.cell_asm.specs.declared.operand.Operand.{Operand}
 pub use Rattle.cell_asm.specs.declared.operand.Operand.TheVariants.{Value as OperandValue, Memory as OperandMemory}
 pub use Rattle.cell_asm.specs.declared.place.Progress.{Progress}
@@ -52,21 +53,23 @@ pub use Rattle.cell_asm.specs.declared.mnemonic.Slot.TheVariants.{Rd, Rs1, Rs2, 
 pub use Rattle.cell_asm.specs.declared.statement.Content.{Content}
 pub use Rattle.cell_asm.specs.declared.statement.Content.TheVariants.{Code, Narrow, Wide}
 pub use Rattle.cell_asm.specs.declared.statement.Field.{Field}
+pub use Rattle.cell_asm.specs.declared.statement.Binding.{Binding}
+pub use Rattle.cell_asm.specs.declared.statement.Binding.TheVariants.{Global as BindingGlobal, Weak as BindingWeak}
 pub use Rattle.cell_asm.specs.declared.statement.Fix.{Fix}
 pub use Rattle.cell_asm.specs.declared.statement.Line.{Line}
 pub use Rattle.cell_asm.specs.declared.statement.Part.{Part}
 pub use Rattle.cell_asm.specs.declared.statement.Part.TheVariants.{Text, Bss, Rodata, Data}
 pub use Rattle.cell_asm.specs.declared.statement.Piece.{Piece}
 pub use Rattle.cell_asm.specs.declared.statement.Statement.{Statement}
-pub use Rattle.cell_asm.specs.declared.statement.Statement.TheVariants.{Bytes, Nothing, Choose as StatementChoose, Global as StatementGlobal, Zeros as StatementZeros, Align as StatementAlign}
+pub use Rattle.cell_asm.specs.declared.statement.Statement.TheVariants.{Bytes, Nothing, Choose as StatementChoose, Bind as StatementBind, Zeros as StatementZeros, Align as StatementAlign}
 pub use Rattle.cell_asm.specs.declared.statement.Target.{Target}
 pub use Rattle.cell_asm.specs.declared.statement.Target.TheVariants.{Named as TargetNamed, Made as TargetMade}
 pub use Rattle.cell_asm.specs.declared.symbol.Symbols.{Symbols}
 pub use Rattle.cell_isa.specs.declared.insn.Op.{Op}
 pub use Rattle.cell_num.specs.declared.kinds.RelKind.{RelKind}
-pub use Rattle.cell_num.specs.declared.kinds.RelKind.TheVariants.{PcrelHi20, PcrelLo12I, PcrelLo12S, Abs64, CallPlt, Hi20, Add32, Sub32, Lo12I, Lo12S}
+pub use Rattle.cell_num.specs.declared.kinds.RelKind.TheVariants.{PcrelHi20, PcrelLo12I, PcrelLo12S, Abs64, CallPlt, Hi20, Add32, Sub32, Lo12I, Lo12S, GotHi20}
 pub use Rattle.cell_object.specs.declared.object.Bind.{Bind}
-pub use Rattle.cell_object.specs.declared.object.Bind.TheVariants.{Global as BindGlobal, Local}
+pub use Rattle.cell_object.specs.declared.object.Bind.TheVariants.{Global as BindGlobal, Local, Weak as BindWeak}
 pub use Rattle.cell_object.specs.declared.object.Entry.{Entry}
 pub use Rattle.cell_object.specs.declared.object.Fill.{Fill}
 pub use Rattle.cell_object.specs.declared.object.Fill.TheVariants.{Prog, Note, Zero}

@@ -3,7 +3,9 @@
 --     value form o               what stands for an immediate: a number that fits, or an entry over 0
 --     memory form o              I(rs1)
 use Rattle.std.specs.Prelude.{◌&&◌, if◌then◌else◌}
-use Rattle.cell_asm.specs.Types.{ℕ, Bool, true, false, List, Option, Some, None, ok_or, ℤ, pos, negsuc, int_le, Result, Ok, Err, RelKind, Hi20, Lo12I, Lo12S, PcrelHi20, PcrelLo12I, PcrelLo12S, CallPlt, AsmKind, Expression, ExpressionName as Name, Sum, Difference, Modifier, Whole, Hi, Lo, PcrelHi, PcrelLo, Immediate, Number, ImmediatePart as Part, Operand, OperandValue as Value, OperandMemory as Memory, Form, Low, LowStore, FormUpper as Upper, FormUpperPcrel as UpperPcrel, FormShift as Shift, FormShiftWord as ShiftWord, Small, FormBranch as Branch, FormJump as Jump, FormCall as Call, Address, TargetNamed as Named, Fix, Field}
+use Rattle.cell_asm.specs.Types.{ℕ, Bool, true, false, List, Option, Some, None, ok_or, ℤ, pos, negsuc, int_le, Result, Ok, Err, RelKind, Hi20, Lo12I, Lo12S, PcrelHi20, PcrelLo12I, PcrelLo12S, CallPlt, AsmKind, Expression, ExpressionName as Name, Sum, Difference, Modifier, Whole, Hi, Lo, PcrelHi}
+use Rattle.cell_asm.specs.Types.{PcrelLo, GotPcrelHi, Immediate, Number, ImmediatePart as Part, Operand, OperandValue as Value, OperandMemory as Memory, Form, Low, LowStore, FormUpper as Upper, FormUpperPcrel as UpperPcrel, FormShift as Shift, FormShiftWord as ShiftWord, Small, FormBranch as Branch}
+use Rattle.cell_asm.specs.Types.{FormJump as Jump, FormCall as Call, Address, TargetNamed as Named, Fix, Field}
 use Rattle.cell_num.specs.declared.kinds.RelKind.TheVariants as kinds
 use Rattle.cell_asm.specs.declared.kind.AsmKind.TheVariants as faults
 use Rattle.cell_asm.specs.Faults.{with_value}
@@ -23,12 +25,13 @@ within low high n = if int_le low n && int_le n high then Ok n else Err faults.R
 
 -- ENTRIES
 
--- the kinds whose symbol is where a jump or another entry is, to which no number is added
+-- the kinds whose symbol is where a jump or another entry is, or has a slot, to which no number is added
 abbrev pub is_bare : RelKind → Bool
 is_bare kinds.Branch = true
 is_bare kinds.Jal = true
 is_bare PcrelLo12I = true
 is_bare PcrelLo12S = true
+is_bare kinds.GotHi20 = true
 is_bare _ = false
 
 abbrev pub fix : RelKind → List ℕ → ℤ → Fix
@@ -61,6 +64,7 @@ kind_of LowStore Lo = Some Lo12S
 kind_of LowStore PcrelLo = Some PcrelLo12S
 kind_of Upper Hi = Some Hi20
 kind_of UpperPcrel PcrelHi = Some PcrelHi20
+kind_of UpperPcrel GotPcrelHi = Some kinds.GotHi20
 kind_of Branch Whole = Some kinds.Branch
 kind_of Jump Whole = Some kinds.Jal
 kind_of Call Whole = Some CallPlt

@@ -173,7 +173,9 @@ pub fn directed<'a>(
             let block = numbers(alloc, width, operands)?;
             Ok(Statement::Bytes(layout_of(width).content, block))
         }
-        (Directive::Global, [operand]) => Ok(Statement::Global(or_stop(name(operand))?)),
+        (Directive::Bind(binding), [operand]) => {
+            Ok(Statement::Bind(binding, or_stop(name(operand))?))
+        }
         (Directive::Zeros, [operand]) => Ok(Statement::Zeros(or_stop(count(operand))?)),
         (Directive::Align, [operand]) => Ok(Statement::Align(or_stop(alignment(operand))?)),
         _ => Err(Stop::Fault(AsmKind::Operand)),

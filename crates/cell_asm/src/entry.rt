@@ -15,7 +15,7 @@ use cell_object::Entry;
 use std::alloc::{AllocError, Global};
 
 /// The number of the first line with `%pcrel_lo` of a name that is no label of an instruction with
-/// `%pcrel_hi`.
+/// `%pcrel_hi` or `%got_pcrel_hi`.
 pub fn first_lost<'a>(kept: &Progress<'a>) -> Option<u32>
     ensures { result ≡ option_map (λ r. r.line) (find (lost_by kept.now) kept.now.references.items) }
 {
@@ -42,7 +42,7 @@ fn is_lost_key<'a>(kept: &Progress<'a>, key: &Key<'a>) -> bool
     }
 }
 
-/// Whether the label stands in `.text` at an instruction with `%pcrel_hi`.
+/// Whether the label stands in `.text` at an instruction with `%pcrel_hi` or `%got_pcrel_hi`.
 fn is_upper(kept: &Progress<'_>, spot: Option<Spot>) -> bool
     ensures { result ≡ is_upper_spot kept.now spot }
 {

@@ -19,11 +19,11 @@ pub enum AsmKind {
     Range,
     /// No section is chosen, or the statement isn't allowed in it.
     Section,
-    /// A name is defined twice.
+    /// A name is defined twice, or has two bindings.
     Twice,
     /// `.bss` is above 16 MiB, or another section above 1 MiB.
     Long,
-    /// `%pcrel_lo` of a name that is no label of an instruction with `%pcrel_hi`.
+    /// `%pcrel_lo` of a name that is no label of an instruction with `%pcrel_hi` or `%got_pcrel_hi`.
     Label,
 }
 

@@ -1,14 +1,14 @@
 //! The labels of a line, and the names that it mentions.
 
-ghost use Rattle.std.specs.Prelude.{◌≡◌, ◌++◌, ◌||◌, ℕ, List, is_some, flat_map, OnOk};
+ghost use Rattle.std.specs.Prelude.{◌≡◌, ◌++◌, ℕ, List, flat_map, OnOk};
 ghost use Rattle.cell_num.specs.Lists.{or_else};
 ghost use Rattle.cell_asm.specs.Objects.{target_names};
-ghost use Rattle.cell_asm.specs.Places.{makes_label as label_made, keys_of, labels_at};
-ghost use Rattle.cell_asm.specs.Progress.{names_in, known, spot_here, declares};
+ghost use Rattle.cell_asm.specs.Places.{makes_label as label_made, given, keys_of, labels_at};
+ghost use Rattle.cell_asm.specs.Progress.{names_in, known, spot_here};
 
 use crate::known::Known;
 use crate::reference::marks_in;
-use crate::statement::{Key, Label, Laid, Line, Mark, Spot, Statement, Target};
+use crate::statement::{Binding, Key, Label, Laid, Line, Mark, Spot, Statement, Target};
 use crate::text::Text;
 use std::alloc::AllocError;
 
@@ -55,16 +55,16 @@ pub fn put_spot<'a>(spots: &mut Known<'a, Spot>, laid: &Laid<'a>) -> Result<(), 
     Ok(())
 }
 
-/// Keeps the name that the statement makes GLOBAL.
-#[tactic(auto, using(crate::proofs::SymbolLemmas::some_more))]
-pub fn put_global<'a>(
-    globals: &mut Known<'a, ()>,
+/// Keeps the binding that the statement gives a name.
+#[tactic(auto, using(crate::proofs::SymbolLemmas::or_none))]
+pub fn put_binding<'a>(
+    bindings: &mut Known<'a, Binding>,
     statement: &Statement<'a>,
 ) -> Result<(), AllocError>
-    ensures { OnOk result ((q : List ℕ) → is_some (known globals.new q) ≡ (is_some (known globals.old q) || declares q statement.now)) }
+    ensures { OnOk result ((q : List ℕ) → known bindings.new q ≡ or_else (known bindings.old q) (given q statement.now)) }
 {
-    if let Statement::Global(name) = statement {
-        globals.add(name.bytes(), ())?;
+    if let Statement::Bind(binding, name) = statement {
+        bindings.add(name.bytes(), *binding)?;
     }
     Ok(())
 }
@@ -77,7 +77,7 @@ pub fn put_mentions<'a>(names: &mut Vec<Text<'a>>, line: &Line<'a>) -> Result<()
         names.push(name.again())?;
     }
     match &line.statement {
-        Statement::Global(name) => names.push(name.again())?,
+        Statement::Bind(_, name) => names.push(name.again())?,
         Statement::Bytes(_, block) => put_targets(names, block.marks.as_slice())?,
         _ => (),
     }

@@ -3,7 +3,7 @@
 ghost use Rattle.std.specs.Prelude.{◌≡◌, map, bytes_eq, option_map, find};
 ghost use Rattle.cell_asm.specs.Mnemonics.{mnemonic as mnemonic_of, directive as directive_of, row_of, said};
 
-use crate::statement::Part;
+use crate::statement::{Binding, Part};
 use Slot::{Memory, Rd, Rs1, Rs2, Value};
 use cell_isa::Op;
 
@@ -16,7 +16,7 @@ pub enum Form {
     LowStore,
     /// 20 bits or `%hi(E)`
     Upper,
-    /// 20 bits or `%pcrel_hi(E)`
+    /// 20 bits, `%pcrel_hi(E)` or `%got_pcrel_hi(NAME)`
     UpperPcrel,
     /// 0 to 63
     Shift,
@@ -79,19 +79,20 @@ pub enum Width {
 #[derive(Clone, Copy, Debug, PartialEq, Eq)]
 pub enum Directive {
     Choose(Part),
-    Global,
+    Bind(Binding),
     Numbers(Width),
     Zeros,
     Align,
 }
 
 /// The directives.
-static DIRECTIVES: [(&[u8], Directive); 11] = [
+static DIRECTIVES: [(&[u8], Directive); 12] = [
     (b".text", Directive::Choose(Part::Text)),
     (b".rodata", Directive::Choose(Part::Rodata)),
     (b".data", Directive::Choose(Part::Data)),
     (b".bss", Directive::Choose(Part::Bss)),
-    (b".globl", Directive::Global),
+    (b".globl", Directive::Bind(Binding::Global)),
+    (b".weak", Directive::Bind(Binding::Weak)),
     (b".byte", Directive::Numbers(Width::Byte)),
     (b".half", Directive::Numbers(Width::Half)),
     (b".word", Directive::Numbers(Width::Word)),
@@ -151,7 +152,7 @@ const SHIFT: &[Slot] = &[Rd, Rs1, Value(Form::Shift)];
 /// `rd,rs1,N` with N from 0 to 31
 const SHIFT_WORD: &[Slot] = &[Rd, Rs1, Value(Form::ShiftWord)];
 
-/// `rd,U` or `rd,%pcrel_hi(E)`
+/// `rd,U`, `rd,%pcrel_hi(E)` or `rd,%got_pcrel_hi(NAME)`
 const UPPER_PCREL: &[Slot] = &[Rd, Value(Form::UpperPcrel)];
 
 /// `rd,I(rs1)`

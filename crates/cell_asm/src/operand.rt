@@ -17,7 +17,7 @@ pub enum Expression<'a> {
     Difference(Text<'a>, Text<'a>),
 }
 
-/// An address, or which part of it `%word(EXPR)` asks for.
+/// An address, or which part of it `%word(EXPR)` asks for; or the upper part of the address of its slot.
 #[derive(Clone, Copy, Debug, PartialEq, Eq)]
 pub enum Modifier {
     Whole,
@@ -25,6 +25,7 @@ pub enum Modifier {
     Lo,
     PcrelHi,
     PcrelLo,
+    GotPcrelHi,
 }
 
 /// A number, or an address or a part of one.
@@ -88,11 +89,12 @@ fn modified<'a>(text: &'a [u8]) -> Option<Immediate<'a>>
 }
 
 /// The parts of an address.
-static MODIFIERS: [(&[u8], Modifier); 4] = [
+static MODIFIERS: [(&[u8], Modifier); 5] = [
     (b"%hi", Modifier::Hi),
     (b"%lo", Modifier::Lo),
     (b"%pcrel_hi", Modifier::PcrelHi),
     (b"%pcrel_lo", Modifier::PcrelLo),
+    (b"%got_pcrel_hi", Modifier::GotPcrelHi),
 ];
 
 fn read_modifier(text: &[u8]) -> Option<Modifier>

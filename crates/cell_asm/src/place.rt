@@ -2,16 +2,16 @@
 
 ghost use Rattle.std.specs.Prelude.{◌≡◌, ◌+◌, ◌-◌, ◌^◌, ◌<◌, ◌≤◌, false, List, [], OnOk};
 ghost use Rattle.cell_asm.specs.Assembled.{placed_line};
-ghost use Rattle.cell_asm.specs.Places.{taken, may_stand as may_stand_of, takes as takes_of, lays_nothing as lays_none, is_long as long_of};
-ghost use Rattle.cell_asm.specs.Progress.{offset_of, twice_of, fault_after, laid_after, AreInside, HasRoom, Adds, Follows, Goes};
+ghost use Rattle.cell_asm.specs.Places.{taken, is_other as other_of, may_stand as may_stand_of, takes as takes_of, lays_nothing as lays_none, is_long as long_of};
+ghost use Rattle.cell_asm.specs.Progress.{offset_of, rebound_of, twice_of, fault_after, laid_after, AreInside, HasRoom, Adds, Follows, Goes};
 ghost use Rattle.cell_asm.specs.declared.statement.Laid.{Laid as LaidValue};
 
 use crate::kind::{AsmKind, Stop};
 use crate::known::Known;
-use crate::label::{makes_label, put_global, put_labels, put_mentions, put_spot};
+use crate::label::{makes_label, put_binding, put_labels, put_mentions, put_spot};
 use crate::reference::{Reference, put_references, put_upper};
 use crate::section::{Bodies, add_choice, end};
-use crate::statement::{Content, Label, Laid, Line, Part, Spot, Statement};
+use crate::statement::{Binding, Content, Label, Laid, Line, Part, Spot, Statement};
 use crate::text::Text;
 use cell_num::{MAX_SECTION_BYTES, MAX_STORED_BYTES};
 use std::alloc::{AllocError, Global};
@@ -29,13 +29,13 @@ pub struct Progress<'a> {
     pub made: u32,
     /// Where the label of each name is.
     pub spots: Known<'a, Spot>,
-    /// The names that directives make GLOBAL.
-    pub globals: Known<'a, ()>,
+    /// The bindings that directives give names.
+    pub bindings: Known<'a, Binding>,
     /// All labels, in order of definition.
     pub labels: Vec<Label<'a>>,
     /// The names that the lines mention, in order.
     pub mentions: Vec<Text<'a>>,
-    /// The offsets in `.text` of instructions with `%pcrel_hi`.
+    /// The offsets in `.text` of instructions with `%pcrel_hi` or `%got_pcrel_hi`.
     pub uppers: BTreeSet<u32>,
     /// The entries to come, in order.
     pub references: Vec<Reference<'a>>,
@@ -51,7 +51,7 @@ impl<'a> Progress<'a> {
             bodies: Bodies::new(alloc),
             made: 0,
             spots: Known::new(alloc),
-            globals: Known::new(alloc),
+            bindings: Known::new(alloc),
             labels: Vec::new(alloc),
             mentions: Vec::new(alloc),
             uppers: BTreeSet::new(alloc),
@@ -105,7 +105,7 @@ impl<'a> Progress<'a> {
     {
         if !may_stand(self.chosen, line) {
             Some(AsmKind::Section)
-        } else if self.is_twice(&line.label) {
+        } else if self.is_twice(&line.label) || self.is_rebound(&line.statement) {
             Some(AsmKind::Twice)
         } else if is_long(self.chosen, end(&line.statement, self.offset())) {
             Some(AsmKind::Long)
@@ -124,6 +124,18 @@ impl<'a> Progress<'a> {
         }
     }
 
+    /// Whether an earlier line gives the name another binding.
+    fn is_rebound(&self, statement: &Statement<'a>) -> bool
+        ensures { result ≡ rebound_of self.now statement.now }
+    {
+        match statement {
+            Statement::Bind(binding, name) => {
+                is_other(*binding, self.bindings.get(name.bytes()))
+            }
+            _ => false,
+        }
+    }
+
     /// Goes on behind a line.
     fn add(&mut self, laid: &Laid<'a>) -> Result<(), AllocError>
         requires made { self.old.made < 2 ^ 32 - 1 }
@@ -136,7 +148,7 @@ impl<'a> Progress<'a> {
             self.made += 1;
         }
         put_spot(&mut self.spots, laid)?;
-        put_global(&mut self.globals, &laid.line.statement)?;
+        put_binding(&mut self.bindings, &laid.line.statement)?;
         put_labels(&mut self.labels, laid)?;
         put_mentions(&mut self.mentions, &laid.line)?;
         put_upper(&mut self.uppers, laid)?;
@@ -147,6 +159,16 @@ impl<'a> Progress<'a> {
         }
         add_choice(&mut self.parts, &laid.line.statement)
     }
+}
+
+/// Whether another binding was given than this.
+fn is_other(binding: Binding, given: Option<Binding>) -> bool
+    ensures { result ≡ other_of binding given }
+{
+    matches!(
+        (binding, given),
+        (Binding::Global, Some(Binding::Weak)) | (Binding::Weak, Some(Binding::Global))
+    )
 }
 
 fn may_stand(part: Option<Part>, line: &Line<'_>) -> bool
@@ -177,7 +199,7 @@ fn lays_nothing(statement: &Statement<'_>) -> bool
 {
     matches!(
         statement,
-        Statement::Nothing | Statement::Choose(_) | Statement::Global(_)
+        Statement::Nothing | Statement::Choose(_) | Statement::Bind(_, _)
     )
 }
 

@@ -4,13 +4,13 @@ ghost use Rattle.std.specs.Prelude.{◌≡◌, ◌++◌, ◌+◌, ◌<◌, ◌^�
 ghost use Rattle.std.specs.List.{list_any};
 ghost use Rattle.std.specs.Ordering.{nat_cmp};
 ghost use Rattle.std.specs.BTreeSet.{contains};
-ghost use Rattle.cell_num.specs.Kinds.{is_pcrel_hi20 as pcrel_hi20};
+ghost use Rattle.cell_num.specs.Kinds.{is_upper_pcrel as upper_pcrel};
 ghost use Rattle.cell_asm.specs.Places.{marks_in as marks_of};
 ghost use Rattle.cell_asm.specs.Objects.{target_key as key_of};
 ghost use Rattle.cell_asm.specs.Progress.{HasRoom, reference_at, references_of, is_upper_at};
 
 use crate::statement::{Key, Laid, Mark, Part, Statement, Target};
-use cell_num::{RelKind, is_pcrel_hi20};
+use cell_num::{RelKind, is_upper_pcrel};
 use std::alloc::AllocError;
 use std::collections::BTreeSet;
 
@@ -72,7 +72,7 @@ pub fn marks_in<'b, 'a>(statement: &'b Statement<'a>) -> &'b [Mark<'a>]
     }
 }
 
-/// Adds the offset of the line, if it has an instruction with `%pcrel_hi` in `.text`.
+/// Adds the offset of the line, if it has an instruction with `%pcrel_hi` or `%got_pcrel_hi` in `.text`.
 pub fn put_upper(uppers: &mut BTreeSet<u32>, laid: &Laid<'_>) -> Result<(), AllocError>
     ensures { OnOk result ((q : ℕ) → contains nat_cmp uppers.new q ≡ (contains nat_cmp uppers.old q || is_upper_at q laid.now)) }
 {
@@ -83,7 +83,7 @@ pub fn put_upper(uppers: &mut BTreeSet<u32>, laid: &Laid<'_>) -> Result<(), Allo
 }
 
 fn has_upper(marks: &[Mark<'_>]) -> bool
-    ensures { result ≡ list_any (λ m. pcrel_hi20 m.fix.kind) marks.now }
+    ensures { result ≡ list_any (λ m. upper_pcrel m.fix.kind) marks.now }
 {
-    marks.iter().any(|mark| is_pcrel_hi20(mark.fix.kind))
+    marks.iter().any(|mark| is_upper_pcrel(mark.fix.kind))
 }

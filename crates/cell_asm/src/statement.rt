@@ -17,6 +17,13 @@ pub enum Part {
     Bss,
 }
 
+/// The bindings that directives give.
+#[derive(Clone, Copy, Debug, PartialEq, Eq)]
+pub enum Binding {
+    Global,
+    Weak,
+}
+
 /// The symbol of an entry: a name, or the label that the line's `la` makes.
 #[derive(Drop)]
 pub enum Target<'a> {
@@ -61,7 +68,8 @@ pub enum Content {
 pub enum Statement<'a> {
     Nothing,
     Choose(Part),
-    Global(Text<'a>),
+    /// A name gets this binding.
+    Bind(Binding, Text<'a>),
     /// So many zero bytes.
     Zeros(u128),
     /// Bytes up to a multiple of that many.

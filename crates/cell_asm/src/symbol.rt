@@ -4,8 +4,8 @@ ghost use Rattle.std.specs.Prelude.{◌≡◌, ◌==◌, ℕ, List, None, OnOk, 
 ghost use Rattle.std.specs.Option.{option_map_or};
 ghost use Rattle.cell_num.specs.Lists.{or_else, where_true};
 ghost use Rattle.cell_asm.specs.Places.{is_key};
-ghost use Rattle.cell_asm.specs.Numberings.{number_of, number_kept, Lists, Locals, mentioned, Mentions, home_in, symbol_in, is_global_in};
-ghost use Rattle.cell_asm.specs.Objects.{key_name as name_of};
+ghost use Rattle.cell_asm.specs.Numberings.{number_of, number_kept, Lists, Locals, mentioned, Mentions, home_in, symbol_in, is_bound_in};
+ghost use Rattle.cell_asm.specs.Objects.{bind_given, key_name as name_of};
 ghost use Rattle.cell_asm.specs.declared.statement.Key.{Key as KeyValue};
 ghost use Rattle.cell_asm.specs.declared.statement.Key.TheVariants as keys;
 ghost use Rattle.cell_object.specs.declared.object.Symbol.{Symbol as SymbolValue};
@@ -13,7 +13,7 @@ ghost use Rattle.cell_object.specs.declared.object.Symbol.{Symbol as SymbolValue
 use crate::known::Known;
 use crate::place::Progress;
 use crate::section::part_number;
-use crate::statement::{Key, Spot};
+use crate::statement::{Binding, Key, Spot};
 use crate::text::Text;
 use cell_num::{Bytes, Listed};
 use cell_object::{Bind, Home, Sort, Symbol};
@@ -77,7 +77,7 @@ pub struct Symbols<'a> {
     pub numbers: Numbering<'a>,
 }
 
-/// The symbols: the labels that no directive makes GLOBAL, then all other names.
+/// The symbols: the labels that no directive gives a binding, then all other names.
 pub fn make_symbols<'a>(alloc: Global, kept: &Progress<'a>) -> Result<Symbols<'a>, AllocError>
     requires { length kept.now.parts.items ≤ 4 }
     ensures { IfOk result (λ s. Mentions s kept.now (fold (mentioned kept.now) [] kept.now.mentions.items)) }
@@ -92,13 +92,23 @@ pub fn make_symbols<'a>(alloc: Global, kept: &Progress<'a>) -> Result<Symbols<'a
     Ok(symbols)
 }
 
-/// Whether no directive makes the label GLOBAL.
-fn is_local<'a>(globals: &Known<'a, ()>, key: &Key<'a>) -> bool
-    ensures { result ≡ not (is_global_in globals.now key.now) }
+/// Whether no directive gives the label a binding.
+fn is_local<'a>(bindings: &Known<'a, Binding>, key: &Key<'a>) -> bool
+    ensures { result ≡ not (is_bound_in bindings.now key.now) }
 {
     match key {
-        Key::Named(name) => globals.get(name.bytes()).is_none(),
+        Key::Named(name) => bindings.get(name.bytes()).is_none(),
         Key::Made(_) => true,
+    }
+}
+
+/// The binding of a name that isn't LOCAL, by what a directive gives it.
+fn bind_of(binding: Option<Binding>) -> Bind
+    ensures { result ≡ bind_given binding }
+{
+    match binding {
+        Some(Binding::Weak) => Bind::Weak,
+        _ => Bind::Global,
     }
 }
 
@@ -168,14 +178,14 @@ impl<'a> Symbols<'a> {
         Ok(())
     }
 
-    /// Appends the symbols of the labels that no directive makes GLOBAL.
+    /// Appends the symbols of the labels that no directive gives a binding.
     fn add_labels(&mut self, kept: &Progress<'a>) -> Result<(), AllocError>
         requires few { length kept.now.parts.items ≤ 4 }
         requires none { Lists self.old [] [] }
         ensures { OnOk result (Mentions self.new kept.now []) }
     {
         for label in &kept.labels {
-            if is_local(&kept.globals, &label.key) {
+            if is_local(&kept.bindings, &label.key) {
                 let spot = Spot {
                     part: label.part,
                     offset: label.offset,
@@ -204,8 +214,10 @@ impl<'a> Symbols<'a> {
     {
         let key = Key::Named(name.again());
         if self.numbers.get(&key).is_none() {
-            let spot = kept.spots.get(name.bytes());
-            self.add(kept, &key, Bind::Global, spot)?;
+            let text = name.bytes();
+            let spot = kept.spots.get(text);
+            let binding = kept.bindings.get(text);
+            self.add(kept, &key, bind_of(binding), spot)?;
         }
         Ok(())
     }

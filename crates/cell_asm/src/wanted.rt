@@ -60,7 +60,11 @@ fn is_bare(kind: RelKind) -> bool
     ensures { result ≡ bare kind }
 {
     match kind {
-        RelKind::Branch | RelKind::Jal | RelKind::PcrelLo12I | RelKind::PcrelLo12S => true,
+        RelKind::Branch
+        | RelKind::Jal
+        | RelKind::PcrelLo12I
+        | RelKind::PcrelLo12S
+        | RelKind::GotHi20 => true,
         _ => false,
     }
 }
@@ -116,6 +120,7 @@ fn kind_of(form: Form, modifier: Modifier) -> Option<RelKind>
         (Form::LowStore, Modifier::PcrelLo) => Some(RelKind::PcrelLo12S),
         (Form::Upper, Modifier::Hi) => Some(RelKind::Hi20),
         (Form::UpperPcrel, Modifier::PcrelHi) => Some(RelKind::PcrelHi20),
+        (Form::UpperPcrel, Modifier::GotPcrelHi) => Some(RelKind::GotHi20),
         (Form::Branch, Modifier::Whole) => Some(RelKind::Branch),
         (Form::Jump, Modifier::Whole) => Some(RelKind::Jal),
         (Form::Call, Modifier::Whole) => Some(RelKind::CallPlt),

@@ -5,7 +5,7 @@ use Rattle.std.proofs.lemmas.Slice.Eq.{bytes_eq-Decides}
 use Rattle.cell_num.specs.Lists.{equals, numbered_from}
 use Rattle.cell_text.specs.Text.{lines_in}
 use Rattle.cell_world.specs.Gather.{Source}
-use Rattle.cell_world.specs.Relink.{links_of}
+use Rattle.cell_world.specs.Linked.Relink.{links_of}
 use Rattle.cell_dumped.specs.Texts.{line_text}
 use Rattle.cell_world.specs.declared.line.DumpLine.{DumpLine}
 use Rattle.cell_audit.specs.declared.fail.AuditFail.{AuditFail}

@@ -14,7 +14,7 @@ use Rattle.cell_audit.specs.declared.dump.Lines.{Lines}
 use Rattle.cell_audit.specs.declared.fail.AuditFail.{AuditFail}
 use Rattle.cell_audit.specs.declared.kept.WrittenDump.{WrittenDump}
 use Rattle.cell_num.specs.Limits.{max_base, max_pages, min_base, min_pages, page_size}
-use Rattle.cell_world.specs.Pages.{IsSpace}
+use Rattle.cell_world.specs.Placed.Pages.{IsSpace}
 
 pub spaced : (base pages : ℕ) → is_space base pages ≡ true → IsSpace base pages
 spaced base pages h =

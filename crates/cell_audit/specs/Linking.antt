@@ -8,12 +8,12 @@ use Rattle.cell_object.specs.declared.object.Section.{Section as ObjectSection}
 use Rattle.cell_object.specs.declared.object.Entry.{Entry}
 use Rattle.cell_object.specs.declared.object.Symbol.{Symbol}
 use Rattle.cell_object.specs.Parts.{is_global, is_undefined, symbol_at}
-use Rattle.cell_world.specs.Field.{Bound, fits}
-use Rattle.cell_world.specs.Fresh.{fields_in, with_value}
+use Rattle.cell_world.specs.Linked.Field.{Bound, fits}
+use Rattle.cell_world.specs.Linked.Fresh.{fields_in, with_value}
 use Rattle.cell_world.specs.Gather.{Source}
-use Rattle.cell_world.specs.Layout.{own_bytes}
+use Rattle.cell_world.specs.Placed.Layout.{own_bytes}
 use Rattle.cell_world.specs.Names.{provider_of}
-use Rattle.cell_world.specs.Relink.{bound_entries, links_of}
+use Rattle.cell_world.specs.Linked.Relink.{bound_entries, links_of}
 use Rattle.cell_world.specs.World.{World, Cell}
 use Rattle.cell_world.specs.DumpLines.{lines_by}
 use Rattle.cell_world.specs.declared.line.DumpLine.{DumpLine}

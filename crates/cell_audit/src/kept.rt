@@ -6,6 +6,7 @@ ghost use Rattle.cell_audit.specs.Kept.{Fits, HasAlias, HasPlace, HasRoom, HasSp
 
 use crate::dump::{Line, Lines};
 use crate::told_bytes::Told;
+use crate::wide::Wide;
 use crate::written::{WrittenAlias, WrittenCell, WrittenPlace};
 use cell_num::{Name, PAGE_SIZE};
 use cell_world::{DumpLine, Namespace};
@@ -129,7 +130,7 @@ fn alias_at(line: Line, symbol: u64, name: &Name) -> WrittenAlias
 {
     WrittenAlias {
         line: line.number,
-        symbol,
+        symbol: Wide::of(symbol),
         name_start: (line.end - name.bytes().len()) as u32,
         name_end: line.end as u32,
     }

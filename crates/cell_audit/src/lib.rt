@@ -13,6 +13,7 @@ mod order;
 mod read;
 mod row;
 mod told_bytes;
+mod wide;
 mod written;
 
 pub use dump::{Lines, line_end};
@@ -20,6 +21,7 @@ pub use fail::AuditFail;
 pub use kept::WrittenDump;
 pub use read::read_dump;
 pub use told_bytes::Told;
+pub use wide::Wide;
 pub use written::{WrittenAlias, WrittenCell, WrittenPlace};
 
 /// A dump is clean exactly where it has a reading and its lines are those of the machine that it describes, linked anew.

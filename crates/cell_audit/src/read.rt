@@ -7,7 +7,7 @@ ghost use Rattle.cell_audit.specs.Kept.{Tells};
 ghost use Rattle.cell_audit.specs.Outcome.{FailsBy, GoesOn, StopsAt};
 ghost use Rattle.cell_audit.specs.Reader.{IsKept, IsReady};
 ghost use Rattle.cell_audit.specs.Within.{AreWithin, IsWithin, text_of, texts_of};
-ghost use Rattle.cell_world.specs.Pages.{IsSpace};
+ghost use Rattle.cell_world.specs.Placed.Pages.{IsSpace};
 
 use crate::AuditFail;
 use crate::dump::{Line, Lines, dump_in, line_end};

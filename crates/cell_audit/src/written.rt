@@ -1,5 +1,6 @@
 //! What the lines of a dump say of its cells, as they were read.
 
+use crate::wide::Wide;
 use cell_num::Name;
 
 /// A line that places a section of the cell.
@@ -11,11 +12,11 @@ pub struct WrittenPlace {
 }
 
 /// A line that gives the cell a further name, for the symbol at that place of its object, from 0. The name stands in the
-/// file of the dump, from `name_start` to `name_end`.
-#[derive(Clone, Copy, Debug, PartialEq, Eq)]
+/// file of the dump, from `name_start` to `name_end`. There may be millions of these, of 20 bytes each.
+#[derive(Drop)]
 pub struct WrittenAlias {
     pub line: u32,
-    pub symbol: u64,
+    pub symbol: Wide,
     pub name_start: u32,
     pub name_end: u32,
 }

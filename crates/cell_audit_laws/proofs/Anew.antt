@@ -12,21 +12,21 @@ use Rattle.cell_object.specs.declared.object.Section.{Section as ObjectSection}
 use Rattle.cell_object.specs.declared.object.Symbol.{Symbol}
 use Rattle.cell_object.specs.Parts.{is_global, is_undefined, symbol_at}
 use Rattle.cell_world.specs.Coherent.{IsCoherent, is_fitting, is_supplied}
-use Rattle.cell_world.specs.Field.{Bound, fits}
+use Rattle.cell_world.specs.Linked.Field.{Bound, fits}
 use Rattle.cell_world.specs.Gather.{Source}
-use Rattle.cell_world.specs.Layout.{own_bytes}
-use Rattle.cell_world.specs.MapCommand.{group_of}
+use Rattle.cell_world.specs.Placed.Layout.{own_bytes}
+use Rattle.cell_world.specs.Commands.MapCommand.{group_of}
 use Rattle.cell_world.specs.Names.{is_used, names_of, needs_of, provider_of}
-use Rattle.cell_world.specs.Relink.{bound_entries, links_of}
-use Rattle.cell_world.specs.Target.{start_of, target_of}
+use Rattle.cell_world.specs.Linked.Relink.{bound_entries, links_of}
+use Rattle.cell_world.specs.Linked.Target.{start_of, target_of}
 use Rattle.cell_world.specs.World.{World, Cell, Alias, is_attached}
 use Rattle.cell_world.specs.declared.reply.Found.{Found}
 use Rattle.cell_world.specs.declared.state.LinkRow.{LinkRow}
 use Rattle.cell_world.specs.declared.state.Namespace.{Namespace}
-use Rattle.cell_lemmas.proofs.Present.{In-filter_map}
+use Rattle.cell_lemmas.proofs.Targeting.Present.{In-filter_map}
 use Rattle.cell_world.specs.declared.state.Target.{Target}
 use Rattle.cell_world.specs.declared.state.Target.TheVariants.{Number}
-use Rattle.cell_lemmas.proofs.Values.{bind, bound_map}
+use Rattle.cell_lemmas.proofs.Fields.Values.{bind, bound_map}
 use Rattle.cell_world.specs.DumpLines.{alias_line, cell_lines, content_lines, dump_lines, held_in, lines_within, link_line, ns_line, part_of, place_line, provided_at, provider_line, provider_lines, section_lines}
 use Rattle.cell_world.specs.declared.line.DumpLine.{DumpLine}
 use Rattle.cell_world.specs.declared.line.DumpLine.TheVariants.{Space, Cell as CellLine, Provider, Content, End}

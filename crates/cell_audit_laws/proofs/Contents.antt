@@ -10,16 +10,16 @@ use Rattle.cell_num.proofs.Elements.{In-filtered, filter-Passes, flat_same}
 use Rattle.cell_object.specs.declared.object.Section.{Section as ObjectSection}
 use Rattle.cell_object.specs.declared.object.Entry.{Entry}
 use Rattle.cell_world.specs.Coherent.{IsCoherent}
-use Rattle.cell_world.specs.Field.{fields_of, place_of}
-use Rattle.cell_world.specs.Fresh.{fields_in, fresh_bytes, value_bytes, with_value}
-use Rattle.cell_world.specs.Layout.{own_bytes}
-use Rattle.cell_world.specs.Memory.{pasted, part_of, read, region_in}
-use Rattle.cell_world.specs.Target.{start_of}
+use Rattle.cell_world.specs.Linked.Field.{fields_of, place_of}
+use Rattle.cell_world.specs.Linked.Fresh.{fields_in, fresh_bytes, value_bytes, with_value}
+use Rattle.cell_world.specs.Placed.Layout.{own_bytes}
+use Rattle.cell_world.specs.Running.Memory.{pasted, part_of, read, region_in}
+use Rattle.cell_world.specs.Linked.Target.{start_of}
 use Rattle.cell_world.specs.World.{World, Cell, Region, is_attached}
 use Rattle.cell_world.specs.declared.state.LinkRow.{LinkRow}
-use Rattle.cell_lemmas.proofs.FieldsInside.{length-bytes_of, section_class}
-use Rattle.cell_lemmas.proofs.Inside.{wide}
-use Rattle.cell_lemmas.proofs.Slices.{slice, slice_at, slice_length}
+use Rattle.cell_lemmas.proofs.Fields.FieldsInside.{length-bytes_of, section_class}
+use Rattle.cell_lemmas.proofs.Placement.Inside.{wide}
+use Rattle.cell_lemmas.proofs.Fields.Slices.{slice, slice_at, slice_length}
 use Rattle.cell_laws.proofs.Fresh.{ends_here, field_holds, section_holds}
 use Rattle.cell_laws.proofs.FreshSaid.{fresh_size}
 use Rattle.cell_laws.proofs.Parts.{read_window}

@@ -19,13 +19,13 @@ use Rattle.cell_object.specs.Sound.{IsSoundObject}
 use Rattle.cell_world.specs.Coherent.{IsCoherent, is_known_cell, is_placed}
 use Rattle.cell_world.specs.Gather.{Source, file_named}
 use Rattle.cell_world.specs.Names.{definitions_of}
-use Rattle.cell_world.specs.Target.{start_of}
+use Rattle.cell_world.specs.Linked.Target.{start_of}
 use Rattle.cell_world.specs.World.{World, Cell, Alias, Standing}
 use Rattle.cell_world.specs.declared.state.Standing.TheVariants.{Attached, Detached}
-use Rattle.cell_world.specs.MapCommand.{group_of}
+use Rattle.cell_world.specs.Commands.MapCommand.{group_of}
 use Rattle.cell_world.specs.declared.state.Namespace.{Namespace}
 use Rattle.cell_world.specs.declared.state.SecPlace.{SecPlace}
-use Rattle.cell_lemmas.proofs.Known.{known_parts, object_sound}
+use Rattle.cell_lemmas.proofs.Naming.Known.{known_parts, object_sound}
 use Rattle.cell_laws.proofs.Parts.{one_left}
 use Rattle.cell_world.specs.DumpLines.{alias_line, cell_lines, dump_lines, held_in, ns_line, place_line}
 use Rattle.cell_world.specs.declared.line.DumpLine.{DumpLine}

@@ -11,13 +11,13 @@ use Rattle.cell_num.proofs.Elements.{All-In, all-In, In-all, In-filtered, In-fla
 use Rattle.cell_num.proofs.Sublists.{all-append}
 use Rattle.cell_object.specs.declared.object.Section.{Section as ObjectSection}
 use Rattle.cell_world.specs.Coherent.{IsCoherent, begins_with_k, is_known_cell, is_sound_parent}
-use Rattle.cell_world.specs.MapCommand.{group_of as group}
+use Rattle.cell_world.specs.Commands.MapCommand.{group_of as group}
 use Rattle.cell_world.specs.Names.{names_of}
-use Rattle.cell_world.specs.Target.{start_of}
+use Rattle.cell_world.specs.Linked.Target.{start_of}
 use Rattle.cell_world.specs.World.{World, Cell, Alias, is_attached}
 use Rattle.cell_world.specs.declared.reply.Found.{Found}
 use Rattle.cell_world.specs.declared.state.Namespace.{Namespace}
-use Rattle.cell_lemmas.proofs.Known.{known_parts}
+use Rattle.cell_lemmas.proofs.Naming.Known.{known_parts}
 use Rattle.cell_world.specs.DumpLines.{alias_line, cell_lines, dump_lines, held_in, lines_within, link_line, ns_line, part_of, place_line, provided_at, provider_line, provider_lines, section_lines}
 use Rattle.cell_world.specs.declared.line.DumpLine.{DumpLine}
 use Rattle.cell_world.specs.declared.line.DumpLine.TheVariants.{Space, Ns, Cell as CellLine, Place, Alias as AliasLine, Link, Provider, Content, End}

@@ -8,7 +8,7 @@ use Rattle.cell_num.specs.Lists.{numbered}
 use Rattle.cell_object.specs.declared.object.Section.{Section as ObjectSection}
 use Rattle.cell_world.specs.declared.reply.Found.{Found}
 use Rattle.cell_world.specs.Names.{names_of}
-use Rattle.cell_world.specs.Target.{start_of}
+use Rattle.cell_world.specs.Linked.Target.{start_of}
 use Rattle.cell_world.specs.World.{World, Cell, Alias, is_attached}
 use Rattle.cell_world.specs.DumpLines.{cell_lines, lines_by, lines_within, link_line, ns_line, part_of, provided_at, provider_line, provider_lines, section_lines}
 use Rattle.cell_world.specs.declared.line.DumpLine.{DumpLine}

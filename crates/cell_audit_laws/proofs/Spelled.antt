@@ -20,23 +20,23 @@ use Rattle.cell_object.specs.declared.object.Entry.{Entry}
 use Rattle.cell_num.specs.declared.ids.SecKey.{SecKey}
 use Rattle.cell_script.specs.Grammar.{is_file, is_name}
 use Rattle.cell_world.specs.Coherent.{IsCoherent, IsLoadable, is_in_space, begins_with_k, is_known_cell, is_sound_parent, is_sound_standing}
-use Rattle.cell_world.specs.FindCommand.{found_at}
-use Rattle.cell_world.specs.MapCommand.{group_of}
+use Rattle.cell_world.specs.Commands.FindCommand.{found_at}
+use Rattle.cell_world.specs.Commands.MapCommand.{group_of}
 use Rattle.cell_world.specs.Names.{definitions_of, is_definition, names_of, provider_for}
-use Rattle.cell_world.specs.Relink.{link_of, link_to, links_of}
-use Rattle.cell_world.specs.Target.{own_target, provided_target, start_of, target_of}
+use Rattle.cell_world.specs.Linked.Relink.{link_of, link_to, links_of}
+use Rattle.cell_world.specs.Linked.Target.{own_target, provided_target, start_of, target_of}
 use Rattle.cell_world.specs.World.{World, Cell, Alias, Region, Standing, cell_of}
 use Rattle.cell_world.specs.declared.state.Standing.TheVariants.{Attached, Detached}
-use Rattle.cell_world.specs.Undo.{AreBytes}
+use Rattle.cell_world.specs.Running.Undo.{AreBytes}
 use Rattle.cell_world.specs.declared.reply.Found.{Found}
 use Rattle.cell_world.specs.declared.state.LinkRow.{LinkRow}
 use Rattle.cell_world.specs.declared.state.Namespace.{Namespace}
 use Rattle.cell_world.specs.declared.state.Target.{Target}
 use Rattle.cell_world.specs.declared.state.Target.TheVariants.{Section, Number}
 use Rattle.cell_lemmas.specs.Present.{HasSection, JoinsPresent}
-use Rattle.cell_lemmas.proofs.FieldsInside.{section_class}
-use Rattle.cell_lemmas.proofs.Known.{known_parts, object_sound}
-use Rattle.cell_lemmas.proofs.Present.{In-filter_map, and_then_ok, links_present}
+use Rattle.cell_lemmas.proofs.Fields.FieldsInside.{section_class}
+use Rattle.cell_lemmas.proofs.Naming.Known.{known_parts, object_sound}
+use Rattle.cell_lemmas.proofs.Targeting.Present.{In-filter_map, and_then_ok, links_present}
 use Rattle.cell_world.specs.DumpLines.{dump_lines, held_in, lines_within, link_line, ns_line, part_of, provided_at, section_lines}
 use Rattle.cell_dumped.specs.Writable.{IsWritable, IsWritablePart, SmallNumber}
 use Rattle.cell_world.specs.declared.line.DumpLine.{DumpLine}

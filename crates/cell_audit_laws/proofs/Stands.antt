@@ -15,17 +15,17 @@ use Rattle.cell_object.specs.declared.object.Section.{Section as ObjectSection}
 use Rattle.cell_object.specs.Sound.{IsSoundObject, is_sound_section, is_zero}
 use Rattle.cell_world.specs.Coherent.{IsCoherent, is_in_space, is_known_cell, is_placed}
 use Rattle.cell_world.specs.Gather.{Source}
-use Rattle.cell_world.specs.Layout.{class_of, gap, is_in_class, offset_from, offset_in, sections_in}
+use Rattle.cell_world.specs.Placed.Layout.{class_of, gap, is_in_class, offset_from, offset_in, sections_in}
 use Rattle.cell_world.specs.Names.{definitions_of}
-use Rattle.cell_world.specs.Target.{start_of}
-use Rattle.cell_world.specs.Relink.{class_start}
+use Rattle.cell_world.specs.Linked.Target.{start_of}
+use Rattle.cell_world.specs.Linked.Relink.{class_start}
 use Rattle.cell_world.specs.World.{World, Cell, Alias, Region}
 use Rattle.cell_world.specs.declared.state.SecPlace.{SecPlace}
-use Rattle.cell_lemmas.proofs.Distinct.{pairs_across}
-use Rattle.cell_lemmas.proofs.FieldsApart.{AreSectionsApart, sections_apart, unique}
-use Rattle.cell_lemmas.proofs.FieldsInside.{class_In, section_class, stands}
-use Rattle.cell_lemmas.proofs.Known.{known_parts, object_sound}
-use Rattle.cell_lemmas.proofs.Offsets.{Apart, IsUnique}
+use Rattle.cell_lemmas.proofs.Placement.Distinct.{pairs_across}
+use Rattle.cell_lemmas.proofs.Fields.FieldsApart.{AreSectionsApart, sections_apart, unique}
+use Rattle.cell_lemmas.proofs.Fields.FieldsInside.{class_In, section_class, stands}
+use Rattle.cell_lemmas.proofs.Naming.Known.{known_parts, object_sound}
+use Rattle.cell_lemmas.proofs.Placement.Offsets.{Apart, IsUnique}
 use Rattle.cell_world.specs.DumpLines.{alias_line, cell_lines, dump_lines, held_in, place_line}
 use Rattle.cell_world.specs.declared.line.DumpLine.{DumpLine}
 use Rattle.cell_audit.specs.Described.{object_of, place_of, space_of}

@@ -10,12 +10,12 @@ use Rattle.cell_num.specs.Lists.{In, first, from_on, upto, where_true}
 use Rattle.cell_num.proofs.Elements.{In-flat_map, flat_map-In}
 use Rattle.cell_object.specs.declared.object.Section.{Section as ObjectSection}
 use Rattle.cell_world.specs.Coherent.{IsCoherent}
-use Rattle.cell_world.specs.Memory.{covers}
-use Rattle.cell_world.specs.Target.{start_of}
+use Rattle.cell_world.specs.Running.Memory.{covers}
+use Rattle.cell_world.specs.Linked.Target.{start_of}
 use Rattle.cell_world.specs.World.{World, Cell, Region}
-use Rattle.cell_lemmas.proofs.FieldsInside.{section_class}
-use Rattle.cell_lemmas.proofs.Slices.{slice, slice_at, slice_length}
-use Rattle.cell_lemmas.proofs.Bare.{covers_once}
+use Rattle.cell_lemmas.proofs.Fields.FieldsInside.{section_class}
+use Rattle.cell_lemmas.proofs.Fields.Slices.{slice, slice_at, slice_length}
+use Rattle.cell_lemmas.proofs.Placement.Bare.{covers_once}
 use Rattle.cell_laws.proofs.Parts.{read_window}
 use Rattle.cell_world.specs.DumpLines.{alias_line, cell_lines, dump_lines, held_in, lines_within, place_line, section_lines}
 use Rattle.cell_world.specs.declared.line.DumpLine.TheVariants.{Content}

@@ -5,8 +5,8 @@
 --     shown l             the text of a line, as a transcript has it
 use Rattle.std.specs.Prelude.{ℕ, List, [], ◌∷◌, if◌then◌else◌}
 use Rattle.cell_object.specs.declared.object.Section.{Section as ObjectSection}
-use Rattle.cell_world.specs.Layout.{own_bytes}
-use Rattle.cell_world.specs.Relink.{links_of}
+use Rattle.cell_world.specs.Placed.Layout.{own_bytes}
+use Rattle.cell_world.specs.Linked.Relink.{links_of}
 use Rattle.cell_world.specs.World.{World, Cell}
 use Rattle.cell_world.specs.DumpLines.{held_in}
 use Rattle.cell_dumped.specs.Texts.{line_text}

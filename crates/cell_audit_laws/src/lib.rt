@@ -3,7 +3,7 @@
 
 ghost use Rattle.std.specs.Prelude.{◌<◌, ◌^◌, ◌≡◌, ℕ, All, List, None, Ok, Some, map};
 ghost use Rattle.cell_world.specs.Coherent.{IsCoherent};
-ghost use Rattle.cell_world.specs.Undo.{AreBytes};
+ghost use Rattle.cell_world.specs.Running.Undo.{AreBytes};
 ghost use Rattle.cell_world.specs.World.{World};
 ghost use Rattle.cell_world.specs.DumpLines.{dump_lines, lines_by};
 ghost use Rattle.cell_audit.specs.Described.{described};

@@ -69,8 +69,8 @@ fn a_name_stands_in_the_file(rt: HostRuntime) -> Result<(), Fail> {
     };
     assert_eq!(rt; dump.cells.len(), 2);
     assert_eq!(rt; dump.cells[0].aliases.len(), 1);
-    let alias = dump.cells[0].aliases[0];
-    assert_eq!(rt; (alias.line, alias.symbol), (8, 3));
+    let alias = &dump.cells[0].aliases[0];
+    assert_eq!(rt; (alias.line, alias.symbol.get()), (8, 3));
     let name = text
         .as_bytes()
         .get(alias.name_start as usize..alias.name_end as usize);

@@ -3,7 +3,7 @@ use Rattle.std.proofs.Common.{◌≡◌, refl, sym, ◌∙◌, ap, ap₂, arith,
 use Rattle.std.specs.Prelude.{Option, Some, None, filter_map, find, flat_map, option_map, slice_get, unwrap_or}
 use Rattle.std.specs.List.{cons_option}
 use Rattle.std.proofs.lemmas.Bool.{eq-eqb, ne_eqb}
-use Rattle.cell_num.specs.Lists.{equals, numbered, numbered_from, or_else, where_true}
+use Rattle.cell_num.specs.Lists.{numbered, numbered_from, or_else, where_true}
 use Rattle.cell_object.specs.declared.object.Object.{Object}
 use Rattle.cell_object.specs.declared.object.Symbol.{Symbol}
 use Rattle.cell_audit.specs.Described.{no_object}
@@ -12,10 +12,10 @@ use Rattle.cell_described.specs.Describes.{cell_seen}
 use Rattle.cell_described.specs.Faults.{object_at}
 use Rattle.cell_described.specs.declared.cell.DescribedCell.{DescribedCell}
 use Rattle.cell_world.specs.Names.{symbol_named}
-use Rattle.cell_bearers.specs.Bearers.{alias_bearer, alias_text, answer_of, bearers_of, cell_bearers, is_named, object_bearers, symbol_bearer}
+use Rattle.cell_bearers.specs.Bearers.{alias_bearer, answer_of, bearers_of, cell_bearers, is_alias, is_named, object_bearers, symbol_bearer}
 use Rattle.cell_bearers.specs.declared.bearer.Bearer.{Bearer}
-use Rattle.cell_bearers.specs.declared.bearer.Bearer.TheVariants.{Object as ObjectBearer, Cell as CellBearer}
-use Rattle.cell_bearers.proofs.Naming.{alias_in, named_either, named_from, named_more}
+use Rattle.cell_bearers.specs.declared.bearer.Bearer.TheVariants.{Object as ObjectBearer}
+use Rattle.cell_bearers.proofs.NamingLemmas.{alias_in, named_either, named_from, named_more}
 use Rattle.cell_bearers.proofs.Sooner.{answers_join, or_none}
 
 abbrev raised : Option ℕ → Option ℕ
@@ -73,25 +73,21 @@ module _ (file : List ℕ) (name : List ℕ) (i : ℕ) (c : DescribedCell) where
 
   -- ---- aliases
   abbrev from_cell : ℕ → List WrittenAlias → List Bearer
-  from_cell cell aliases = filter_map (alias_bearer file cell name) aliases
+  from_cell cell aliases = cons_option (option_map (alias_bearer cell) (find (is_alias file name) aliases)) []
 
   other_cell : (cell : ℕ) (aliases : List WrittenAlias) → (i == cell) ≡ false → answer_of (from_cell cell aliases) p ≡ None
-  other_cell cell [] e = refl
-  other_cell cell (a ∷ aliases) e = go (equals (alias_text file a) name) (other_cell cell aliases e)
+  other_cell cell aliases e = go (find (is_alias file name) aliases)
     where
-      go : (b : Bool) → answer_of (from_cell cell aliases) p ≡ None → answer_of (cons_option (where_true b (CellBearer cell a.symbol)) (from_cell cell aliases)) p ≡ None
-      go true ih = ap (λ (t : Bool). or_else (where_true t a.symbol) (answer_of (from_cell cell aliases) p)) e ∙ ih
-      go false ih = ih
+      go : (o : Option WrittenAlias) → answer_of (cons_option (option_map (alias_bearer cell) o) []) p ≡ None
+      go None = refl
+      go (Some a) = ap (λ (t : Bool). or_else (where_true t a.symbol) None) e
 
   own_cell : (aliases : List WrittenAlias) → raised (answer_of (from_cell i aliases) p) ≡ alias_in name file aliases
-  own_cell [] = refl
-  own_cell (a ∷ aliases) = go (equals (alias_text file a) name) (own_cell aliases)
+  own_cell aliases = go (find (is_alias file name) aliases)
     where
-      go : (b : Bool) → raised (answer_of (from_cell i aliases) p) ≡ alias_in name file aliases
-          → raised (answer_of (cons_option (where_true b (CellBearer i a.symbol)) (from_cell i aliases)) p)
-          ≡ option_map (λ (x : WrittenAlias). suc x.symbol) (cond b (Some a) (find (λ x. equals (alias_text file x) name) aliases))
-      go true ih = ap (λ (t : Bool). raised (or_else (where_true t a.symbol) (answer_of (from_cell i aliases) p))) (eq-eqb i i refl)
-      go false ih = ih
+      go : (o : Option WrittenAlias) → raised (answer_of (cons_option (option_map (alias_bearer i) o) []) p) ≡ option_map (λ (a : WrittenAlias). suc a.symbol) o
+      go None = refl
+      go (Some a) = ap (λ (t : Bool). raised (or_else (where_true t a.symbol) None)) (eq-eqb i i refl)
 
   -- ---- all
   pub answered : (objects : List Object) (cells : List DescribedCell) (object : Object) → slice_get objects c.object ≡ Some object → slice_get cells i ≡ Some c

@@ -1,8 +1,9 @@
 -- The first cell of an object that is seen, and the cell of an alias.
-use Rattle.std.proofs.Common.{◌≡◌, refl, sym, ◌∙◌, ap, arith, ℕ, zero, suc, ◌+◌, ◌<◌, ◌==◌, Bool, true, false, cond, ◌&&◌, List, [], ◌∷◌, length, get_or, drop, replicate, add-one}
-use Rattle.std.specs.Prelude.{Option, Some, None, option_map, slice_set}
+use Rattle.std.proofs.Common.{◌≡◌, refl, sym, ◌∙◌, ap, arith, ℕ, zero, suc, ◌+◌, ◌<◌, ◌==◌, Bool, true, false, cond, ◌&&◌, List, [], ◌∷◌, length, get_or, drop, map, replicate, add-one}
+use Rattle.std.specs.Prelude.{Option, Some, None, option_map, slice_get, slice_set, unwrap_or}
+use Rattle.std.proofs.lemmas.Option.{slice_get-map}
 use Rattle.std.proofs.lemmas.Bool.{eq-eqb, eqb-true, eqb-false, ne_eqb}
-use Rattle.std.proofs.lemmas.List.{get_or-set_same, get_or-set_other}
+use Rattle.std.proofs.lemmas.List.{get_or-map, get_or-set_same, get_or-set_other}
 use Rattle.cell_num.specs.Lists.{or_else, where_true}
 use Rattle.cell_described.specs.declared.cell.DescribedCell.{DescribedCell}
 use Rattle.cell_bearers.specs.Bearers.{answer}
@@ -27,6 +28,9 @@ put_here firsts object place o lt = go (object == o) refl
     go : (t : Bool) → (object == o) ≡ t → first_at (slice_set firsts object (Some place)) o ≡ cond t (Some place) (first_at firsts o)
     go true e = ap (first_at (slice_set firsts object (Some place))) (sym (eqb-true object o e)) ∙ get_or-set_same firsts object (Some place) None lt
     go false e = get_or-set_other firsts object o (Some place) None (λ same. eqb-false object o e (sym same))
+
+pub seen_here : (test : DescribedCell → Bool) (seen : List Bool) (cells : List DescribedCell) → seen ≡ map test cells → (i : ℕ) (c : DescribedCell) → i < length cells → c ≡ get_or cells i c → (d : Bool) → get_or seen i d ≡ test c
+seen_here test seen cells are i c lt here d = ap (λ (marks : List Bool). get_or marks i d) are ∙ (get_or-map test cells i c d lt ∙ ap test (sym here))
 
 module _ (test : DescribedCell → Bool) where
   -- one more cell, before those so far
@@ -77,12 +81,16 @@ module _ (test : DescribedCell → Bool) where
         go false = rest
     found_cell i (suc j) (c ∷ cells) e = elsewhere (test c) i (λ same. absurd (omega (arith, e, same))) _ _ (found_cell (suc i) j cells (omega (arith, e)))
 
+-- whether a cell is seen, by the table
+pub marked : (s : Sight) → IsSight s → (place : ℕ) → unwrap_or (slice_get s.seen.items place) false ≡ seen_at (sees_by s) s.cells.now place
+marked s is place = ap (λ (marks : List Bool). unwrap_or (slice_get marks place) false) is.seen ∙ ap (λ (o : Option Bool). unwrap_or o false) (slice_get-map (sees_by s) s.cells.now place)
+
 module _ (s : Sight) (b : Bearer) where
   -- a bearer's first cell that is seen
   pub object_found : IsSight s → (object symbol : ℕ) → b ≡ ObjectBearer object symbol → (o : Option ℕ) → o ≡ first_at s.firsts.items object
       → option_map (λ cell. at_place cell symbol) o ≡ found_by s (answer b)
   object_found is object symbol of o e =
-      ap (option_map (λ cell. at_place cell symbol)) (e ∙ is object)
+      ap (option_map (λ cell. at_place cell symbol)) (e ∙ is.firsts object)
       ∙ (sym (found_object (sees_by s) object symbol 0 s.cells.now) ∙ ap (λ (x : Bearer). found_by s (answer x)) (sym of))
 
   pub cell_found : (cell symbol : ℕ) → b ≡ CellBearer cell symbol → (t : Bool) → t ≡ seen_at (sees_by s) s.cells.now cell → cond t (Some (at_place cell symbol)) None ≡ found_by s (answer b)

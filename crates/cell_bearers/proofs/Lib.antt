@@ -1,10 +1,14 @@
 mod Reading
 mod Stepping
-mod Rows
-mod Growing
-mod Tabled
-pub mod Naming
+mod Borne
+mod Owned
+mod Ordered
+mod Rowing
+mod Indexing
+pub mod NamingLemmas
 pub mod Sooner
 mod FirstSeen
 mod Answering
+mod NearestLemmas
+mod Stopping
 pub mod Plain

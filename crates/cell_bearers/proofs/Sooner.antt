@@ -28,7 +28,7 @@ module _ (test : DescribedCell → Bool) where
       go None e ih = let k = ih e in omega (arith, k)
       go (Some symbol) e ih = let k : i ≡ b.cell = ap (λ (x : FirstBearer). x.cell) (same_first (at_place i symbol) b e) in omega (arith, k)
 
-  within : (said : ℕ × DescribedCell → Option ℕ) (i : ℕ) (cells : List DescribedCell) (b : FirstBearer) → found_from test said i cells ≡ Some b → b.cell < i + length cells
+  pub within : (said : ℕ × DescribedCell → Option ℕ) (i : ℕ) (cells : List DescribedCell) (b : FirstBearer) → found_from test said i cells ≡ Some b → b.cell < i + length cells
   within said i [] b e = absurd (none_some b e)
   within said i (c ∷ cells) b e = go (cond (test c) (said (i, c)) None) e (within said (suc i) cells b)
     where

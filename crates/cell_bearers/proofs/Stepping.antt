@@ -1,5 +1,5 @@
 -- What is left of lists that are gone through and joined.
-use Rattle.std.proofs.Common.{◌≡◌, refl, sym, ◌∙◌, ap, ℕ, ◌+◌, ◌<◌, ◌≤◌, List, [], ◌++◌, length, get_or, drop, add-one, append-nil, append_assoc}
+use Rattle.std.proofs.Common.{◌≡◌, refl, sym, ◌∙◌, ap, ℕ, ◌+◌, ◌<◌, ◌≤◌, List, [], ◌∷◌, ◌++◌, length, get_or, drop, map, add-one, append-nil, append_assoc}
 use Rattle.std.specs.Prelude.{Option, Some, None, filter_map, flat_map}
 use Rattle.std.specs.List.{cons_option}
 use Rattle.std.proofs.lemmas.List.{drop_all}
@@ -17,11 +17,6 @@ module _ {Y : Type 0} (all old new : List Y) where
       ap (λ (ys : List Y). ys ++ rest) added ∙ (append_assoc old part rest ∙ (ap (λ (ys : List Y). old ++ ys) (sym is) ∙ e))
 
   module _ {X : Type 0} (read xs : List X) (same : read ≡ xs) (i : ℕ) (x : X) (lt : i < length read) (here : x ≡ get_or read i x) where
-    pub option_more : (f : X → Option Y) → new ≡ old ++ cons_option (f x) [] → old ++ filter_map f (drop i xs) ≡ all → new ++ filter_map f (drop (i + 1) xs) ≡ all
-    option_more f added e =
-        joined (cons_option (f x) []) (filter_map f (drop (i + 1) xs)) (filter_map f (drop i xs)) added
-        (ap (filter_map f) (begins read xs same i x lt here) ∙ sym (cons_append (f x) (filter_map f (drop (i + 1) xs)))) e
-
     pub numbered_more : (f : ℕ × X → Option Y) → new ≡ old ++ cons_option (f (i, x)) []
         → old ++ filter_map f (numbered_from i (drop i xs)) ≡ all → new ++ filter_map f (numbered_from (i + 1) (drop (i + 1) xs)) ≡ all
     numbered_more f added e =
@@ -29,6 +24,13 @@ module _ {Y : Type 0} (all old new : List Y) where
         (ap (λ (ys : List X). filter_map f (numbered_from i ys)) (begins read xs same i x lt here)
         ∙ (ap (λ (n : ℕ). cons_option (f (i, x)) (filter_map f (numbered_from n (drop (i + 1) xs)))) (sym (add-one i))
         ∙ sym (cons_append (f (i, x)) (filter_map f (numbered_from (i + 1) (drop (i + 1) xs)))))) e
+
+    pub mapped_more : (f : ℕ × X → Y) → new ≡ old ++ f (i, x) ∷ []
+        → old ++ map f (numbered_from i (drop i xs)) ≡ all → new ++ map f (numbered_from (i + 1) (drop (i + 1) xs)) ≡ all
+    mapped_more f added e =
+        joined (f (i, x) ∷ []) (map f (numbered_from (i + 1) (drop (i + 1) xs))) (map f (numbered_from i (drop i xs))) added
+        (ap (λ (ys : List X). map f (numbered_from i ys)) (begins read xs same i x lt here)
+        ∙ ap (λ (n : ℕ). f (i, x) ∷ map f (numbered_from n (drop (i + 1) xs))) (sym (add-one i))) e
 
     pub list_more : (f : ℕ × X → List Y) → new ≡ old ++ f (i, x)
         → old ++ flat_map f (numbered_from i (drop i xs)) ≡ all → new ++ flat_map f (numbered_from (i + 1) (drop (i + 1) xs)) ≡ all
@@ -39,11 +41,11 @@ module _ {Y : Type 0} (all old new : List Y) where
 
 -- none is left
 module _ {X Y : Type 0} (all old : List Y) (xs : List X) (i : ℕ) (past : length xs ≤ i) where
-  pub options_done : (f : X → Option Y) → old ++ filter_map f (drop i xs) ≡ all → old ≡ all
-  options_done f e = sym (append-nil old) ∙ (sym (ap (λ (ys : List X). old ++ filter_map f ys) (drop_all i xs past)) ∙ e)
-
   pub numbered_done : (f : ℕ × X → Option Y) → old ++ filter_map f (numbered_from i (drop i xs)) ≡ all → old ≡ all
   numbered_done f e = sym (append-nil old) ∙ (sym (ap (λ (ys : List X). old ++ filter_map f (numbered_from i ys)) (drop_all i xs past)) ∙ e)
+
+  pub mapped_done : (f : ℕ × X → Y) → old ++ map f (numbered_from i (drop i xs)) ≡ all → old ≡ all
+  mapped_done f e = sym (append-nil old) ∙ (sym (ap (λ (ys : List X). old ++ map f (numbered_from i ys)) (drop_all i xs past)) ∙ e)
 
   pub lists_done : (f : ℕ × X → List Y) → old ++ flat_map f (numbered_from i (drop i xs)) ≡ all → old ≡ all
   lists_done f e = sym (append-nil old) ∙ (sym (ap (λ (ys : List X). old ++ flat_map f (numbered_from i ys)) (drop_all i xs past)) ∙ e)

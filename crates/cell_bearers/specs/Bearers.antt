@@ -1,11 +1,12 @@
 -- Who bears a name.
 --     is_named name s                       the symbol is a GLOBAL that its object defines, and has the name
 --     object_bearers name p                 the symbols of that name, in an object with its place
---     cell_bearers file name p              the aliases of that name, of a cell with its place
+--     cell_bearers file name p              the first alias of that name, of a cell with its place
 --     bearers_of file objects cells name    all of them: the symbols, then the aliases
 --     answer h p                            the symbol that a bearer says for a cell with its place, if it is the cell's
 --     answer_of hs p                        what the first of them says that says one
-use Rattle.std.specs.Prelude.{◌==◌, ◌&&◌, ◌++◌, ℕ, Bool, List, [], ◌∷◌, Option, None, filter_map, flat_map, slice_range}
+use Rattle.std.specs.Prelude.{◌==◌, ◌&&◌, ◌++◌, ℕ, Bool, List, [], ◌∷◌, Option, None, filter_map, find, flat_map, option_map, slice_range}
+use Rattle.std.specs.List.{cons_option}
 use Rattle.cell_num.specs.Lists.{equals, numbered, or_else, where_true}
 use Rattle.cell_object.specs.declared.object.Object.{Object}
 use Rattle.cell_object.specs.declared.object.Symbol.{Symbol}
@@ -29,11 +30,14 @@ object_bearers name p = filter_map (symbol_bearer p.0 name) (numbered p.1.symbol
 abbrev pub alias_text : List ℕ → WrittenAlias → List ℕ
 alias_text file a = slice_range file a.name_start a.name_end
 
-abbrev pub alias_bearer : List ℕ → ℕ → List ℕ → WrittenAlias → Option Bearer
-alias_bearer file cell name a = where_true (equals (alias_text file a) name) (CellBearer cell a.symbol)
+abbrev pub alias_bearer : ℕ → WrittenAlias → Bearer
+alias_bearer cell a = CellBearer cell a.symbol
+
+abbrev pub is_alias : List ℕ → List ℕ → WrittenAlias → Bool
+is_alias file name a = equals (alias_text file a) name
 
 abbrev pub cell_bearers : List ℕ → List ℕ → ℕ × DescribedCell → List Bearer
-cell_bearers file name p = filter_map (alias_bearer file p.0 name) p.1.aliases.items
+cell_bearers file name p = cons_option (option_map (alias_bearer p.0) (find (is_alias file name) p.1.aliases.items)) []
 
 abbrev pub bearers_of : List ℕ → List Object → List DescribedCell → List ℕ → List Bearer
 bearers_of file objects cells name = flat_map (object_bearers name) (numbered objects) ++ flat_map (cell_bearers file name) (numbered cells)

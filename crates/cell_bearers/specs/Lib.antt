@@ -1,8 +1,10 @@
-pub mod Row
 pub mod Bearers
-pub mod Names
+pub mod Key
+pub mod Namings
+pub mod Rows
 pub mod Index
 pub mod Asked
 pub mod Seeing
 pub mod Sight
 pub mod Found
+pub mod Ordered

@@ -4,6 +4,6 @@
 /// their places, and the symbol is counted from 0.
 #[derive(Clone, Copy, Debug, PartialEq, Eq)]
 pub enum Bearer {
-    Object { object: usize, symbol: u64 },
-    Cell { cell: usize, symbol: u64 },
+    Object { object: u32, symbol: u32 },
+    Cell { cell: u32, symbol: u32 },
 }

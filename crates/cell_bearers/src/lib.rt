@@ -4,19 +4,22 @@
 
 mod adding;
 mod bearer;
-mod bearers;
 mod first;
 mod firsts;
 mod index;
-mod names;
+mod key;
+mod named;
+mod nearest;
+mod order;
+mod rows;
 mod seeing;
 mod sight;
-mod tables;
 mod text;
 
 pub use bearer::Bearer;
-pub use bearers::Bearers;
 pub use first::FirstBearer;
 pub use index::{Index, index_of};
+pub use named::Owner;
+pub use rows::{Row, Rows};
 pub use sight::{Sight, sight_of};
-pub use text::{is_definition, text_at};
+pub use text::text_at;

@@ -4,7 +4,7 @@ ghost use Rattle.std.specs.Prelude.{◌≡◌};
 ghost use Rattle.cell_audit.specs.Described.{standing_of};
 ghost use Rattle.cell_num.specs.Lists.{holds};
 ghost use Rattle.cell_bearers.specs.Asked.{stands_as};
-ghost use Rattle.cell_bearers.specs.Seeing.{sees};
+ghost use Rattle.cell_bearers.specs.Seeing.{sees, stands_at};
 
 use cell_described::DescribedCell;
 
@@ -31,4 +31,11 @@ pub fn sees(asked: Option<u64>, spaces: &[u16], cell: &DescribedCell) -> bool
     ensures { result ≡ sees asked spaces.now cell.now }
 {
     stands_as(asked, cell.group) && holds(spaces, cell.ns)
+}
+
+/// Whether the cell stands in the namespace itself and is of that swap, or else attached.
+pub fn stands_at(asked: Option<u64>, ns: u16, cell: &DescribedCell) -> bool
+    ensures { result ≡ stands_at asked ns cell.now }
+{
+    stands_as(asked, cell.group) && cell.ns == ns
 }

@@ -24,15 +24,15 @@ use Rattle.cell_machine.specs.Same.{IsSame, raised, without_counts}
 use Rattle.cell_machine.proofs.Same.{counts_same, maps_same, patches_same, same_counted, world_same}
 use Rattle.cell_machine.proofs.States.{known_at}
 use Rattle.cell_change_law.specs.Sound.{IsSound as IsSoundChange}
-use Rattle.cell_change.specs.declared.change.Change.{Change}
-use Rattle.cell_change.specs.declared.changing.Made.{Made}
+use Rattle.cell_change.specs.declared.request.Change.{Change}
+use Rattle.cell_change.specs.declared.made.Made.{Made}
 use Rattle.cell_change.specs.Asking.{IsAsked, as_said}
 use Rattle.cell_change.specs.Counted.{most_by}
 use Rattle.cell_change.specs.Exchanged.{Changes, Exchanges, HasExchanged, HasMade, ended, named_in}
 use Rattle.cell_change.specs.OldCells.{AreThere, CanReturn, IsAside}
 use Rattle.cell_change.specs.Planning.{IsBegun}
 use Rattle.cell_change.specs.Transferring.{stacks_for}
-use Rattle.cell_change.proofs.Wanting.{asked_sound}
+use Rattle.cell_change.proofs.Decision.Wanting.{asked_sound}
 
 attached_state : (standing : Standing) → is_attached standing ≡ true → standing ≡ Attached
 attached_state Attached e = refl
@@ -42,6 +42,7 @@ attached_state (Detached k) e = cc
 pub aside_same : (before : Machine) (old : List CellId) (m n : Machine) → IsAside before old m → IsSame m (without_counts m n) → IsAside before old (without_counts before n)
 aside_same before old m n aside same = record {
   cells = same.cells ∙ aside.cells;
+  soft = same.soft ∙ aside.soft;
   next = same.next ∙ aside.next;
   swaps = same.swaps ∙ aside.swaps;
   namespaces = same.namespaces ∙ aside.namespaces;

@@ -5,9 +5,9 @@ use Rattle.std.proofs.lemmas.Result.{err_from_is_err_and}
 use Rattle.cell_world.specs.declared.fail.Fail.{Fail}
 use Rattle.cell_world.specs.declared.fail.Fail.TheVariants.{Refused, OutOfMemory}
 use Rattle.cell_world.specs.declared.file.File.{File}
-use Rattle.cell_change.specs.declared.changing.Made.{Made}
+use Rattle.cell_change.specs.declared.made.Made.{Made}
 use Rattle.cell_hold.specs.declared.roots.Root.{Root}
-use Rattle.cell_graph.specs.Moves.{moved}
+use Rattle.cell_lemmas.specs.LinkSteps.{afters}
 use Rattle.cell_machine.specs.declared.machine.Machine.{Machine}
 use Rattle.cell_machine.specs.Does.{HasRisen, Most, cell_shapes, counted_before}
 use Rattle.cell_machine.specs.Machine.{AreParts, world_of}
@@ -16,21 +16,20 @@ use Rattle.cell_machine.proofs.Same.{counts_same, maps_same, patches_same, world
 use Rattle.cell_machine.proofs.Unchanged.{same_itself}
 use Rattle.cell_world.specs.Coherent.{IsLoadable}
 use Rattle.cell_load.proofs.Ready.{all_loadable, as_many}
-use Rattle.cell_change.specs.declared.change.Change.{Change}
+use Rattle.cell_change.specs.declared.request.Change.{Change}
 use Rattle.cell_change.specs.declared.planning.Plan.{Plan}
-use Rattle.cell_change.specs.declared.changing.Ready.{Ready}
+use Rattle.cell_change.specs.declared.ready.Ready.{Ready}
 use Rattle.cell_change.specs.Counted.{most_by}
 use Rattle.cell_change.specs.Planning.{IsPlan, Plans, planned, wish}
-use Rattle.cell_change.proofs.AddressesSaid.{old_cells}
-use Rattle.cell_change.proofs.Began.{parts}
+use Rattle.cell_change.proofs.Decision.AddressesSaid.{old_cells}
+use Rattle.cell_change.proofs.Decision.Began.{parts}
 use Rattle.cell_change.proofs.Late.{ended_late, risen, unrisen}
 use Rattle.cell_change.proofs.ChangeFinished.{fields_are}
-use Rattle.cell_world.specs.LoadCommand.{field_count}
+use Rattle.cell_world.specs.Linked.Relink.{field_count}
 use Rattle.cell_world.specs.Outcome.{Outcome, ◌>>=◌}
 use Rattle.cell_world.specs.Change.{Plan as PlanSaid}
 use Rattle.cell_world.specs.declared.refusal.Refusal.{Refusal}
 use Rattle.cell_world.specs.declared.state.LinkRow.{LinkRow}
-use Rattle.cell_graph.specs.Links.{is_bound}
 use Rattle.cell_graph.specs.Moves.{AreApart}
 use Rattle.cell_machine.specs.Same.{IsSame, without_counts}
 use Rattle.cell_mem.specs.State.{MemoryState}
@@ -52,6 +51,7 @@ use Rattle.cell_world.specs.declared.state.NewCell.{NewCell}
 counts_then : (m k l : Machine) → IsSame m k → IsSame k (without_counts k l) → IsSame m (without_counts m l)
 counts_then m k l a b = record {
   cells = b.cells ∙ a.cells;
+  soft = b.soft ∙ a.soft;
   next = b.next ∙ a.next;
   swaps = b.swaps ∙ a.swaps;
   namespaces = b.namespaces ∙ a.namespaces;
@@ -94,19 +94,13 @@ module _ (files : List File) (asked : Change) (m : Machine) (roots : Option (Lis
 
   module _ (p : Plan) (is : IsPlan files asked m h.begun roots p) where
     names_fit : length p.staged.names.items ≡ length p.staged.cells.items
-    names_fit = as_many m is.changed (moved m.graph.rows p.moves.items) p.staged is.ready
+    names_fit = as_many m is.changed (afters is.change.steps) p.staged is.ready
 
     loadable : All (λ c. IsLoadable c.object) p.staged.cells.items
-    loadable = all_loadable m is.changed (moved m.graph.rows p.moves.items) p.staged is.ready
+    loadable = all_loadable m is.changed (afters is.change.steps) p.staged is.ready
 
     abbrev pub plan_is : IsPlanned m asked p
     plan_is = record { files = files; begun = h.begun; roots = roots; rooted = h.rooted; made = is }
-
-    bound : All (λ (x : LinkRow). IsTrue (is_bound m.graph.rows x.user x.entry)) p.moves.items
-    bound = is.change.bound
-
-    apart : AreApart p.moves.items
-    apart = is.change.apart
 
     -- the new cells in their places
     abbrev new : List Cell
@@ -145,8 +139,6 @@ module _ (files : List File) (asked : Change) (m : Machine) (roots : Option (Lis
       loadable = loadable;
       names = names_fit;
       begins = begins_low;
-      bound = bound;
-      apart = apart;
     }
 
     module _ (k : Machine) (r : Ready) (ready : IsReadyFor m asked p k r) (n : Machine) (begun : n ≡ begun_in k r.writes) where

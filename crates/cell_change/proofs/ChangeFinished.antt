@@ -6,19 +6,22 @@ use Rattle.cell_num.specs.declared.ids.CellId.{CellId}
 use Rattle.cell_world.specs.declared.state.LinkRow.{LinkRow}
 use Rattle.cell_world.specs.declared.state.NewCell.{NewCell}
 use Rattle.cell_world.specs.Answer.{ids, numbers_of}
-use Rattle.cell_world.specs.LoadCommand.{field_count}
+use Rattle.cell_world.specs.Linked.Relink.{field_count}
 use Rattle.cell_world.specs.World.{World, Cell}
 use Rattle.cell_world.specs.declared.state.Standing.TheVariants.{Attached}
 use Rattle.cell_num.proofs.Elements.{In-map, map-In}
-use Rattle.cell_lemmas.proofs.Relinked.{map_twice}
-use Rattle.cell_lemmas.proofs.Loads.{older}
+use Rattle.cell_lemmas.proofs.Fields.Relinked.{map_twice}
+use Rattle.cell_lemmas.proofs.Naming.Known.{older}
 use Rattle.cell_commit.specs.Cells.{arrived}
-use Rattle.cell_graph.specs.Moves.{moved}
+use Rattle.cell_lemmas.specs.LinkSteps.{afters}
+use Rattle.cell_commit.specs.declared.wiring.Rewiring.{Rewiring}
 use Rattle.cell_link.specs.declared.value.FieldValue.{FieldValue}
 use Rattle.cell_mem.specs.State.{MemoryState}
 use Rattle.cell_space.specs.Joined.{placed_of}
 use Rattle.cell_task.specs.State.{TasksState}
 use Rattle.cell_machine.specs.declared.machine.Machine.{Machine}
+use Rattle.cell_machine.specs.declared.staged.Staged.{Staged}
+use Rattle.cell_load.specs.declared.prepared.Prepared.{Prepared}
 use Rattle.cell_machine.specs.Does.{cell_shapes}
 use Rattle.cell_machine.specs.Machine.{IsSound, world_of}
 use Rattle.cell_machine.specs.Same.{raised}
@@ -31,35 +34,37 @@ use Rattle.cell_load.proofs.Added.{maps_now, more_regions, patches_now, sound as
 use Rattle.cell_load.proofs.Committing.{committable_then}
 use Rattle.cell_load.proofs.Ready.{added_same}
 use Rattle.cell_change.specs.declared.planning.Plan.{Plan}
-use Rattle.cell_change.specs.declared.changing.Ready.{Ready}
+use Rattle.cell_change.specs.declared.ready.Ready.{Ready}
 use Rattle.cell_change.specs.Exchanged.{AreRoots, IsPlanned, IsReadyFor}
-use Rattle.cell_change.specs.declared.change.Change.{Change}
+use Rattle.cell_change.specs.declared.request.Change.{Change}
 use Rattle.cell_unload.specs.declared.outlook.Outlook.{Outlook}
 use Rattle.cell_hold.specs.declared.roots.Root.{Root}
 use Rattle.cell_change.specs.Entering.{LooksBy}
 use Rattle.cell_change.specs.Planning.{Looks}
-use Rattle.cell_change.proofs.ChangeOutlook.{new_root, outlook_after}
-use Rattle.cell_change.proofs.ChangeRuns.{came}
+use Rattle.cell_change.proofs.Arrival.ChangeOutlook.{new_root, outlook_after}
+use Rattle.cell_change.proofs.Arrival.ChangeRuns.{came}
 
 ids_placed : (cells : List Cell) → map (λ (c : NewCell). c.id) (map placed_of cells) ≡ ids (numbers_of cells)
 ids_placed cells = map_twice (λ (c : NewCell). c.id) placed_of cells ∙ sym (map_twice (λ (n : ℕ). let id : CellId = record { 0 = n } in id) (λ (c : Cell). c.id.0) cells)
 
--- the staged cells are in the machine, and the others lead to them
-abbrev pub HasAdded : Machine → Ready → Machine → Type 0
-HasAdded k r n = IsCommitted k (memory_with k.memory r.plan.staged.regions.items r.plan.patches.items) (moved k.graph.rows r.plan.moves.items) (map arrived r.prepared.newcomers.items) r.plan.staged n
+-- the staged cells are in the machine, and the others have these links
+abbrev pub HasAdded : Machine → Ready → List LinkRow → Machine → Type 0
+HasAdded k r rows n = IsCommitted k (memory_with k.memory r.plan.staged.regions.items r.plan.patches.items) rows (map arrived r.prepared.newcomers.items) r.plan.staged n
 
-pub has_added : (k : Machine) (r : Ready) (n : Machine) (patches : List FieldValue) (moves : List LinkRow) → patches ≡ r.plan.patches.items → moves ≡ r.plan.moves.items
-    → IsCommitted k (memory_with k.memory r.plan.staged.regions.items patches) (moved k.graph.rows moves) (map arrived r.prepared.newcomers.items) r.plan.staged n → HasAdded k r n
-has_added k r n patches moves a b c =
-    subst (λ (xs : List FieldValue). IsCommitted k (memory_with k.memory r.plan.staged.regions.items xs) (moved k.graph.rows r.plan.moves.items) (map arrived r.prepared.newcomers.items) r.plan.staged n) a
-    (subst (λ (xs : List LinkRow). IsCommitted k (memory_with k.memory r.plan.staged.regions.items patches) (moved k.graph.rows xs) (map arrived r.prepared.newcomers.items) r.plan.staged n) b c)
+-- the commit may be made, and leaves the others these links
+abbrev pub CanCommit : Machine → Staged → Prepared → List FieldValue → Rewiring → List LinkRow → Type 0
+CanCommit k s p patches links rows = (c : IsCommittable k s p patches links) × (afters c.change.steps ≡ rows)
 
 module _ (m : Machine) {asked : Change} (p : Plan) (x : IsPlanned m asked p) (k : Machine) (r : Ready) (y : IsReadyFor m asked p k r) where
-  pub committable : IsCommittable k r.plan.staged r.prepared r.plan.patches.items r.plan.moves.items
+  -- the links of others then
+  abbrev pub rows_then : List LinkRow
+  rows_then = afters x.change.steps
+
+  pub committable : CanCommit k r.plan.staged r.prepared r.plan.patches.items r.plan.links rows_then
   committable =
-      subst (λ (q : Plan). IsCommittable k q.staged r.prepared q.patches.items q.moves.items) (sym y.plan)
-      (committable_then m k p.staged r.prepared r.plan.staged.names p.patches.items p.moves.items x.changed y.same x.ready y.prepared
-      (subst (λ (q : Plan). HasRoomFor k q.staged r.prepared) y.plan y.room) x.change)
+      let c = committable_then m k p.staged r.prepared r.plan.staged.names p.patches.items p.links x.change x.changed y.same x.ready y.prepared
+      (subst (λ (q : Plan). HasRoomFor k q.staged r.prepared (length q.links.binds.items)) y.plan y.room) in
+      subst (λ (q : Plan). CanCommit k q.staged r.prepared q.patches.items q.links rows_then) (sym y.plan) (c.0, ap afters c.1)
 
   -- the new cells in their places
   abbrev pub new : List Cell
@@ -89,17 +94,17 @@ module _ (m : Machine) {asked : Change} (p : Plan) (x : IsPlanned m asked p) (k 
   pub fresh_are : r.fresh ≡ ids (numbers_of new)
   fresh_are = y.fresh ∙ (ap (map (λ (c : NewCell). c.id)) x.ready.staged.cells ∙ ids_placed new)
 
-  module _ (n : Machine) (committed : HasAdded k r n) where
-    pub added : IsAdded m p.patches.items p.moves.items p.staged (arrivals p.staged.cells.items p.staged.names.items) n
+  module _ (n : Machine) (committed : HasAdded k r rows_then n) where
+    pub added : IsAdded m p.patches.items rows_then p.staged (arrivals p.staged.cells.items p.staged.names.items) n
     added =
-        added_same m k n y.same p.staged r.plan.staged.names p.patches.items p.moves.items (map arrived r.prepared.newcomers.items) (arrivals p.staged.cells.items p.staged.names.items) y.prepared.newcomers
-        (subst (λ (q : Plan). IsCommitted k (memory_with k.memory q.staged.regions.items q.patches.items) (moved k.graph.rows q.moves.items) (map arrived r.prepared.newcomers.items) q.staged n) y.plan committed)
+        added_same m k n y.same p.staged r.plan.staged.names p.patches.items rows_then (map arrived r.prepared.newcomers.items) (arrivals p.staged.cells.items p.staged.names.items) y.prepared.newcomers
+        (subst (λ (q : Plan). IsCommitted k (memory_with k.memory q.staged.regions.items q.patches.items) rows_then (map arrived r.prepared.newcomers.items) q.staged n) y.plan committed)
 
     pub after : IsSound n
-    after = sound_after m n p.staged p.patches.items p.moves.items (moved m.graph.rows p.moves.items) refl x.changed x.patches x.ready added
+    after = sound_after m n p.staged p.patches.items rows_then x.changed x.patches x.ready added
 
     pub comes : world_of n ≡ x.ready.after
-    comes = world_added m n p.staged p.patches.items p.moves.items (moved m.graph.rows p.moves.items) refl x.changed x.patches x.ready added
+    comes = world_added m n p.staged p.patches.items rows_then x.changed x.patches x.ready added
 
     pub linked : world_of n ≡ x.plan.linked
     linked = comes ∙ x.linked
@@ -113,16 +118,16 @@ module _ (m : Machine) {asked : Change} (p : Plan) (x : IsPlanned m asked p) (k 
     brought : length p.staged.regions.items ≡ length (flat_map cell_shapes new)
     brought =
         came (world_of x.begun.before) (world_of n) x.begun.sound.coherent after.coherent (world_of m).cells new cells_are old_placed (ap (λ (ts : TasksState). ts.tasks) (added.is.tasks ∙ x.begun.aside.tasks)) (length p.staged.regions.items)
-        (more_regions m n p.staged p.patches.items p.moves.items (moved m.graph.rows p.moves.items) refl x.changed x.patches x.ready added ∙ ap (λ (more : ℕ). more + length p.staged.regions.items) regions_before)
+        (more_regions m n p.staged p.patches.items rows_then x.changed x.patches x.ready added ∙ ap (λ (more : ℕ). more + length p.staged.regions.items) regions_before)
 
     pub patches_are : n.memory.patches ≡ raised k.memory.patches r.patched
     patches_are =
-        patches_now m n p.staged p.patches.items p.moves.items (moved m.graph.rows p.moves.items) refl x.changed x.patches x.ready added
+        patches_now m n p.staged p.patches.items rows_then x.changed x.patches x.ready added
         ∙ ap₂ raised (sym (patches_same m k y.same)) (let e = y.patched in let sum : length p.patches.items + length p.staged.fields.items ≡ r.patched = omega (arith, e) in sum)
 
     pub maps_are : n.memory.maps ≡ raised k.memory.maps (length (flat_map cell_shapes x.plan.fresh))
     maps_are =
-        maps_now m n p.staged p.patches.items p.moves.items (moved m.graph.rows p.moves.items) refl x.changed x.patches x.ready added
+        maps_now m n p.staged p.patches.items rows_then x.changed x.patches x.ready added
         ∙ ap₂ raised (sym (maps_same m k y.same)) (brought ∙ ap (λ (cs : List Cell). length (flat_map cell_shapes cs)) (sym fresh_is))
 
     -- the memory may be another by then, after routines

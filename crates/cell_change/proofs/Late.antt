@@ -9,9 +9,9 @@ use Rattle.cell_world.specs.declared.transfer.Failure.{Failure}
 use Rattle.cell_world.specs.Kept.{Holding, holder_in, holding_of, kept_in}
 use Rattle.cell_world.specs.Outcome.{Outcome, ◌>>=◌, ◌>>◌, refused_by}
 use Rattle.cell_world.specs.Change.{Change as ChangeSaid, Plan as PlanSaid, addresses_of, first_held_old, old_of}
-use Rattle.cell_world.specs.SwapTransfer.{transferred_by}
-use Rattle.cell_world.specs.Transfer.{transfer}
-use Rattle.cell_world.specs.UnloadCommand.{first_held}
+use Rattle.cell_world.specs.Commands.SwapTransfer.{transferred_by}
+use Rattle.cell_world.specs.Running.Transfer.{transfer}
+use Rattle.cell_world.specs.Commands.UnloadCommand.{first_held}
 use Rattle.cell_world.specs.World.{World}
 use Rattle.cell_machine.specs.Does.{HasRisen, Most, counted_before}
 use Rattle.cell_machine.specs.Same.{raised}

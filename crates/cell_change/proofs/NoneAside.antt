@@ -4,7 +4,7 @@ use Rattle.cell_num.specs.declared.ids.CellId.{CellId}
 use Rattle.cell_machine.specs.declared.machine.Machine.{Machine}
 use Rattle.cell_machine.specs.Same.{IsSame, without_counts}
 use Rattle.cell_change.specs.OldCells.{CanReturn, IsAside, among, swaps_for}
-use Rattle.cell_change.proofs.Returning.{put_first, put_none}
+use Rattle.cell_change.proofs.Return.Returning.{put_first, put_none}
 
 pub some_swap : (old : List CellId) → 0 < length old → swaps_for old ≡ 1
 some_swap [] lt = absurd (omega (arith, lt))
@@ -13,6 +13,7 @@ some_swap (c ∷ old) lt = refl
 pub none_aside : (m : Machine) (old : List CellId) → old ≡ [] → IsAside m old m
 none_aside m old none = subst (λ (cells : List CellId). IsAside m cells m) (sym none) (record {
   cells = refl;
+  soft = refl;
   next = refl;
   swaps = omega arith;
   namespaces = refl;
@@ -28,6 +29,7 @@ none_aside m old none = subst (λ (cells : List CellId). IsAside m cells m) (sym
 pub none_back : (m : Machine) (old : List CellId) → old ≡ [] → (r : CanReturn m old) → IsSame r.before (without_counts r.before m)
 none_back m old none r = record {
   cells = r.aside.cells;
+  soft = r.aside.soft;
   next = r.aside.next;
   swaps = r.aside.swaps ∙ (ap (λ (cells : List CellId). r.before.swaps + swaps_for cells) none ∙ omega arith);
   namespaces = r.aside.namespaces;

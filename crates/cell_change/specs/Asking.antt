@@ -11,8 +11,8 @@ use Rattle.cell_world.specs.Gather.{Source, file_named}
 use Rattle.cell_world.specs.World.{World, is_attached}
 use Rattle.cell_num.specs.Lists.{In}
 use Rattle.cell_gather.specs.declared.want.Want.{Want}
-use Rattle.cell_change.specs.declared.change.Change.{Change}
-use Rattle.cell_change.specs.declared.change.Options.{Options}
+use Rattle.cell_change.specs.declared.request.Change.{Change}
+use Rattle.cell_change.specs.declared.request.Options.{Options}
 
 abbrev pub as_said : Options → List Wanted → ChangeSaid
 as_said o wants = record { wants = wants; reexport = o.reexport; strict = o.strict; routines = o.routines.now; budget = o.budget }

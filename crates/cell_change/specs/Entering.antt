@@ -19,11 +19,11 @@ use Rattle.cell_unload.specs.declared.survey.Survey.{Survey}
 use Rattle.cell_unload.specs.Sweep.{IsOutlook, IsSurvey}
 use Rattle.cell_xfer.specs.declared.carrying.Transfer.{Transfer}
 use Rattle.cell_change.specs.declared.planning.Plan.{Plan}
-use Rattle.cell_change.specs.declared.changing.Ready.{Ready}
+use Rattle.cell_change.specs.declared.ready.Ready.{Ready}
 use Rattle.cell_change.specs.Back.{CanUndo}
 use Rattle.cell_change.specs.Exchanged.{CanFinish, HasCounted, ended, room_for}
 use Rattle.cell_change.specs.Planning.{wish}
-use Rattle.cell_change.specs.declared.change.Change.{Change}
+use Rattle.cell_change.specs.declared.request.Change.{Change}
 
 -- `rest` has the other parts
 pub record CanEnter (n : Machine) (plan : Plan) (prepared : Prepared) (transfer : Option Transfer) : Type 0 where
@@ -32,7 +32,7 @@ pub record CanEnter (n : Machine) (plan : Plan) (prepared : Prepared) (transfer 
   pub can : CanFinish n asked (record rest { plan = plan; prepared = prepared; transfer = transfer })
 
 pub record IsOpen {first : Machine} {asked : Change} {r : Ready} (c : CanFinish first asked r) (n : Machine) : Type 0 where
-  pub undo : CanUndo n r.links_before.items r.fresh
+  pub undo : CanUndo n r.back r.fresh
   pub leads : undo.can.room ≡ c.room
   pub counted : HasCounted c n
 

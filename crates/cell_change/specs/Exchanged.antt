@@ -30,10 +30,9 @@ use Rattle.cell_world.specs.Coherent.{IsLoadable}
 use Rattle.cell_world.specs.Change.{Change as ChangeSaid, Made as MadeSaid, Plan as PlanSaid, first_held_old, made_by, make_change, plan_of, with_routines}
 use Rattle.cell_world.specs.Gather.{source_of}
 use Rattle.cell_world.specs.Outcome.{Outcome, ◌>>=◌, ◌>>◌, refused_by}
-use Rattle.cell_world.specs.UnloadCommand.{detached_of}
+use Rattle.cell_world.specs.Commands.UnloadCommand.{detached_of}
 use Rattle.cell_world.specs.World.{Cell, World}
-use Rattle.cell_graph.specs.Links.{is_bound}
-use Rattle.cell_graph.specs.Moves.{AreApart}
+use Rattle.cell_commit.specs.Rewiring.{IsTurned}
 use Rattle.cell_hold.specs.declared.roots.Root.{Root}
 use Rattle.cell_machine.specs.declared.machine.Machine.{Machine}
 use Rattle.cell_machine.specs.Does.{LeavesParts, cell_shapes}
@@ -41,13 +40,13 @@ use Rattle.cell_machine.specs.Machine.{IsSound, world_of}
 use Rattle.cell_machine.specs.Same.{IsSame, raised, without_counts}
 use Rattle.cell_load.specs.Adding.{HasRoomFor, IsPrepared}
 use Rattle.cell_placed.specs.Low.{IsLow}
-use Rattle.cell_change.specs.declared.change.Change.{Change}
-use Rattle.cell_change.specs.declared.changing.Lists.{Lists}
-use Rattle.cell_change.specs.declared.changing.Made.{Made}
-use Rattle.cell_change.specs.declared.changing.Ready.{Ready}
+use Rattle.cell_change.specs.declared.request.Change.{Change}
+use Rattle.cell_change.specs.declared.ready.Lists.{Lists}
+use Rattle.cell_change.specs.declared.made.Made.{Made}
+use Rattle.cell_change.specs.declared.ready.Ready.{Ready}
 use Rattle.cell_change.specs.declared.planning.Plan.{Plan}
 use Rattle.cell_change.specs.Asking.{IsAsked, as_said}
-use Rattle.cell_change.specs.Before.{AreAsTheyWere, begun_in}
+use Rattle.cell_change.specs.Before.{begun_in}
 use Rattle.cell_change.specs.Counted.{most_by}
 use Rattle.cell_change.specs.Planning.{IsBegun, IsPlan, planned, wish}
 use Rattle.cell_change.specs.Transferring.{AreOld, Gives, stacks_for, turns_in}
@@ -85,7 +84,7 @@ pub record AreEmpty (cells : ℕ) (lists : Lists) : Type 0 where
   pub removed_room : cells ≤ vec_capacity lists.removed
   pub aside_room : cells ≤ vec_capacity lists.aside
 
--- the machine has the old cells, the new ones are low and in order, and the links that are moved are there
+-- the machine has the old cells, and the new ones are low and in order
 pub record CanTake (m : Machine) (asked : Change) (p : Plan) : Type 0 where
   pub old : AreOld m asked.replaced.items
   pub low : All IsLow p.staged.cells.items
@@ -93,8 +92,6 @@ pub record CanTake (m : Machine) (asked : Change) (p : Plan) : Type 0 where
   pub loadable : All (λ c. IsLoadable c.object) p.staged.cells.items
   pub names : length p.staged.names.items ≡ length p.staged.cells.items
   pub begins : All (λ b. b.offset < 2 ^ 32) p.begins.items
-  pub bound : All (λ x. IsTrue (is_bound m.graph.rows x.user x.entry)) p.moves.items
-  pub apart : AreApart p.moves.items
 
 -- the names of the new cells are in `prepared`
 pub record HasTaken (m : Machine) (asked : Change) (p : Plan) (r : Ready) : Type 0 where
@@ -105,11 +102,11 @@ pub record HasTaken (m : Machine) (asked : Change) (p : Plan) (r : Ready) : Type
   pub patched : r.patched ≡ length p.staged.fields.items + length p.patches.items
   pub writes : r.writes ≡ r.patched + turns_in r.transfer
   pub given : Gives m asked.replaced.items p asked.options.routines.now asked.options.budget r.transfer
-  pub links : AreAsTheyWere m.graph.rows p.moves.items r.links_before.items
+  pub turned : IsTurned p.links r.back
 
 pub record IsReadyFor (m : Machine) (asked : Change) (p : Plan) (n : Machine) (r : Ready) : Type 0 where
   pub same : IsSame m n
-  pub room : HasRoomFor n r.plan.staged r.prepared
+  pub room : HasRoomFor n r.plan.staged r.prepared (length r.plan.links.binds.items)
   pub stack_room : length p.staged.regions.items + 1 ≤ n.memory.spare
   pub taken : HasTaken m asked p r
   pub open taken use *

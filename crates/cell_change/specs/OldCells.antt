@@ -40,6 +40,7 @@ AreThere cells old = All (λ c. option_map (λ x. x.state) (cell_numbered cells 
 
 pub record IsAside (before : Machine) (old : List CellId) (m : Machine) : Type 0 where
   pub cells : m.cells.items ≡ before.cells.items
+  pub soft : m.soft.items ≡ before.soft.items
   pub next : m.next ≡ before.next
   pub swaps : m.swaps ≡ before.swaps + swaps_for old
   pub namespaces : m.spaces.namespaces ≡ before.spaces.namespaces

@@ -4,12 +4,12 @@
 --     planned files asked m b           what it plans
 --     IsGatheredFor .. g, GathersFor .. result   the new cells, or the refusal
 --     numbers_in x                      the numbers of the old cells
---     IsAffected m asked x              x has the old cells, and those with a link into one of them
+--     IsAffected m asked x              x has the old cells, and those that may change
 --     IsFound .. g, FindsNew .. result  the new cells, with which nobody lacks anything, or the refusal
---     view_with m landed old            what changes is read from there
+--     view_with m landed                what changes is read from there
 --     place_if_ready t                  where the task stands, unless it has faulted
 --     Looks m cells roots outlook       holding is read from there with the new cells, where it is read
---     IsPlan .. roots p, Plans .. roots result   the plan by what is added, moved and patched, or the refusal
+--     IsPlan .. roots p, Plans .. roots result   the plan by what is added and changed, or the refusal
 use Rattle.std.specs.Prelude.{◌≡◌, ◌≤◌, ◌<◌, ◌^◌, ℕ, List, [], ◌∷◌, ◌++◌, All, Option, Some, None, Result, Ok, Err, filter, flat_map, length, map, if◌then◌else◌}
 use Rattle.cell_world.specs.declared.fail.Fail.{Fail}
 use Rattle.cell_world.specs.declared.fail.Fail.TheVariants.{Refused, OutOfMemory}
@@ -18,7 +18,7 @@ use Rattle.cell_world.specs.Gather.{grown, source_of}
 use Rattle.cell_world.specs.Kept.{placed_in}
 use Rattle.cell_num.specs.Limits.{max_file_bytes}
 use Rattle.cell_world.specs.Outcome.{Outcome}
-use Rattle.cell_world.specs.Relink.{Patch}
+use Rattle.cell_world.specs.Linked.Relink.{Patch}
 use Rattle.cell_world.specs.Change.{Change as ChangeSaid, Plan as PlanSaid, first_uncovered, gather, plan_of, set_aside}
 use Rattle.cell_world.specs.World.{Task, attached, is_ready}
 use Rattle.cell_lemmas.specs.Loads.{placed_cells}
@@ -26,7 +26,7 @@ use Rattle.cell_world.specs.declared.state.NewCell.{NewCell}
 use Rattle.cell_unload.specs.declared.outlook.Outlook.{Outlook}
 use Rattle.cell_hold.specs.declared.roots.Root.{Root}
 use Rattle.cell_hold.specs.declared.roots.Root.TheVariants.{Attached}
-use Rattle.cell_graph.specs.Moves.{moved}
+use Rattle.cell_lemmas.specs.LinkSteps.{afters}
 use Rattle.cell_commit.specs.Commit.{patches_from}
 use Rattle.cell_target.specs.Scene.{seen}
 use Rattle.cell_gather.specs.declared.gathering.Gathered.{Gathered}
@@ -38,9 +38,9 @@ use Rattle.cell_load.specs.Stages.{AreGathered, new_cells}
 use Rattle.cell_plan.specs.declared.torn.TaskPc.{TaskPc}
 use Rattle.cell_plan.specs.Exchanged.{View}
 use Rattle.cell_plan.specs.Spans.{pc_of}
-use Rattle.cell_plan.specs.Users.{uses}
+use Rattle.cell_plan.specs.Users.{may_change}
 use Rattle.cell_change.specs.declared.affected.Affected.{Affected}
-use Rattle.cell_change.specs.declared.change.Change.{Change}
+use Rattle.cell_change.specs.declared.request.Change.{Change}
 use Rattle.cell_change.specs.declared.planning.Plan.{Plan}
 use Rattle.cell_change.specs.Asking.{IsAsked, as_said}
 use Rattle.cell_layout.specs.Placing.{extra_start}
@@ -76,7 +76,7 @@ numbers_in x = map (λ c. c.0) x.old.cells.now
 
 pub record IsAffected (m : Machine) (asked : Change) (x : Affected) : Type 0 where
   pub old : x.old.cells.now ≡ asked.replaced.items
-  pub users : map (λ c. c.now) x.users.items ≡ filter (uses (numbers_in x) m.graph.rows) m.cells.items
+  pub cells : map (λ c. c.now) x.cells.items ≡ filter (may_change (numbers_in x) (map (λ c. c.0) m.soft.items) m.graph.rows) m.cells.items
 
 pub record IsFound (files : List File) (asked : Change) (m : Machine) (b : IsBegun files asked m) (g : Gathered) : Type 0 where
   pub gathered : IsGatheredFor files asked m b g
@@ -87,13 +87,12 @@ FindsNew files asked m b (Ok g) = IsFound files asked m b g
 FindsNew files asked m b (Err (Refused refusal)) = planned files asked m b ≡ Err refusal
 FindsNew files asked m b (Err OutOfMemory) = Unit {0}
 
-abbrev pub view_with : Machine → Landed → List ℕ → View
-view_with m landed old =
+abbrev pub view_with : Machine → Landed → View
+view_with m landed =
     record {
       spaces = m.spaces;
       links = m.graph.rows;
       now = seen landed.ahead.namespaces (m.cells.items ++ landed.cells.items) landed.ahead.cells;
-      old = old;
     }
 
 abbrev pub place_if_ready : Task → List TaskPc
@@ -113,13 +112,13 @@ Looks m cells (Some roots) (Some o) = LooksOver m cells roots o
 pub record IsPlan (files : List File) (asked : Change) (m : Machine) (b : IsBegun files asked m) (roots : Option (List Root)) (p : Plan) : Type 0 where
   pub plan : PlanSaid
   pub is : planned files asked m b ≡ Ok plan
+  pub change : CanChange m p.staged p.patches.items p.links
   pub changed : List Patch
-  pub ready : IsReadyToAdd m changed (moved m.graph.rows p.moves.items) p.staged
+  pub ready : IsReadyToAdd m changed (afters change.steps) p.staged
   pub linked : ready.after ≡ plan.linked
   pub fresh : plan.fresh ≡ placed_cells ready.staged.starts ready.new
   pub patches : patches_from p.patches.items ≡ changed
   pub count : length p.patches.items ≡ length plan.changed
-  pub change : CanChange m p.staged p.patches.items p.moves.items
   pub looks : Looks m p.staged.cells.items roots p.outlook
   pub named : length p.begins.items ≡ length asked.options.routines.now
   pub stack : extra_start m.memory.base p.staged.space.taken (pages_for asked.options.routines.now) ≡ Ok p.stack

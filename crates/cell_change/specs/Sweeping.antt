@@ -4,7 +4,7 @@
 use Rattle.std.specs.Prelude.{◌≡◌, ◌≤◌, ℕ, List, [], Option, Some, None, length}
 use Rattle.cell_num.specs.declared.ids.CellId.{CellId}
 use Rattle.cell_world.specs.Answer.{ids}
-use Rattle.cell_world.specs.UnloadCommand.{detached_of, garbage_of, purged}
+use Rattle.cell_world.specs.Commands.UnloadCommand.{detached_of, garbage_of, purged}
 use Rattle.cell_machine.specs.declared.machine.Machine.{Machine}
 use Rattle.cell_machine.specs.Machine.{IsSound, world_of}
 use Rattle.cell_unload.specs.declared.survey.Survey.{Survey}

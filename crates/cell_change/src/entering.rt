@@ -2,13 +2,13 @@
 
 ghost use Rattle.std.specs.Prelude.{◌≡◌, ◌≤◌, [], None, length, map, vec_capacity, if◌then◌else◌};
 ghost use Rattle.cell_machine.specs.Machine.{IsWhole};
-ghost use Rattle.cell_world.specs.UnloadCommand.{first_held as held_among};
+ghost use Rattle.cell_world.specs.Commands.UnloadCommand.{first_held as held_among};
 ghost use Rattle.cell_unload.specs.Sweep.{holding_in};
 ghost use Rattle.cell_change.specs.Entering.{CanEnter, CanTry, Enters, LooksBy, Reads, Tries};
 ghost use Rattle.cell_change.specs.Exchanged.{room_for};
 
-use crate::change::Change;
 use crate::planning::Plan;
+use crate::request::Change;
 use crate::transferring::run_routines;
 use cell_load::{Prepared, commit};
 use cell_machine::Machine;
@@ -31,12 +31,12 @@ fn enter(
     let Plan {
         staged,
         patches,
-        moves,
+        links,
         outlook,
         begins: _,
         stack: _,
     } = plan;
-    commit(machine, staged, prepared, &patches, &moves);
+    commit(machine, staged, prepared, &patches, &links);
     machine.memory.laid_out();
     machine.memory.keeps_shapes();
     run_routines(&mut machine.memory, transfer)?;

@@ -5,12 +5,16 @@
 mod affected;
 mod back;
 mod change;
-mod changing;
 mod entering;
+mod made;
 mod old_cells;
 mod planning;
+mod ready;
+mod request;
 mod standing;
+mod sweep;
 mod transferring;
 
-pub use change::{Change, Options};
-pub use changing::{Made, make_change};
+pub use change::make_change;
+pub use made::Made;
+pub use request::{Change, Options};

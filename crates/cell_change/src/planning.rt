@@ -4,13 +4,14 @@ ghost use Rattle.std.specs.Prelude.{◌++◌, All, IfOk, IsTrue, map, nat_lt, op
 ghost use Rattle.cell_num.specs.Lists.{In, each_pair};
 ghost use Rattle.cell_world.specs.declared.state.NewCell.{NewCell as Placed};
 ghost use Rattle.cell_plan.specs.Exchanged.{Change as Changes, MayChange};
-ghost use Rattle.cell_change.specs.Planning.{FindsNew, GathersFor, IsAffected, IsBegun, Looks, Plans, numbers_in, view_with};
+ghost use Rattle.cell_change.specs.Planning.{FindsNew, GathersFor, IsAffected, IsBegun, Looks, Plans, view_with};
 ghost use Rattle.cell_target.specs.Scene.{AreCells};
 
 use crate::affected::Affected;
-use crate::change::Change;
+use crate::request::Change;
 use crate::standing::check_torn;
 use crate::transferring::stack_pages;
+use cell_commit::Rewiring;
 use cell_depot::Depot;
 use cell_gather::{Gathered, gather};
 use cell_hold::Root;
@@ -21,7 +22,7 @@ use cell_plan::{Changed, Exchange, check_coverage};
 use cell_routines::{Begin, begins_of};
 use cell_target::Scene;
 use cell_unload::Outlook;
-use cell_world::{Fail, LinkRow, NewCell};
+use cell_world::{Fail, NewCell};
 use std::alloc::{AllocError, Global};
 
 /// What a change adds to the machine, in which the old cells are put aside, and what it changes there.
@@ -30,8 +31,8 @@ pub struct Plan {
     pub staged: Staged,
     /// The fields of other cells, by what they hold then.
     pub patches: Vec<FieldValue>,
-    /// The links of other cells, as they lead then.
-    pub moves: Vec<LinkRow>,
+    /// What becomes of the links of other cells.
+    pub links: Rewiring,
     /// Where holding is read from then, where cells are replaced.
     pub outlook: Option<Outlook>,
     /// Where the routines begin.
@@ -79,13 +80,13 @@ fn find_new<'a>(
         alloc,
         &machine.spaces,
         &gathered.ahead,
-        &affected.users,
+        &affected.cells,
         &affected.old,
     )?;
     Ok(gathered)
 }
 
-/// What changes in the users of the old cells, once the new ones are in their places.
+/// What changes in the affected cells, once the new ones are in their places.
 fn changed_by(
     alloc: Global,
     machine: &Machine,
@@ -93,9 +94,9 @@ fn changed_by(
     affected: &Affected,
 ) -> Result<Changed, Fail>
     requires cells { AreCells landed.now.ahead.cells (machine.now.cells.items ++ landed.now.cells.items) }
-    requires there { All (λ c. In c.now machine.now.cells.items) affected.now.users.items }
-    requires may { All (λ c. MayChange (view_with machine.now landed.now (numbers_in affected.now)) c.now) affected.now.users.items }
-    ensures { Changes (view_with machine.now landed.now (numbers_in affected.now)) (map (λ c. c.now) affected.now.users.items) result }
+    requires there { All (λ c. In c.now machine.now.cells.items) affected.now.cells.items }
+    requires may { All (λ c. MayChange (view_with machine.now landed.now) c.now) affected.now.cells.items }
+    ensures { Changes (view_with machine.now landed.now) (map (λ c. c.now) affected.now.cells.items) result }
 {
     let scene = Scene {
         ahead: &landed.ahead,
@@ -106,9 +107,8 @@ fn changed_by(
         spaces: &machine.spaces,
         graph: &machine.graph,
         scene: &scene,
-        old: &affected.old,
     };
-    exchange.changed(alloc, &affected.users)
+    exchange.changed(alloc, &affected.cells)
 }
 
 /// Where holding is read from once the new cells are there, where it is read at all: in all cells, and from
@@ -153,7 +153,7 @@ pub fn plan_change(
     let landed = land(alloc, machine, gathered, stack_pages(routines))?;
     let Changed {
         patches,
-        moves,
+        links,
         spans,
     } = changed_by(alloc, machine, &landed, &affected)?;
     check_torn(alloc, &machine.tasks, &spans)?;
@@ -163,7 +163,7 @@ pub fn plan_change(
     Ok(Plan {
         staged,
         patches,
-        moves,
+        links,
         outlook,
         begins,
         stack,

@@ -1,16 +1,16 @@
 //! What a change's routines are given, and their run.
 
-ghost use Rattle.std.specs.Prelude.{◌≡◌, ◌<◌, ◌^◌, ◌++◌, ◌∷◌, [], All, IfOk, OnOk, IsTrue, length, nat_lt, replicate};
+ghost use Rattle.std.specs.Prelude.{◌≡◌, ◌<◌, ◌^◌, ◌++◌, ◌∷◌, [], All, IfOk, OnOk, IsTrue, length, nat_lt};
 ghost use Rattle.cell_num.specs.Lists.{each_pair};
 ghost use Rattle.cell_placed.specs.Low.{IsLow};
 ghost use Rattle.cell_xfer.specs.Named.{AnswersAs};
 ghost use Rattle.cell_change.specs.Transferring.{AreOld, CanRun, Gives, HasRun, new_rows, old_rows, pages_for, rows_in};
 
-use crate::change::Change;
 use crate::planning::Plan;
+use crate::request::Change;
 use cell_machine::{Machine, Staged};
 use cell_mem::Memory;
-use cell_num::{CellId, Name, STACK_PAGES, STACK_SIZE};
+use cell_num::{CellId, Name, STACK_PAGES, STACK_SIZE, zeros};
 use cell_placed::cell_numbered;
 use cell_routines::{add_addresses, routines_at};
 use cell_world::Refusal;
@@ -33,13 +33,6 @@ fn copies(alloc: Global, names: &[Name]) -> Result<Vec<Name>, AllocError>
         copies.push(name.copy(alloc)?)?;
     }
     Ok(copies)
-}
-
-/// So many bytes that are 0.
-fn zeros(alloc: Global, count: usize) -> Result<Vec<u8>, AllocError>
-    ensures { IfOk result (λ bytes. bytes.items ≡ replicate count 0) }
-{
-    vec![in alloc; 0u8; count]
 }
 
 /// Adds the names of an old cell with their addresses.

@@ -7,12 +7,12 @@ use Rattle.cell_num.specs.Lists.{holds, first, or_else, In}
 use Rattle.cell_world.specs.World.{World, Cell}
 use Rattle.cell_world.specs.Names.{needs_of, provider_of}
 use Rattle.cell_world.specs.Gather.{Need, Source, first_lack, fresh_cells, lacks_of}
-use Rattle.cell_world.specs.Place.{place_all}
+use Rattle.cell_world.specs.Placed.Place.{place_all}
 use Rattle.cell_world.specs.Coherent.{AreSound, IsCoherent, is_known_cell, is_supplied}
 use Rattle.cell_num.proofs.Elements.{Has, all-In, In-all, In-append, In-filtered, filter-Passes, filter_none, some_has}
-use Rattle.cell_lemmas.proofs.Known.{known_parts}
-use Rattle.cell_lemmas.proofs.Attach.{provider_grown}
-use Rattle.cell_lemmas.proofs.Gathered.{Extends, extends_grows}
+use Rattle.cell_lemmas.proofs.Naming.Known.{known_parts}
+use Rattle.cell_lemmas.proofs.Naming.Attach.{provider_grown}
+use Rattle.cell_lemmas.proofs.Naming.Gathered.{Extends, extends_grows}
 use Rattle.cell_world.specs.Change.{Change, old_of, swapped_out, gather, is_bystander, first_uncovered}
 use Rattle.cell_lemmas.specs.Grown.{HasAttached}
 use Rattle.cell_change_law.specs.Sound.{IsSound}

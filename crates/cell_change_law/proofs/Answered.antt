@@ -12,15 +12,15 @@ use Rattle.cell_world.specs.declared.refusal.Refusal.{Refusal}
 use Rattle.cell_world.specs.declared.refusal.Refusal.TheVariants.{Ambiguous, BadObject, Exhausted, NoEntry, Overflow, TooMany, Torn}
 use Rattle.cell_world.specs.Change.{Change, Plan, append_want, first_uncovered, gather, new_since, plan_of, set_aside, with_names}
 use Rattle.cell_world.specs.Gather.{Source, Need, append_cell, bring_one, bring_within, clash_among, depot_files, duplicate, first_lack, fresh_cells, has_stem_in, missing, name_of_ns, nearest_file, object_in, one_file, stem_of_file}
-use Rattle.cell_world.specs.Layout.{image_of, sections_in}
+use Rattle.cell_world.specs.Placed.Layout.{image_of, sections_in}
 use Rattle.cell_num.specs.Limits.{max_cells, max_cell_number}
 use Rattle.cell_world.specs.Names.{chain, clash_name, clash_stem, crate_of, definitions_of}
 use Rattle.cell_world.specs.Outcome.{Outcome, ◌>>=◌, ◌>>◌, need, found, refused_by, each}
-use Rattle.cell_world.specs.Pages.{longest_run, lowest_run}
-use Rattle.cell_world.specs.Place.{page_table, place_all, place_cell, place_class, place_sections, start_of_run}
-use Rattle.cell_world.specs.SwapTransfer.{Begin, begin_of, begins_of, stack_for}
+use Rattle.cell_world.specs.Placed.Pages.{longest_run, lowest_run}
+use Rattle.cell_world.specs.Placed.Place.{page_table, place_all, place_cell, place_class, place_sections, start_of_run}
+use Rattle.cell_world.specs.Commands.SwapTransfer.{Begin, begin_of, begins_of, stack_for}
 use Rattle.cell_world.specs.World.{World, Cell, Alias}
-use Rattle.cell_lemmas.proofs.Appended.{unmapped}
+use Rattle.cell_lemmas.proofs.Naming.Appended.{unmapped}
 use Rattle.cell_lemmas.proofs.Outcomes.{refused_ok}
 use Rattle.cell_change_law.specs.Answered.{IsOfPlaced, HasAnswered}
 use Rattle.cell_change_law.specs.Sound.{HasCome}

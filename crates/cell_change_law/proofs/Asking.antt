@@ -1,6 +1,6 @@
 -- What an accepted load or swap leaves, a sound change makes that it asks for.
 use Rattle.std.proofs.Common.{◌≡◌, ◌<◌, ◌⊎◌, sym, ap, subst, inl, inr, ℕ, Bool, true, ◌&&◌, List, [], ◌∷◌, ◌++◌, length, Some, Ok}
-use Rattle.std.specs.Prelude.{◌==◌}
+use Rattle.std.specs.Prelude.{◌==◌, None}
 use Rattle.std.proofs.lemmas.Bool.{and_parts, ltb-true}
 use Rattle.cell_num.specs.Lists.{equals, In}
 use Rattle.cell_world.specs.declared.command.SwapItem.{SwapItem}
@@ -8,21 +8,43 @@ use Rattle.cell_world.specs.declared.refusal.Refusal.TheVariants.{Unknown, NoObj
 use Rattle.cell_world.specs.World.{World, Cell, is_attached}
 use Rattle.cell_world.specs.Names.{cell_at, namespace_named}
 use Rattle.cell_world.specs.Gather.{Source, depot_files, file_named, one_file}
-use Rattle.cell_world.specs.UnloadCommand.{attached_cell, cell_word}
+use Rattle.cell_world.specs.Commands.UnloadCommand.{attached_cell, cell_word}
 use Rattle.cell_world.specs.Outcome.{◌>>=◌, each, found}
 use Rattle.cell_world.specs.Answer.{Done, space_of}
-use Rattle.cell_world.specs.Asked.{load_by_change, swap_by_change, want_of, wants_of}
-use Rattle.cell_world.specs.Change.{Change, Want, make_change, replaced}
+use Rattle.cell_world.specs.Commands.Asked.{next_load, next_swap, want_of, wants_of}
+use Rattle.cell_world.specs.Change.{Change, Want, make_change, replaced, adding}
 use Rattle.cell_world.specs.Coherent.{AreSound, IsCoherent, is_known_cell}
-use Rattle.cell_num.proofs.Elements.{all-In, found-In, In-All, In-append}
-use Rattle.cell_lemmas.proofs.Appended.{ok_same}
-use Rattle.cell_lemmas.proofs.Known.{known_parts}
+use Rattle.cell_num.proofs.Elements.{all-In, found-In, In-All, In-append, position_below}
+use Rattle.cell_lemmas.proofs.Naming.Appended.{ok_same}
+use Rattle.cell_lemmas.proofs.Naming.Known.{known_parts}
 use Rattle.cell_lemmas.proofs.Outcomes.{bind_ok, found_ok}
-use Rattle.cell_lemmas.proofs.Present.{In-filter_map}
+use Rattle.cell_lemmas.proofs.Targeting.Present.{In-filter_map}
 use Rattle.cell_change_law.specs.Sound.{HasMade, IsSound}
-use Rattle.cell_change_law.proofs.ByLoad.{asked, good}
+use Rattle.cell_lemmas.proofs.Naming.Brought.{In-depot, one_file-In}
 
-pub load_made : (sources : List Source) (sound : AreSound sources) (w : World) (h : IsCoherent w) (name stem : List ℕ) (d : Done) → load_by_change sources w name stem ≡ Ok d → HasMade sources w d
+-- a load asks for the cell of its one file
+module _ (sources : List Source) (sound : AreSound sources) (w : World) (h : IsCoherent w) (name stem : List ℕ) where
+  module _ (ns : ℕ) (file : Source) (there : space_of w name ≡ Ok ns) (one : one_file (depot_files sources name stem) (NoObject stem) ≡ Ok file) where
+    abbrev asked : Change
+    asked = adding (record { file = file; ns = ns; replaces = None } ∷ [])
+
+    good : IsSound sources w asked
+    good = record {
+      files = In-All (λ (want : Want). In want.file sources) asked.wants (λ want i. go want i);
+      spaces = In-All (λ (want : Want). want.ns < length w.namespaces) asked.wants (λ want i. space want i);
+      present = In-All (λ (old : Cell). In old w.cells) [] (λ old i. absurd i);
+      attached = In-All (λ (old : Cell). is_attached old.standing ≡ true) [] (λ old i. absurd i);
+    }
+      where
+        go : (want : Want) → In want asked.wants → In want.file sources
+        go want (inl e) = subst (λ (x : Want). In x.file sources) (sym e) (In-depot sources name stem file (one_file-In (depot_files sources name stem) (NoObject stem) file one))
+        go want (inr i) = absurd i
+
+        space : (want : Want) → In want asked.wants → want.ns < length w.namespaces
+        space want (inl e) = subst (λ (x : Want). x.ns < length w.namespaces) (sym e) (position_below (λ space. equals space.name name) w.namespaces ns (found_ok (namespace_named w name) (Unknown name) ns there))
+        space want (inr i) = absurd i
+
+pub load_made : (sources : List Source) (sound : AreSound sources) (w : World) (h : IsCoherent w) (name stem : List ℕ) (d : Done) → next_load sources w name stem ≡ Ok d → HasMade sources w d
 load_made sources sound w h name stem d e =
     let s = bind_ok (space_of w name) _ d e in
     let f = bind_ok (one_file (depot_files sources name stem) (NoObject stem)) _ d s.2 in
@@ -82,7 +104,7 @@ module _ (sources : List Source) (w : World) (h : IsCoherent w) where
     attached = In-All (λ (old : Cell). is_attached old.standing ≡ true) (replaced c) (λ old i. let x = In-filter_map (λ (want : Want). want.replaces) c.wants old i in (all x.0 x.1).attached old x.2);
   }
 
-  pub swap_made : (items : List SwapItem) (reexport strict : Bool) (words : List (List ℕ)) (budget : ℕ) (d : Done) → swap_by_change sources w items reexport strict words budget ≡ Ok d → HasMade sources w d
+  pub swap_made : (items : List SwapItem) (reexport strict : Bool) (words : List (List ℕ)) (budget : ℕ) (d : Done) → next_swap sources w items reexport strict words budget ≡ Ok d → HasMade sources w d
   swap_made items reexport strict words budget d e =
       let a = bind_ok (wants_of sources w items) _ d e in
       let asked : Change = record { wants = a.0; reexport = reexport; strict = strict; routines = words; budget = budget } in

@@ -9,21 +9,21 @@ use Rattle.cell_object.specs.Parts.{section_of, symbol_at}
 use Rattle.cell_world.specs.declared.refusal.Refusal.TheVariants.{NoEntry}
 use Rattle.cell_world.specs.World.{World, Cell, cell_of}
 use Rattle.cell_world.specs.Gather.{Source, fresh_cells}
-use Rattle.cell_world.specs.Layout.{offset_in, sections_in}
+use Rattle.cell_world.specs.Placed.Layout.{offset_in, sections_in}
 use Rattle.cell_world.specs.declared.layout.Class.TheVariants.{Text}
-use Rattle.cell_world.specs.Target.{start_of}
-use Rattle.cell_world.specs.SpawnCommand.{entry_offset, inside_of, is_entry_in}
+use Rattle.cell_world.specs.Linked.Target.{start_of}
+use Rattle.cell_world.specs.Commands.SpawnCommand.{entry_offset, inside_of, is_entry_in}
 use Rattle.cell_world.specs.declared.transfer.Routine.{Routine}
-use Rattle.cell_world.specs.SwapTransfer.{Begin, begin_of, definition_named, entry_at, first_definition, routines_in}
+use Rattle.cell_world.specs.Commands.SwapTransfer.{Begin, begin_of, definition_named, entry_at, first_definition, routines_in}
 use Rattle.cell_world.specs.Outcome.{◌>>=◌, found, each}
 use Rattle.cell_world.specs.Coherent.{AreSound, IsCoherent, IsReady}
-use Rattle.cell_lemmas.proofs.Appended.{ok_same}
+use Rattle.cell_lemmas.proofs.Naming.Appended.{ok_same}
 use Rattle.cell_num.proofs.Elements.{In-All, In-append, In-filtered, In-map, In-numbered, filter-In, filter-Passes, first-In, found-In, get-In}
 use Rattle.cell_lemmas.proofs.Outcomes.{bind_ok, found_ok}
-use Rattle.cell_lemmas.proofs.Present.{In-filter_map, some_same}
-use Rattle.cell_lemmas.proofs.Renamed.{In-bare}
-use Rattle.cell_lemmas.proofs.Targets.{In-find}
-use Rattle.cell_lemmas.proofs.TextPlaces.{text_rest}
+use Rattle.cell_lemmas.proofs.Targeting.Present.{In-filter_map, some_same}
+use Rattle.cell_lemmas.proofs.Naming.Renamed.{In-bare}
+use Rattle.cell_lemmas.proofs.Targeting.Targets.{In-find}
+use Rattle.cell_lemmas.proofs.Placement.TextPlaces.{text_rest}
 use Rattle.cell_lemmas.specs.Begins.{BeginsIn}
 use Rattle.cell_world.specs.Change.{Change, Plan, plan_of}
 use Rattle.cell_change_law.specs.Sound.{IsSound}

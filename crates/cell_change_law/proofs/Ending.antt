@@ -5,25 +5,25 @@ use Rattle.cell_num.specs.Lists.{holds, In}
 use Rattle.cell_world.specs.declared.reply.Reply.TheVariants.{Purge as PurgeDone}
 use Rattle.cell_world.specs.declared.state.LinkRow.{LinkRow}
 use Rattle.cell_world.specs.World.{World, Cell, Region}
-use Rattle.cell_world.specs.Place.{start_of_run}
+use Rattle.cell_world.specs.Placed.Place.{start_of_run}
 use Rattle.cell_world.specs.Gather.{Source}
 use Rattle.cell_world.specs.Outcome.{Outcome}
 use Rattle.cell_world.specs.declared.transfer.Failure.{Failure}
-use Rattle.cell_world.specs.Transfer.{after_turns, transfer}
-use Rattle.cell_world.specs.SwapTransfer.{stack_for, transferred_by}
-use Rattle.cell_world.specs.UnloadCommand.{garbage_of, purged, starts_of, without_cells}
+use Rattle.cell_world.specs.Running.Transfer.{after_turns, transfer}
+use Rattle.cell_world.specs.Commands.SwapTransfer.{stack_for, transferred_by}
+use Rattle.cell_world.specs.Commands.UnloadCommand.{garbage_of, purged, starts_of, without_cells}
 use Rattle.cell_world.specs.Answer.{Done, ids}
 use Rattle.cell_world.specs.Coherent.{AreSound, IsCoherent}
 use Rattle.cell_num.proofs.Elements.{In-All, filter_all, filter_none}
-use Rattle.cell_lemmas.proofs.Appended.{ok_same}
+use Rattle.cell_lemmas.proofs.Naming.Appended.{ok_same}
 use Rattle.cell_lemmas.proofs.Outcomes.{bind_ok}
-use Rattle.cell_lemmas.proofs.Removals.{removed_coherent, purge_removed}
-use Rattle.cell_lemmas.proofs.Second.{run_relinked}
-use Rattle.cell_world.specs.Execute.{seen_in}
+use Rattle.cell_lemmas.proofs.Holding.Removals.{removed_coherent, purge_removed}
+use Rattle.cell_lemmas.proofs.Placement.FreeRuns.{run_relinked}
+use Rattle.cell_world.specs.Running.Execute.{seen_in}
 use Rattle.cell_lemmas.specs.Kept.{KeepsFields, KeepsReadOnly, KeepsSealed, KeepsShapes}
-use Rattle.cell_lemmas.proofs.Kept.{kept_same}
-use Rattle.cell_lemmas.proofs.TurnKept.{kept_fields}
-use Rattle.cell_lemmas.proofs.Turns.{transfer_end, turns_coherent, turns_shapes, turns_read_only, turns_sealed, turns_fields}
+use Rattle.cell_lemmas.proofs.Tasks.Kept.{kept_same}
+use Rattle.cell_lemmas.proofs.Tasks.TurnKept.{kept_fields}
+use Rattle.cell_lemmas.proofs.Tasks.Turns.{transfer_end, turns_coherent, turns_shapes, turns_read_only, turns_sealed, turns_fields}
 use Rattle.cell_world.specs.Change.{Change, Plan, Made, old_of, addresses_of, plan_of, with_routines, garbage_after, make_change}
 use Rattle.cell_change_law.specs.Sound.{IsSound}
 use Rattle.cell_change_law.proofs.Steps.{Planned, planned, plan_ready, plan_coherent, Changed, changed}

@@ -13,17 +13,17 @@ use Rattle.cell_world.specs.Outcome.{each}
 use Rattle.cell_world.specs.Coherent.{AreSound, IsCoherent, is_known_cell}
 use Rattle.cell_num.proofs.Elements.{all-In, In-all, All-In, In-append, In-filtered, found-In, any-In, In-map, below_there}
 use Rattle.cell_num.proofs.Sublists.{In-fixed}
-use Rattle.cell_lemmas.proofs.Known.{known_parts}
+use Rattle.cell_lemmas.proofs.Naming.Known.{known_parts}
 use Rattle.cell_lemmas.proofs.Outcomes.{bind_ok}
-use Rattle.cell_lemmas.proofs.Appended.{Appended, append_ok, ok_same}
-use Rattle.cell_lemmas.proofs.Brought.{brought}
-use Rattle.cell_lemmas.proofs.Gathered.{Ranks, Extends, extends_none, good_append}
-use Rattle.cell_lemmas.proofs.Ready.{IsBase, ready_base}
-use Rattle.cell_lemmas.proofs.LoadCoherent.{ready_ranks}
-use Rattle.cell_lemmas.proofs.Present.{and_then_ok}
-use Rattle.cell_lemmas.proofs.Detached.{put, put_out}
-use Rattle.cell_lemmas.proofs.SetAside.{aside_ranks, aside_base}
-use Rattle.cell_lemmas.proofs.Reexported.{renamed, renamed_same, renamed_out, renamed_ranks}
+use Rattle.cell_lemmas.proofs.Naming.Appended.{Appended, append_ok, ok_same}
+use Rattle.cell_lemmas.proofs.Naming.Brought.{brought}
+use Rattle.cell_lemmas.proofs.Naming.Gathered.{Ranks, Extends, extends_none, good_append}
+use Rattle.cell_lemmas.proofs.Placement.Ready.{IsBase, ready_base}
+use Rattle.cell_lemmas.proofs.Placement.PlacedReady.{ready_ranks}
+use Rattle.cell_lemmas.proofs.Targeting.Present.{and_then_ok}
+use Rattle.cell_lemmas.proofs.Targeting.Detached.{put, put_out}
+use Rattle.cell_lemmas.proofs.Naming.SetAside.{aside_ranks, aside_base}
+use Rattle.cell_lemmas.proofs.Naming.Reexported.{renamed, renamed_same, renamed_out, renamed_ranks}
 use Rattle.cell_world.specs.Change.{Want, Change, replaced, old_of, swapped_out, set_aside, append_want, exchange_at, exchanges_from, with_names, gather}
 use Rattle.cell_change_law.specs.Sound.{IsSound}
 

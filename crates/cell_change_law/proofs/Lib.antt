@@ -6,9 +6,6 @@ mod Torn
 pub mod Steps
 mod Added
 pub mod Ending
-mod Outcomes
-pub mod ByLoad
-pub mod BySwap
 pub mod Asking
 pub mod Lost
 pub mod Plain
@@ -16,4 +13,4 @@ pub mod Settled
 mod Begins
 mod Strict
 mod Uncovered
-mod Untouched
+pub mod Untouched

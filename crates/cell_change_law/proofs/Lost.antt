@@ -10,24 +10,25 @@ use Rattle.cell_world.specs.declared.state.Target.TheVariants.{Section, Number}
 use Rattle.cell_world.specs.World.{World, Cell, Standing, is_of_group}
 use Rattle.cell_world.specs.declared.state.Standing.TheVariants.{Attached, Detached}
 use Rattle.cell_world.specs.Names.{Provider}
-use Rattle.cell_world.specs.Target.{target_of}
-use Rattle.cell_world.specs.Place.{place_all}
+use Rattle.cell_world.specs.Linked.Target.{target_of}
+use Rattle.cell_world.specs.Placed.Place.{place_all}
 use Rattle.cell_world.specs.Gather.{Source, fresh_cells}
 use Rattle.cell_world.specs.Changed.{is_same_key, is_same_target, is_other_target, now_in, differs}
 use Rattle.cell_world.specs.Coherent.{AreSound, IsCoherent, is_known_cell}
 use Rattle.cell_lemmas.specs.Firm.{firm_target}
 use Rattle.cell_lemmas.specs.Targets.{is_target_in}
 use Rattle.cell_num.proofs.Elements.{all-In, All-In, In-append, In-map, filter-Passes}
-use Rattle.cell_lemmas.proofs.Asked.{IsAsked, asks}
-use Rattle.cell_lemmas.proofs.Attach.{firm_grown, firm_is}
-use Rattle.cell_lemmas.proofs.Attaching.{not_other}
-use Rattle.cell_lemmas.proofs.Known.{known_parts, named}
-use Rattle.cell_lemmas.proofs.KeptPaths.{holds-In}
-use Rattle.cell_lemmas.proofs.NotIn.{target_out}
-use Rattle.cell_lemmas.proofs.Detached.{put, put_same, put_in, put_out, firm_own, firm_kept}
+use Rattle.cell_lemmas.proofs.Naming.Asked.{IsAsked, asks}
+use Rattle.cell_lemmas.proofs.Naming.Attach.{firm_grown, firm_is}
+use Rattle.cell_lemmas.proofs.Naming.Attaching.{not_other}
+use Rattle.cell_lemmas.proofs.Naming.Known.{known_parts, named}
+use Rattle.cell_lemmas.proofs.Holding.KeptPaths.{holds-In}
+use Rattle.cell_lemmas.proofs.Naming.NotIn.{target_out}
+use Rattle.cell_lemmas.proofs.Targeting.Detached.{put, put_same, put_in, put_out, firm_own, firm_kept}
 use Rattle.cell_world.specs.Change.{Change, replaced, old_of, gather, first_uncovered}
 use Rattle.cell_change_law.specs.Sound.{IsSound}
-use Rattle.cell_change_law.proofs.Placing.{base, new_group, set_attached, grows, behind, now_is}
+use Rattle.cell_change_law.proofs.Placing.{base, set_attached, grows, behind, now_is}
+use Rattle.cell_lemmas.proofs.Naming.SetAside.{new_group}
 
 -- the same target is in the same cells
 pub same_in : (numbers : List ℕ) (t u : Target) → is_same_target t u ≡ true → is_target_in numbers (Some t) ≡ is_target_in numbers (Some u)

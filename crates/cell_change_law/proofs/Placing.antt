@@ -1,52 +1,41 @@
 -- The machine with a change's new cells in their places is ready to be linked, where what is new and what changes fits.
 use Rattle.std.proofs.Common.{◌≡◌, refl, sym, ◌∙◌, ap, subst, arith, ℕ, suc, ◌+◌, ◌≤◌, Bool, true, false, not, List, ◌++◌, length, Option, None, Ok}
-use Rattle.std.specs.Prelude.{filter, is_some, unwrap_or, nat_lt, ◌==◌}
+use Rattle.std.specs.Prelude.{filter, is_some, unwrap_or, nat_lt}
 use Rattle.std.specs.List.{list_all}
-use Rattle.std.proofs.lemmas.Bool.{and_from, eqb-true, leb-true}
+use Rattle.std.proofs.lemmas.Bool.{and_from}
 use Rattle.cell_num.specs.Lists.{holds, In}
-use Rattle.cell_world.specs.World.{World, Cell, Standing, cell_of, is_attached, is_of_group}
-use Rattle.cell_world.specs.declared.state.Standing.TheVariants.{Attached, Detached}
+use Rattle.cell_world.specs.World.{World, Cell, Standing, cell_of, is_attached}
 use Rattle.cell_world.specs.Names.{needs_of, provider_of, provider_for}
-use Rattle.cell_world.specs.Place.{place_all}
+use Rattle.cell_world.specs.Placed.Place.{place_all}
 use Rattle.cell_world.specs.Gather.{Source, first_lack, fresh_cells}
-use Rattle.cell_world.specs.Fit.{first_misfit}
+use Rattle.cell_world.specs.Linked.Fit.{first_misfit}
 use Rattle.cell_world.specs.Changed.{now_in, first_changed_misfit}
-use Rattle.cell_world.specs.Coherent.{AreSound, IsReady, IsCoherent, is_known_cell, is_sound_standing, is_supplied, is_fitting}
+use Rattle.cell_world.specs.Coherent.{AreSound, IsReady, IsCoherent, is_known_cell, is_supplied, is_fitting}
 use Rattle.cell_lemmas.specs.Linkable.{IsLinkable}
 use Rattle.cell_num.proofs.Elements.{Has, all-In, In-all, All-In, In-All, In-left, In-map, map-In, filter-In, map_same, some_has}
-use Rattle.cell_lemmas.proofs.Known.{known_parts, named}
-use Rattle.cell_lemmas.proofs.Attach.{Grows, provider_grown}
-use Rattle.cell_lemmas.proofs.Supplied.{none_lacking}
-use Rattle.cell_lemmas.proofs.Gathered.{Ranks, Extends}
-use Rattle.cell_lemmas.proofs.Places.{Spaced}
-use Rattle.cell_lemmas.proofs.PlacedAll.{Placed, all_placed}
-use Rattle.cell_lemmas.proofs.Renamed.{provider_bare}
-use Rattle.cell_lemmas.proofs.Ready.{IsBase, grown}
-use Rattle.cell_lemmas.proofs.LoadCoherent.{fresh_is, placed_grows, placed_linkable, placed_ready}
-use Rattle.cell_lemmas.proofs.LoadGrown.{placed_attached, placed_regrown}
-use Rattle.cell_lemmas.proofs.Present.{some_same}
-use Rattle.cell_lemmas.proofs.Targets.{In-find}
-use Rattle.cell_lemmas.proofs.KeptPaths.{holds-In}
+use Rattle.cell_lemmas.proofs.Naming.Known.{known_parts, named}
+use Rattle.cell_lemmas.proofs.Naming.Attach.{Grows, provider_grown}
+use Rattle.cell_lemmas.proofs.Naming.Supplied.{none_lacking}
+use Rattle.cell_lemmas.proofs.Naming.Gathered.{Ranks, Extends}
+use Rattle.cell_lemmas.proofs.Placement.Places.{Spaced}
+use Rattle.cell_lemmas.proofs.Placement.PlacedAll.{Placed, all_placed}
+use Rattle.cell_lemmas.proofs.Naming.Renamed.{provider_bare}
+use Rattle.cell_lemmas.proofs.Placement.Ready.{IsBase, grown}
+use Rattle.cell_lemmas.proofs.Placement.PlacedReady.{fresh_is, placed_grows, placed_linkable, placed_ready}
+use Rattle.cell_lemmas.proofs.Placement.PlacedGrown.{placed_attached, placed_regrown}
+use Rattle.cell_lemmas.proofs.Targeting.Present.{some_same}
+use Rattle.cell_lemmas.proofs.Targeting.Targets.{In-find}
+use Rattle.cell_lemmas.proofs.Holding.KeptPaths.{holds-In}
 use Rattle.cell_lemmas.specs.Grown.{HasAttached, IsRegrown}
-use Rattle.cell_lemmas.proofs.ChangedFits.{cell_fits}
-use Rattle.cell_lemmas.proofs.Detached.{put, put_same, put_out, own_needs}
+use Rattle.cell_lemmas.proofs.Fields.ChangedFits.{cell_fits}
+use Rattle.cell_lemmas.proofs.Targeting.Detached.{put, put_same, put_out, own_needs}
+use Rattle.cell_lemmas.proofs.Naming.SetAside.{new_group}
 use Rattle.cell_world.specs.Change.{Change, replaced, old_of, gather, is_bystander, first_uncovered}
 use Rattle.cell_change_law.specs.Sound.{IsSound}
 use Rattle.cell_change_law.proofs.Gathering.{at, base_world, all_gathered, swaps_below}
 
--- the numbers that are put aside are those of attached cells, and the group is a new one
+-- a number finds one cell
 module _ (v : World) (h : IsCoherent v) where
-  pub new_group : (c : Cell) → In c v.cells → is_of_group (suc v.swaps) c.standing ≡ false
-  new_group c i = go c.standing (known_parts v c (all-In (is_known_cell v) v.cells h.ready.cells c i)).standing
-    where
-      go : (s : Standing) → is_sound_standing v s ≡ true → is_of_group (suc v.swaps) s ≡ false
-      go Attached e = refl
-      go (Detached l) e = pick (l == suc v.swaps) refl
-        where
-          pick : (b : Bool) → (l == suc v.swaps) ≡ b → b ≡ false
-          pick true q = absurd (omega (arith, leb-true l v.swaps e, eqb-true l (suc v.swaps) q))
-          pick false q = refl
-
   pub one_number : (c d : Cell) → In c v.cells → In d v.cells → c.id.0 ≡ d.id.0 → c ≡ d
   one_number c d i j e = some_same c d (sym (In-find v.cells h.ready.cell_order c i) ∙ (ap (cell_of v) e ∙ In-find v.cells h.ready.cell_order d j))
 

@@ -6,22 +6,22 @@ use Rattle.cell_object.specs.declared.object.Entry.{Entry}
 use Rattle.cell_world.specs.declared.state.Target.{Target}
 use Rattle.cell_world.specs.declared.state.Target.TheVariants.{Section, Number}
 use Rattle.cell_world.specs.World.{World, Cell, is_ready}
-use Rattle.cell_world.specs.Target.{target_of}
-use Rattle.cell_world.specs.Place.{place_all}
-use Rattle.cell_world.specs.Fit.{first_misfit}
+use Rattle.cell_world.specs.Linked.Target.{target_of}
+use Rattle.cell_world.specs.Placed.Place.{place_all}
+use Rattle.cell_world.specs.Linked.Fit.{first_misfit}
 use Rattle.cell_world.specs.Gather.{Source, fresh_cells}
 use Rattle.cell_world.specs.Changed.{changed_fields, changed_in, differs, first_changed_misfit}
 use Rattle.cell_world.specs.Torn.{first_torn}
-use Rattle.cell_world.specs.Linking.{link_refusal}
+use Rattle.cell_world.specs.Linked.Linking.{link_refusal}
 use Rattle.cell_world.specs.Coherent.{AreSound, IsCoherent, is_supplied}
 use Rattle.cell_lemmas.specs.Firm.{firm_target}
 use Rattle.cell_lemmas.specs.Targets.{is_target_in}
 use Rattle.cell_object.specs.Parts.{has_no_weak}
 use Rattle.cell_num.proofs.Elements.{Has, all-In, filter_none}
-use Rattle.cell_lemmas.proofs.Affected.{changed_among, misfit_among, nothing_changed, nothing_misfits}
-use Rattle.cell_lemmas.proofs.Known.{object_sound}
-use Rattle.cell_lemmas.proofs.Plain.{all_firm, decide, none_torn, or_none}
-use Rattle.cell_lemmas.proofs.Targets.{target_has}
+use Rattle.cell_lemmas.proofs.Targeting.Affected.{changed_among, misfit_among, nothing_changed, nothing_misfits}
+use Rattle.cell_lemmas.proofs.Naming.Known.{object_sound}
+use Rattle.cell_lemmas.proofs.Targeting.Plain.{all_firm, decide, none_torn, or_none}
+use Rattle.cell_lemmas.proofs.Targeting.Targets.{target_has}
 use Rattle.cell_world.specs.Change.{Change, old_of, gather, first_uncovered}
 use Rattle.cell_change_law.specs.Sound.{IsSound}
 use Rattle.cell_change_law.proofs.Lost.{firm_stays, lost_differs, own_firm_stays}

@@ -2,12 +2,12 @@
 use Rattle.std.proofs.Common.{◌≡◌, ◌∙◌, ap, ℕ, List, Option, Some, Ok, Err}
 use Rattle.std.specs.Prelude.{option_map}
 use Rattle.cell_world.specs.World.{World}
-use Rattle.cell_world.specs.Relink.{relink}
-use Rattle.cell_world.specs.Place.{place_all}
+use Rattle.cell_world.specs.Linked.Relink.{relink}
+use Rattle.cell_world.specs.Placed.Place.{place_all}
 use Rattle.cell_world.specs.Gather.{Need, Source, fresh_cells, missing}
 use Rattle.cell_world.specs.Changed.{changed_fields}
-use Rattle.cell_world.specs.Linking.{link_refusal}
-use Rattle.cell_world.specs.SwapTransfer.{Begin, begins_of, routines_in, stack_for}
+use Rattle.cell_world.specs.Linked.Linking.{link_refusal}
+use Rattle.cell_world.specs.Commands.SwapTransfer.{Begin, begins_of, routines_in, stack_for}
 use Rattle.cell_world.specs.Outcome.{Outcome, ◌>>=◌, ◌>>◌, refused_by}
 use Rattle.cell_world.specs.Change.{Change, Plan, first_uncovered, gather, new_since, plan_of}
 use Rattle.cell_change_law.specs.Sound.{HasCome}

@@ -7,18 +7,18 @@ use Rattle.cell_object.specs.declared.object.Entry.{Entry}
 use Rattle.cell_world.specs.declared.reply.Reply.TheVariants.{Purge as PurgeDone}
 use Rattle.cell_world.specs.declared.state.NewCell.{NewCell}
 use Rattle.cell_world.specs.World.{World, Cell}
-use Rattle.cell_world.specs.Target.{target_of}
+use Rattle.cell_world.specs.Linked.Target.{target_of}
 use Rattle.cell_world.specs.Gather.{Source}
 use Rattle.cell_world.specs.Changed.{now_in}
-use Rattle.cell_world.specs.UnloadCommand.{garbage_of, purged, without_cells}
+use Rattle.cell_world.specs.Commands.UnloadCommand.{garbage_of, purged, without_cells}
 use Rattle.cell_world.specs.Answer.{Done, ids, numbers_of}
 use Rattle.cell_world.specs.Coherent.{AreSound, IsCoherent}
 use Rattle.cell_num.proofs.Elements.{All-In, In-All, In-filtered, In-map}
-use Rattle.cell_lemmas.proofs.Appended.{ok_same}
+use Rattle.cell_lemmas.proofs.Naming.Appended.{ok_same}
 use Rattle.cell_lemmas.specs.Left.{LeavesTargets}
-use Rattle.cell_lemmas.proofs.KeptPaths.{holds-In}
-use Rattle.cell_lemmas.proofs.Removals.{purge_removed, removed_targets}
-use Rattle.cell_lemmas.proofs.Settled.{found_now, mapped_same}
+use Rattle.cell_lemmas.proofs.Holding.KeptPaths.{holds-In}
+use Rattle.cell_lemmas.proofs.Holding.Removals.{purge_removed, removed_targets}
+use Rattle.cell_lemmas.proofs.Holding.Settled.{found_now, mapped_same}
 use Rattle.cell_world.specs.Change.{Change, Plan, Made, old_of, plan_of, with_routines, garbage_after, make_change}
 use Rattle.cell_change_law.specs.Sound.{IsSound}
 use Rattle.cell_change_law.proofs.Steps.{Planned, planned, plan_regrown, Changed, changed}

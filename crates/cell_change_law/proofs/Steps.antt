@@ -2,20 +2,20 @@
 use Rattle.std.proofs.Common.{◌≡◌, subst, ℕ, List, Option, None, Ok}
 use Rattle.std.specs.Prelude.{filter, option_map}
 use Rattle.cell_world.specs.World.{World, is_ready}
-use Rattle.cell_world.specs.Relink.{relink}
-use Rattle.cell_world.specs.Place.{place_all}
+use Rattle.cell_world.specs.Linked.Relink.{relink}
+use Rattle.cell_world.specs.Placed.Place.{place_all}
 use Rattle.cell_world.specs.Gather.{Source, missing, fresh_cells}
-use Rattle.cell_world.specs.Fit.{first_misfit}
+use Rattle.cell_world.specs.Linked.Fit.{first_misfit}
 use Rattle.cell_world.specs.Changed.{changed_fields, first_changed_misfit}
 use Rattle.cell_world.specs.Torn.{first_torn}
-use Rattle.cell_world.specs.Linking.{link_refusal}
+use Rattle.cell_world.specs.Linked.Linking.{link_refusal}
 use Rattle.cell_num.proofs.Elements.{or_else_parts}
-use Rattle.cell_world.specs.SwapTransfer.{Begin, begins_of, stack_for, routines_in}
+use Rattle.cell_world.specs.Commands.SwapTransfer.{Begin, begins_of, stack_for, routines_in}
 use Rattle.cell_world.specs.Outcome.{refused_by}
 use Rattle.cell_world.specs.Coherent.{AreSound, IsReady, IsCoherent}
 use Rattle.cell_lemmas.proofs.Outcomes.{bind_ok, then_ok, refused_ok}
-use Rattle.cell_lemmas.proofs.Appended.{ok_same, unmapped}
-use Rattle.cell_lemmas.proofs.Relinks.{coherent_relinked}
+use Rattle.cell_lemmas.proofs.Naming.Appended.{ok_same, unmapped}
+use Rattle.cell_lemmas.proofs.Fields.Relinks.{coherent_relinked}
 use Rattle.cell_lemmas.specs.Grown.{IsRegrown}
 use Rattle.cell_world.specs.Change.{Change, Plan, Made, gather, first_uncovered, plan_of, with_routines, first_held_old, made_by, make_change}
 use Rattle.cell_change_law.specs.Sound.{IsSound}

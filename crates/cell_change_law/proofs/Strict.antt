@@ -3,21 +3,21 @@ use Rattle.std.proofs.Common.{◌≡◌, refl, sym, ◌∙◌, ap, subst, arith,
 use Rattle.std.specs.Prelude.{All, filter, nat_le}
 use Rattle.std.proofs.lemmas.Bool.{leb-true, ltb-true}
 use Rattle.cell_num.specs.Lists.{holds, In}
-use Rattle.cell_world.specs.Place.{place_all}
+use Rattle.cell_world.specs.Placed.Place.{place_all}
 use Rattle.cell_world.specs.declared.refusal.Refusal.{Refusal}
 use Rattle.cell_world.specs.World.{World, Cell, is_attached}
 use Rattle.cell_world.specs.Gather.{Source, fresh_cells}
-use Rattle.cell_world.specs.UnloadCommand.{first_held, put_aside}
+use Rattle.cell_world.specs.Commands.UnloadCommand.{first_held, put_aside}
 use Rattle.cell_world.specs.Kept.{IsKept, holding_of}
 use Rattle.cell_world.specs.Outcome.{Outcome, ◌>>=◌, ◌>>◌, refused_by}
 use Rattle.cell_world.specs.Answer.{numbers_of}
 use Rattle.cell_world.specs.Coherent.{AreSound, IsCoherent, is_known_cell}
 use Rattle.cell_num.proofs.Elements.{All-In, In-All, In-map, In-append, In-filtered, filter-Passes, all-In}
-use Rattle.cell_lemmas.proofs.Known.{known_parts}
-use Rattle.cell_lemmas.proofs.Appended.{ok_same}
-use Rattle.cell_lemmas.proofs.KeptPaths.{In-holds, holds-In}
-use Rattle.cell_lemmas.proofs.Holders.{first_held_exact}
-use Rattle.cell_lemmas.proofs.PutAside.{put_number, put_detached}
+use Rattle.cell_lemmas.proofs.Naming.Known.{known_parts}
+use Rattle.cell_lemmas.proofs.Naming.Appended.{ok_same}
+use Rattle.cell_lemmas.proofs.Holding.KeptPaths.{In-holds, holds-In}
+use Rattle.cell_lemmas.proofs.Holding.Holders.{first_held_exact}
+use Rattle.cell_lemmas.proofs.Naming.PutAside.{put_number, put_detached}
 use Rattle.cell_world.specs.Change.{Change, Made, Plan, replaced, old_of, gather, plan_of, with_routines, first_held_old, made_by, make_change}
 use Rattle.cell_change_law.specs.Sound.{IsSound}
 use Rattle.cell_change_law.proofs.Placing.{behind}

@@ -6,12 +6,12 @@ use Rattle.cell_num.specs.declared.ids.CellId.{CellId}
 use Rattle.cell_num.specs.declared.kinds.RelKind.{RelKind}
 use Rattle.cell_world.specs.Change.{Change, Plan, plan_of}
 use Rattle.cell_world.specs.Changed.{changed_fields, first_changed_misfit, is_changed, now_in}
-use Rattle.cell_world.specs.Field.{fits, misfit_of}
-use Rattle.cell_world.specs.Fit.{first_misfit}
+use Rattle.cell_world.specs.Linked.Field.{fits, misfit_of}
+use Rattle.cell_world.specs.Linked.Fit.{first_misfit}
 use Rattle.cell_world.specs.Gather.{Source, fresh_cells}
-use Rattle.cell_world.specs.Linking.{link_refusal}
+use Rattle.cell_world.specs.Linked.Linking.{link_refusal}
 use Rattle.cell_world.specs.Outcome.{Outcome, ◌>>◌, refused_by}
-use Rattle.cell_world.specs.Relink.{bound_entries}
+use Rattle.cell_world.specs.Linked.Relink.{bound_entries}
 use Rattle.cell_world.specs.Torn.{first_torn}
 use Rattle.cell_world.specs.World.{Cell, World, is_ready}
 use Rattle.cell_world.specs.declared.refusal.Refusal.{Refusal}

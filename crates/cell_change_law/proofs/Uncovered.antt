@@ -10,18 +10,19 @@ use Rattle.cell_world.specs.Names.{Provider, chain, first_provider, nearest_prov
 use Rattle.cell_world.specs.World.{Cell, Standing, World, is_attached, is_of_group}
 use Rattle.cell_world.specs.declared.state.Standing.TheVariants.{Attached, Detached}
 use Rattle.cell_lemmas.specs.Lost.{IsLost}
-use Rattle.cell_lemmas.proofs.Asked.{nearest_among, nearest_either, or_else_has}
-use Rattle.cell_lemmas.proofs.Attach.{Grows, weak_some}
+use Rattle.cell_lemmas.proofs.Naming.Asked.{nearest_among, nearest_either, or_else_has}
+use Rattle.cell_lemmas.proofs.Naming.Attach.{Grows, weak_some}
 use Rattle.cell_num.proofs.Elements.{Has, all-In, All-In, In-map, In-right, filter_all, filter_none, none_is, or_else_parts, some_has}
-use Rattle.cell_lemmas.proofs.Gathered.{Extends, Ranks}
-use Rattle.cell_lemmas.proofs.Known.{known_parts, named}
-use Rattle.cell_lemmas.proofs.LoadCoherent.{fresh_is}
-use Rattle.cell_lemmas.proofs.Detached.{other_provider, other_strong, without}
-use Rattle.cell_lemmas.proofs.KeptPaths.{holds-In}
+use Rattle.cell_lemmas.proofs.Naming.Gathered.{Extends, Ranks}
+use Rattle.cell_lemmas.proofs.Naming.Known.{known_parts, named}
+use Rattle.cell_lemmas.proofs.Placement.PlacedReady.{fresh_is}
+use Rattle.cell_lemmas.proofs.Targeting.Detached.{other_provider, other_strong, without}
+use Rattle.cell_lemmas.proofs.Holding.KeptPaths.{holds-In}
 use Rattle.cell_world.specs.Change.{Change, replaced, old_of, gather}
 use Rattle.cell_change_law.specs.Sound.{IsSound}
 use Rattle.cell_change_law.proofs.Gathering.{at, base_world, all_gathered}
-use Rattle.cell_change_law.proofs.Placing.{new_group, one_number}
+use Rattle.cell_change_law.proofs.Placing.{one_number}
+use Rattle.cell_lemmas.proofs.Naming.SetAside.{new_group}
 
 first_both : {X : Type 0} (xs ys : List X) → first (xs ++ ys) ≡ or_else (first xs) (first ys)
 first_both [] ys = refl

@@ -7,8 +7,8 @@ use Rattle.cell_world.specs.declared.state.Target.{Target}
 use Rattle.cell_world.specs.World.{World, Cell, Standing, is_attached}
 use Rattle.cell_world.specs.declared.state.Standing.TheVariants.{Attached, Detached}
 use Rattle.cell_world.specs.Names.{Provider, provider_for, provider_of, strong_provider, weak_provider}
-use Rattle.cell_world.specs.Target.{provided_target, target_of}
-use Rattle.cell_world.specs.Place.{place_all}
+use Rattle.cell_world.specs.Linked.Target.{provided_target, target_of}
+use Rattle.cell_world.specs.Placed.Place.{place_all}
 use Rattle.cell_world.specs.Gather.{Source, fresh_cells}
 use Rattle.cell_world.specs.Changed.{now_in, differs}
 use Rattle.cell_world.specs.Coherent.{AreSound, IsCoherent, is_known_cell}
@@ -16,18 +16,19 @@ use Rattle.cell_lemmas.specs.Targets.{is_target_in}
 use Rattle.cell_object.specs.Parts.{has_no_weak}
 use Rattle.cell_lemmas.specs.Touched.{touched}
 use Rattle.cell_num.proofs.Elements.{all-In, In-left, In-right, filter-In}
-use Rattle.cell_lemmas.proofs.Asked.{or_else_from}
-use Rattle.cell_lemmas.proofs.Attach.{Grows, provided_grown}
-use Rattle.cell_lemmas.proofs.Comers.{HoldsNot}
-use Rattle.cell_lemmas.proofs.Detached.{put_in, put_out, other_strong, other_provider, own_strong, own_kept, provided_aside, without}
-use Rattle.cell_lemmas.proofs.FreshLinks.{grows}
-use Rattle.cell_lemmas.proofs.Known.{known_parts, named}
-use Rattle.cell_lemmas.proofs.Targets.{weak_holder}
-use Rattle.cell_lemmas.proofs.Untouched.{holds_left, unyielding, nobody_holds, strong_stays, untaken_stays, target_stays}
-use Rattle.cell_lemmas.proofs.UntouchedSteps.{same_named}
+use Rattle.cell_lemmas.proofs.Naming.Asked.{or_else_from}
+use Rattle.cell_lemmas.proofs.Naming.Attach.{Grows, provided_grown}
+use Rattle.cell_lemmas.proofs.Naming.Comers.{HoldsNot}
+use Rattle.cell_lemmas.proofs.Targeting.Detached.{put_in, put_out, other_strong, other_provider, own_strong, own_kept, provided_aside, without}
+use Rattle.cell_lemmas.proofs.Links.FreshLinks.{grows}
+use Rattle.cell_lemmas.proofs.Naming.Known.{known_parts, named}
+use Rattle.cell_lemmas.proofs.Targeting.Targets.{weak_holder}
+use Rattle.cell_lemmas.proofs.Targeting.Untouched.{holds_left, unyielding, nobody_holds, strong_stays, untaken_stays, target_stays}
+use Rattle.cell_lemmas.proofs.Targeting.UntouchedSteps.{same_named}
 use Rattle.cell_world.specs.Change.{Change, old_of, gather, first_uncovered}
 use Rattle.cell_change_law.specs.Sound.{IsSound}
-use Rattle.cell_change_law.proofs.Placing.{base, behind, new_group, set_attached, now_is}
+use Rattle.cell_change_law.proofs.Placing.{base, behind, set_attached, now_is}
+use Rattle.cell_lemmas.proofs.Naming.SetAside.{new_group}
 
 module _ (sources : List Source) (sound : AreSound sources) (v : World) (h : IsCoherent v) (asked : Change) (good : IsSound sources v asked) (g : World) (gathering : gather sources v asked ≡ Ok g) (w : World)
     (placing : place_all g (fresh_cells v.next_cell g) ≡ Ok w) (covered : first_uncovered v asked g ≡ None) where

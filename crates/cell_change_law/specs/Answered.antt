@@ -6,10 +6,10 @@ use Rattle.cell_world.specs.declared.refusal.Refusal.TheVariants.{Overflow, Torn
 use Rattle.cell_world.specs.Change.{Change, Plan, new_since, plan_of}
 use Rattle.cell_world.specs.Changed.{changed_fields}
 use Rattle.cell_world.specs.Gather.{Source}
-use Rattle.cell_world.specs.Linking.{link_refusal}
+use Rattle.cell_world.specs.Linked.Linking.{link_refusal}
 use Rattle.cell_world.specs.Outcome.{Outcome, ◌>>◌, refused_by}
-use Rattle.cell_world.specs.Relink.{relink}
-use Rattle.cell_world.specs.SwapTransfer.{Begin, begins_of, routines_in, stack_for}
+use Rattle.cell_world.specs.Linked.Relink.{relink}
+use Rattle.cell_world.specs.Commands.SwapTransfer.{Begin, begins_of, routines_in, stack_for}
 use Rattle.cell_world.specs.World.{World}
 use Rattle.cell_change_law.specs.Sound.{HasCome}
 

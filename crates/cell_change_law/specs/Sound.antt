@@ -5,7 +5,7 @@
 use Rattle.std.specs.Prelude.{◌≡◌, ◌<◌, IsTrue, List, All, None, Ok, length}
 use Rattle.cell_num.specs.Lists.{In}
 use Rattle.cell_world.specs.World.{World, is_attached}
-use Rattle.cell_world.specs.Place.{place_all}
+use Rattle.cell_world.specs.Placed.Place.{place_all}
 use Rattle.cell_world.specs.Gather.{Source}
 use Rattle.cell_world.specs.Answer.{Done}
 use Rattle.cell_world.specs.Change.{Change, Made, replaced, gather, first_uncovered, new_since, make_change}

@@ -15,26 +15,25 @@ use Rattle.cell_world.specs.declared.file.File.{File}
 use Rattle.cell_world.specs.declared.refusal.Refusal.{Refusal}
 use Rattle.cell_world.specs.declared.refusal.Refusal.TheVariants.{Unknown}
 use Rattle.cell_world.specs.declared.state.NewCell.{NewCell}
-use Rattle.cell_world.specs.Following.{FailsAs}
 use Rattle.cell_world.specs.Gather.{Source, file_named, source_of}
 use Rattle.cell_world.specs.Outcome.{Outcome, ◌>>=◌, each, found}
 use Rattle.cell_world.specs.Answer.{numbers_of}
-use Rattle.cell_world.specs.Asked.{want_of, wants_of}
+use Rattle.cell_world.specs.Commands.Asked.{want_of, wants_of}
 use Rattle.cell_world.specs.Change.{Want as Wanted}
 use Rattle.cell_world.specs.Coherent.{IsCoherent, is_known_cell}
-use Rattle.cell_lemmas.proofs.Known.{known_parts}
+use Rattle.cell_lemmas.proofs.Naming.Known.{known_parts}
 use Rattle.cell_world.specs.World.{World, Cell, is_attached, cell_of}
 use Rattle.cell_depot.specs.Files.{has_name}
 use Rattle.cell_gather.specs.declared.want.Want.{Want}
-use Rattle.cell_change.specs.declared.change.Change.{Change}
-use Rattle.cell_world.specs.UnloadCommand.{attached_cell, cell_word}
+use Rattle.cell_change.specs.declared.request.Change.{Change}
+use Rattle.cell_world.specs.Commands.UnloadCommand.{attached_cell, cell_word}
 use Rattle.cell_world.specs.declared.command.CellName.{CellName}
 use Rattle.cell_world.specs.Names.{cell_at, namespace_named}
 use Rattle.cell_num.specs.Lists.{each_pair, equals, In}
 use Rattle.cell_num.proofs.Elements.{all-In, found-In}
-use Rattle.cell_lemmas.proofs.Targets.{In-find}
+use Rattle.cell_lemmas.proofs.Targeting.Targets.{In-find}
 use Rattle.cell_unload.specs.Sweep.{cell_numbered}
-use Rattle.cell_change.specs.declared.change.Options.{Options}
+use Rattle.cell_change.specs.declared.request.Options.{Options}
 use Rattle.cell_change.specs.Asking.{AreWantsOf, IsAsked, IsWantOf}
 use Rattle.cell_commands.specs.Items.{old_placed, AddsWant, AreAsked, Asks, HasWant}
 
@@ -127,17 +126,6 @@ module _ (sources : List Source) (w : World) (h : IsCoherent w) (item : SwapItem
   abbrev with_file : Cell → Outcome Wanted
   with_file old = found (file_named sources item.file) (Unknown item.file) >>= (λ file. Ok (record { file = file; ns = old.ns; replaces = Some old }))
 
-  pub cell_failed : (fail : Fail) → FailsAs fail (old_placed w item) → FailsAs fail (want_of sources w item)
-  cell_failed (Refused r) e = go (attached_cell w name) e
-    where
-      go : (o : Outcome Cell) → (o >>= (λ c. Ok c.placed)) ≡ Err r → (o >>= with_file) ≡ Err r
-      go (Err x) h = cc
-      go (Ok c) h = absurd (apart c.placed h)
-        where
-          apart : (c : NewCell) → (let got : Outcome NewCell = Ok c in got) ≡ Err r → ⊥
-          apart c e = cc
-  cell_failed OutOfMemory e = tt
-
   record IsOld (old : NewCell) : Type 0 where
     cell : Cell
     is : attached_cell w name ≡ Ok cell
@@ -159,10 +147,6 @@ module _ (sources : List Source) (w : World) (h : IsCoherent w) (item : SwapItem
 
     so_far : want_of sources w item ≡ with_file that.cell
     so_far = ap (λ (o : Outcome Cell). o >>= with_file) that.is
-
-    pub file_failed : (fail : Fail) → FailsAs fail (let got : Outcome Source = found (file_named sources item.file) (Unknown item.file) in got) → FailsAs fail (want_of sources w item)
-    file_failed (Refused r) e = so_far ∙ ap (λ (o : Outcome Source). o >>= (λ file. let got : Outcome Wanted = Ok (record { file = file; ns = that.cell.ns; replaces = Some that.cell }) in got)) e
-    file_failed OutOfMemory e = tt
 
     module _ (file : Source) (f : found (file_named sources item.file) (Unknown item.file) ≡ Ok file) where
       there : In that.cell w.cells

@@ -12,7 +12,7 @@ use Rattle.cell_world.specs.declared.refusal.Refusal.TheVariants.{Unknown, NameT
 use Rattle.cell_world.specs.declared.reply.Reply.{Reply}
 use Rattle.cell_world.specs.declared.reply.Reply.TheVariants.{Load as LoadDone}
 use Rattle.cell_world.specs.Answer.{Done, done, ids, numbers_of, space_of}
-use Rattle.cell_world.specs.Asked.{load_by_change}
+use Rattle.cell_world.specs.Commands.Asked.{next_load}
 use Rattle.cell_world.specs.Change.{Change as ChangeSaid, Made as MadeSaid, Plan as PlanSaid, Want as Wanted, adding, first_held_old, made_by, make_change, plan_of, with_routines}
 use Rattle.cell_world.specs.Following.{FailsAs}
 use Rattle.cell_world.specs.Gather.{Source, depot_files, one_file, source_of}
@@ -26,8 +26,8 @@ use Rattle.cell_machine.proofs.Same.{same_counted}
 use Rattle.cell_machine.proofs.Unchanged.{same_itself}
 use Rattle.cell_gather.specs.declared.want.Want.{Want}
 use Rattle.cell_change_law.proofs.Ending.{no_routines}
-use Rattle.cell_change.specs.declared.change.Change.{Change}
-use Rattle.cell_change.specs.declared.changing.Made.{Made}
+use Rattle.cell_change.specs.declared.request.Change.{Change}
+use Rattle.cell_change.specs.declared.made.Made.{Made}
 use Rattle.cell_change.specs.Asking.{AreWantsOf, IsAsked, IsWantOf, as_said}
 use Rattle.cell_change.specs.Counted.{most_by}
 use Rattle.cell_change.specs.Exchanged.{Changes, HasMade}
@@ -73,10 +73,10 @@ module _ (files : List File) (before : Machine) (name stem : List ℕ) where
   w = world_of before
 
   abbrev LoadDoes : Result Reply Fail → Machine → Type 0
-  LoadDoes result n = Does (load_by_change sources w name stem) no_stack before result n
+  LoadDoes result n = Does (next_load sources w name stem) no_stack before result n
 
   abbrev said : Outcome Done
-  said = load_by_change sources w name stem
+  said = next_load sources w name stem
 
   abbrev chosen : List Source
   chosen = depot_files sources name stem

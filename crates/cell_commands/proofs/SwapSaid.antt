@@ -9,21 +9,21 @@ use Rattle.cell_world.specs.declared.file.File.{File}
 use Rattle.cell_world.specs.declared.reply.Reply.{Reply}
 use Rattle.cell_world.specs.declared.reply.Reply.TheVariants.{Swap as SwapDone}
 use Rattle.cell_world.specs.Answer.{Done, done, ids, numbers_of}
-use Rattle.cell_world.specs.Asked.{swap_by_change, swap_reply, wants_of}
+use Rattle.cell_world.specs.Commands.Asked.{next_swap, swap_reply, wants_of}
 use Rattle.cell_world.specs.Change.{Change as ChangeSaid, Made as MadeSaid, Plan as PlanSaid, Want as Wanted, make_change, plan_of}
 use Rattle.cell_world.specs.Following.{FailsAs}
 use Rattle.cell_world.specs.Gather.{Source, source_of}
 use Rattle.cell_world.specs.Outcome.{Outcome, ◌>>=◌}
-use Rattle.cell_world.specs.UnloadCommand.{detached_of}
+use Rattle.cell_world.specs.Commands.UnloadCommand.{detached_of}
 use Rattle.cell_world.specs.World.{World}
 use Rattle.cell_machine.specs.declared.machine.Machine.{Machine}
 use Rattle.cell_machine.specs.Does.{Does, LeavesParts, Most, counted_before}
 use Rattle.cell_machine.specs.Machine.{IsSound, world_of}
 use Rattle.cell_machine.proofs.Same.{counts_same}
 use Rattle.cell_machine.proofs.Unchanged.{same_itself}
-use Rattle.cell_change.specs.declared.change.Change.{Change}
-use Rattle.cell_change.specs.declared.change.Options.{Options}
-use Rattle.cell_change.specs.declared.changing.Made.{Made}
+use Rattle.cell_change.specs.declared.request.Change.{Change}
+use Rattle.cell_change.specs.declared.request.Options.{Options}
+use Rattle.cell_change.specs.declared.made.Made.{Made}
 use Rattle.cell_change.specs.Asking.{IsAsked, as_said}
 use Rattle.cell_change.specs.Counted.{most_by}
 use Rattle.cell_commands.specs.Counted.{swap_counts, swap_plan}
@@ -41,11 +41,11 @@ module _ (files : List File) (before : Machine) (items : List SwapItem) where
 
   abbrev SwapDoes : Options → Result Reply Fail → Machine → Type 0
   SwapDoes o result n =
-      Does (swap_by_change sources w items o.reexport o.strict o.routines.now o.budget) (swap_counts sources w items o.reexport o.strict o.routines.now o.budget) before result n
+      Does (next_swap sources w items o.reexport o.strict o.routines.now o.budget) (swap_counts sources w items o.reexport o.strict o.routines.now o.budget) before result n
 
   module _ (o : Options) where
     abbrev said : Outcome Done
-    said = swap_by_change sources w items o.reexport o.strict o.routines.now o.budget
+    said = next_swap sources w items o.reexport o.strict o.routines.now o.budget
 
     abbrev answer : MadeSaid → Outcome Done
     answer made = done (swap_reply made) made.world

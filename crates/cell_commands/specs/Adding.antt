@@ -1,7 +1,7 @@
 -- The change that a load asks for.
 --     Adds ns file change      it adds a cell of that file in that namespace, and no more
 use Rattle.std.specs.Prelude.{◌≡◌, ℕ, false, List, [], ◌∷◌, None}
-use Rattle.cell_change.specs.declared.change.Change.{Change}
+use Rattle.cell_change.specs.declared.request.Change.{Change}
 
 pub record Adds (ns : ℕ) (file : List ℕ) (change : Change) : Type 0 where
   pub wants : change.wants.items ≡ record { ns = ns; file = file; replaces = None } ∷ []

@@ -3,7 +3,7 @@
 --     swap_counts ..     what it counts, be it accepted or refused
 use Rattle.std.specs.Prelude.{ℕ, Bool, List, Some}
 use Rattle.cell_world.specs.declared.command.SwapItem.{SwapItem}
-use Rattle.cell_world.specs.Asked.{wants_of}
+use Rattle.cell_world.specs.Commands.Asked.{wants_of}
 use Rattle.cell_world.specs.Change.{Plan as PlanSaid, plan_of}
 use Rattle.cell_world.specs.Gather.{Source}
 use Rattle.cell_world.specs.Outcome.{Outcome, ◌>>=◌}

@@ -6,16 +6,16 @@ use Rattle.std.specs.Prelude.{◌≡◌, ◌≤◌, ◌++◌, ◌∷◌, [], Lis
 use Rattle.cell_world.specs.declared.command.SwapItem.{SwapItem}
 use Rattle.cell_world.specs.declared.fail.Fail.{Fail}
 use Rattle.cell_world.specs.declared.state.NewCell.{NewCell}
-use Rattle.cell_world.specs.Asked.{want_of, wants_of}
+use Rattle.cell_world.specs.Commands.Asked.{want_of, wants_of}
 use Rattle.cell_world.specs.Change.{Want as Wanted}
 use Rattle.cell_world.specs.Following.{FailsAs}
 use Rattle.cell_world.specs.Gather.{Source}
 use Rattle.cell_world.specs.Outcome.{Outcome, ◌>>=◌}
-use Rattle.cell_world.specs.UnloadCommand.{attached_cell}
+use Rattle.cell_world.specs.Commands.UnloadCommand.{attached_cell}
 use Rattle.cell_world.specs.World.{Cell, World}
 use Rattle.cell_gather.specs.declared.want.Want.{Want}
-use Rattle.cell_change.specs.declared.change.Change.{Change}
-use Rattle.cell_change.specs.declared.change.Options.{Options}
+use Rattle.cell_change.specs.declared.request.Change.{Change}
+use Rattle.cell_change.specs.declared.request.Options.{Options}
 use Rattle.cell_change.specs.Asking.{IsAsked, IsWantOf}
 
 -- the attached cell that an item names, in its places

@@ -4,7 +4,7 @@ ghost use Rattle.std.specs.Prelude.{◌≡◌, ◌≤◌, All, IfOk, None, lengt
 ghost use Rattle.cell_num.specs.Limits.{max_file_bytes};
 ghost use Rattle.cell_depot.specs.Files.{are_apart};
 ghost use Rattle.cell_depot.specs.Found.{IsOnly};
-ghost use Rattle.cell_world.specs.Asked.{load_by_change};
+ghost use Rattle.cell_world.specs.Commands.Asked.{next_load};
 ghost use Rattle.cell_world.specs.Following.{Follows};
 ghost use Rattle.cell_machine.specs.Does.{Does, no_stack};
 ghost use Rattle.cell_machine.specs.Machine.{IsSound, world_of};
@@ -97,7 +97,7 @@ pub fn load(
     requires sound { IsSound machine.old }
     requires small { All (λ f. length f.bytes ≤ max_file_bytes) depot.now }
     requires apart { are_apart depot.now ≡ true }
-    ensures { Does (load_by_change (map source_of depot.now) (world_of machine.old) ns.now stem.now) no_stack machine.old result machine.new }
+    ensures { Does (next_load (map source_of depot.now) (world_of machine.old) ns.now stem.now) no_stack machine.old result machine.new }
 {
     let number = namespace(alloc, &machine.spaces, ns)?;
     let file = one_file(alloc, depot, ns, stem)?;

@@ -4,7 +4,7 @@ ghost use Rattle.std.specs.Prelude.{◌≡◌, ◌++◌, ◌∷◌, ◌<◌, ◌
 ghost use Rattle.cell_machine.specs.Does.{Does};
 ghost use Rattle.cell_machine.specs.Machine.{IsSound, world_of};
 ghost use Rattle.cell_num.specs.Limits.{max_file_bytes};
-ghost use Rattle.cell_world.specs.Asked.{swap_by_change};
+ghost use Rattle.cell_world.specs.Commands.Asked.{next_swap};
 ghost use Rattle.cell_world.specs.Following.{Follows};
 ghost use Rattle.cell_world.specs.Gather.{file_named, source_of};
 ghost use Rattle.cell_world.specs.Outcome.{found};
@@ -130,7 +130,7 @@ pub fn swap(
     requires sound { IsSound machine.old }
     requires small { All (λ f. length f.bytes ≤ max_file_bytes) depot.now }
     requires some { 0 < length items.now }
-    ensures { Does (swap_by_change (map source_of depot.now) (world_of machine.old) items.now options.now.reexport options.now.strict options.now.routines.now options.now.budget) (swap_counts (map source_of depot.now) (world_of machine.old) items.now options.now.reexport options.now.strict options.now.routines.now options.now.budget) machine.old result machine.new }
+    ensures { Does (next_swap (map source_of depot.now) (world_of machine.old) items.now options.now.reexport options.now.strict options.now.routines.now options.now.budget) (swap_counts (map source_of depot.now) (world_of machine.old) items.now options.now.reexport options.now.strict options.now.routines.now options.now.budget) machine.old result machine.new }
 {
     let change = change_for(alloc, depot, machine, items, options)?;
     let Made {

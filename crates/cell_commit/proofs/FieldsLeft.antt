@@ -5,7 +5,7 @@ use Rattle.std.proofs.lemmas.List.{at_drop_more, at_drop_all}
 use Rattle.cell_num.specs.Bits.{bytes_of}
 use Rattle.cell_mem.specs.State.{HasWrites, MemoryState, sealed_at, write_at}
 use Rattle.cell_mem.proofs.Noting.{fewer_writes, one_taken}
-use Rattle.cell_world.specs.Undo.{record_of}
+use Rattle.cell_world.specs.Running.Undo.{record_of}
 use Rattle.cell_mem.proofs.Writes.{length-bytes_of}
 use Rattle.cell_link.specs.declared.value.FieldValue.{FieldValue}
 use Rattle.cell_commit.specs.Commit.{IsLaidOut, IsMapped, field_patched, field_written}

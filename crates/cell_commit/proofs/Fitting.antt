@@ -4,7 +4,7 @@ use Rattle.std.specs.Prelude.{find, is_some, option_and_then}
 use Rattle.std.proofs.lemmas.Bool.{leb-true}
 use Rattle.cell_num.specs.Lists.{where_true}
 use Rattle.cell_world.specs.World.{Region}
-use Rattle.cell_world.specs.Memory.{covers, end_of, written, pasted}
+use Rattle.cell_world.specs.Running.Memory.{covers, end_of, written, pasted}
 use Rattle.cell_mem.specs.Index.{IsLaid}
 use Rattle.cell_mem.proofs.Laid.{covers_low, covers_high}
 use Rattle.cell_mem.proofs.Writes.{length-pasted}

@@ -7,3 +7,6 @@ pub mod Writing
 pub mod Sealing
 pub mod SectionsLeft
 pub mod NewcomersLeft
+pub mod Rewired
+pub mod RewiringLeft
+pub mod Turned

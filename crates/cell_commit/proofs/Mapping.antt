@@ -2,7 +2,7 @@
 use Rattle.std.proofs.Common.{◌≡◌, refl, sym, ap, subst, ◌∙◌, arith, Option, Some, None, ℕ, suc, ◌+◌, ◌-◌, ◌^◌, ◌≤◌, List, [], ◌∷◌, length, min}
 use Rattle.std.specs.Prelude.{fold, IfSome}
 use Rattle.cell_world.specs.World.{Region}
-use Rattle.cell_world.specs.Place.{with_region}
+use Rattle.cell_world.specs.Placed.Place.{with_region}
 use Rattle.cell_mem.specs.State.{HasWrites, MemoryState, one_more}
 use Rattle.cell_mem.specs.Undo.{UndoState, begun, with_mapped}
 use Rattle.cell_commit.specs.Commit.{all_mapped, mapped_one}

@@ -6,7 +6,7 @@ use Rattle.std.proofs.lemmas.Bool.{and_from, and_left, and_right, cases_lt, le-l
 use Rattle.std.proofs.lemmas.List.{ext_get_or, get_or-map, length-map}
 use Rattle.std.proofs.lemmas.List.Folds.{list_any-append}
 use Rattle.cell_num.specs.Lists.{from_on, upto}
-use Rattle.cell_world.specs.Pages.{filled}
+use Rattle.cell_world.specs.Placed.Pages.{filled}
 use Rattle.cell_mem.specs.State.{MemoryState}
 use Rattle.cell_mem.proofs.Filling.{filled_above, filled_below, filled_inside, length-filled}
 use Rattle.cell_mem.proofs.Reading.{mapped_inside}

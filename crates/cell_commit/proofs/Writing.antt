@@ -4,11 +4,11 @@ use Rattle.std.specs.Prelude.{fold}
 use Rattle.std.proofs.lemmas.List.{map-id}
 use Rattle.std.proofs.lemmas.Simd.{map-map}
 use Rattle.cell_world.specs.World.{Region}
-use Rattle.cell_world.specs.Relink.{patched}
+use Rattle.cell_world.specs.Linked.Relink.{patched}
 use Rattle.cell_mem.specs.State.{HasWrites, MemoryState, one_more, write_at}
 use Rattle.cell_mem.proofs.Noting.{fewer_writes, one_taken}
 use Rattle.cell_mem.specs.Undo.{noted}
-use Rattle.cell_world.specs.Undo.{record_of}
+use Rattle.cell_world.specs.Running.Undo.{record_of}
 use Rattle.cell_link.specs.declared.value.FieldValue.{FieldValue}
 use Rattle.cell_commit.specs.Commit.{field_patched, field_written, fields_patched, fields_written, patch_from, patches_from}
 use Rattle.cell_commit.proofs.Mapping.{count_bound, count_more, count_none}

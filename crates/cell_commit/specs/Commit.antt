@@ -7,7 +7,7 @@ use Rattle.std.specs.Prelude.{◌≡◌, ◌+◌, ◌*◌, true, List, [], ◌�
 use Rattle.cell_num.specs.Limits.{page_size}
 use Rattle.cell_num.specs.Bits.{bytes_of}
 use Rattle.cell_world.specs.World.{Region}
-use Rattle.cell_world.specs.Relink.{Patch}
+use Rattle.cell_world.specs.Linked.Relink.{Patch}
 use Rattle.cell_mem.specs.Index.{IsLaid}
 use Rattle.cell_mem.specs.State.{MemoryState, IsRoom, is_width, mapped, patched_at, region_with, sealed_at}
 use Rattle.cell_link.specs.declared.value.FieldValue.{FieldValue}

@@ -1,3 +1,4 @@
 pub mod Commit
 pub mod Seals
 pub mod Cells
+pub mod Rewiring

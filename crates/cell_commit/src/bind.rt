@@ -1,6 +1,6 @@
 //! The links of the graph.
 
-ghost use Rattle.std.specs.Prelude.{◌≡◌, ◌<◌, ◌≤◌, ◌++◌, All, Contains, IsTrue, length};
+ghost use Rattle.std.specs.Prelude.{◌≡◌, ◌<◌, ◌≤◌, ◌+◌, ◌++◌, All, Contains, IsTrue, length};
 ghost use Rattle.cell_graph.specs.Links.{is_bound};
 ghost use Rattle.cell_graph.specs.Moves.{AreApart, moved};
 ghost use Rattle.cell_graph.specs.Order.{below_link, Rises};
@@ -16,6 +16,7 @@ pub fn bind_rows(graph: &mut Graph, rows: &[LinkRow])
     requires rising { Rises below_link (graph.old.rows ++ rows.now) }
     ensures rows { graph.new.rows ≡ graph.old.rows ++ rows.now }
     ensures sections { graph.new.sections ≡ graph.old.sections }
+    ensures room_for_rows { graph.old.spare_rows ≤ graph.new.spare_rows + length rows.now }
 {
     for row in rows {
         graph.bind(*row);

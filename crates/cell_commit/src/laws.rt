@@ -2,8 +2,8 @@
 
 ghost use Rattle.std.specs.Prelude.{◌≡◌, ◌+◌, ◌-◌, ◌*◌, ◌^◌, ◌++◌, All, fold, length, map, min};
 ghost use Rattle.cell_num.specs.Limits.{page_size};
-ghost use Rattle.cell_world.specs.Place.{with_region};
-ghost use Rattle.cell_world.specs.Relink.{patched};
+ghost use Rattle.cell_world.specs.Placed.Place.{with_region};
+ghost use Rattle.cell_world.specs.Linked.Relink.{patched};
 ghost use Rattle.cell_commit.specs.Commit.{IsMapped, all_mapped, fields_written, patches_from};
 ghost use Rattle.cell_commit.specs.Seals.{seal_table, spans_of};
 

@@ -7,7 +7,7 @@ use Rattle.cell_num.proofs.Elements.{flat_same}
 use Rattle.cell_object.specs.declared.object.Section.{Section as ObjectSection}
 use Rattle.cell_audit.specs.Linking.{fresh_lines, relinked_content}
 use Rattle.cell_world.specs.DumpLines.{cell_lines, link_line, ns_line, provider_lines, section_lines}
-use Rattle.cell_world.specs.Relink.{link_of, links_of}
+use Rattle.cell_world.specs.Linked.Relink.{link_of, links_of}
 use Rattle.cell_world.specs.World.{Cell, World, is_attached}
 use Rattle.cell_world.specs.declared.line.DumpLine.{DumpLine}
 use Rattle.cell_world.specs.declared.line.DumpLine.TheVariants.{End, Space}

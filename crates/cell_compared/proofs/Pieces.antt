@@ -12,14 +12,14 @@ use Rattle.cell_world.specs.DumpLines.{link_line, provider_line, provider_lines}
 use Rattle.cell_object.specs.declared.object.Entry.{Entry}
 use Rattle.cell_object.specs.declared.object.Symbol.{Symbol}
 use Rattle.cell_world.specs.Names.{definitions_of, is_definition}
-use Rattle.cell_world.specs.Relink.{link_of, link_to}
-use Rattle.cell_world.specs.Target.{target_of}
+use Rattle.cell_world.specs.Linked.Relink.{link_of, link_to}
+use Rattle.cell_world.specs.Linked.Target.{target_of}
 use Rattle.cell_world.specs.World.{Alias, Cell, Standing, World, is_attached, key_of}
 use Rattle.cell_world.specs.declared.state.LinkRow.{LinkRow}
 use Rattle.cell_world.specs.declared.state.Target.{Target}
 use Rattle.cell_world.specs.declared.state.Target.TheVariants.{Number}
 use Rattle.cell_compared.specs.Shown.{definition_line, name_lines, names_shown}
-use Rattle.cell_bearers.proofs.Naming.{definitions_from}
+use Rattle.cell_bearers.proofs.NamingLemmas.{definitions_from}
 
 module _ {X : Type 0} (read xs : List X) (same : read ≡ xs) (i : ℕ) (x : X) (below : i < length read) (here : x ≡ get_or read i x) where
   begins : drop i xs ≡ x ∷ drop (i + 1) xs

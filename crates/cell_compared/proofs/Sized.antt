@@ -10,9 +10,9 @@ use Rattle.cell_object.specs.declared.object.Object.{Object}
 use Rattle.cell_object.specs.declared.object.Section.{Section}
 use Rattle.cell_described.specs.Faults.{object_at}
 use Rattle.cell_described.specs.declared.cell.DescribedCell.{DescribedCell}
-use Rattle.cell_world.specs.Field.{field_value_of, fields_of}
-use Rattle.cell_world.specs.Fresh.{fields_in}
-use Rattle.cell_world.specs.Relink.{bound_entries}
+use Rattle.cell_world.specs.Linked.Field.{field_value_of, fields_of}
+use Rattle.cell_world.specs.Linked.Fresh.{fields_in}
+use Rattle.cell_world.specs.Linked.Relink.{bound_entries}
 use Rattle.cell_relinked.specs.Contents.{first_bytes, with_field}
 use Rattle.cell_relinked.specs.Fit.{IsFit, start_among}
 use Rattle.cell_relinked.specs.Linking.{seen_by, world_in}

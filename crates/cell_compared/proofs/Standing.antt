@@ -14,7 +14,7 @@ use Rattle.cell_audit.specs.Told.{byte_told}
 use Rattle.cell_described.specs.Faults.{object_at}
 use Rattle.cell_described.specs.Standing.{Stand}
 use Rattle.cell_described.specs.declared.cell.DescribedCell.{DescribedCell}
-use Rattle.cell_world.specs.Layout.{own_bytes}
+use Rattle.cell_world.specs.Placed.Layout.{own_bytes}
 use Rattle.cell_world.specs.World.{Cell, World}
 use Rattle.cell_world.specs.declared.line.DumpLine.{DumpLine}
 use Rattle.cell_world.specs.declared.state.SecPlace.{SecPlace}

@@ -19,7 +19,7 @@ use Rattle.cell_described.specs.Standing.{Stand}
 use Rattle.cell_described.specs.declared.cell.DescribedCell.{DescribedCell}
 use Rattle.cell_described.specs.declared.describing.Described.{Described}
 use Rattle.cell_world.specs.Gather.{Source}
-use Rattle.cell_world.specs.Pages.{IsSpace}
+use Rattle.cell_world.specs.Placed.Pages.{IsSpace}
 use Rattle.cell_world.specs.World.{World}
 use Rattle.cell_world.specs.declared.line.DumpLine.{DumpLine}
 use Rattle.cell_world.specs.declared.line.DumpLine.TheVariants.{End}

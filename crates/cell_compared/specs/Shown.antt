@@ -16,7 +16,7 @@ use Rattle.cell_world.specs.declared.line.DumpLine.{DumpLine}
 use Rattle.cell_world.specs.declared.line.DumpLine.TheVariants.{Space}
 use Rattle.cell_object.specs.declared.object.Symbol.{Symbol}
 use Rattle.cell_world.specs.Names.{is_definition}
-use Rattle.cell_world.specs.Relink.{link_of}
+use Rattle.cell_world.specs.Linked.Relink.{link_of}
 use Rattle.cell_world.specs.World.{Alias, Cell, World, is_attached}
 use Rattle.cell_relinked.specs.Contents.{relinked}
 use Rattle.cell_relinked.specs.Fit.{start_among}

@@ -40,23 +40,30 @@ fn audit_described(
     cursor.finish(alloc)
 }
 
+/// Cells, and the index of names.
+#[derive(Clone, Copy)]
+struct Indexed<'a> {
+    cells: &'a [DescribedCell],
+    index: &'a Index,
+}
+
 fn ground_of<'a>(
     file: &'a [u8],
     bounds: Bounds,
     namespaces: &'a [Namespace],
-    cells: &'a [DescribedCell],
     told: &'a Told,
-    index: &'a Index,
+    indexed: Indexed<'a>,
 ) -> Ground<'a>
     ensures file { result.file.now ≡ file.now }
     ensures base { result.base ≡ bounds.base }
     ensures pages { result.pages ≡ bounds.pages }
     ensures namespaces { result.namespaces.now ≡ namespaces.now }
-    ensures cells { result.cells.now ≡ cells.now }
+    ensures cells { result.cells.now ≡ indexed.entry.cells.now }
     ensures told { result.told.now ≡ told.now }
-    ensures index { result.index.now ≡ index.now }
+    ensures index { result.index.now ≡ indexed.entry.index.now }
 {
     let Bounds { base, pages } = bounds;
+    let Indexed { cells, index } = indexed;
     Ground {
         file,
         base,
@@ -89,6 +96,15 @@ pub fn audit(alloc: Global, dump: &[u8], depot: &Depot) -> Result<(), AuditFail>
     let described = describe(alloc, bounds, cells, depot)?;
     let Described { cells, mut objects } = described;
     let index = index_of(alloc, dump, &objects, &cells)?;
-    let ground = ground_of(dump, bounds, &namespaces, &cells, &told, &index);
+    let ground = ground_of(
+        dump,
+        bounds,
+        &namespaces,
+        &told,
+        Indexed {
+            cells: &cells,
+            index: &index,
+        },
+    );
     audit_described(alloc, &ground, &mut objects, lines)
 }

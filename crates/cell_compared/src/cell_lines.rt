@@ -6,7 +6,7 @@ ghost use Rattle.cell_described.specs.Describes.{alias_seen};
 ghost use Rattle.cell_described.specs.Faults.{object_at};
 ghost use Rattle.cell_world.specs.DumpLines.{alias_line as further, cell_lines, place_line as placing};
 ghost use Rattle.cell_world.specs.declared.line.DumpLine.TheVariants.{Alias, Cell as CellLine, Place};
-ghost use Rattle.cell_world.specs.MapCommand.{group_of};
+ghost use Rattle.cell_world.specs.Commands.MapCommand.{group_of};
 ghost use Rattle.cell_relinked.specs.Fit.{IsFit};
 ghost use Rattle.cell_relinked.specs.Scene.{seen_in, world_of};
 ghost use Rattle.cell_compared.specs.Left.{left};
@@ -53,7 +53,7 @@ fn alias_line(
 ) -> Result<DumpLine, AllocError>
     ensures { IfOk result (λ line. line ≡ Alias cell alias.now.symbol (slice_range file.now alias.now.name_start alias.now.name_end)) }
 {
-    let symbol = alias.symbol;
+    let symbol = alias.symbol.get();
     Ok(DumpLine::Alias {
         cell: u64::from(cell),
         symbol,

@@ -1,11 +1,11 @@
 //! The lines of names, with their providers.
 
-ghost use Rattle.std.specs.Prelude.{◌≡◌, ◌<◌, ◌∷◌, [], ℕ, IfOk, IfSome, Some, flat_map, length, map, option_map, slice_get};
+ghost use Rattle.std.specs.Prelude.{◌≡◌, ◌<◌, ◌∷◌, [], ℕ, true, IfOk, IfSome, Some, flat_map, length, map, option_map, slice_get};
 ghost use Rattle.cell_described.specs.Describes.{alias_seen};
 ghost use Rattle.cell_described.specs.Faults.{object_at};
 ghost use Rattle.cell_world.specs.DumpLines.{provider_line as line_of};
 ghost use Rattle.cell_bearers.specs.Asked.{provider_at};
-ghost use Rattle.cell_world.specs.Names.{definitions_of, provider_for};
+ghost use Rattle.cell_world.specs.Names.{definitions_of, is_definition as definition, provider_for};
 ghost use Rattle.cell_world.specs.declared.state.Standing.TheVariants.{Attached};
 ghost use Rattle.cell_relinked.specs.Asked.{AreBearers};
 ghost use Rattle.cell_relinked.specs.Fit.{IsFit};
@@ -18,10 +18,10 @@ ghost use Rattle.cell_compared.specs.Walk.{Walks};
 use crate::cursor::Cursor;
 use crate::link_lines::part_of;
 use cell_audit::AuditFail;
-use cell_bearers::{Bearer, FirstBearer, is_definition, text_at};
+use cell_bearers::{Bearer, FirstBearer, text_at};
 use cell_described::DescribedCell;
 use cell_num::Name;
-use cell_object::Symbol;
+use cell_object::{Symbol, is_definition};
 use cell_relinked::{Scene, Sights, chain_of};
 use cell_world::{DumpLine, Target};
 use std::alloc::{AllocError, Global};
@@ -35,13 +35,13 @@ pub struct Asked<'s> {
 }
 
 /// The provider of the name, which these bear.
-fn provider(asked: &Asked, _name: &[u8], bearers: &[Bearer]) -> Option<FirstBearer>
+fn provider(asked: &Asked, name: &[u8], bearers: &[Bearer]) -> Option<FirstBearer>
     requires asked { IsAsked asked.now }
-    requires bearers { AreBearers asked.now.scene.now _name.now bearers.now }
+    requires bearers { AreBearers asked.now.scene.now name.now bearers.now }
     ensures there { IfSome result (λ first. first.cell < length asked.now.scene.now.cells.now) }
-    ensures provider { option_map (provider_at asked.now.scene.now.cells.now) result ≡ provider_for (world_of asked.now.scene.now) Attached asked.now.ns _name.now }
+    ensures provider { option_map (provider_at asked.now.scene.now.cells.now) result ≡ provider_for (world_of asked.now.scene.now) Attached asked.now.ns name.now }
 {
-    asked.scene.provider(asked.sights, bearers)
+    asked.scene.provider(asked.sights, name, bearers)
 }
 
 /// The line of the name that these bear, if its provider has it in a section.
@@ -95,7 +95,7 @@ fn expect_definition(
     bearers: &[Bearer],
 ) -> Result<(), AuditFail>
     requires asked { IsAsked asked.now }
-    requires bearers { AreBearers asked.now.scene.now symbol.now.name bearers.now }
+    requires bearers { definition symbol.now ≡ true → AreBearers asked.now.scene.now symbol.now.name bearers.now }
     ensures { Walks (left cursor.old) (definition_line (world_of asked.now.scene.now) asked.now.ns symbol.now) (left cursor.new) result }
 {
     if !is_definition(symbol) {

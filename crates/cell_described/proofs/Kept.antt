@@ -9,7 +9,6 @@ use Rattle.std.proofs.lemmas.Slice.Eq.{bytes_eq-Decides}
 use Rattle.cell_num.specs.Lists.{equals}
 use Rattle.cell_num.proofs.Elements.{found-In}
 use Rattle.cell_object.specs.declared.object.Object.{Object}
-use Rattle.cell_object.specs.Reads.{reads}
 use Rattle.cell_world.specs.declared.file.File.{File}
 use Rattle.cell_world.specs.Coherent.{IsLoadable}
 use Rattle.cell_world.specs.Gather.{Source, file_named, source_of}
@@ -63,11 +62,11 @@ named_source (f ∷ files) name = go (equals f.name name) (named_source files na
     go false ih = ih
 
 module _ (files : List File) (name : List ℕ) where
-  object_found : (o : Option File) → find (has_name name) files ≡ o → object_of (map source_of files) name ≡ option_and_then (λ f. result_ok (reads f.bytes)) o
+  object_found : (o : Option File) → find (has_name name) files ≡ o → object_of (map source_of files) name ≡ option_and_then (λ f. result_ok (source_of f).reading) o
   object_found o e =
       ap (option_and_then (λ (f : Source). result_ok f.reading)) (named_source files name ∙ ap (option_map source_of) e) ∙ go o
     where
-      go : (o : Option File) → option_and_then (λ f. result_ok f.reading) (option_map source_of o) ≡ option_and_then (λ f. result_ok (reads f.bytes)) o
+      go : (o : Option File) → option_and_then (λ f. result_ok f.reading) (option_map source_of o) ≡ option_and_then (λ f. result_ok (source_of f).reading) o
       go None = refl
       go (Some f) = refl
 
@@ -79,7 +78,7 @@ module _ (files : List File) (name : List ℕ) where
     own_name : file.name ≡ name
     own_name = (bytes_eq-Decides file.name name).0 (found-In (has_name name) files file (sym e)).1
 
-    own_object : object_of (map source_of files) name ≡ result_ok (reads file.bytes)
+    own_object : object_of (map source_of files) name ≡ result_ok (source_of file).reading
     own_object = object_found (Some file) (sym e)
 
     -- a name that is kept

@@ -10,4 +10,3 @@ pub mod Stood
 pub mod Assembled
 pub mod Steps
 pub mod Placements
-pub mod Loadables

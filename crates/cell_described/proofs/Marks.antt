@@ -8,7 +8,7 @@ use Rattle.std.proofs.lemmas.List.{drop_more, length-append, length-take-le, len
 use Rattle.std.proofs.lemmas.List.Folds.{list_any-append}
 use Rattle.cell_num.proofs.Elements.{In-none}
 use Rattle.cell_object.specs.declared.object.Section.{Section as ObjectSection}
-use Rattle.cell_world.specs.Pages.{filled}
+use Rattle.cell_world.specs.Placed.Pages.{filled}
 use Rattle.cell_audit.specs.Placing.{Extent, may_stand, share_a_byte}
 use Rattle.cell_described.specs.Taken.{TakenState, all_free, fits, with_section}
 

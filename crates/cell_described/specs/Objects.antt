@@ -11,10 +11,9 @@ use Rattle.std.specs.Ordering.{nat_cmp}
 use Rattle.std.specs.Result.{result_ok}
 use Rattle.cell_num.specs.Lists.{equals}
 use Rattle.cell_object.specs.declared.object.Object.{Object}
-use Rattle.cell_object.specs.Reads.{reads}
 use Rattle.cell_world.specs.declared.file.File.{File}
 use Rattle.cell_world.specs.Coherent.{IsLoadable}
-use Rattle.cell_world.specs.Gather.{Source}
+use Rattle.cell_world.specs.Gather.{Source, source_of}
 use Rattle.cell_audit.specs.Described.{object_of}
 use Rattle.cell_described.specs.declared.objects.Objects.{Objects}
 
@@ -56,12 +55,12 @@ pub record IsSought (sources : List Source) (name : List ℕ) (old new : Objects
 -- the object of the file stands behind those of before
 pub record IsAdded (file : File) (old new : Objects) (place : ℕ) : Type 0 where
   pub object : Object
-  pub read : result_ok (reads file.bytes) ≡ Some object
+  pub read : result_ok (source_of file).reading ≡ Some object
   pub loadable : IsLoadable object
   pub items : new.items.items ≡ old.items.items ++ object ∷ []
   pub last : place ≡ length old.items.items
   pub places : (q : List ℕ) → place_named new q ≡ (if equals file.name q then Some place else place_named old q)
 
 abbrev pub Keeps : File → Objects → Objects → Option ℕ → Type 0
-Keeps file old new None = (result_ok (reads file.bytes) ≡ None) × (new ≡ old)
+Keeps file old new None = (result_ok (source_of file).reading ≡ None) × (new ≡ old)
 Keeps file old new (Some place) = IsAdded file old new place

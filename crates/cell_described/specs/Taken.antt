@@ -6,7 +6,7 @@ use Rattle.std.specs.Prelude.{ℕ, ◌+◌, ◌-◌, ◌*◌, ◌%◌, ◌==◌,
 use Rattle.cell_num.specs.Limits.{page_size}
 use Rattle.std.specs.List.{list_any}
 use Rattle.cell_object.specs.declared.object.Section.{Section as ObjectSection}
-use Rattle.cell_world.specs.Pages.{filled}
+use Rattle.cell_world.specs.Placed.Pages.{filled}
 
 -- the first address of the space, and for each of its bytes whether it is taken
 pub record TakenState : Type 0 where

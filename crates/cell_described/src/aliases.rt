@@ -1,17 +1,10 @@
 //! What the aliases of a cell are on.
 
 ghost use Rattle.std.specs.Prelude.{◌≡◌};
-ghost use Rattle.cell_world.specs.Names.{is_definition as definition};
 ghost use Rattle.cell_described.specs.Faults.{alias_fault, defines};
 
 use cell_audit::WrittenAlias;
-use cell_object::{Bind, Home, Object, Symbol};
-
-fn is_definition(symbol: &Symbol) -> bool
-    ensures { result ≡ definition symbol.now }
-{
-    symbol.bind == Bind::Global && matches!(symbol.home, Home::Inside(_))
-}
+use cell_object::{Object, is_definition};
 
 /// Whether the symbol at that place, from 0, is a GLOBAL that the object defines.
 fn defines(object: &Object, symbol: u64) -> bool
@@ -28,7 +21,7 @@ pub fn alias_fault(object: &Object, aliases: &[WrittenAlias]) -> Option<u32>
     ensures { result ≡ alias_fault object.now aliases.now }
 {
     for alias in aliases {
-        if !defines(object, alias.symbol) {
+        if !defines(object, alias.symbol.get()) {
             return Some(alias.line);
         }
     }

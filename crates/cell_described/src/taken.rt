@@ -3,7 +3,7 @@
 ghost use Rattle.std.specs.Prelude.{◌≡◌, ◌≤◌, ◌<◌, ◌+◌, ◌*◌, ◌^◌, ◌%◌, ◌==◌, nat_le, ◌&&◌, true, length, max, IfOk};
 ghost use Rattle.cell_num.specs.Limits.{page_size};
 ghost use Rattle.std.specs.List.{list_any};
-ghost use Rattle.cell_world.specs.Pages.{filled};
+ghost use Rattle.cell_world.specs.Placed.Pages.{filled};
 
 use crate::cell::Bounds;
 use cell_num::PAGE_SIZE;

@@ -4,7 +4,7 @@ ghost use Rattle.std.specs.Prelude.{◌≤◌, All, length};
 ghost use Rattle.cell_num.specs.Limits.{max_file_bytes};
 
 use crate::files::{broken_depot, whole_depot};
-use cell_audit::{WrittenAlias, WrittenCell, WrittenPlace};
+use cell_audit::{Wide, WrittenAlias, WrittenCell, WrittenPlace};
 use cell_depot::Depot;
 use cell_described::{Bounds, DescribeFail, Described, describe};
 use cell_num::Name;
@@ -139,7 +139,7 @@ fn cell_of(
     let [first, second] = places;
     let alias = WrittenAlias {
         line: line + 3,
-        symbol,
+        symbol: Wide::of(symbol),
         name_start: 0,
         name_end: 0,
     };

@@ -13,11 +13,13 @@ use Rattle.cell_object.specs.Bytes.{checked, between}
 use Rattle.cell_object.specs.Header.{file_header, section_place, section_header}
 use Rattle.cell_object.specs.Sections.{is_nobits, has_flag}
 use Rattle.cell_object.specs.Symbols.{symtab, symbols_of}
-use Rattle.cell_object.specs.Relocations.{is_rela, is_number, is_relocated_below, is_for_loaded, rule_19, rela_row, entry_count, entry_place, entry_from, entry_of_kind, entry_of, entries_below, rule_20, is_unusable, symbol_total, rule_21, rule_22, is_clash, rule_23, field_rules, entry_rules, relocation_rules, relocations_rules, section_entries, entries_of, is_unpaired, rule_24, pair_rules, section_pairs, pairs_rules}
+use Rattle.cell_object.specs.Relocations.{is_rela, is_number, is_relocated_below, is_for_loaded, rule_19, rela_row, entry_count, entry_place, entry_from, entry_of_kind, entry_of, entries_below, rule_20, is_unusable, symbol_total, rule_21, rule_22, is_clash, rule_23, field_rules, entry_rules}
+use Rattle.cell_object.specs.Relocations.{relocation_rules, relocations_rules, section_entries, entries_of, is_unpaired, rule_24, pair_rules, section_pairs, pairs_rules, is_past_slot, rule_25, slot_rules, section_slots, slots_rules}
 use Rattle.cell_num.specs.Lists.{In}
 use Rattle.cell_num.proofs.Ranges.{In-range, range-In}
 use Rattle.cell_elf.proofs.Loads.{checked-both, not_broken, round_passed}
 use Rattle.cell_elf.proofs.LastPass.{section_pairs_loaded}
+use Rattle.cell_elf.proofs.SlotPass.{section_slots_loaded}
 use Rattle.cell_elf.proofs.Tables.{relocation_rules_loaded, section_entries_loaded, section_entries_other}
 use Rattle.cell_elf.proofs.SoundSections.{yes_or_no, in_range, range_in}
 
@@ -179,3 +181,19 @@ entry_paired file n k e t r passed =
     let one : checked (section_pairs file n) ≡ Ok tt = round_passed (section_pairs file) 1 n (file_header file).e_shnum passed t.from t.there in
     let all : checked (flat_map (pair_rules file h) (between 0 (entry_count h))) ≡ Ok tt = ap checked (sym (section_pairs_loaded file n t.kind t.loaded)) ∙ one in
     pair_passed file h k e r.is (round_passed (pair_rules file h) 0 k (entry_count h) all low r.below)
+
+slot_passed : (file : List ℕ) (h : SectionHeader) (k : ℕ) (e : Entry) → entry_of file h k ≡ e ∷ [] → checked (slot_rules file h k) ≡ Ok tt → is_past_slot e.kind e.addend ≡ false
+unfolding slot_rules
+slot_passed file h k e is passed =
+    let at = entry_place h k in
+    let one : checked (rule_25 at e ++ []) ≡ Ok tt = ap (λ (xs : List Entry). checked (flat_map (rule_25 at) xs)) (sym is) ∙ passed in
+    not_broken _ _ _ (checked-both (rule_25 at e) [] one).0
+
+-- an entry of a table that asks for a slot has no addend
+pub entry_bare : (file : List ℕ) (n k : ℕ) (e : Entry) → IsTable file n → IsRow file n k e → checked (slots_rules file) ≡ Ok tt → is_past_slot e.kind e.addend ≡ false
+entry_bare file n k e t r passed =
+    let h = section_header file n in
+    let low : 0 ≤ k = omega arith in
+    let one : checked (section_slots file n) ≡ Ok tt = round_passed (section_slots file) 1 n (file_header file).e_shnum passed t.from t.there in
+    let all : checked (flat_map (slot_rules file h) (between 0 (entry_count h))) ≡ Ok tt = ap checked (sym (section_slots_loaded file n t.kind t.loaded)) ∙ one in
+    slot_passed file h k e r.is (round_passed (slot_rules file h) 0 k (entry_count h) all low r.below)

@@ -1,16 +1,16 @@
 -- Entries that are passed over.
-use Rattle.std.proofs.Common.{◌≡◌, ℕ, zero, suc, ◌+◌, ◌-◌, ◌*◌, ◌<◌, ◌≤◌, ◌⊎◌, inl, inr, true, List, [], ◌++◌, length, get_or, refl, sym, ap, ◌∙◌, subst, arith, get_or-set_other, get_or-set_same}
+use Rattle.std.proofs.Common.{◌≡◌, ℕ, zero, suc, ◌+◌, ◌-◌, ◌*◌, ◌<◌, ◌≤◌, true, List, [], ◌++◌, refl, sym, ap, ◌∙◌, subst, arith}
 use Rattle.std.specs.List.{flat_map}
-use Rattle.std.proofs.Math.ListN.{set}
 use Rattle.std.proofs.lemmas.List.{append-nil}
 use Rattle.cell_num.specs.Kinds.{is_passed_over}
 use Rattle.cell_object.specs.Bytes.{between}
 use Rattle.cell_object.specs.declared.headers.SectionHeader.{SectionHeader}
-use Rattle.cell_object.specs.Relocations.{rela_row_at, rela_row, entry_place, entry_of, entries_below, entry_rules, pair_rules}
+use Rattle.cell_object.specs.Relocations.{rela_row_at, rela_row, entry_place, entry_of, entries_below, entry_rules, pair_rules, slot_rules}
 use Rattle.cell_file.specs.Cover.{IsSkip}
 use Rattle.cell_object.proofs.Between.{flat_map-between-more}
 use Rattle.cell_elf.proofs.Tables.{passed_over_none, entry_rules_passed}
 use Rattle.cell_elf.proofs.LastPass.{pair_rules_none}
+use Rattle.cell_elf.proofs.SlotPass.{slot_rules_none}
 
 -- where entries are passed over, they give nothing
 pub skipped : {X : Type 0} (f : ℕ → List X) (n a b : ℕ) → b ≡ a + n → ((k : ℕ) → a ≤ k → k < b → f k ≡ []) → flat_map f (between 0 b) ≡ flat_map f (between 0 a)
@@ -51,5 +51,9 @@ entries_skipped file h a b le p = skipped (entry_of file h) (b - a) a b (omega a
 pub pairs_skipped : (file : List ℕ) (h : SectionHeader) (a b : ℕ) → a ≤ b → ArePassed file h a b → flat_map (pair_rules file h) (between 0 b) ≡ flat_map (pair_rules file h) (between 0 a)
 pairs_skipped file h a b le p =
     skipped (pair_rules file h) (b - a) a b (omega arith) (λ k low high. pair_rules_none file h k (passed_over_none (rela_row file h k).r_type (p k low high)))
+
+pub slots_skipped : (file : List ℕ) (h : SectionHeader) (a b : ℕ) → a ≤ b → ArePassed file h a b → flat_map (slot_rules file h) (between 0 b) ≡ flat_map (slot_rules file h) (between 0 a)
+slots_skipped file h a b le p =
+    skipped (slot_rules file h) (b - a) a b (omega arith) (λ k low high. slot_rules_none file h k (passed_over_none (rela_row file h k).r_type (p k low high)))
 
 pub ruleset rows = (skips_none)

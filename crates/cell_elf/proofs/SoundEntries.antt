@@ -5,8 +5,7 @@ use Rattle.std.specs.Ordering.{int_eq}
 use Rattle.std.specs.List.{list_any, list_all}
 use Rattle.std.proofs.lemmas.Bool.{and_parts}
 use Rattle.std.proofs.lemmas.Bool.Decides.{nat_tests}
-use Rattle.cell_num.specs.declared.kinds.RelKind.{RelKind}
-use Rattle.cell_num.specs.Kinds.{kinds, kind_of, row_of, width_of, is_instruction, is_pcrel_lo12, is_pcrel_hi20}
+use Rattle.cell_num.specs.Kinds.{width_of, is_instruction, is_pcrel_lo12, is_got_hi20, is_upper_pcrel}
 use Rattle.cell_object.specs.declared.headers.SectionHeader.{SectionHeader}
 use Rattle.cell_object.specs.declared.object.Object.{Object}
 use Rattle.cell_object.specs.declared.object.Symbol.{Symbol}
@@ -18,20 +17,17 @@ use Rattle.cell_object.specs.Bytes.{checked, between}
 use Rattle.cell_object.specs.Header.{file_header, section_header}
 use Rattle.cell_object.specs.Sections.{is_alloc, is_nobits, is_note, has_flag}
 use Rattle.cell_object.specs.Symbols.{symbols_of}
-use Rattle.cell_object.specs.Relocations.{rela_row, entry_count, entry_of, entries_below, is_unplaced, is_unusable, is_unusable_symbol, symbol_total, relocations_rules, entries_of, is_label, is_label_symbol, has_label, is_unpaired, pairs_rules}
-use Rattle.cell_object.specs.Parts.{is_local, section_of, symbol_at, label_of, high_of}
+use Rattle.cell_object.specs.Relocations.{entry_count, entry_of, entries_below, is_unplaced, is_unusable, is_unusable_symbol, symbol_total, relocations_rules, entries_of, is_label, is_label_symbol, has_label, is_unpaired, pairs_rules, slots_rules}
+use Rattle.cell_object.specs.Parts.{is_local, section_of, symbol_at, label_of}
 use Rattle.cell_object.specs.Reads.{object_of, fill_of}
-use Rattle.cell_object.specs.Sound.{is_zero, is_sound_home, is_sound_symbol, is_nameable, is_sound_entry_in, is_known_kind, is_sound_entry}
+use Rattle.cell_object.specs.Sound.{is_zero, is_sound_home, is_sound_symbol, is_nameable, is_sound_entry_in}
+use Rattle.cell_object.specs.Readable.{is_bare}
+use Rattle.cell_object.proofs.Plain.{upper_of, is_readable_entry}
 use Rattle.cell_num.specs.Lists.{In}
-use Rattle.cell_num.proofs.Elements.{In-all, all-In, any-Has, found-In, find_there, get-In}
+use Rattle.cell_num.proofs.Elements.{In-all, all-In, any-Has, find_there, get-In}
 use Rattle.cell_num.proofs.Ranges.{In-range}
-use Rattle.cell_elf.proofs.SoundSections.{yes_or_no, and_three, and_four, section_found}
-use Rattle.cell_elf.proofs.EntryFacts.{IsTable, IsRow, one_entry, entry_at, entry_there, entry_kind, table_fit, entry_fit, entry_paired}
-
--- a kind that has a number is known
-known_kind : (number : ℕ) (kind : RelKind) → kind_of number ≡ Some kind → is_known_kind kind ≡ true
-known_kind number kind e =
-    all-In is_known_kind kinds refl kind ((found-In (λ kind. (row_of kind).number == number) kinds kind e).0)
+use Rattle.cell_elf.proofs.SoundSections.{yes_or_no, and_three, section_found}
+use Rattle.cell_elf.proofs.EntryFacts.{IsTable, IsRow, one_entry, entry_at, entry_there, entry_kind, table_fit, entry_fit, entry_paired, entry_bare}
 
 not_zero : (h : SectionHeader) → is_nobits h ≡ false → not (is_zero (fill_of h)) ≡ true
 not_zero h e = rw e (go (is_note h))
@@ -102,7 +98,7 @@ pub record IsLabel (object : Object) (section j : ℕ) (entries : List Entry) : 
   pub is : symbol_at object j ≡ Some symbol
   pub home : symbol.home ≡ Inside number
   pub here : number ≡ section
-  pub high : list_any (λ (e : Entry). is_pcrel_hi20 e.kind && e.offset == symbol.value) entries ≡ true
+  pub high : list_any (λ (e : Entry). is_upper_pcrel e.kind && e.offset == symbol.value) entries ≡ true
 
 same_number : (m n : ℕ) → (m == n) ≡ true → m ≡ n
 same_number m n e = grind (arith, nat_tests)
@@ -115,7 +111,7 @@ label_is object section (suc n) entries e =
   where
     inside : (s : Symbol) (home : Home) → slice_get object.symbols n ≡ Some s → s.home ≡ home → is_label section entries home s.value ≡ true → IsLabel object section (suc n) entries
     inside s (Inside m) is home e =
-        let both = and_parts (m == section) (list_any (λ (e : Entry). is_pcrel_hi20 e.kind && e.offset == s.value) entries) e in
+        let both = and_parts (m == section) (list_any (λ (e : Entry). is_upper_pcrel e.kind && e.offset == s.value) entries) e in
         record { symbol = s; number = m; is = is; home = home; here = same_number m section both.0; high = both.1 }
     inside s Undef is home e = absurd cc
     inside s Abs is home e = absurd cc
@@ -129,14 +125,14 @@ high_here : (hi : Bool) (a b c d : ℕ) → (hi && c == d) ≡ true → a ≡ b 
 high_here true a b c d e same = grind (arith, nat_tests)
 high_here false a b c d e same = absurd cc
 
--- an entry with a label has its PCREL_HI20 entry there
+-- an entry with a label has the entry of its upper part there
 label_sound : (object : Object) (e : Entry) (entries : List Entry) → ((h : Entry) → In h entries → In h object.entries × (h.section ≡ e.section)) → IsLabel object e.section e.symbol entries
-    → (is_some (high_of object e) ≡ true) × (unwrap_or (option_map (λ label. label.0 == e.section) (label_of object e)) false ≡ true)
+    → (is_some (upper_of object e) ≡ true) × (unwrap_or (option_map (λ label. label.0 == e.section) (label_of object e)) false ≡ true)
 label_sound object e entries among label =
     let s = label.symbol in
-    let high = any-Has (λ (h : Entry). is_pcrel_hi20 h.kind && h.offset == s.value) entries label.high in
+    let high = any-Has (λ (h : Entry). is_upper_pcrel h.kind && h.offset == s.value) entries label.high in
     let there = among high.0 high.1 in
-    let found = find_there (λ (h : Entry). is_pcrel_hi20 h.kind && h.section == label.number && h.offset == s.value) object.entries high.0 there.0 (high_here (is_pcrel_hi20 high.0.kind) high.0.section label.number high.0.offset s.value high.2 (there.1 ∙ sym label.here)) in
+    let found = find_there (λ (h : Entry). is_upper_pcrel h.kind && h.section == label.number && h.offset == s.value) object.entries high.0 there.0 (high_here (is_upper_pcrel high.0.kind) high.0.section label.number high.0.offset s.value high.2 (there.1 ∙ sym label.here)) in
     (rw (label.is, label.home, found.1) refl, rw (label.is, label.home) (same_true label.number e.section label.here))
   where
     same_true : (m n : ℕ) → m ≡ n → (m == n) ≡ true
@@ -150,12 +146,12 @@ unpaired_of false added labelled e l = absurd cc
 
 -- a PCREL_LO12 entry is paired
 paired : (object : Object) (e : Entry) (entries : List Entry) → ((h : Entry) → In h entries → In h object.entries × (h.section ≡ e.section)) → is_unpaired object.symbols entries e.section e.kind e.addend e.symbol ≡ false
-    → (not (is_pcrel_lo12 e.kind) || int_eq e.addend (pos 0) && is_some (high_of object e) && unwrap_or (option_map (λ label. label.0 == e.section) (label_of object e)) false) ≡ true
+    → (not (is_pcrel_lo12 e.kind) || int_eq e.addend (pos 0) && is_some (upper_of object e) && unwrap_or (option_map (λ label. label.0 == e.section) (label_of object e)) false) ≡ true
 paired object e entries among unpaired = elim (yes_or_no (is_pcrel_lo12 e.kind)) [
   | inl lo ↦
       let tests = unpaired_of (is_pcrel_lo12 e.kind) (int_eq e.addend (pos 0)) (has_label e.section entries object.symbols e.symbol) unpaired lo in
       let label = label_sound object e entries among (label_is object e.section e.symbol entries tests.1) in
-      rw lo (and_three (int_eq e.addend (pos 0)) (is_some (high_of object e)) (unwrap_or (option_map (λ label. label.0 == e.section) (label_of object e)) false) tests.0 label.0 label.1)
+      rw lo (and_three (int_eq e.addend (pos 0)) (is_some (upper_of object e)) (unwrap_or (option_map (λ label. label.0 == e.section) (label_of object e)) false) tests.0 label.0 label.1)
   | inr other ↦ rw other refl
 ]
 
@@ -168,7 +164,7 @@ table_section file n e i =
     (entry_kind file h at.0 e (one_entry file h at.0 e at.3)).1
 
 entry_sound : (file : List ℕ) (n k : ℕ) (e : Entry) → list_all (is_sound_symbol (object_of file)) (symbols_of file) ≡ true → IsTable file n → IsRow file n k e
-    → checked (relocations_rules file) ≡ Ok tt → checked (pairs_rules file) ≡ Ok tt → is_sound_entry (object_of file) e ≡ true
+    → checked (relocations_rules file) ≡ Ok tt → checked (pairs_rules file) ≡ Ok tt → is_readable_entry (object_of file) e ≡ true
 entry_sound file n k e symbols t r related passed =
     let h = section_header file n in
     let object : Object = object_of file in
@@ -180,17 +176,27 @@ entry_sound file n k e symbols t r related passed =
     let there : e.section < (file_header file).e_shnum = rw home form.there in
     let loaded : is_alloc (section_header file e.section) ≡ true = rw home t.loaded in
     let kept : is_nobits (section_header file e.section) ≡ false = rw home form.kept in
-    and_four (is_known_kind e.kind) (unwrap_or (option_map (is_sound_entry_in e) (section_of object e.section)) false)
+    and_three (unwrap_or (option_map (is_sound_entry_in e) (section_of object e.section)) false)
     (e.symbol == 0 || unwrap_or (option_map (λ s. is_nameable s s.home) (symbol_at object e.symbol)) false)
-    (not (is_pcrel_lo12 e.kind) || int_eq e.addend (pos 0) && is_some (high_of object e) && unwrap_or (option_map (λ label. label.0 == e.section) (label_of object e)) false)
-    (known_kind (rela_row file h k).r_type e.kind kind.0)
+    (not (is_pcrel_lo12 e.kind) || int_eq e.addend (pos 0) && is_some (upper_of object e) && unwrap_or (option_map (λ label. label.0 == e.section) (label_of object e)) false)
     (in_section file e from there loaded kept fits.field)
     (named object e.symbol symbols (usable_of (nat_le (symbol_total file) e.symbol) (is_unusable (symbols_of file) e.symbol) fits.symbol))
     (paired object e (entries_below file h (entry_count h)) (λ other i. (entry_there file n other t i, table_section file n other i ∙ sym home)) (entry_paired file n k e t r passed))
 
 -- each entry is sound
 pub entries_sound : (file : List ℕ) → list_all (is_sound_symbol (object_of file)) (symbols_of file) ≡ true → checked (relocations_rules file) ≡ Ok tt → checked (pairs_rules file) ≡ Ok tt
-    → list_all (is_sound_entry (object_of file)) (entries_of file) ≡ true
+    → list_all (is_readable_entry (object_of file)) (entries_of file) ≡ true
 entries_sound file symbols related passed =
-    In-all (is_sound_entry (object_of file)) (entries_of file) (λ e i.
+    In-all (is_readable_entry (object_of file)) (entries_of file) (λ e i.
     let at = entry_at file e i in entry_sound file at.0 at.2.0 e symbols at.1 at.2.1 related passed)
+
+unslotted : (got none : Bool) → (got && not none) ≡ false → (not got || none) ≡ true
+unslotted true true e = refl
+unslotted true false e = absurd cc
+unslotted false none e = refl
+
+-- each entry that asks for a slot has no addend
+pub entries_bare : (file : List ℕ) → checked (slots_rules file) ≡ Ok tt → list_all is_bare (entries_of file) ≡ true
+entries_bare file passed =
+    In-all is_bare (entries_of file) (λ e i.
+    let at = entry_at file e i in unslotted (is_got_hi20 e.kind) (int_eq e.addend (pos 0)) (entry_bare file at.0 at.2.0 e at.1 at.2.1 passed))

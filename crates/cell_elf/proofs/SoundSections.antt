@@ -162,3 +162,16 @@ section_found file n from there a =
   where
     other : (m : ℕ) (y : Section) → m < n → y ≡ section_from file m → (y.number == n) ≡ false
     other m y less e = rw e (eq_false m n less)
+
+-- a section number more has 16 bits
+pub numbers_below : (file : List ℕ) → (file_header file).e_shnum ≤ 65279 → list_all (λ s. nat_lt s.number 65535) (loaded_sections file) ≡ true
+unfolding between
+numbers_below file few =
+    let count = (file_header file).e_shnum in
+    In-all (λ (s : Section). nat_lt s.number 65535) (loaded_sections file) (λ s i.
+    let at = In-range (loaded_section file) (count - 1) 1 s i in
+    let is = loaded_at file at.0 s at.3 in
+    subst (λ (v : Section). nat_lt v.number 65535 ≡ true) (sym is.1) (below at.0 (in_range count at.0 at.1 at.2)))
+  where
+    below : (n : ℕ) → n < (file_header file).e_shnum → nat_lt n 65535 ≡ true
+    below n h = lt_true n 65535 (omega (arith, h, few))

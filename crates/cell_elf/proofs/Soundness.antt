@@ -15,10 +15,10 @@ use Rattle.cell_object.specs.Bytes.{checked, broken_where, between}
 use Rattle.cell_object.specs.Header.{file_header, section_header, header_rules, rule_1, rule_2, rule_3, rule_4, rule_5, rule_6, rule_7}
 use Rattle.cell_object.specs.Sections.{sections_rules}
 use Rattle.cell_object.specs.Symbols.{symtab_rules, symbols_rules, symbols_of}
-use Rattle.cell_object.specs.Relocations.{is_rela, is_for_loaded, rela_row, entry_count, entry_of_kind, entry_of, entries_below, relocations_rules, section_entries, entries_of, pairs_rules}
+use Rattle.cell_object.specs.Relocations.{is_rela, is_for_loaded, rela_row, entry_count, entry_of_kind, entry_of, entries_below, relocations_rules, section_entries, entries_of, pairs_rules, slots_rules}
 use Rattle.cell_object.specs.Reads.{broken, loaded_sections, object_of}
-use Rattle.cell_object.specs.Parts.{has_no_weak}
-use Rattle.cell_object.specs.Sound.{IsSoundObject}
+use Rattle.cell_object.specs.Readable.{IsReadable}
+use Rattle.cell_object.proofs.Plain.{readable_by}
 use Rattle.cell_file.specs.declared.fail.ReadFail.{ReadFail}
 use Rattle.cell_file.specs.Outcome.{Passes}
 use Rattle.cell_elf.proofs.Loads.{checked-both, not_broken, section_inside}
@@ -26,8 +26,8 @@ use Rattle.cell_num.proofs.Ranges.{length-range}
 use Rattle.cell_file.proofs.Passing.{gives_object}
 use Rattle.cell_elf.proofs.Tables.{section_entries_loaded, section_entries_other}
 use Rattle.cell_elf.proofs.SoundSections.{yes_or_no, in_range, numbers_rise, sections_sound}
-use Rattle.cell_elf.proofs.SoundSymbols.{symbols_plain, symbols_sound, names_sound}
-use Rattle.cell_elf.proofs.SoundEntries.{entries_sound}
+use Rattle.cell_elf.proofs.SoundSymbols.{symbols_sound, names_sound}
+use Rattle.cell_elf.proofs.SoundEntries.{entries_sound, entries_bare}
 use Rattle.cell_elf.proofs.SoundApart.{entries_apart}
 
 few_of : (count : ℕ) (none : Bool) → (none || nat_lt 65279 count) ≡ false → count ≤ 65279
@@ -46,31 +46,25 @@ few_sections file passed =
     let counts = checked-both (broken_where _ 5 56 ++ broken_where _ 5 58) (broken_where (h.e_shnum == 0 || nat_lt 65279 h.e_shnum) 5 60) p5.0 in
     few_of h.e_shnum (h.e_shnum == 0) (not_broken _ _ _ counts.1)
 
--- the object of a file that breaks no rule is sound
-pub object_sound : (file : List ℕ) → checked (broken file) ≡ Ok tt → IsSoundObject (object_of file)
-object_sound file passed =
-    let header = checked-both (header_rules file) (sections_rules file ++ (symtab_rules file ++ (symbols_rules file ++ (relocations_rules file ++ pairs_rules file)))) passed in
-    let sections = checked-both (sections_rules file) (symtab_rules file ++ (symbols_rules file ++ (relocations_rules file ++ pairs_rules file))) header.1 in
-    let symtab = checked-both (symtab_rules file) (symbols_rules file ++ (relocations_rules file ++ pairs_rules file)) sections.1 in
-    let symbols = checked-both (symbols_rules file) (relocations_rules file ++ pairs_rules file) symtab.1 in
-    let relocations = checked-both (relocations_rules file) (pairs_rules file) symbols.1 in
+-- the object of a file that breaks no rule is readable
+pub object_readable : (file : List ℕ) → checked (broken file) ≡ Ok tt → IsReadable (object_of file)
+object_readable file passed =
+    let header = checked-both (header_rules file) (sections_rules file ++ (symtab_rules file ++ (symbols_rules file ++ (relocations_rules file ++ (pairs_rules file ++ slots_rules file))))) passed in
+    let sections = checked-both (sections_rules file) (symtab_rules file ++ (symbols_rules file ++ (relocations_rules file ++ (pairs_rules file ++ slots_rules file)))) header.1 in
+    let symtab = checked-both (symtab_rules file) (symbols_rules file ++ (relocations_rules file ++ (pairs_rules file ++ slots_rules file))) sections.1 in
+    let symbols = checked-both (symbols_rules file) (relocations_rules file ++ (pairs_rules file ++ slots_rules file)) symtab.1 in
+    let relocations = checked-both (relocations_rules file) (pairs_rules file ++ slots_rules file) symbols.1 in
+    let pairs = checked-both (pairs_rules file) (slots_rules file) relocations.1 in
     let rows = symbols_sound file (few_sections file header.0) symbols.0 in
-    record {
+    readable_by (object_of file) (record {
       numbers = numbers_rise file;
       sections = sections_sound file sections.0;
       symbols = rows;
       names = names_sound file symbols.0;
-      entries = entries_sound file rows relocations.0 relocations.1;
+      entries = entries_sound file rows relocations.0 pairs.0;
       apart = entries_apart file relocations.0;
-    }
-
--- no object is read that has a WEAK symbol
-pub object_plain : (file : List ℕ) → checked (broken file) ≡ Ok tt → has_no_weak (object_of file) ≡ true
-object_plain file passed =
-    let header = checked-both (header_rules file) (sections_rules file ++ (symtab_rules file ++ (symbols_rules file ++ (relocations_rules file ++ pairs_rules file)))) passed in
-    let sections = checked-both (sections_rules file) (symtab_rules file ++ (symbols_rules file ++ (relocations_rules file ++ pairs_rules file))) header.1 in
-    let symtab = checked-both (symtab_rules file) (symbols_rules file ++ (relocations_rules file ++ pairs_rules file)) sections.1 in
-    symbols_plain file (checked-both (symbols_rules file) (relocations_rules file ++ pairs_rules file) symtab.1).0
+      bare = entries_bare file pairs.1;
+    })
 
 entry_short : (h : SectionHeader) (r : RelaRow) (o : Option RelKind) → length (entry_of_kind h r o) ≤ 1
 entry_short h r None = omega arith
@@ -96,16 +90,16 @@ table_short file n passed small from there = elim (yes_or_no (is_rela (section_h
   | inr b ↦ rw (section_entries_other file n b) (omega arith)
 ]
 
-few_of_counts : (count entries : ℕ) → count ≤ 65279 → entries ≤ (count - 1) * 43690 → entries < 2 ^ 32
+few_of_counts : (count entries : ℕ) → count ≤ 65279 → entries ≤ (count - 1) * 43690 → entries + 2 ^ 20 < 2 ^ 32
 few_of_counts count entries h k = omega arith
 
--- an object of at most a mebibyte has fewer than 2 ^ 32 entries
-pub few_entries : (file : List ℕ) → checked (broken file) ≡ Ok tt → length file ≤ 1048576 → length (entries_of file) < 2 ^ 32
+-- an object of at most a mebibyte has far fewer than 2 ^ 32 entries
+pub few_entries : (file : List ℕ) → checked (broken file) ≡ Ok tt → length file ≤ 1048576 → length (entries_of file) + 2 ^ 20 < 2 ^ 32
 unfolding between
 few_entries file passed small =
     let count = (file_header file).e_shnum in
-    let header = checked-both (header_rules file) (sections_rules file ++ (symtab_rules file ++ (symbols_rules file ++ (relocations_rules file ++ pairs_rules file)))) passed in
-    let sections = checked-both (sections_rules file) (symtab_rules file ++ (symbols_rules file ++ (relocations_rules file ++ pairs_rules file))) header.1 in
+    let header = checked-both (header_rules file) (sections_rules file ++ (symtab_rules file ++ (symbols_rules file ++ (relocations_rules file ++ (pairs_rules file ++ slots_rules file))))) passed in
+    let sections = checked-both (sections_rules file) (symtab_rules file ++ (symbols_rules file ++ (relocations_rules file ++ (pairs_rules file ++ slots_rules file)))) header.1 in
     few_of_counts count (length (entries_of file)) (few_sections file header.0)
     (length-range (section_entries file) 43690 (count - 1) 1 (λ n low high. table_short file n sections.0 small low (in_range count n low high)))
 
@@ -114,13 +108,9 @@ pub parts_same : (file : List ℕ) (ss : List Section) (ys : List Symbol) (es : 
     → record { sections = ss; symbols = ys; entries = es } ≡ object_of file
 parts_same file ss ys es s y e = λ i. record { sections = s i; symbols = y i; entries = e i }
 
--- what a reader that passed over the rules gives is sound
-pub result_sound : (file : List ℕ) (r : Result Object ReadFail) → Passes r (checked (broken file)) → IfOk r (λ o. o ≡ object_of file) → IfOk r IsSoundObject
-result_sound file (Ok o) passed is = subst IsSoundObject (sym is) (object_sound file passed)
-result_sound file (Err e) failed is = tt
+-- what a reader that passed over the rules gives is readable
+pub result_readable : (file : List ℕ) (r : Result Object ReadFail) → Passes r (checked (broken file)) → IfOk r (λ o. o ≡ object_of file) → IfOk r IsReadable
+result_readable file (Ok o) passed is = subst IsReadable (sym is) (object_readable file passed)
+result_readable file (Err e) failed is = tt
 
-pub result_few : (file : List ℕ) (r : Result Object ReadFail) → Passes r (checked (broken file)) → IfOk r (λ o. o ≡ object_of file) → length file ≤ 1048576 → IfOk r (λ o. length o.entries < 2 ^ 32)
-result_few file (Ok o) passed is small = subst (λ (o : Object). length o.entries < 2 ^ 32) (sym is) (few_entries file passed small)
-result_few file (Err e) failed is small = tt
-
-pub ruleset reads_soundly = (gives_object, result_sound, result_few)
+pub ruleset reads_soundly = (gives_object, result_readable)

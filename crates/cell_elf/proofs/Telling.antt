@@ -6,10 +6,8 @@ use Rattle.cell_object.specs.declared.object.Symbol.{Symbol}
 use Rattle.cell_object.specs.declared.object.Entry.{Entry}
 use Rattle.cell_object.specs.Bytes.{Broken, checked}
 use Rattle.cell_object.specs.Reads.{object_unless}
-use Rattle.cell_file.specs.declared.fail.ReadFail.{ReadFail}
-use Rattle.cell_file.specs.declared.fail.ReadFail.TheVariants.{BadObject, OutOfMemory}
 use Rattle.cell_file.specs.Kept.{IsLike, is_full}
-use Rattle.cell_file.specs.Outcome.{Fails, Tells}
+use Rattle.cell_file.specs.Outcome.{Tells}
 use Rattle.cell_elf.proofs.Keeping.{whole_is, whole_not}
 
 -- it is the object exactly where each of its lists is

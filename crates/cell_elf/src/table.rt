@@ -20,7 +20,7 @@ use crate::symbols::{SymbolTable, Target};
 use cell_file::{
     Field, Fields, File, Keep, ReadFail, Skips, has_flag, is_passed_over, refuse_where, rela_row_at,
 };
-use cell_num::{RelKind, is_instruction, is_pcrel_hi20, is_stacking, kind_of, width};
+use cell_num::{RelKind, is_instruction, is_stacking, is_upper_pcrel, kind_of, width};
 use cell_object::elf::{ROW_LEN, SHF_EXECINSTR};
 use cell_object::{Bind, Entry, Home, RelaRow, SectionHeader};
 
@@ -232,7 +232,7 @@ impl<'a> Table<'a> {
         if fields.is_hit(&field) {
             return Err(ReadFail::BadObject { rule: 23, at });
         }
-        fields.add(field, is_pcrel_hi20(entry.kind));
+        fields.add(field, is_upper_pcrel(entry.kind));
         Ok(())
     }
 

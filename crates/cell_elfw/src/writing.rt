@@ -86,7 +86,8 @@ fn headers(
     object: &Object,
     places: &TablePlaces,
 ) -> Result<Vec<u8>, AllocError>
-    ensures { IfOk result (λ headers. let p = places.now in headers.items ≡ section_row_bytes null_row ++ (draft.now.own_rows.items ++ (section_row_bytes (symtab_row_at object.now p.symtab.name p.symtab.offset p.symtab.size) ++ (section_row_bytes (strings_row p.strtab.name p.strtab.offset p.strtab.size) ++ (section_row_bytes (strings_row p.shstrtab.name p.shstrtab.offset p.shstrtab.size) ++ draft.now.table_rows.items))))) }
+    ensures { IfOk result (λ headers. let p = places.now in headers.items ≡ section_row_bytes null_row ++ (draft.now.own_rows.items ++ (section_row_bytes (symtab_row_at object.now p.symtab.name p.symtab.offset p.symtab.size) ++ (section_row_bytes (strings_row p.strtab.name p.strtab.offset
+        p.strtab.size) ++ (section_row_bytes (strings_row p.shstrtab.name p.shstrtab.offset p.shstrtab.size) ++ draft.now.table_rows.items))))) }
 {
     let mut headers = Vec::new(alloc);
     put_null_row(&mut headers)?;

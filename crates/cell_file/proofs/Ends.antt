@@ -1,5 +1,5 @@
 -- The last zero byte of a string table, and the strings before it.
-use Rattle.std.proofs.Common.{◌≡◌, ◌≢◌, All, ℕ, zero, suc, ◌+◌, ◌-◌, ◌<◌, ◌≤◌, min, Bool, true, false, not, cond, List, [], ◌∷◌, ◌++◌, length, take, drop, refl, sym, ap, ◌∙◌, subst, arith, take_all, take-take, get_or, drop-drop, length-take-le, length-drop, Some, None, Option}
+use Rattle.std.proofs.Common.{◌≡◌, ◌≢◌, All, ℕ, zero, suc, ◌+◌, ◌-◌, ◌<◌, ◌≤◌, min, Bool, true, false, not, cond, List, [], ◌∷◌, length, take, drop, refl, sym, ap, ◌∙◌, arith, take_all, take-take, get_or, drop-drop, length-take-le, length-drop, Some, None}
 use Rattle.std.specs.Prelude.{nat_lt, slice_range, is_some, unwrap_or}
 use Rattle.std.specs.List.{before_first, position, position_or_len}
 use Rattle.std.specs.Option.{option_map}

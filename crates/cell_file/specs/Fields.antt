@@ -2,7 +2,7 @@
 use Rattle.std.specs.Prelude.{◌≡◌, ℕ, ◌==◌, ◌&&◌, Bool, List, map, get_or, if◌then◌else◌, Option, Some, None}
 use Rattle.std.specs.List.{list_any}
 use Rattle.cell_object.specs.declared.object.Entry.{Entry}
-use Rattle.cell_num.specs.Kinds.{width_of, is_stacking, is_pcrel_hi20}
+use Rattle.cell_num.specs.Kinds.{width_of, is_stacking, is_upper_pcrel}
 use Rattle.cell_file.specs.declared.cover.Field.{Field}
 use Rattle.cell_file.specs.declared.cover.Fields.{Fields}
 use Rattle.cell_file.specs.declared.cover.Mark.{Mark}
@@ -21,10 +21,10 @@ mark_at fields q = get_or fields.marks.items q no_mark
 abbrev pub field_at : Fields → ℕ → Option Field
 field_at fields q = if (mark_at fields q).table == fields.table then Some (field_of_mark q (mark_at fields q)) else None
 
--- a PCREL_HI20 of the table begins there
+-- an upper part of the table, a PCREL_HI20 or GOT_HI20, begins there
 abbrev pub high_at : Fields → ℕ → Bool
 high_at fields q = (mark_at fields q).table == fields.table && (mark_at fields q).high
 
--- the marks say where the PCREL_HI20 among the entries are
+-- the marks say where the upper parts among the entries are
 abbrev pub HoldsHighs : Fields → List Entry → Type 0
-HoldsHighs fields entries = (q : ℕ) → high_at fields q ≡ list_any (λ e. is_pcrel_hi20 e.kind && e.offset == q) entries
+HoldsHighs fields entries = (q : ℕ) → high_at fields q ≡ list_any (λ e. is_upper_pcrel e.kind && e.offset == q) entries

@@ -15,7 +15,8 @@ pub struct Field {
     pub stacking: bool,
 }
 
-/// What begins at a place of a section: a field of a table, and whether that is a PCREL_HI20.
+/// What begins at a place of a section: a field of a table, and whether that is the upper part of an address, a
+/// PCREL_HI20 or GOT_HI20.
 #[derive(Clone, Copy, Debug, PartialEq, Eq)]
 pub struct Mark {
     pub table: u32,
@@ -93,7 +94,7 @@ impl Fields {
         }
     }
 
-    /// Whether a PCREL_HI20 begins at a place.
+    /// Whether an upper part begins at a place.
     pub fn is_high(&self, place: u64) -> bool
         ensures { result ≡ high_at self.now place }
     {
@@ -125,7 +126,7 @@ impl Fields {
         false
     }
 
-    /// Keeps a field, and whether it is a PCREL_HI20.
+    /// Keeps a field, and whether it is an upper part.
     pub fn add(&mut self, field: Field, high: bool)
         requires { field.from < length self.old.marks.items }
         ensures table { self.new.table ≡ self.old.table }

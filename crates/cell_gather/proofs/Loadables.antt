@@ -1,26 +1,13 @@
--- What is read from a file of at most a mebibyte is an object that a cell may have; and how many names such an object defines.
-use Rattle.std.proofs.Common.{◌≡◌, ℕ, suc, ◌≤◌, ◌<◌, ◌^◌, arith, subst, Bool, true, false, cond, List, [], ◌∷◌, length, Ok}
+-- How many names an object defines that a cell may have.
+use Rattle.std.proofs.Common.{ℕ, suc, ◌≤◌, ◌<◌, ◌^◌, arith, Bool, true, false, cond, List, [], ◌∷◌, length}
 use Rattle.std.specs.Prelude.{filter}
 use Rattle.std.proofs.lemmas.List.{length-map}
 use Rattle.cell_num.specs.Lists.{numbered_from}
 use Rattle.cell_object.specs.declared.object.Object.{Object}
 use Rattle.cell_object.specs.declared.object.Symbol.{Symbol}
-use Rattle.cell_object.specs.Reads.{reads}
-use Rattle.cell_elf.proofs.Soundness.{object_plain, object_sound, few_entries}
-use Rattle.cell_elf.proofs.LoadableCounts.{few_symbols, reads_passed}
 use Rattle.cell_world.specs.Coherent.{IsLoadable}
 use Rattle.cell_world.specs.Names.{is_definition, definitions_of}
 use Rattle.cell_world.specs.World.{Alias}
-
-pub loadable : (bytes : List ℕ) (o : Object) → length bytes ≤ 1048576 → reads bytes ≡ Ok o → IsLoadable o
-loadable bytes o small e =
-    let p = reads_passed bytes o e in
-    subst IsLoadable p.1 (record {
-      sound = object_sound bytes p.0;
-      symbols = few_symbols bytes p.0 small;
-      entries = few_entries bytes p.0 small;
-      plain = object_plain bytes p.0;
-    })
 
 abbrev defines : ℕ × Symbol → Bool
 defines p = is_definition p.1

@@ -8,6 +8,7 @@ ghost use Rattle.cell_gather.specs.Reading.{FailsToRead};
 ghost use Rattle.cell_world.specs.Following.{Follows};
 
 use cell_elf::{ReadFail, read_object};
+use cell_got::lower_got;
 use cell_object::Object;
 use cell_world::{Fail, File, Refusal};
 use std::alloc::Global;
@@ -25,14 +26,14 @@ fn read_failed(alloc: Global, file: &File, fail: ReadFail) -> Fail
     }
 }
 
-/// The object of a file.
+/// The object of a file, lowered.
 pub fn read(alloc: Global, file: &File) -> Result<Object, Fail>
     requires { length file.now.bytes ≤ max_file_bytes }
     ensures object { Follows (λ object. object) result (object_in (source_of file.now)) }
     ensures loadable { IfOk result IsLoadable }
 {
     match read_object(alloc, &file.bytes) {
-        Ok(object) => Ok(object),
+        Ok(object) => Ok(lower_got(alloc, object)?),
         Err(fail) => Err(read_failed(alloc, file, fail)),
     }
 }

@@ -8,7 +8,8 @@ use Rattle.cell_num.specs.declared.kinds.RelKind.TheVariants.{PcrelHi20}
 use Rattle.cell_num.proofs.Elements.{get-In}
 use Rattle.cell_object.specs.declared.object.Entry.{Entry}
 use Rattle.cell_object.specs.declared.object.Object.{Object}
-use Rattle.cell_got.specs.Lower.{got_number, got_section, is_got, lower, lower_by, lowered_entry, slot_entry, slot_of, slot_symbol, slots_of, with_slots}
+use Rattle.cell_object.specs.Readable.{is_got}
+use Rattle.cell_got.specs.Lower.{got_number, got_section, lower, lower_by, lowered_entry, slot_entry, slot_of, slot_symbol, slots_of, with_slots}
 use Rattle.cell_got.proofs.Slots.{slot_there}
 use Rattle.cell_got.proofs.LowerSound.{get_from, get_left, get_map, get_right}
 

@@ -24,8 +24,8 @@ use Rattle.cell_object.specs.declared.object.Home.TheVariants.{Undef, Abs, Insid
 use Rattle.cell_object.specs.Parts.{is_local, section_of, symbol_at, label_of, high_of, inside_of}
 use Rattle.cell_object.specs.Sound.{IsSoundObject, is_sound_section, is_known_kind, is_sound_home, is_sound_symbol, is_nameable, is_sound_entry_in, is_sound_entry, may_share, may_both_be, is_plain_sort}
 use Rattle.cell_object.specs.Symbols.{is_global_name}
-use Rattle.cell_got.specs.Lower.{is_got, slots_of, slot_of, got_number, got_section, slot_symbol, slot_entry, lowered_entry, with_slots, lower_by, lower}
-use Rattle.cell_got.specs.Readable.{IsReadable, plain, plain_entry}
+use Rattle.cell_object.specs.Readable.{is_got, IsReadable, plain, plain_entry}
+use Rattle.cell_got.specs.Lower.{slots_of, slot_of, got_number, got_section, slot_symbol, slot_entry, lowered_entry, with_slots, lower_by, lower}
 use Rattle.cell_got.proofs.Slots.{slot_there, slot_asked, few_slots, slot_below, below_got}
 
 -- what stands in a list is found there when more come behind
@@ -372,8 +372,8 @@ module _ (o : Object) (r : IsReadable o) where
       go None e k = absurd (true≢false (sym k))
       go (Some s) e k = let below = slice_get_within o.symbols j s e in omega (arith, below)
 
-  pub slots_few : length (slots_of o) ≤ 2 ^ 20
-  slots_few = let h = few_slots o (suc (length o.symbols)) (λ e i g. number_below e.symbol (names_known e i)) in let k = r.few in omega (arith, h, k)
+  pub slots_few : length o.symbols < 2 ^ 20 → length (slots_of o) ≤ 2 ^ 20
+  slots_few k = let h = few_slots o (suc (length o.symbols)) (λ e i g. number_below e.symbol (names_known e i)) in omega (arith, h, k)
 
   no_entry : slots_of o ≡ [] → (e : Entry) → In e o.entries → plain_entry e ≡ e
   no_entry none e i = go (is_got e) refl
@@ -412,12 +412,12 @@ module _ (o : Object) (r : IsReadable o) where
       go None is h = absurd (true≢false (sym h))
       go (Some s) is h = (s, is)
 
-  pub lower_sound : IsSoundObject (lower o)
-  lower_sound = go (slots_of o) refl
+  pub lower_sound : length o.symbols < 2 ^ 20 → IsSoundObject (lower o)
+  lower_sound k = go (slots_of o) refl
     where
       go : (slots : List ℕ) → slots_of o ≡ slots → IsSoundObject (lower_by slots o)
       go [] e = subst IsSoundObject (plain_same e) r.sound
       go (x ∷ slots) e =
-          slots_sound o r.sound (x ∷ slots) (got_number o) (below_got o) (subst (λ (xs : List ℕ). length xs ≤ 2 ^ 20) e slots_few)
+          slots_sound o r.sound (x ∷ slots) (got_number o) (below_got o) (subst (λ (xs : List ℕ). length xs ≤ 2 ^ 20) e (slots_few k))
           (λ d i g. subst (λ (xs : List ℕ). In d.symbol xs) e (slot_there o d i g))
           (λ y i. slots_known y (subst (λ (xs : List ℕ). In y xs) (sym e) i))

@@ -9,7 +9,8 @@ use Rattle.cell_num.proofs.Elements.{any-Has, any-In, In-map, map-In, filter-In,
 use Rattle.cell_object.specs.declared.object.Object.{Object}
 use Rattle.cell_object.specs.declared.object.Section.{Section}
 use Rattle.cell_object.specs.declared.object.Entry.{Entry}
-use Rattle.cell_got.specs.Lower.{is_got, once_after, slots_of, slot_of, got_number}
+use Rattle.cell_object.specs.Readable.{is_got}
+use Rattle.cell_got.specs.Lower.{once_after, slots_of, slot_of, got_number}
 
 pub holds_In : (xs : List ℕ) (x : ℕ) → In x xs → holds xs x ≡ true
 holds_In xs x i = any-In (λ y. y == x) xs x i (eq-eqb x x refl)

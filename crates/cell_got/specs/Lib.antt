@@ -1,2 +1,2 @@
 pub mod Lower
-pub mod Readable
+pub mod Asked

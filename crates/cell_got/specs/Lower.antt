@@ -1,17 +1,16 @@
 -- The object of a file as it is placed and linked. An entry of kind GOT_HI20 asks for the address of a slot that holds its
 -- symbol's address. The slots are a section of their own, each slot has a symbol, and an entry of kind 64 fills it.
---     is_got e              the entry asks for the address of its symbol's slot
 --     slots_of object       the symbols that have a slot, in the order of first use
 --     got_number object     the number of the section of slots
 --     lower object          the object with that section, or as it is where no entry asks for a slot
 --     lowered reading       what a file is read as, lowered where it keeps the rules
 -- RISC-V ELF psABI, "Global Offset Table"
-use Rattle.std.specs.Prelude.{Result, Ok, Err, ℕ, suc, ◌+◌, ◌*◌, Bool, true, false, pos, List, [], ◌∷◌, ◌++◌, length, replicate, map, filter, fold, max, codes, ◌==◌}
+use Rattle.std.specs.Prelude.{Result, Ok, Err, ℕ, suc, ◌+◌, ◌*◌, true, false, pos, List, [], ◌∷◌, ◌++◌, length, replicate, map, filter, fold, max, codes, ◌==◌}
 use Rattle.std.specs.List.{position_or_len}
 use Rattle.cell_num.specs.Lists.{holds, numbered, upto}
-use Rattle.cell_num.specs.declared.kinds.RelKind.{RelKind}
-use Rattle.cell_num.specs.declared.kinds.RelKind.TheVariants.{Abs64, GotHi20, PcrelHi20}
+use Rattle.cell_num.specs.declared.kinds.RelKind.TheVariants.{Abs64, PcrelHi20}
 use Rattle.cell_object.specs.Bytes.{Broken}
+use Rattle.cell_object.specs.Readable.{is_got}
 use Rattle.cell_object.specs.declared.object.Object.{Object}
 use Rattle.cell_object.specs.declared.object.Section.{Section}
 use Rattle.cell_object.specs.declared.object.Symbol.{Symbol}
@@ -20,13 +19,6 @@ use Rattle.cell_object.specs.declared.object.Bind.TheVariants.{Local}
 use Rattle.cell_object.specs.declared.object.Sort.TheVariants.{NoType}
 use Rattle.cell_object.specs.declared.object.Home.TheVariants.{Inside}
 use Rattle.cell_object.specs.declared.object.Fill.TheVariants.{Prog}
-
-abbrev pub is_got_hi20 : RelKind → Bool
-is_got_hi20 GotHi20 = true
-is_got_hi20 _ = false
-
-abbrev pub is_got : Entry → Bool
-is_got e = is_got_hi20 e.kind
 
 -- each number once, where it stands first, but for those that were before
 abbrev pub once_after : List ℕ → List ℕ → List ℕ
@@ -37,8 +29,12 @@ once_after before (x ∷ xs) =
       | false ↦ x ∷ once_after (x ∷ before) xs
     ]
 
+-- the symbols that entries ask for slots of
+abbrev pub asked : List Entry → List ℕ
+asked entries = once_after [] (map (λ e. e.symbol) (filter is_got entries))
+
 abbrev pub slots_of : Object → List ℕ
-slots_of object = once_after [] (map (λ e. e.symbol) (filter is_got object.entries))
+slots_of object = asked object.entries
 
 -- one more than the greatest number of a section
 abbrev pub got_number : Object → ℕ

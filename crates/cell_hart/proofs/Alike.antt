@@ -5,13 +5,14 @@ use Rattle.cell_num.specs.declared.ids.Cause.TheVariants.{Fetch, Illegal, StoreA
 use Rattle.cell_num.specs.Bits.{wrap, wrap_ℤ}
 use Rattle.cell_isa.specs.declared.insn.Insn.{Insn}
 use Rattle.cell_isa.specs.declared.insn.Op.{Op}
-use Rattle.cell_isa.specs.declared.insn.Op.TheVariants.{Lui, Auipc, Jal, Jalr, Beq, Bne, Blt, Bge, Bltu, Bgeu, Lb, Lh, Lw, Ld, Lbu, Lhu, Lwu, Sb, Sh, Sw, Sd, Addi, Slti, Sltiu, Xori, Ori, Andi, Slli, Srli, Srai, Add, Sub, Sll, Slt, Sltu, Xor, Srl, Sra, Or, And, Addiw, Slliw, Srliw, Sraiw, Addw, Subw, Sllw, Srlw, Sraw, Mul, Mulh, Mulhsu, Mulhu, Div, Divu, Rem, Remu, Mulw, Divw, Divuw, Remw, Remuw, Fence, Ecall, Ebreak}
+use Rattle.cell_isa.specs.declared.insn.Op.TheVariants.{Lui, Auipc, Jal, Jalr, Beq, Bne, Blt, Bge, Bltu, Bgeu, Lb, Lh, Lw, Ld, Lbu, Lhu, Lwu, Sb, Sh, Sw, Sd, Addi, Slti, Sltiu, Xori, Ori, Andi, Slli, Srli, Srai, Add, Sub, Sll, Slt, Sltu, Xor, Srl, Sra, Or, And, Addiw, Slliw, Srliw, Sraiw, Addw, Subw}
+use Rattle.cell_isa.specs.declared.insn.Op.TheVariants.{Sllw, Srlw, Sraw, Mul, Mulh, Mulhsu, Mulhu, Div, Divu, Rem, Remu, Mulw, Divw, Divuw, Remw, Remuw, Fence, Ecall, Ebreak}
 use Rattle.cell_isa.specs.Instruction.{decode}
 use Rattle.cell_isa.specs.declared.memory.Access.{Access}
 use Rattle.cell_isa.specs.declared.memory.Access.TheVariants.{Untouched, Loads, Stores}
 use Rattle.cell_isa.specs.Meaning.{result_of, is_taken, aim_of, access_of}
 use Rattle.cell_world.specs.World.{Region}
-use Rattle.cell_world.specs.Execute.{Seen, Effect, Goes, Traps, allows, number_read, jumped, stored, accessed, stepped, performed, execute_word, execute}
+use Rattle.cell_world.specs.Running.Execute.{Seen, Effect, Goes, Traps, allows, number_read, jumped, stored, accessed, stepped, performed, execute_word, execute}
 
 abbrev pub seen : List Region → (ℕ → ℕ → Bool) → Seen
 seen regions sealed = record { regions = regions; is_sealed = sealed }

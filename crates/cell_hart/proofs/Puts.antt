@@ -4,9 +4,9 @@ use Rattle.std.specs.Prelude.{IfSome, is_some, nat_le, option_and_then, slice_ra
 use Rattle.std.proofs.lemmas.Bool.{and_parts}
 use Rattle.cell_num.specs.Lists.{where_true}
 use Rattle.cell_world.specs.World.{Region}
-use Rattle.cell_world.specs.Memory.{Write, end_of, part_of, region_in}
-use Rattle.cell_world.specs.Execute.{Seen, allows, execute}
-use Rattle.cell_world.specs.Undo.{IsPut}
+use Rattle.cell_world.specs.Running.Memory.{Write, end_of, part_of, region_in}
+use Rattle.cell_world.specs.Running.Execute.{Seen, allows, execute}
+use Rattle.cell_world.specs.Running.Undo.{IsPut}
 use Rattle.cell_hart.proofs.Stores.{ByStore, by_store}
 
 -- what may be stored is there

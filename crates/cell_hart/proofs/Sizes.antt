@@ -5,8 +5,8 @@ use Rattle.std.specs.List.{find}
 use Rattle.std.proofs.lemmas.Bool.{leb-true, and_parts}
 use Rattle.cell_num.specs.Bits.{bytes_of}
 use Rattle.cell_world.specs.World.{Region}
-use Rattle.cell_world.specs.Memory.{covers, end_of, put_by, region_in, written}
-use Rattle.cell_world.specs.Execute.{Seen, Effect, allows, execute}
+use Rattle.cell_world.specs.Running.Memory.{covers, end_of, put_by, region_in, written}
+use Rattle.cell_world.specs.Running.Execute.{Seen, Effect, allows, execute}
 use Rattle.cell_mem.specs.Index.{IsLaid}
 use Rattle.cell_mem.specs.Writing.{put}
 use Rattle.cell_mem.proofs.Laid.{covers_low, covers_high, not_below}

@@ -10,8 +10,8 @@ use Rattle.cell_isa.specs.Instruction.{decode}
 use Rattle.cell_isa.specs.declared.memory.Access.{Access}
 use Rattle.cell_isa.specs.declared.memory.Access.TheVariants.{Untouched, Loads, Stores}
 use Rattle.cell_isa.specs.Meaning.{result_of, is_taken, aim_of, access_of}
-use Rattle.cell_world.specs.Memory.{Write}
-use Rattle.cell_world.specs.Execute.{Seen, Effect, Goes, Calls, Traps, with_register, allows, number_read, extended, computed, jumped, loaded, stored, accessed, stepped, performed, execute_word, execute}
+use Rattle.cell_world.specs.Running.Memory.{Write}
+use Rattle.cell_world.specs.Running.Execute.{Seen, Effect, Goes, Calls, Traps, with_register, allows, number_read, extended, computed, jumped, loaded, stored, accessed, stepped, performed, execute_word, execute}
 
 -- of the store that an instruction makes, or of none
 abbrev pub ByStore : (Option Write → Type 0) → Effect → Type 0

@@ -5,9 +5,9 @@ use Rattle.cell_hart.specs.declared.stop.Stop.{Stop}
 use Rattle.cell_hart.specs.Step.{Steps, written_by}
 use Rattle.cell_mem.specs.State.{MemoryState}
 use Rattle.cell_mem.specs.Undo.{noted}
-use Rattle.cell_world.specs.Undo.{record_of}
-use Rattle.cell_world.specs.Memory.{Write}
-use Rattle.cell_world.specs.Execute.{Effect, Goes, Calls, Traps}
+use Rattle.cell_world.specs.Running.Undo.{record_of}
+use Rattle.cell_world.specs.Running.Memory.{Write}
+use Rattle.cell_world.specs.Running.Execute.{Effect, Goes, Calls, Traps}
 
 written_none : (store : Option Write) (old : MemoryState) → old.undo ≡ None → (written_by store old).undo ≡ None
 written_none None old none = none

@@ -8,8 +8,8 @@ use Rattle.cell_hart.specs.declared.hart.Hart.{Hart}
 use Rattle.cell_hart.specs.declared.stop.Stop.{Stop}
 use Rattle.cell_hart.specs.declared.stop.Stop.TheVariants.{Next, Call, Trap}
 use Rattle.cell_mem.specs.State.{MemoryState, is_sealed, is_width, written_at}
-use Rattle.cell_world.specs.Memory.{Write}
-use Rattle.cell_world.specs.Execute.{Seen, Effect, Goes, Calls, Traps}
+use Rattle.cell_world.specs.Running.Memory.{Write}
+use Rattle.cell_world.specs.Running.Execute.{Seen, Effect, Goes, Calls, Traps}
 
 abbrev pub seen_of : MemoryState → Seen
 seen_of memory = record { regions = memory.regions; is_sealed = λ addr n. is_sealed memory addr n }

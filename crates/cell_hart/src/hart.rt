@@ -4,8 +4,8 @@ ghost use Rattle.std.specs.Prelude.{◌≡◌, ◌+◌, ◌%◌, ◌<◌, ◌^�
 ghost use Rattle.cell_num.specs.Limits.{stack_size};
 ghost use Rattle.cell_mem.specs.State.{HasWrites, is_width};
 ghost use Rattle.cell_num.specs.Bits.{wrap};
-ghost use Rattle.cell_world.specs.SpawnCommand.{first_registers as registers_of};
-ghost use Rattle.cell_world.specs.Execute.{with_register as register_with, extended as extended_of};
+ghost use Rattle.cell_world.specs.Commands.SpawnCommand.{first_registers as registers_of};
+ghost use Rattle.cell_world.specs.Running.Execute.{with_register as register_with, extended as extended_of};
 
 use crate::causes::{load_cause, store_cause};
 use crate::stop::Stop;
@@ -50,7 +50,7 @@ fn first_registers(arg: u64, stack: u64) -> [u64; 32]
 
 impl Hart {
     ghost use Rattle.cell_hart.specs.Step.{Steps, seen_of, IsAccess};
-    ghost use Rattle.cell_world.specs.Execute.{accessed, computed, execute, execute_word, jumped, loaded, performed, stepped, stored};
+    ghost use Rattle.cell_world.specs.Running.Execute.{accessed, computed, execute, execute_word, jumped, loaded, performed, stepped, stored};
 
     /// A hart at its first instruction, with an argument in x10 and a stack, which is named by its
     /// first address.

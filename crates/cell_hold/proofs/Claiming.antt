@@ -10,7 +10,7 @@ use Rattle.cell_graph.specs.Links.{Links}
 use Rattle.cell_mem.specs.State.{MemoryState}
 use Rattle.cell_world.specs.declared.state.Placed.{Placed}
 use Rattle.cell_world.specs.Kept.{Claim, Holding, holder_in, holding_cell, holding_task, is_claimed_by, kept_in, reaches}
-use Rattle.cell_world.specs.Words.{words_of}
+use Rattle.cell_world.specs.Running.Words.{words_of}
 use Rattle.cell_hold.specs.declared.roots.Root.{Root}
 use Rattle.cell_hold.specs.declared.roots.Root.TheVariants.{Attached, Task, Word}
 use Rattle.cell_hold.specs.Places.{is_cells_at}

@@ -9,7 +9,7 @@ use Rattle.cell_num.specs.declared.ids.CellId.{CellId}
 use Rattle.cell_num.specs.Lists.{each_pair, holds, In}
 use Rattle.cell_num.proofs.Elements.{In-all, all-In, All-In, any-In, filter-In, In-map}
 use Rattle.cell_num.proofs.Sublists.{length-filter_le}
-use Rattle.cell_lemmas.proofs.KeptPaths.{In-holds, holds-In}
+use Rattle.cell_lemmas.proofs.Holding.KeptPaths.{In-holds, holds-In}
 use Rattle.cell_hold.specs.Adds.{IsOnceEach, has_cell}
 use Rattle.cell_hold.proofs.Adding.{none_counted}
 

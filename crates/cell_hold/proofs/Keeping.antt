@@ -12,9 +12,9 @@ use Rattle.cell_mem.specs.State.{MemoryState}
 use Rattle.cell_world.specs.declared.state.LinkRow.{LinkRow}
 use Rattle.cell_world.specs.declared.state.Placed.{Placed}
 use Rattle.cell_world.specs.Kept.{Holding, IsKept, Leads, has_link_to, has_word_in, is_held_directly, is_inside, kept_in, reaches, writable_words}
-use Rattle.cell_world.specs.Words.{words_of}
+use Rattle.cell_world.specs.Running.Words.{words_of}
 use Rattle.cell_num.proofs.Elements.{all-In, any-In, any-Has, In-map, map-In}
-use Rattle.cell_lemmas.proofs.KeptPaths.{In-holds, holds-In, directly_kept, kept_complete, kept_on, kept_present, kept_rises, kept_sound}
+use Rattle.cell_lemmas.proofs.Holding.KeptPaths.{In-holds, holds-In, directly_kept, kept_complete, kept_on, kept_present, kept_rises, kept_sound}
 use Rattle.cell_hold.specs.declared.roots.Root.{Root}
 use Rattle.cell_hold.specs.declared.roots.Root.TheVariants.{Attached, Task, Word}
 use Rattle.cell_hold.specs.Adds.{Adds, IsOnceEach, Spreads, has_cell, has_or_full}

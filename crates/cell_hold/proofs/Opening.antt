@@ -9,7 +9,7 @@ use Rattle.cell_num.specs.declared.ids.CellId.{CellId}
 use Rattle.cell_mem.specs.State.{MemoryState}
 use Rattle.cell_world.specs.declared.state.Placed.{Placed}
 use Rattle.cell_world.specs.Kept.{is_inside, words_inside}
-use Rattle.cell_world.specs.Words.{words_of}
+use Rattle.cell_world.specs.Running.Words.{words_of}
 use Rattle.cell_hold.specs.declared.roots.Root.{Root}
 use Rattle.cell_hold.specs.declared.roots.Root.TheVariants.{Attached, Task, Word}
 use Rattle.cell_hold.specs.Adds.{has_cell}

@@ -8,7 +8,7 @@ use Rattle.cell_num.specs.Lists.{holds}
 use Rattle.cell_mem.specs.State.{MemoryState}
 use Rattle.cell_world.specs.declared.state.Placed.{Placed}
 use Rattle.cell_world.specs.Kept.{is_claimed_by, is_held_directly}
-use Rattle.cell_world.specs.Words.{stack_words}
+use Rattle.cell_world.specs.Running.Words.{stack_words}
 use Rattle.cell_hold.specs.declared.roots.Root.{Root}
 use Rattle.cell_hold.specs.declared.roots.Root.TheVariants.{Attached, Task, Word}
 use Rattle.cell_hold.specs.declared.roots.TaskView.{TaskView}

@@ -6,7 +6,7 @@ use Rattle.std.proofs.lemmas.List.Folds.{list_all-append, list_any-append}
 use Rattle.cell_num.specs.declared.ids.CellId.{CellId}
 use Rattle.cell_num.specs.Bits.{little}
 use Rattle.cell_world.specs.declared.state.Placed.{Placed}
-use Rattle.cell_world.specs.Words.{words_in}
+use Rattle.cell_world.specs.Running.Words.{words_in}
 use Rattle.cell_task.proofs.Wording.{words_first, words_none}
 use Rattle.cell_hold.specs.Adds.{Adds}
 use Rattle.cell_hold.specs.Places.{is_cells_at}

@@ -8,7 +8,7 @@ use Rattle.std.specs.List.{list_all, list_any}
 use Rattle.std.specs.Option.{option_map_or}
 use Rattle.cell_num.specs.declared.ids.CellId.{CellId}
 use Rattle.cell_world.specs.declared.state.Placed.{Placed}
-use Rattle.cell_world.specs.Words.{words_in}
+use Rattle.cell_world.specs.Running.Words.{words_in}
 use Rattle.cell_hold.specs.declared.spots.Spot.{Spot}
 use Rattle.cell_hold.specs.declared.spots.Span.{Span}
 use Rattle.cell_hold.specs.Adds.{has_or_full}

@@ -3,9 +3,9 @@
 ghost use Rattle.std.specs.Prelude.{◌≡◌, ◌≤◌, [], drop, length, take, unwrap_or};
 ghost use Rattle.cell_num.specs.Bits.{little};
 ghost use Rattle.cell_world.specs.Kept.{words_inside};
-ghost use Rattle.cell_world.specs.Memory.{read_in};
-ghost use Rattle.cell_world.specs.Layout.{gap};
-ghost use Rattle.cell_world.specs.Words.{stack_words, words_in};
+ghost use Rattle.cell_world.specs.Running.Memory.{read_in};
+ghost use Rattle.cell_world.specs.Placed.Layout.{gap};
+ghost use Rattle.cell_world.specs.Running.Words.{stack_words, words_in};
 ghost use Rattle.cell_hold.specs.Roots.{task_of};
 
 use crate::roots::TaskView;

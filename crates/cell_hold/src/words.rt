@@ -3,7 +3,7 @@
 ghost use Rattle.std.specs.Prelude.{◌≡◌, ◌≤◌, ◌==◌, length, true};
 ghost use Rattle.std.specs.List.{list_all, list_any};
 ghost use Rattle.cell_world.specs.Kept.{is_inside};
-ghost use Rattle.cell_world.specs.Words.{words_in};
+ghost use Rattle.cell_world.specs.Running.Words.{words_in};
 ghost use Rattle.cell_hold.specs.Adds.{Adds};
 ghost use Rattle.cell_hold.specs.Places.{is_at, is_cells_at};
 ghost use Rattle.cell_hold.specs.Reached.{touches};

@@ -17,7 +17,6 @@ use Rattle.cell_object.specs.Bytes.{between}
 use Rattle.cell_object.specs.Header.{section_header}
 use Rattle.cell_object.specs.Sections.{is_alloc}
 use Rattle.cell_object.specs.Relocations.{is_rela, is_for_loaded, rela_row, rela_row_at, entry_of_kind, entry_of, entries_below, entry_count, section_entries, entries_of}
-use Rattle.cell_object.specs.Sound.{is_known_kind}
 use Rattle.cell_object.specs.Rows.{kind_number, entry_bytes}
 use Rattle.cell_object.specs.ImageParts.{offset_after, parts_before_tables, table, entries_for, has_entries, relocated}
 use Rattle.cell_object.specs.Image.{null_row, table_row, fill_type, section_rows, image}
@@ -29,39 +28,38 @@ use Rattle.cell_image.proofs.Tables.{filter_get, table_is}
 use Rattle.cell_image.proofs.Symbols.{own_alloc}
 use Rattle.cell_image.proofs.Stands.{part_stands, element_stands, entry_stands, entry_length}
 
-pub kind_back : (k : RelKind) → is_known_kind k ≡ true → kind_of (kind_number k) ≡ Some k
+pub kind_back : (k : RelKind) → kind_of (kind_number k) ≡ Some k
 unfolding kind_number
-kind_back Abs32 h = refl
-kind_back Abs64 h = refl
-kind_back Branch h = refl
-kind_back Jal h = refl
-kind_back Call h = refl
-kind_back CallPlt h = refl
-kind_back GotHi20 h = absurd (true≢false (sym h))
-kind_back PcrelHi20 h = refl
-kind_back PcrelLo12I h = refl
-kind_back PcrelLo12S h = refl
-kind_back Hi20 h = refl
-kind_back Lo12I h = refl
-kind_back Lo12S h = refl
-kind_back Add8 h = refl
-kind_back Add16 h = refl
-kind_back Add32 h = refl
-kind_back Add64 h = refl
-kind_back Sub8 h = refl
-kind_back Sub16 h = refl
-kind_back Sub32 h = refl
-kind_back Sub64 h = refl
-kind_back Sub6 h = refl
-kind_back Set6 h = refl
-kind_back Set8 h = refl
-kind_back Set16 h = refl
-kind_back Set32 h = refl
-kind_back Pcrel32 h = refl
+kind_back Abs32 = refl
+kind_back Abs64 = refl
+kind_back Branch = refl
+kind_back Jal = refl
+kind_back Call = refl
+kind_back CallPlt = refl
+kind_back GotHi20 = refl
+kind_back PcrelHi20 = refl
+kind_back PcrelLo12I = refl
+kind_back PcrelLo12S = refl
+kind_back Hi20 = refl
+kind_back Lo12I = refl
+kind_back Lo12S = refl
+kind_back Add8 = refl
+kind_back Add16 = refl
+kind_back Add32 = refl
+kind_back Add64 = refl
+kind_back Sub8 = refl
+kind_back Sub16 = refl
+kind_back Sub32 = refl
+kind_back Sub64 = refl
+kind_back Sub6 = refl
+kind_back Set6 = refl
+kind_back Set8 = refl
+kind_back Set16 = refl
+kind_back Set32 = refl
+kind_back Pcrel32 = refl
 
 -- an entry that is read as it was
 pub record IsPlainEntry (e : Entry) : Type 0 where
-  pub kind : is_known_kind e.kind ≡ true
   pub fits : FitsEntry e
 
 -- the j-th table's section and its entries
@@ -107,7 +105,7 @@ entry_is object j k d z f lt inside p =
     let h : SectionHeader = head_at object j d in
     let here = entry_for object.entries (table_at object j d).0 k z inside in
     ap (λ r. entry_of_kind h r (kind_of r.r_type)) (entry_row_is object j k d z f lt inside p)
-    ∙ ap (entry_of_kind h (read_entry e)) (kind_back e.kind p.kind)
+    ∙ ap (entry_of_kind h (read_entry e)) (kind_back e.kind)
     ∙ (λ i. (record { section = sym here.section i; offset = e.offset; kind = e.kind; symbol = e.symbol; addend = e.addend }) ∷ [])
 
 pub entries_length : (object : Object) (j : ℕ) (d : Section) → length (table object.entries (table_at object j d)) ≡ 24 * length (entries_at object j d)

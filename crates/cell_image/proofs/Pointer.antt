@@ -8,6 +8,7 @@ use Rattle.cell_object.specs.Rows.{stored, fields, symbol_bytes, entry_bytes}
 use Rattle.cell_object.specs.ImageParts.{padded, entries_for, relocated, symbols_part, symbol_strings, section_strings}
 use Rattle.cell_object.specs.Writable.{IsStorableSection, IsStorableSymbol, IsStorableEntry, IsWritable}
 use Rattle.cell_object.specs.Sound.{IsSoundObject}
+use Rattle.cell_object.specs.Readable.{IsReadable, plain}
 use Rattle.cell_image.specs.Example.{constants, defined, wanted, place, pointer}
 
 -- what holds of the one element of a list
@@ -44,13 +45,16 @@ wanted_is = record {
   size = lit< tt;
 }
 
-pointer_sound : IsSoundObject pointer
+pointer_sound : IsSoundObject (plain pointer)
 pointer_sound = record { numbers = refl; sections = refl; symbols = refl; names = refl; entries = refl; apart = refl }
+
+pointer_readable : IsReadable pointer
+pointer_readable = record { sound = pointer_sound; bare = refl }
 
 pub pointer_writable : IsWritable pointer
 unfolding entries_for relocated with_before string_table symbol_strings section_strings symbols_part padded symbol_bytes entry_bytes fields stored
 pointer_writable = record {
-  sound = pointer_sound;
+  readable = pointer_readable;
   sections = only IsStorableSection constants section_is;
   symbols = both (IsStorableSymbol pointer) defined wanted defined_is wanted_is;
   entries = only (λ k e. IsStorableEntry e) place (record { offset = lit< tt; symbol = lit< tt; addend = sfits_lit tt });

@@ -13,7 +13,8 @@ use Rattle.cell_object.specs.Bytes.{Broken, broken_where, between}
 use Rattle.cell_object.specs.Header.{section_header, section_place, is_section_number}
 use Rattle.cell_object.specs.Sections.{is_nobits, has_flag}
 use Rattle.cell_object.specs.Symbols.{symtab, symbols_of, symbol_count}
-use Rattle.cell_object.specs.Relocations.{is_rela, is_number, is_relocated_below, is_for_loaded, is_ill_formed, rule_19, rela_row, entry_count, entry_place, entry_of, entries_below, rule_20, is_unusable, symbol_total, symbol_total_of, rule_21, rule_22, is_clash, rule_23, field_rules, entry_rules, relocation_rules, relocations_rules, is_unpaired, rule_24, pair_rules, section_pairs, pairs_rules}
+use Rattle.cell_object.specs.Relocations.{is_rela, is_number, is_relocated_below, is_for_loaded, is_ill_formed, rule_19, rela_row, entry_count, entry_place, entry_of, entries_below, rule_20, is_unusable, symbol_total, symbol_total_of, rule_21, rule_22, is_clash, rule_23, field_rules, entry_rules}
+use Rattle.cell_object.specs.Relocations.{relocation_rules, relocations_rules, is_unpaired, rule_24, pair_rules, section_pairs, pairs_rules, is_past_slot, rule_25, slot_rules, section_slots, slots_rules}
 use Rattle.cell_object.specs.Rows.{kind_number}
 use Rattle.cell_object.specs.ImageParts.{symtab_number, symbols_part, has_entries, entries_for, table}
 use Rattle.cell_object.specs.Image.{fill_type, section_rows, image}
@@ -36,6 +37,7 @@ pub record IsSoundEntry (object : Object) (s : Section) (before all : List Entry
   pub code : (is_instruction e.kind && (not s.exec || not (e.offset % 4 == 0))) ≡ false
   pub apart : list_any (is_clash e) before ≡ false
   pub paired : is_unpaired object.symbols all e.section e.kind e.addend e.symbol ≡ false
+  pub bare : is_past_slot e.kind e.addend ≡ false
 
 -- each entry is plain and sound
 pub record AreEntries (object : Object) (d : Section) (z : Entry) : Type 0 where
@@ -104,7 +106,7 @@ entry_rules_hold object j k d z f symbols lt all inside =
     let home : e.section ≡ 1 + q.place = for.section ∙ q.number in
     let twenty : rule_20 at (rela_row file h k) ≡ [] =
     ap (rule_20 at) (entry_row_is object j k d z f lt inside p)
-    ∙ ap (λ v. broken_where (not (is_passed_over (kind_number e.kind)) && is_none v) 20 (at + 8)) (kind_back e.kind p.kind)
+    ∙ ap (λ v. broken_where (not (is_passed_over (kind_number e.kind)) && is_none v) 20 (at + 8)) (kind_back e.kind)
     ∙ unbroken _ 20 (at + 8) (and_false (not (is_passed_over (kind_number e.kind))) false refl) in
     let past : nat_le (1 + length object.symbols) e.symbol ≡ false = lt-leb (1 + length object.symbols) e.symbol (omega (arith, q.sound.symbol)) in
     let twenty_one : rule_21 (symbol_total file) (symbols_of file) at e.symbol ≡ [] =
@@ -256,4 +258,51 @@ pairs_rules_hold object d z f symbols all =
       | inr late ↦
           let e : i ≡ m + 4 + (i - (m + 4)) = omega (arith, late) in
           ap (section_pairs file) e ∙ table_pairs object (i - (m + 4)) d z f symbols (omega (arith, late, high, count)) all
+    ])
+
+slot_holds : (object : Object) (j k : ℕ) (d : Section) (z : Entry) → FitsImage object → j < length (tables object) → AreEntries object d z → k < length (entries_at object j d)
+    → slot_rules (image object) (head_at object j d) k ≡ []
+unfolding slot_rules
+slot_holds object j k d z f lt all inside =
+    let file : List ℕ = image object in
+    let h : SectionHeader = head_at object j d in
+    let at : ℕ = entry_place h k in
+    let es : List Entry = entries_at object j d in
+    let e : Entry = get_or es k z in
+    let q = sound_at object j k d z all lt inside in
+    let rule : rule_25 at e ≡ [] = unbroken _ 25 at q.sound.bare in
+    ap (flat_map (rule_25 at)) (entry_is object j k d z f lt inside (plain_at object j k d z all.plain inside))
+    ∙ (λ i. rule i ++ [])
+
+table_slots : (object : Object) (j : ℕ) (d : Section) (z : Entry) → FitsImage object → j < length (tables object) → AreEntries object d z
+    → section_slots (image object) (length object.sections + 4 + j) ≡ []
+unfolding section_slots
+table_slots object j d z f lt all =
+    let file : List ℕ = image object in
+    let h : SectionHeader = head_at object j d in
+    ap (λ r. if is_rela r && is_for_loaded file r then flat_map (slot_rules file r) (between 0 (entry_count r)) else []) (table_header object j (0, d) f lt)
+    ∙ ap (λ v. if v then flat_map (slot_rules file h) (between 0 (entry_count h)) else []) (table_loaded object j d f lt)
+    ∙ gather_none (slot_rules file h) 0 (entry_count h) (λ k low high. slot_holds object j k d z f lt all (omega (arith, high, count_is object j d)))
+
+other_slots : (object : Object) (n : ℕ) (d : Section) → FitsImage object → 1 ≤ n → n < length object.sections + 4 → section_slots (image object) n ≡ []
+unfolding section_slots
+other_slots object n d f low high =
+    let file : List ℕ = image object in
+    let h : SectionHeader = section_header file n in
+    ap (λ v. if v && is_for_loaded file h then flat_map (slot_rules file h) (between 0 (entry_count h)) else []) (others object n d f low high)
+
+pub slots_rules_hold : (object : Object) (d : Section) (z : Entry) → FitsImage object → AreEntries object d z → slots_rules (image object) ≡ []
+unfolding read_header
+slots_rules_hold object d z f all =
+    let file : List ℕ = image object in
+    let m : ℕ = length object.sections in
+    let n : ℕ = length (section_rows object) in
+    let count = rows_count object in
+    ap (λ h. flat_map (section_slots file) (between 1 h.e_shnum)) (header_of_image object f)
+    ∙ gather_none (section_slots file) 1 n
+    (λ i low high. elim (cases_lt i (m + 4)) [
+      | inl early ↦ other_slots object i d f low early
+      | inr late ↦
+          let e : i ≡ m + 4 + (i - (m + 4)) = omega (arith, late) in
+          ap (section_slots file) e ∙ table_slots object (i - (m + 4)) d z f (omega (arith, late, high, count)) all
     ])

@@ -1,5 +1,5 @@
 -- What keeps the rules is read again.
-use Rattle.std.proofs.Common.{◌≡◌, ℕ, suc, ◌+◌, ◌-◌, ◌^◌, ◌<◌, true, false, true≢false, List, [], ◌∷◌, ◌++◌, length, take, drop, get_or, sym, ap, subst, ◌∙◌, refl, arith, map, lit<, pos}
+use Rattle.std.proofs.Common.{◌≡◌, ℕ, suc, ◌+◌, ◌-◌, ◌^◌, ◌<◌, true, false, true≢false, List, [], ◌∷◌, ◌++◌, length, take, drop, get_or, sym, ap, subst, ◌∙◌, refl, arith, map, lit<, pos, not}
 use Rattle.std.specs.Prelude.{◌==◌, Ok}
 use Rattle.std.specs.Int.{w64}
 use Rattle.std.proofs.Math.Facts.{Fits-of_z}
@@ -13,13 +13,12 @@ use Rattle.cell_object.specs.declared.object.Section.{Section}
 use Rattle.cell_object.specs.declared.object.Symbol.{Symbol}
 use Rattle.cell_object.specs.declared.object.Entry.{Entry}
 use Rattle.cell_object.specs.declared.object.Bind.{Bind}
-use Rattle.cell_object.specs.declared.object.Bind.TheVariants.{Local, Global, Weak}
+use Rattle.cell_object.specs.declared.object.Bind.TheVariants.{Local}
 use Rattle.cell_object.specs.declared.object.Sort.TheVariants as sorts
 use Rattle.cell_object.specs.declared.object.Home.{Home}
 use Rattle.cell_object.specs.declared.object.Home.TheVariants.{Undef, Abs, Inside, Elsewhere}
 use Rattle.cell_object.specs.declared.object.Fill.{Fill}
 use Rattle.cell_object.specs.declared.object.Fill.TheVariants.{Prog, Note, Zero}
-use Rattle.cell_object.specs.Parts.{is_local, is_global}
 use Rattle.cell_object.specs.Reads.{reads, broken, object_unless}
 use Rattle.cell_object.specs.Strings.{string_table, name_place}
 use Rattle.cell_object.specs.Rows.{kind_number}
@@ -34,7 +33,7 @@ use Rattle.cell_image.proofs.LastRules.{sections_rules_hold}
 use Rattle.cell_image.proofs.Symbols.{IsHome, names_before, symbols_are_read}
 use Rattle.cell_image.proofs.SymbolRules.{IsRightHome, AreSymbols, symbols_rules_hold, table_rules_hold}
 use Rattle.cell_image.proofs.Entries.{ArePlain, entries_are_read}
-use Rattle.cell_image.proofs.Relocations.{IsSoundEntry, AreEntries, relocations_rules_hold, pairs_rules_hold}
+use Rattle.cell_image.proofs.Relocations.{IsSoundEntry, AreEntries, relocations_rules_hold, pairs_rules_hold, slots_rules_hold}
 use Rattle.cell_image.proofs.Fitting.{IsSmall, image_fits, name_inside}
 
 no_section : Section
@@ -61,11 +60,6 @@ not_zero Prog h = refl
 not_zero Note h = refl
 not_zero Zero h = absurd (h refl)
 
-not_global : (b : Bind) → is_local b ≡ true → is_global b ≡ false
-not_global Local h = refl
-not_global Global h = absurd (true≢false (sym h))
-not_global Weak h = refl
-
 home_inside : (sections : List Section) (b : Bind) (value : ℕ) (h : Home) → IsWritableHome sections b value h → IsHome (length sections) h
 home_inside sections b value Undef h = tt
 home_inside sections b value Abs h = tt
@@ -74,7 +68,7 @@ home_inside sections b value Elsewhere h = tt
 
 home_right : (sections : List Section) (d : Section) (b : Bind) (value : ℕ) (h : Home) → IsWritableHome sections b value h → IsRightHome sections d b value h
 home_right sections d b value Undef h = tt
-home_right sections d b value Abs h = (h, not_global b h)
+home_right sections d b value Abs h = (h, ap not h)
 home_right sections d b value (Inside n) h =
     let e = get_or_from_slice_get sections (n - 1) h.section d h.there in
     let size : (get_or sections (n - 1) d).size ≡ h.section.size = ap (λ s. s.size) e in
@@ -172,7 +166,6 @@ module _ (object : Object) (w : IsRuled object) where
       let e : Entry = get_or object.entries k no_entry in
       let h = w.storable k e (slice_get-get_or object.entries k no_entry lt) in
       record {
-        kind = h.kind;
         fits = record { offset = omega (arith, h.offset); symbol = h.symbol; addend = h.addend; kind = few_kinds e.kind; bits = (Fits-of_z {w = w64} {z = e.addend} h.addend).fits };
       }
 
@@ -193,6 +186,7 @@ module _ (object : Object) (w : IsRuled object) where
           code = h.code;
           apart = h.apart;
           paired = h.paired;
+          bare = h.bare;
         } in
         subst (λ (i : ℕ). IsSoundEntry object s (take k (entries_for object.entries i)) (entries_for object.entries i) (get_or (entries_for object.entries i) k no_entry)) m sound;
   }
@@ -208,5 +202,6 @@ module _ (object : Object) (w : IsRuled object) where
       ++ (sections_rules_hold object no_section f plain_sections sound_sections i
       ++ (table_rules_hold object no_section f i
       ++ (symbols_rules_hold object no_symbol no_section f w.fits.headers all_symbols i
-      ++ (relocations_rules_hold object no_section no_entry f symbols all_entries i ++ pairs_rules_hold object no_section no_entry f symbols all_entries i)))) in
+      ++ (relocations_rules_hold object no_section no_entry f symbols all_entries i
+      ++ (pairs_rules_hold object no_section no_entry f symbols all_entries i ++ slots_rules_hold object no_section no_entry f all_entries i))))) in
       λ i. object_unless (none i) (record { sections = sections i; symbols = symbols i; entries = entries i })

@@ -3,11 +3,10 @@ use Rattle.std.specs.Prelude.{◌≡◌, ℕ, ◌+◌, ◌-◌, ◌^◌, ◌<◌
 use Rattle.std.specs.List.{list_any}
 use Rattle.std.specs.Int.{w64}
 use Rattle.cell_num.specs.Kinds.{width_of, is_instruction}
-use Rattle.cell_object.specs.Parts.{is_global, is_local}
+use Rattle.cell_object.specs.Parts.{is_external, is_local}
 use Rattle.cell_object.specs.Sections.{is_alignment}
 use Rattle.cell_object.specs.Symbols.{is_global_name, defines}
-use Rattle.cell_object.specs.Relocations.{is_unusable, is_clash, is_unpaired}
-use Rattle.cell_object.specs.Sound.{is_known_kind}
+use Rattle.cell_object.specs.Relocations.{is_unusable, is_clash, is_unpaired, is_past_slot}
 use Rattle.cell_object.specs.declared.object.Object.{Object}
 use Rattle.cell_object.specs.declared.object.Section.{Section}
 use Rattle.cell_object.specs.declared.object.Symbol.{Symbol}
@@ -50,31 +49,30 @@ pub record IsWithin (sections : List Section) (number value : ℕ) : Type 0 wher
   pub there : slice_get sections (number - 1) ≡ Some section
   pub value_inside : value ≤ section.size
 
--- an absolute symbol is LOCAL, and a GLOBAL is in no section that isn't loaded
+-- an absolute symbol is LOCAL, as is one in a section that isn't loaded
 abbrev pub IsWritableHome : List Section → Bind → ℕ → Home → Type 0
 IsWritableHome sections bind value Undef = Unit {0}
 IsWritableHome sections bind value Abs = is_local bind ≡ true
 IsWritableHome sections bind value (Inside number) = IsWithin sections number value
-IsWritableHome sections bind value Elsewhere = is_global bind ≡ false
+IsWritableHome sections bind value Elsewhere = is_external bind ≡ false
 
 -- the symbol after the first k of the object
 pub record IsWritableSymbol (object : Object) (k : ℕ) (s : Symbol) : Type 0 where
   pub name : IsPlain s.name
   -- the LOCAL symbols come first
   pub first : k < local_count object → is_local s.bind ≡ true
-  pub last : local_count object ≤ k → is_global s.bind ≡ true
-  pub sort : (is_global s.bind && (is_section s.sort || is_file s.sort)) ≡ false
+  pub last : local_count object ≤ k → is_external s.bind ≡ true
+  pub sort : (is_external s.bind && (is_section s.sort || is_file s.sort)) ≡ false
   -- a FILE symbol is absolute
   pub filed : is_file s.sort ≡ true → s.home ≡ Abs
   pub home : IsWritableHome object.sections s.bind s.value s.home
-  -- a GLOBAL has a good name that none before it has
-  pub named : (is_global s.bind && (not (is_global_name s.name) || defines (take k object.symbols) s.name)) ≡ false
+  -- a GLOBAL or WEAK has a good name that none before it has
+  pub named : (is_external s.bind && (not (is_global_name s.name) || defines (take k object.symbols) s.name)) ≡ false
   pub value : s.value < 2 ^ 64
   pub size : s.size < 2 ^ 64
 
--- the entry has a kind that an object file may have, and its numbers fit
+-- the numbers of the entry fit
 pub record IsStorable (e : Entry) : Type 0 where
-  pub kind : is_known_kind e.kind ≡ true
   pub offset : e.offset < 2 ^ 32
   pub symbol : e.symbol < 2 ^ 32
   pub addend : FitsSigned w64 e.addend
@@ -88,6 +86,7 @@ pub record IsWritableEntry (object : Object) (s : Section) (before all : List En
   pub code : (is_instruction e.kind && (not s.exec || not (e.offset % 4 == 0))) ≡ false
   pub apart : list_any (is_clash e) before ≡ false
   pub paired : is_unpaired object.symbols all e.section e.kind e.addend e.symbol ≡ false
+  pub bare : is_past_slot e.kind e.addend ≡ false
 
 -- each part keeps the rules that are tried on it in the image
 pub record IsRuled (object : Object) : Type 0 where

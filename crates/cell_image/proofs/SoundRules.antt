@@ -8,7 +8,7 @@ use Rattle.std.proofs.lemmas.Bool.{and_parts, and_from, or_cases, or_right, eqb-
 use Rattle.std.proofs.lemmas.Bool.Decides.{nat_tests}
 use Rattle.std.proofs.lemmas.Option.{slice_get_within}
 use Rattle.cell_num.specs.Lists.{each_pair, upto, In}
-use Rattle.cell_num.specs.Kinds.{width_of, is_instruction, is_stacking, is_pcrel_lo12, is_pcrel_hi20}
+use Rattle.cell_num.specs.Kinds.{width_of, is_instruction, is_stacking, is_pcrel_lo12, is_got_hi20, is_upper_pcrel}
 use Rattle.cell_object.specs.declared.object.Object.{Object}
 use Rattle.cell_object.specs.declared.object.Section.{Section}
 use Rattle.cell_object.specs.declared.object.Symbol.{Symbol}
@@ -21,12 +21,14 @@ use Rattle.cell_object.specs.declared.object.Home.{Home}
 use Rattle.cell_object.specs.declared.object.Home.TheVariants.{Undef, Abs, Inside, Elsewhere}
 use Rattle.cell_object.specs.declared.object.Fill.{Fill}
 use Rattle.cell_object.specs.declared.object.Fill.TheVariants.{Prog, Note, Zero}
-use Rattle.cell_object.specs.Parts.{is_global, is_local, section_of, symbol_at, label_of, high_of, inside_of}
+use Rattle.cell_object.specs.Parts.{is_external, is_local, section_of, symbol_at, label_of, inside_of}
 use Rattle.cell_object.specs.Symbols.{is_global_name, defines}
 use Rattle.cell_object.specs.Relocations.{is_unusable, is_unplaced, is_clash, has_label, is_label}
 use Rattle.cell_object.specs.ImageParts.{entries_for}
 use Rattle.cell_object.specs.Sound as sound
-use Rattle.cell_object.specs.Sound.{IsSoundObject, is_sound_section, is_sound_symbol, is_sound_home, is_plain_sort, is_nameable, is_sound_entry, is_sound_entry_in, is_known_kind, may_share, may_both_be}
+use Rattle.cell_object.specs.Sound.{is_sound_section, is_sound_symbol, is_sound_home, is_plain_sort, is_nameable, is_sound_entry_in, may_share, may_both_be}
+use Rattle.cell_object.specs.Readable.{is_bare}
+use Rattle.cell_object.proofs.Plain.{upper_of, is_readable_entry, AreReadable, parts_readable}
 use Rattle.cell_object.specs.Writable.{is_file, IsStorableSection, IsWritable}
 use Rattle.cell_num.proofs.Elements.{all-In, In-none, any-In, any-Has, find_there, get-In, filter-In, In-filtered, filter-Passes}
 use Rattle.cell_num.proofs.Sublists.{pairs-filter}
@@ -111,34 +113,25 @@ section_ruled k s h st =
 
 -- SYMBOLS
 
-plain_sorted : (b : Bind) (good : Bool) (sort : Sort) → (is_local b || good && is_plain_sort sort) ≡ true → (is_global b && (is_section sort || is_file sort)) ≡ false
-plain_sorted Local good sort h = refl
-plain_sorted Weak good sort h = refl
-plain_sorted Global good sorts.NoType h = refl
-plain_sorted Global good sorts.Object h = refl
-plain_sorted Global good sorts.Func h = refl
-plain_sorted Global true sorts.Section h = absurd (true≢false (sym h))
-plain_sorted Global false sorts.Section h = absurd (true≢false (sym h))
-plain_sorted Global true sorts.File h = absurd (true≢false (sym h))
-plain_sorted Global false sorts.File h = absurd (true≢false (sym h))
+plain_sorted : (local good : Bool) (sort : Sort) → (local || good && is_plain_sort sort) ≡ true → (not local && (is_section sort || is_file sort)) ≡ false
+plain_sorted true good sort h = refl
+plain_sorted false good sorts.NoType h = refl
+plain_sorted false good sorts.Object h = refl
+plain_sorted false good sorts.Func h = refl
+plain_sorted false true sorts.Section h = absurd (true≢false (sym h))
+plain_sorted false false sorts.Section h = absurd (true≢false (sym h))
+plain_sorted false true sorts.File h = absurd (true≢false (sym h))
+plain_sorted false false sorts.File h = absurd (true≢false (sym h))
 
-not_global : (b : Bind) → is_local b ≡ true → is_global b ≡ false
-not_global Local h = refl
-not_global Global h = absurd (true≢false (sym h))
-not_global Weak h = refl
+well_named : (local good taken plain : Bool) → (local || good && plain) ≡ true → (not local ≡ true → taken ≡ false) → (not local && (not good || taken)) ≡ false
+well_named true good taken plain h t = refl
+well_named false true taken plain h t = t refl
+well_named false false taken plain h t = absurd (true≢false (sym h))
 
-well_named : (b : Bind) (good taken plain : Bool) → (is_local b || good && plain) ≡ true → (is_global b ≡ true → taken ≡ false) → (is_global b && (not good || taken)) ≡ false
-well_named Local good taken plain h t = refl
-well_named Weak good taken plain h t = refl
-well_named Global true taken plain h t = t refl
-well_named Global false taken plain h t = absurd (true≢false (sym h))
-
-other_name : (a b : Bind) (same : Bool) → (is_local a || is_local b || not same) ≡ true → is_global b ≡ true → (is_global a && same) ≡ false
-other_name Local b same h g = refl
-other_name Weak b same h g = refl
-other_name Global Global same h g = not_true same h
-other_name Global Local same h g = absurd (true≢false (sym g))
-other_name Global Weak same h g = absurd (true≢false (sym g))
+other_name : (a b same : Bool) → (a || b || not same) ≡ true → not b ≡ true → (not a && same) ≡ false
+other_name true b same h g = refl
+other_name false false same h g = not_true same h
+other_name false true same h g = absurd (true≢false (sym g))
 
 -- ENTRIES
 
@@ -194,29 +187,29 @@ unpaired_of true true true true label h f = rw (f refl refl) refl
 
 -- what the entry of a PCREL_LO12 names is a label among the entries of its section
 labelled : (object : Object) (e : Entry) (all : List Entry) → ((x : Entry) → In x object.entries → x.section ≡ e.section → In x all)
-    → is_some (high_of object e) ≡ true → unwrap_or (option_map (λ (label : ℕ × ℕ). label.0 == e.section) (label_of object e)) false ≡ true → has_label e.section all object.symbols e.symbol ≡ true
+    → is_some (upper_of object e) ≡ true → unwrap_or (option_map (λ (label : ℕ × ℕ). label.0 == e.section) (label_of object e)) false ≡ true → has_label e.section all object.symbols e.symbol ≡ true
 labelled object e all among = go (symbol_at object e.symbol) refl
   where
-    in_section : (s : Symbol) (h : Home) → is_some (option_and_then (λ (label : ℕ × ℕ). find (λ (x : Entry). is_pcrel_hi20 x.kind && x.section == label.0 && x.offset == label.1) object.entries) (option_map (λ (section : ℕ). (section, s.value)) (inside_of h))) ≡ true
+    in_section : (s : Symbol) (h : Home) → is_some (option_and_then (λ (label : ℕ × ℕ). find (λ (x : Entry). is_upper_pcrel x.kind && x.section == label.0 && x.offset == label.1) object.entries) (option_map (λ (section : ℕ). (section, s.value)) (inside_of h))) ≡ true
         → unwrap_or (option_map (λ (label : ℕ × ℕ). label.0 == e.section) (option_map (λ (section : ℕ). (section, s.value)) (inside_of h))) false ≡ true → is_label e.section all h s.value ≡ true
     in_section s Undef some own = absurd (true≢false (sym own))
     in_section s Abs some own = absurd (true≢false (sym own))
     in_section s Elsewhere some own = absurd (true≢false (sym own))
-    in_section s (Inside m) some own = found (find (λ (x : Entry). is_pcrel_hi20 x.kind && x.section == m && x.offset == s.value) object.entries) refl some
+    in_section s (Inside m) some own = found (find (λ (x : Entry). is_upper_pcrel x.kind && x.section == m && x.offset == s.value) object.entries) refl some
       where
-        found : (o : Option Entry) → find (λ (x : Entry). is_pcrel_hi20 x.kind && x.section == m && x.offset == s.value) object.entries ≡ o → is_some o ≡ true
-            → (m == e.section && list_any (λ (x : Entry). is_pcrel_hi20 x.kind && x.offset == s.value) all) ≡ true
+        found : (o : Option Entry) → find (λ (x : Entry). is_upper_pcrel x.kind && x.section == m && x.offset == s.value) object.entries ≡ o → is_some o ≡ true
+            → (m == e.section && list_any (λ (x : Entry). is_upper_pcrel x.kind && x.offset == s.value) all) ≡ true
         found None is t = absurd (true≢false (sym t))
         found (Some x) is t =
-            let at = find_place (λ (x : Entry). is_pcrel_hi20 x.kind && x.section == m && x.offset == s.value) object.entries x is in
-            let parts = and_parts (is_pcrel_hi20 x.kind && x.section == m) (x.offset == s.value) at.2 in
-            let first = and_parts (is_pcrel_hi20 x.kind) (x.section == m) parts.0 in
+            let at = find_place (λ (x : Entry). is_upper_pcrel x.kind && x.section == m && x.offset == s.value) object.entries x is in
+            let parts = and_parts (is_upper_pcrel x.kind && x.section == m) (x.offset == s.value) at.2 in
+            let first = and_parts (is_upper_pcrel x.kind) (x.section == m) parts.0 in
             let same : x.section ≡ e.section = eqb-true x.section m first.1 ∙ eqb-true m e.section own in
             and_from (m == e.section) _ own
-            (any-In (λ (x : Entry). is_pcrel_hi20 x.kind && x.offset == s.value) all x (among x (get-In object.entries at.0 x at.1) same) (and_from (is_pcrel_hi20 x.kind) (x.offset == s.value) first.0 parts.1))
+            (any-In (λ (x : Entry). is_upper_pcrel x.kind && x.offset == s.value) all x (among x (get-In object.entries at.0 x at.1) same) (and_from (is_upper_pcrel x.kind) (x.offset == s.value) first.0 parts.1))
 
     go : (o : Option Symbol) → symbol_at object e.symbol ≡ o
-        → is_some (option_and_then (λ (label : ℕ × ℕ). find (λ (x : Entry). is_pcrel_hi20 x.kind && x.section == label.0 && x.offset == label.1) object.entries) (option_and_then (λ (s : Symbol). option_map (λ (section : ℕ). (section, s.value)) (inside_of s.home)) o)) ≡ true
+        → is_some (option_and_then (λ (label : ℕ × ℕ). find (λ (x : Entry). is_upper_pcrel x.kind && x.section == label.0 && x.offset == label.1) object.entries) (option_and_then (λ (s : Symbol). option_map (λ (section : ℕ). (section, s.value)) (inside_of s.home)) o)) ≡ true
         → unwrap_or (option_map (λ (label : ℕ × ℕ). label.0 == e.section) (option_and_then (λ (s : Symbol). option_map (λ (section : ℕ). (section, s.value)) (inside_of s.home)) o)) false ≡ true → has_label e.section all object.symbols e.symbol ≡ true
     go None at some own = absurd (true≢false (sym own))
     go (Some s) at some own = let place = symbol_place object e.symbol s at in rw (place.0, place.1) (in_section s s.home some own)
@@ -241,7 +234,15 @@ apart_of a wa b wb true true false e h = grind (arith, nat_tests)
 apart_of a wa b wb true false sb e h = grind (arith, nat_tests)
 apart_of a wa b wb false sa sb e h = absurd (true≢false (sym e))
 
+bare_of : (got none : Bool) → (not got || none) ≡ true → (got && not none) ≡ false
+bare_of true true h = refl
+bare_of true false h = absurd (true≢false (sym h))
+bare_of false none h = refl
+
 module _ (object : Object) (w : IsWritable object) where
+  parts : AreReadable object
+  parts = parts_readable object w.readable
+
   numbered : (k : ℕ) (s : Section) → slice_get object.sections k ≡ Some s → s.number ≡ k + 1
   numbered k s e = (w.sections k s e).numbered
 
@@ -273,23 +274,23 @@ module _ (object : Object) (w : IsWritable object) where
       within None e h = absurd (true≢false (sym h))
       within (Some section) e h =
           let at = placed n section e in record { section = section; low = at.0; there = at.1; value_inside = le_of s.value section.size h }
-  home_ruled s Elsewhere h = not_global s.bind h
+  home_ruled s Elsewhere h = ap not h
 
   symbol_ruled : (k : ℕ) (s : Symbol) → slice_get object.symbols k ≡ Some s → IsWritableSymbol object k s
   symbol_ruled k s e =
       let st = w.symbols k s e in
-      let h : is_sound_symbol object s ≡ true = all-In (is_sound_symbol object) object.symbols w.sound.symbols s (get-In object.symbols k s e) in
+      let h : is_sound_symbol object s ≡ true = all-In (is_sound_symbol object) object.symbols parts.symbols s (get-In object.symbols k s e) in
       let named = and_parts (is_sound_home object s s.home) (is_local s.bind || is_global_name s.name && is_plain_sort s.sort) h in
       record {
         name = st.name;
         first = st.first;
         last = st.last;
-        sort = plain_sorted s.bind (is_global_name s.name) s.sort named.1;
+        sort = plain_sorted (is_local s.bind) (is_global_name s.name) s.sort named.1;
         filed = st.filed;
         home = home_ruled s s.home named.0;
-        named = well_named s.bind (is_global_name s.name) (defines (take k object.symbols) s.name) (is_plain_sort s.sort) named.1
-            (λ global. In-none (λ x. is_global x.bind && bytes_eq x.name s.name) (take k object.symbols)
-            (λ x i. other_name x.bind s.bind (bytes_eq x.name s.name) (pairs_before may_both_be object.symbols k x s w.sound.names e i) global));
+        named = well_named (is_local s.bind) (is_global_name s.name) (defines (take k object.symbols) s.name) (is_plain_sort s.sort) named.1
+            (λ external. In-none (λ x. is_external x.bind && bytes_eq x.name s.name) (take k object.symbols)
+            (λ x i. other_name (is_local x.bind) (is_local s.bind) (bytes_eq x.name s.name) (pairs_before may_both_be object.symbols k x s parts.names e i) external));
         value = st.value;
         size = st.size;
       }
@@ -301,16 +302,15 @@ module _ (object : Object) (w : IsWritable object) where
       let of : Entry → Bool = λ x. x.section == n + 1 in
       let all : List Entry = filter of object.entries in
       let own : e.section ≡ n + 1 = eqb-true e.section (n + 1) (filter-Passes of object.entries e (get-In all k e at)) in
-      let h : is_sound_entry object e ≡ true = all-In (is_sound_entry object) object.entries w.sound.entries e (In-filtered of object.entries e (get-In all k e at)) in
-      let known : Bool = is_known_kind e.kind in
+      let h : is_readable_entry object e ≡ true = all-In (is_readable_entry object) object.entries parts.entries e (In-filtered of object.entries e (get-In all k e at)) in
       let inside : Bool = unwrap_or (option_map (is_sound_entry_in e) (section_of object e.section)) false in
       let named : Bool = (e.symbol == 0 || unwrap_or (option_map (λ s. is_nameable s s.home) (symbol_at object e.symbol)) false) in
       let own_label : Bool = unwrap_or (option_map (λ label. label.0 == e.section) (label_of object e)) false in
-      let paired : Bool = (not (is_pcrel_lo12 e.kind) || int_eq e.addend (pos 0) && is_some (high_of object e) && own_label) in
-      let last = and_parts (known && inside && named) paired h in
-      let middle = and_parts (known && inside) named last.0 in
+      let paired : Bool = (not (is_pcrel_lo12 e.kind) || int_eq e.addend (pos 0) && is_some (upper_of object e) && own_label) in
+      let last = and_parts (inside && named) paired h in
+      let middle = and_parts inside named last.0 in
       let section : section_of object e.section ≡ Some s = ap (section_of object) own ∙ found n s there in
-      let fits : is_sound_entry_in e s ≡ true = sym (ap (λ (o : Option Section). unwrap_or (option_map (is_sound_entry_in e) o) false) section) ∙ (and_parts known inside middle.0).1 in
+      let fits : is_sound_entry_in e s ≡ true = sym (ap (λ (o : Option Section). unwrap_or (option_map (is_sound_entry_in e) o) false) section) ∙ middle.0 in
       let code = and_parts (not (sound.is_zero s.fill) && nat_le (e.offset + width_of e.kind) s.size) (not (is_instruction e.kind) || s.exec && (e.offset % 4 == 0)) fits in
       let filled = and_parts (not (sound.is_zero s.fill)) (nat_le (e.offset + width_of e.kind) s.size) code.0 in
       let symbol = usable object e.symbol middle.1 in
@@ -323,18 +323,19 @@ module _ (object : Object) (w : IsWritable object) where
         apart = In-none (is_clash e) (take k all) (λ f i.
             let one = filter-Passes of object.entries f (In-take k all f i) in
             apart_of f.offset (width_of f.kind) e.offset (width_of e.kind) (f.section == e.section) (is_stacking f.kind) (is_stacking e.kind)
-            (same_number f.section e.section (n + 1) (eqb-true f.section (n + 1) one) own) (pairs_before may_share all k f e (pairs-filter may_share of object.entries w.sound.apart) at i));
-        paired = unpaired_of (is_pcrel_lo12 e.kind) (int_eq e.addend (pos 0)) (is_some (high_of object e)) own_label (has_label e.section all object.symbols e.symbol) last.1
+            (same_number f.section e.section (n + 1) (eqb-true f.section (n + 1) one) own) (pairs_before may_share all k f e (pairs-filter may_share of object.entries parts.apart) at i));
+        paired = unpaired_of (is_pcrel_lo12 e.kind) (int_eq e.addend (pos 0)) (is_some (upper_of object e)) own_label (has_label e.section all object.symbols e.symbol) last.1
             (labelled object e all (λ x i same. filter-In of object.entries x i (same_number x.section (n + 1) e.section same (sym own))));
+        bare = bare_of (is_got_hi20 e.kind) (int_eq e.addend (pos 0)) (all-In is_bare object.entries parts.bare e (In-filtered of object.entries e (get-In all k e at)));
       }
 
   pub ruled : IsRuled object
   ruled = record {
-    sections = λ k s e. section_ruled k s (all-In is_sound_section object.sections w.sound.sections s (get-In object.sections k s e)) (w.sections k s e);
+    sections = λ k s e. section_ruled k s (all-In is_sound_section object.sections parts.sections s (get-In object.sections k s e)) (w.sections k s e);
     symbols = symbol_ruled;
     storable = λ k e at.
         let st = w.entries k e at in
-        record { kind = (and_parts (is_known_kind e.kind) _ (and_parts _ _ (and_parts _ _ (all-In (is_sound_entry object) object.entries w.sound.entries e (get-In object.entries k e at))).0).0).0; offset = st.offset; symbol = st.symbol; addend = st.addend };
+        record { offset = st.offset; symbol = st.symbol; addend = st.addend };
     entries = entry_ruled;
     fits = w.fits;
   }

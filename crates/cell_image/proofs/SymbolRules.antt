@@ -15,7 +15,7 @@ use Rattle.cell_object.specs.declared.object.Home.{Home}
 use Rattle.cell_object.specs.declared.object.Home.TheVariants.{Undef, Abs, Inside, Elsewhere}
 use Rattle.cell_object.specs.declared.headers.SectionHeader.{SectionHeader}
 use Rattle.cell_object.specs.declared.headers.SymbolRow.{SymbolRow}
-use Rattle.cell_object.specs.Parts.{is_local, is_global}
+use Rattle.cell_object.specs.Parts.{is_local, is_external}
 use Rattle.cell_object.specs.Bytes.{broken_where, between}
 use Rattle.cell_object.specs.Header.{section_header, section_place, is_section_number}
 use Rattle.cell_object.specs.Sections.{is_alloc}
@@ -51,22 +51,25 @@ local_bit Weak sorts.Func = refl
 local_bit Weak sorts.Section = refl
 local_bit Weak sorts.File = refl
 
-global_bit : (b : Bind) (t : Sort) → (info b t / 16 == 1) ≡ is_global b
-global_bit Local sorts.NoType = refl
-global_bit Local sorts.Object = refl
-global_bit Local sorts.Func = refl
-global_bit Local sorts.Section = refl
-global_bit Local sorts.File = refl
-global_bit Global sorts.NoType = refl
-global_bit Global sorts.Object = refl
-global_bit Global sorts.Func = refl
-global_bit Global sorts.Section = refl
-global_bit Global sorts.File = refl
-global_bit Weak sorts.NoType = refl
-global_bit Weak sorts.Object = refl
-global_bit Weak sorts.Func = refl
-global_bit Weak sorts.Section = refl
-global_bit Weak sorts.File = refl
+bound_bit : (b : Bind) (t : Sort) → (info b t / 16 == 1 || info b t / 16 == 2) ≡ is_external b
+bound_bit Local sorts.NoType = refl
+bound_bit Local sorts.Object = refl
+bound_bit Local sorts.Func = refl
+bound_bit Local sorts.Section = refl
+bound_bit Local sorts.File = refl
+bound_bit Global sorts.NoType = refl
+bound_bit Global sorts.Object = refl
+bound_bit Global sorts.Func = refl
+bound_bit Global sorts.Section = refl
+bound_bit Global sorts.File = refl
+bound_bit Weak sorts.NoType = refl
+bound_bit Weak sorts.Object = refl
+bound_bit Weak sorts.Func = refl
+bound_bit Weak sorts.Section = refl
+bound_bit Weak sorts.File = refl
+
+external_bit : (b : Bind) (t : Sort) → not (info b t / 16 == 0) ≡ is_external b
+external_bit b t = ap not (local_bit b t)
 
 section_bit : (b : Bind) (t : Sort) → (info b t % 16 == 3) ≡ is_section t
 section_bit Local sorts.NoType = refl
@@ -105,17 +108,17 @@ few_sorts Weak sorts.File = refl
 -- where a symbol may be: an absolute one and one elsewhere is LOCAL, and a value is in its section
 abbrev pub IsRightHome : List Section → Section → Bind → ℕ → Home → Type 0
 IsRightHome sections d b value Undef = Unit {0}
-IsRightHome sections d b value Abs = (is_local b ≡ true) × (is_global b ≡ false)
+IsRightHome sections d b value Abs = (is_local b ≡ true) × (is_external b ≡ false)
 IsRightHome sections d b value (Inside n) = value ≤ (get_or sections (n - 1) d).size
-IsRightHome sections d b value Elsewhere = is_global b ≡ false
+IsRightHome sections d b value Elsewhere = is_external b ≡ false
 
 -- the symbol k + 1 breaks no rule
 pub record IsSoundSymbol (object : Object) (d : Section) (k : ℕ) (s : Symbol) : Type 0 where
   pub first : k < local_count object → is_local s.bind ≡ true
-  pub last : local_count object ≤ k → is_global s.bind ≡ true
-  pub sort : (is_global s.bind && (is_section s.sort || is_file s.sort)) ≡ false
+  pub last : local_count object ≤ k → is_external s.bind ≡ true
+  pub sort : (is_external s.bind && (is_section s.sort || is_file s.sort)) ≡ false
   pub home : IsRightHome object.sections d s.bind s.value s.home
-  pub named : (is_global s.bind && (not (is_global_name s.name) || defines (take k object.symbols) s.name)) ≡ false
+  pub named : (is_external s.bind && (not (is_global_name s.name) || defines (take k object.symbols) s.name)) ≡ false
 
 or_false : (a b : Bool) → a ≡ false → b ≡ false → (a || b) ≡ false
 or_false a b x y = λ i. x i || y i
@@ -136,12 +139,12 @@ order_after n j b h = elim (cases_lt j n) [
   | inr le ↦ and_false (nat_le n j) (not b) (ap not (h le))
 ]
 
-fifteen_test : (k n : ℕ) (b : Bind) (t : Sort) → (k < n → is_local b ≡ true) → (n ≤ k → is_global b ≡ true) → (is_global b && (is_section t || is_file t)) ≡ false
-    → (nat_lt (suc k) (n + 1) && not (info b t / 16 == 0) || nat_le (n + 1) (suc k) && not (info b t / 16 == 1) || nat_lt 4 (info b t % 16) || (info b t / 16 == 1) && ((info b t % 16 == 3) || (info b t % 16 == 4))) ≡ false
+fifteen_test : (k n : ℕ) (b : Bind) (t : Sort) → (k < n → is_local b ≡ true) → (n ≤ k → is_external b ≡ true) → (is_external b && (is_section t || is_file t)) ≡ false
+    → (nat_lt (suc k) (n + 1) && not (info b t / 16 == 0) || nat_le (n + 1) (suc k) && not (info b t / 16 == 1 || info b t / 16 == 2) || nat_lt 4 (info b t % 16) || not (info b t / 16 == 0) && ((info b t % 16 == 3) || (info b t % 16 == 4))) ≡ false
 fifteen_test k n b t first last sort =
     let one : (nat_lt (suc k) (n + 1) && not (info b t / 16 == 0)) ≡ false = order_before (suc k) (n + 1) (info b t / 16 == 0) (λ lt. local_bit b t ∙ first (omega (arith, lt))) in
-    let two : (nat_le (n + 1) (suc k) && not (info b t / 16 == 1)) ≡ false = order_after (n + 1) (suc k) (info b t / 16 == 1) (λ le. global_bit b t ∙ last (omega (arith, le))) in
-    let four : ((info b t / 16 == 1) && ((info b t % 16 == 3) || (info b t % 16 == 4))) ≡ false = (λ i. global_bit b t i && (section_bit b t i || file_bit b t i)) ∙ sort in
+    let two : (nat_le (n + 1) (suc k) && not (info b t / 16 == 1 || info b t / 16 == 2)) ≡ false = order_after (n + 1) (suc k) (info b t / 16 == 1 || info b t / 16 == 2) (λ le. bound_bit b t ∙ last (omega (arith, le))) in
+    let four : (not (info b t / 16 == 0) && ((info b t % 16 == 3) || (info b t % 16 == 4))) ≡ false = (λ i. external_bit b t i && (section_bit b t i || file_bit b t i)) ∙ sort in
     λ i. one i || two i || few_sorts b t i || four i
 
 no_number_zero : (object : Object) → is_section_number (image object) 0 ≡ false
@@ -154,27 +157,27 @@ no_number_large object f few =
 
 sixteen_test : (object : Object) (d : Section) (b : Bind) (t : Sort) (value : ℕ) (h : Home) → FitsImage object → length (section_rows object) < 65280 → IsHome (length object.sections) h → IsRightHome object.sections d b value h
     → (not (home_number (symtab_number object) h == 0 || is_section_number (image object) (home_number (symtab_number object) h) || home_number (symtab_number object) h == 0xFFF1 && info b t / 16 == 0)
-    || info b t / 16 == 1 && is_section_number (image object) (home_number (symtab_number object) h) && not (is_alloc (section_header (image object) (home_number (symtab_number object) h)))) ≡ false
+    || not (info b t / 16 == 0) && is_section_number (image object) (home_number (symtab_number object) h) && not (is_alloc (section_header (image object) (home_number (symtab_number object) h)))) ≡ false
 sixteen_test object d b t value Undef f few home right =
-    ap (λ v. v && not (is_alloc (section_header (image object) 0))) (and_false (info b t / 16 == 1) false refl)
+    ap (λ v. v && not (is_alloc (section_header (image object) 0))) (and_false (not (info b t / 16 == 0)) false refl)
 sixteen_test object d b t value Abs f few home right =
     let number = no_number_large object f few in
     let local : (info b t / 16 == 0) ≡ true = local_bit b t ∙ right.0 in
-    let global : (info b t / 16 == 1) ≡ false = global_bit b t ∙ right.1 in
-    λ i. not (number i || local i) || global i && is_section_number (image object) 0xFFF1 && not (is_alloc (section_header (image object) 0xFFF1))
+    let external : not (info b t / 16 == 0) ≡ false = external_bit b t ∙ right.1 in
+    λ i. not (number i || local i) || external i && is_section_number (image object) 0xFFF1 && not (is_alloc (section_header (image object) 0xFFF1))
 sixteen_test object d b t value (Inside n) f few home right =
     let count = rows_count object in
     let number : is_section_number (image object) n ≡ true = is_numbered object n f home.0 (omega (arith, home.1, count)) in
     let alloc : is_alloc (section_header (image object) n) ≡ true = own_alloc object d n f home.0 home.1 in
     let one : (n == 0 || is_section_number (image object) n || n == 0xFFF1 && info b t / 16 == 0) ≡ true = ap (λ v. v || n == 0xFFF1 && info b t / 16 == 0) (or_true_right (n == 0) (is_section_number (image object) n) number) in
-    or_false _ _ (ap not one) (and_false (info b t / 16 == 1 && is_section_number (image object) n) (not (is_alloc (section_header (image object) n))) (ap not alloc))
+    or_false _ _ (ap not one) (and_false (not (info b t / 16 == 0) && is_section_number (image object) n) (not (is_alloc (section_header (image object) n))) (ap not alloc))
 sixteen_test object d b t value Elsewhere f few home right =
     let n : ℕ = symtab_number object in
     let count = rows_count object in
     let number : is_section_number (image object) n ≡ true = is_numbered object n f (omega arith) (omega (arith, count)) in
-    let global : (info b t / 16 == 1) ≡ false = global_bit b t ∙ right in
+    let external : not (info b t / 16 == 0) ≡ false = external_bit b t ∙ right in
     let one : (n == 0 || is_section_number (image object) n || n == 0xFFF1 && info b t / 16 == 0) ≡ true = ap (λ v. v || n == 0xFFF1 && info b t / 16 == 0) (or_true_right (n == 0) (is_section_number (image object) n) number) in
-    or_false _ _ (ap not one) (ap (λ v. v && is_section_number (image object) n && not (is_alloc (section_header (image object) n))) global)
+    or_false _ _ (ap not one) (ap (λ v. v && is_section_number (image object) n && not (is_alloc (section_header (image object) n))) external)
 
 seventeen_test : (object : Object) (d : Section) (b : Bind) (value : ℕ) (h : Home) → FitsImage object → IsHome (length object.sections) h → IsRightHome object.sections d b value h → is_past_end (image object) h value ≡ false
 seventeen_test object d b value Undef f home right = refl
@@ -226,7 +229,7 @@ symbol_rules_hold object k d e f few all lt =
     let seventeen : rule_17 file at r ≡ [] = ap (λ v. broken_where (is_past_end file v s.value) 17 (at + 8)) (home_back object e s.bind s.sort s.home f few p.filed p.home) ∙ unbroken _ 17 (at + 8) (seventeen_test object e s.bind s.value s.home f p.home q.home) in
     let below = below_are object k d e f few all lt in
     let eighteen : rule_18 file at h (suc k) r ≡ [] =
-    (λ i. broken_where (global_bit s.bind s.sort i && (not (is_global_name (name i)) || defines (below i) (name i))) 18 at) ∙ unbroken _ 18 at q.named in
+    (λ i. broken_where (external_bit s.bind s.sort i && (not (is_global_name (name i)) || defines (below i) (name i))) 18 at) ∙ unbroken _ 18 at q.named in
     ap (λ v. rule_14 file at h v ++ (rule_15 at h (suc k) v ++ (rule_16 file at v ++ (rule_17 file at v ++ rule_18 file at h (suc k) v)))) (symbol_row_is object k d f lt p (all.fits k lt))
     ∙ (λ i. fourteen i ++ (fifteen i ++ (sixteen i ++ (seventeen i ++ eighteen i))))
 

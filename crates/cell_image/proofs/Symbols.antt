@@ -18,7 +18,7 @@ use Rattle.cell_object.specs.Bytes.{string_at, between}
 use Rattle.cell_object.specs.Header.{section_header}
 use Rattle.cell_object.specs.Sections.{is_alloc}
 use Rattle.cell_object.specs.Symbols as symbols
-use Rattle.cell_object.specs.Symbols.{symbol_row, symbol_row_at, home_of, symbol_of, symbols_of, symbols_of_table, symbol_from, symbol_name}
+use Rattle.cell_object.specs.Symbols.{symbol_row_at, home_of, symbol_of, symbols_of, symbols_of_table, symbol_from, symbol_name}
 use Rattle.cell_object.specs.Before.{with_before}
 use Rattle.cell_object.specs.Strings.{string_table, name_place}
 use Rattle.cell_object.specs.Rows.{bind_number, sort_number, home_number, symbol_bytes}

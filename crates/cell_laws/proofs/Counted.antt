@@ -14,8 +14,8 @@ use Rattle.cell_world.specs.Answer.{Done, fresh_by, ids, numbers_of}
 use Rattle.cell_world.specs.Coherent.{IsCoherent}
 use Rattle.cell_num.proofs.Elements.{In-all, In-map, all-In, all_push, filter_none, map_same, pairs-map, pairs_push}
 use Rattle.cell_num.proofs.Sublists.{map_filter}
-use Rattle.cell_lemmas.proofs.Relinked.{map_twice}
-use Rattle.cell_lemmas.proofs.Loads.{older}
+use Rattle.cell_lemmas.proofs.Fields.Relinked.{map_twice}
+use Rattle.cell_lemmas.proofs.Naming.Known.{older}
 use Rattle.cell_laws.specs.Counts.{removed_by}
 
 -- the reply says how many cells came and went, where there were so many and now are so many

@@ -9,20 +9,20 @@ use Rattle.cell_world.specs.declared.refusal.Refusal.TheVariants.{NameTaken, NoE
 use Rattle.cell_world.specs.World.{World, Cell}
 use Rattle.cell_world.specs.Answer.{Done, fresh_by, live_task, present_cell, space_of}
 use Rattle.cell_world.specs.Coherent.{IsCoherent}
-use Rattle.cell_world.specs.DumpCommand.{next_dump}
+use Rattle.cell_world.specs.Commands.DumpCommand.{next_dump}
 use Rattle.cell_world.specs.Gather.{Source}
 use Rattle.cell_num.specs.Limits.{max_namespaces, max_tasks, max_task_number}
 use Rattle.cell_world.specs.Names.{namespace_named}
 use Rattle.cell_world.specs.Next.{outcome_of}
-use Rattle.cell_world.specs.NsCommand.{next_ns}
+use Rattle.cell_world.specs.Commands.NsCommand.{next_ns}
 use Rattle.cell_world.specs.Outcome.{found, need}
-use Rattle.cell_world.specs.Place.{start_of_run}
-use Rattle.cell_world.specs.SpawnCommand.{entry_named, next_spawn}
-use Rattle.cell_world.specs.TaskCommands.{can_run, next_run, next_step}
+use Rattle.cell_world.specs.Placed.Place.{start_of_run}
+use Rattle.cell_world.specs.Commands.SpawnCommand.{entry_named, next_spawn}
+use Rattle.cell_world.specs.Commands.TaskCommands.{can_run, next_run, next_step}
 use Rattle.cell_object.specs.Parts.{section_of}
-use Rattle.cell_lemmas.proofs.Appended.{ok_same}
+use Rattle.cell_lemmas.proofs.Naming.Appended.{ok_same}
 use Rattle.cell_lemmas.proofs.Outcomes.{bind_ok, then_ok}
-use Rattle.cell_lemmas.proofs.Commands.{run_cells, step_cells}
+use Rattle.cell_lemmas.proofs.Tasks.Commands.{run_cells, step_cells}
 use Rattle.cell_laws.specs.Counts.{removed_by}
 use Rattle.cell_laws.proofs.Counted.{CountsCells}
 use Rattle.cell_laws.proofs.CountsChange.{load_counts, swap_counts}

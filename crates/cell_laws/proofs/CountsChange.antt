@@ -6,7 +6,7 @@ use Rattle.cell_world.specs.declared.command.SwapItem.{SwapItem}
 use Rattle.cell_world.specs.declared.refusal.Refusal.TheVariants.{NoObject}
 use Rattle.cell_world.specs.World.{World, Cell, Alias, cell_of}
 use Rattle.cell_world.specs.Answer.{Done, ids, numbers_of, space_of}
-use Rattle.cell_world.specs.Asked.{load_by_change, swap_by_change, wants_of}
+use Rattle.cell_world.specs.Commands.Asked.{next_load, next_swap, wants_of}
 use Rattle.cell_world.specs.Change.{Change, Made, Plan, Want, adding, append_want, exchanges_from, garbage_after, gather, make_change, old_of, set_aside, swapped_out, with_names}
 use Rattle.cell_world.specs.Coherent.{IsCoherent}
 use Rattle.cell_world.specs.Gather.{Source, depot_files, fresh_cells, one_file}
@@ -14,12 +14,12 @@ use Rattle.cell_num.specs.Limits.{max_cells}
 use Rattle.cell_world.specs.Names.{names_of}
 use Rattle.cell_world.specs.Outcome.{each}
 use Rattle.cell_world.specs.Reexport.{heir_of, take_on, with_alias, with_reexports}
-use Rattle.cell_world.specs.UnloadCommand.{put_aside, without_cells}
-use Rattle.cell_lemmas.proofs.Appended.{ok_same}
+use Rattle.cell_world.specs.Commands.UnloadCommand.{put_aside, without_cells}
+use Rattle.cell_lemmas.proofs.Naming.Appended.{ok_same}
 use Rattle.cell_lemmas.proofs.Outcomes.{bind_ok}
-use Rattle.cell_lemmas.proofs.PlacedAll.{each_keeps}
-use Rattle.cell_lemmas.proofs.PutAside.{put_number}
-use Rattle.cell_lemmas.proofs.Reexported.{renamed_same}
+use Rattle.cell_lemmas.proofs.Placement.PlacedAll.{each_keeps}
+use Rattle.cell_lemmas.proofs.Naming.PutAside.{put_number}
+use Rattle.cell_lemmas.proofs.Naming.Reexported.{renamed_same}
 use Rattle.cell_change_law.proofs.Ending.{without_none}
 use Rattle.cell_change_law.proofs.Settled.{second_parts}
 use Rattle.cell_change_law.proofs.Steps.{Changed, Planned, changed, planned}
@@ -101,7 +101,7 @@ module _ (sources : List Source) (w : World) (h : IsCoherent w) where
           subst (λ (m : Made). (length m.world.cells + length (ids m.removed) ≡ length w.cells + length (ids (numbers_of m.fresh))) × (length w.cells + length (ids (numbers_of m.fresh)) ≤ max_cells)) c.is
           (omega (arith, swept (old_of asked), counted), omega (arith, counted, few))
 
-  pub load_counts : (name stem : List ℕ) (d : Done) → load_by_change sources w name stem ≡ Ok d → CountsCells w d
+  pub load_counts : (name stem : List ℕ) (d : Done) → next_load sources w name stem ≡ Ok d → CountsCells w d
   load_counts name stem d e =
       let s = bind_ok (space_of w name) _ d e in
       let f = bind_ok (one_file (depot_files sources name stem) (NoObject stem)) _ d s.2 in
@@ -112,7 +112,7 @@ module _ (sources : List Source) (w : World) (h : IsCoherent w) where
       let none : length (ids m.0.removed) ≡ 0 = ap (λ (x : Made). length (ids x.removed)) (sym (changed sources w asked m.0 m.1).is) in
       subst (CountsCells w) (ok_same _ d m.2) (record { counted = omega (arith, n.0, none); room = n.1 })
 
-  pub swap_counts : (items : List SwapItem) (reexport strict : Bool) (words : List (List ℕ)) (budget : ℕ) (d : Done) → swap_by_change sources w items reexport strict words budget ≡ Ok d → CountsCells w d
+  pub swap_counts : (items : List SwapItem) (reexport strict : Bool) (words : List (List ℕ)) (budget : ℕ) (d : Done) → next_swap sources w items reexport strict words budget ≡ Ok d → CountsCells w d
   swap_counts items reexport strict words budget d e =
       let a = bind_ok (wants_of sources w items) _ d e in
       let asked : Change = record { wants = a.0; reexport = reexport; strict = strict; routines = words; budget = budget } in

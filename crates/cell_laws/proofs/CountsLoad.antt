@@ -6,11 +6,11 @@ use Rattle.cell_world.specs.World.{World, Cell}
 use Rattle.cell_world.specs.Answer.{numbers_of}
 use Rattle.cell_world.specs.Gather.{Source, append_cell, bring, new_cell}
 use Rattle.cell_num.specs.Limits.{max_cells}
-use Rattle.cell_world.specs.Place.{place_all, place_cell}
-use Rattle.cell_lemmas.proofs.Appended.{Appended, append_ok}
-use Rattle.cell_lemmas.proofs.Brought.{brought}
-use Rattle.cell_lemmas.proofs.PlacedAll.{CellRuns, cell_runs, each_keeps}
-use Rattle.cell_lemmas.proofs.Renamed.{bare_with_places}
+use Rattle.cell_world.specs.Placed.Place.{place_all, place_cell}
+use Rattle.cell_lemmas.proofs.Naming.Appended.{Appended, append_ok}
+use Rattle.cell_lemmas.proofs.Naming.Brought.{brought}
+use Rattle.cell_lemmas.proofs.Placement.PlacedAll.{CellRuns, cell_runs, each_keeps}
+use Rattle.cell_lemmas.proofs.Naming.Renamed.{bare_with_places}
 use Rattle.cell_laws.proofs.Counted.{Counted, CountedIn, numbers_mapped, one_more}
 
 module _ {from had : ℕ} where

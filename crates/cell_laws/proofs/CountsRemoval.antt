@@ -10,15 +10,15 @@ use Rattle.cell_world.specs.Answer.{Done, ids, numbers_of}
 use Rattle.cell_world.specs.Coherent.{IsCoherent}
 use Rattle.cell_world.specs.Kept.{holding_of, kept_in}
 use Rattle.cell_world.specs.Outcome.{refused_by}
-use Rattle.cell_world.specs.UnloadCommand.{first_held, garbage_of, named_cells, next_purge, next_unload, purged, put_aside}
-use Rattle.cell_lemmas.proofs.Appended.{ok_same}
+use Rattle.cell_world.specs.Commands.UnloadCommand.{first_held, garbage_of, named_cells, next_purge, next_unload, purged, put_aside}
+use Rattle.cell_lemmas.proofs.Naming.Appended.{ok_same}
 use Rattle.cell_num.proofs.Elements.{In-filtered, In-map, filter-In, filter-Passes}
 use Rattle.cell_num.proofs.Sublists.{filter_same, map_filter}
 use Rattle.cell_lemmas.proofs.Outcomes.{bind_ok, then_ok}
 use Rattle.cell_lemmas.specs.Left.{with_aside}
-use Rattle.cell_lemmas.proofs.Freed.{number_holds, same_cell}
-use Rattle.cell_lemmas.proofs.KeptPaths.{holds-In}
-use Rattle.cell_lemmas.proofs.PutAside.{order_aside}
+use Rattle.cell_lemmas.proofs.Placement.Freed.{number_holds, same_cell}
+use Rattle.cell_lemmas.proofs.Holding.KeptPaths.{holds-In}
+use Rattle.cell_lemmas.proofs.Naming.PutAside.{order_aside}
 use Rattle.cell_laws.proofs.Counted.{CountsCells, length_ids}
 
 -- some of the cells go, and are named by their numbers

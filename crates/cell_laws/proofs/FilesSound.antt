@@ -5,28 +5,27 @@ use Rattle.std.proofs.lemmas.List.Elements.{All-map, All-weaker}
 use Rattle.cell_object.specs.declared.object.Object.{Object}
 use Rattle.cell_object.specs.Bytes.{Broken}
 use Rattle.cell_object.specs.Reads.{reads}
-use Rattle.cell_object.specs.Sound.{IsSoundObject}
-use Rattle.cell_elf.proofs.LoadableCounts.{few_symbols, reads_passed}
-use Rattle.cell_elf.proofs.Soundness.{few_entries, object_plain, object_sound}
+use Rattle.cell_object.specs.Readable.{IsReadable}
+use Rattle.cell_elf.proofs.LoadableCounts.{reads_passed, what_is_read}
+use Rattle.cell_elf.proofs.Soundness.{object_readable}
+use Rattle.cell_got.specs.Lower.{lowered}
+use Rattle.cell_got.proofs.LowerLoadable.{reading_loadable}
 use Rattle.cell_world.specs.Coherent.{AreSound, IsLoadable, IsLoadableReading}
 use Rattle.cell_world.specs.Gather.{Source, source_of}
 use Rattle.cell_num.specs.Limits.{max_file_bytes}
 use Rattle.cell_world.specs.declared.file.File.{File}
 
-module _ (bytes : List ℕ) (object : Object) where
-  pub reading_sound : reads bytes ≡ Ok object → IsSoundObject object
-  reading_sound e = let p = reads_passed bytes object e in subst IsSoundObject p.1 (object_sound bytes p.0)
+pub read_readable : (bytes : List ℕ) (object : Object) → reads bytes ≡ Ok object → IsReadable object
+read_readable bytes object e = let p = reads_passed bytes object e in subst IsReadable p.1 (object_readable bytes p.0)
 
-  pub reading_loadable : length bytes ≤ max_file_bytes → reads bytes ≡ Ok object → IsLoadable object
-  reading_loadable small e =
-      let p = reads_passed bytes object e in
-      subst IsLoadable p.1 (record { sound = object_sound bytes p.0; symbols = few_symbols bytes p.0 small; entries = few_entries bytes p.0 small; plain = object_plain bytes p.0 })
+pub lowered_loadable : (bytes : List ℕ) (object : Object) → length bytes ≤ max_file_bytes → lowered (reads bytes) ≡ Ok object → IsLoadable object
+lowered_loadable bytes object small e = reading_loadable (reads bytes) (what_is_read bytes small) object e
 
-loadable_or_broken : (bytes : List ℕ) (r : Result Object Broken) → length bytes ≤ max_file_bytes → reads bytes ≡ r → IsLoadableReading r
-loadable_or_broken bytes (Ok object) small e = reading_loadable bytes object small e
+loadable_or_broken : (bytes : List ℕ) (r : Result Object Broken) → length bytes ≤ max_file_bytes → lowered (reads bytes) ≡ r → IsLoadableReading r
+loadable_or_broken bytes (Ok object) small e = lowered_loadable bytes object small e
 loadable_or_broken bytes (Err broken) small e = tt
 
 pub files_sound : (files : List File) → All (λ f. length f.bytes ≤ max_file_bytes) files → AreSound (map source_of files)
 files_sound files small =
     All-map (λ (s : Source). IsLoadableReading s.reading) source_of files
-    (All-weaker (λ (f : File). length f.bytes ≤ max_file_bytes) (λ (f : File). IsLoadableReading (reads f.bytes)) (λ f k. loadable_or_broken f.bytes (reads f.bytes) k refl) files small)
+    (All-weaker (λ (f : File). length f.bytes ≤ max_file_bytes) (λ (f : File). IsLoadableReading (lowered (reads f.bytes))) (λ f k. loadable_or_broken f.bytes (lowered (reads f.bytes)) k refl) files small)

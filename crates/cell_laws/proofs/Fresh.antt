@@ -10,25 +10,25 @@ use Rattle.cell_object.specs.declared.object.Entry.{Entry}
 use Rattle.cell_object.specs.Sound.{IsSoundObject, is_sound_section, is_zero}
 use Rattle.cell_world.specs.World.{World, Cell, Region}
 use Rattle.cell_world.specs.Coherent.{IsCoherent}
-use Rattle.cell_world.specs.Field.{is_at, fields_of, place_of}
-use Rattle.cell_world.specs.Fresh.{fields_in, value_bytes, with_value, fresh_bytes}
-use Rattle.cell_world.specs.Layout.{class_of, is_in_class, sections_in, image_of, offset_in, own_bytes, permission_of}
+use Rattle.cell_world.specs.Linked.Field.{is_at, fields_of, place_of}
+use Rattle.cell_world.specs.Linked.Fresh.{fields_in, value_bytes, with_value, fresh_bytes}
+use Rattle.cell_world.specs.Placed.Layout.{class_of, is_in_class, sections_in, image_of, offset_in, own_bytes, permission_of}
 use Rattle.cell_world.specs.declared.layout.Class.{Class}
 use Rattle.cell_world.specs.declared.layout.Class.TheVariants.{Text, ReadOnly, Writable}
-use Rattle.cell_world.specs.Memory.{pasted, read}
-use Rattle.cell_world.specs.Relink.{class_start, restored}
-use Rattle.cell_world.specs.Target.{start_of}
+use Rattle.cell_world.specs.Running.Memory.{pasted, read}
+use Rattle.cell_world.specs.Linked.Relink.{class_start, restored}
+use Rattle.cell_world.specs.Linked.Target.{start_of}
 use Rattle.cell_num.specs.Lists.{In}
 use Rattle.cell_num.proofs.Elements.{In-All, all-In, In-filtered, filter-In, filter-Passes, fold_same, pairs-In}
-use Rattle.cell_lemmas.proofs.FieldsInside.{Sized, among-In, class_In, field_inside, length-bytes_of, own_length, section_class, stands}
-use Rattle.cell_lemmas.proofs.Inside.{wide}
-use Rattle.cell_lemmas.proofs.Known.{object_sound}
-use Rattle.cell_lemmas.proofs.Relinked.{patches, restore, restored_is}
+use Rattle.cell_lemmas.proofs.Fields.FieldsInside.{Sized, among-In, class_In, field_inside, length-bytes_of, own_length, section_class, stands}
+use Rattle.cell_lemmas.proofs.Placement.Inside.{wide}
+use Rattle.cell_lemmas.proofs.Naming.Known.{object_sound}
+use Rattle.cell_lemmas.proofs.Fields.Relinked.{patches, restore, restored_is}
 use Rattle.cell_num.proofs.Sublists.{filter_same, map_filter}
-use Rattle.cell_lemmas.proofs.Slices.{slice, slice_length}
-use Rattle.cell_lemmas.proofs.Offsets.{Apart}
-use Rattle.cell_lemmas.proofs.FieldsApart.{AreFieldsApart, AreSectionsApart, Within, fields_apart, sections_apart, unique, within}
-use Rattle.cell_lemmas.proofs.Regrown.{among_apart, filter_flat, is_elsewhere}
+use Rattle.cell_lemmas.proofs.Fields.Slices.{slice, slice_length}
+use Rattle.cell_lemmas.proofs.Placement.Offsets.{Apart}
+use Rattle.cell_lemmas.proofs.Fields.FieldsApart.{AreFieldsApart, AreSectionsApart, Within, fields_apart, sections_apart, unique, within}
+use Rattle.cell_lemmas.proofs.Fields.Regrown.{among_apart, filter_flat, is_elsewhere}
 use Rattle.cell_laws.proofs.Laid.{image_slice}
 use Rattle.cell_laws.proofs.Windows.{window, begins_in, IsIn, IsOut, pasted_here}
 use Rattle.cell_laws.proofs.Parts.{patch, one_left, paste_whole, read_window, image_there, restored_shape, out, inside, window_is, only_own}

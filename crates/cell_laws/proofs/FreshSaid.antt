@@ -10,20 +10,20 @@ use Rattle.cell_object.specs.declared.object.Entry.{Entry}
 use Rattle.cell_object.specs.Sound.{is_sound_section, is_zero}
 use Rattle.cell_world.specs.World.{World, Cell}
 use Rattle.cell_world.specs.Coherent.{IsCoherent}
-use Rattle.cell_world.specs.Field.{fields_of}
-use Rattle.cell_world.specs.Fresh.{fields_in, value_bytes, with_value, fresh_bytes}
-use Rattle.cell_world.specs.Layout.{own_bytes}
-use Rattle.cell_world.specs.Memory.{pasted}
-use Rattle.cell_world.specs.Target.{start_of}
+use Rattle.cell_world.specs.Linked.Field.{fields_of}
+use Rattle.cell_world.specs.Linked.Fresh.{fields_in, value_bytes, with_value, fresh_bytes}
+use Rattle.cell_world.specs.Placed.Layout.{own_bytes}
+use Rattle.cell_world.specs.Running.Memory.{pasted}
+use Rattle.cell_world.specs.Linked.Target.{start_of}
 use Rattle.cell_num.proofs.Elements.{In-All, all-In, In-filtered, filter-Passes}
-use Rattle.cell_lemmas.proofs.FieldsApart.{AreFieldsApart, fields_apart}
-use Rattle.cell_lemmas.proofs.FieldsInside.{among-In, length-bytes_of, own_length}
-use Rattle.cell_lemmas.proofs.Known.{object_sound}
+use Rattle.cell_lemmas.proofs.Fields.FieldsApart.{AreFieldsApart, fields_apart}
+use Rattle.cell_lemmas.proofs.Fields.FieldsInside.{among-In, length-bytes_of, own_length}
+use Rattle.cell_lemmas.proofs.Naming.Known.{object_sound}
 use Rattle.cell_num.proofs.Sublists.{pairs-filter}
-use Rattle.cell_lemmas.proofs.Offsets.{Apart}
-use Rattle.cell_lemmas.proofs.Patches.{length-pasted}
-use Rattle.cell_lemmas.proofs.Regrown.{among_apart, is_elsewhere}
-use Rattle.cell_lemmas.proofs.Slices.{slice, slice_length, untouched}
+use Rattle.cell_lemmas.proofs.Placement.Offsets.{Apart}
+use Rattle.cell_lemmas.proofs.Fields.Patches.{length-pasted}
+use Rattle.cell_lemmas.proofs.Fields.Regrown.{among_apart, is_elsewhere}
+use Rattle.cell_lemmas.proofs.Fields.Slices.{slice, slice_length, untouched}
 use Rattle.cell_laws.proofs.Windows.{paste_inside}
 use Rattle.cell_laws.proofs.Parts.{paste_whole}
 use Rattle.cell_laws.proofs.Fresh.{ends_here}

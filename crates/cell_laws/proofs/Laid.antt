@@ -5,11 +5,11 @@ use Rattle.std.proofs.lemmas.Bool.{eqb-true}
 use Rattle.std.proofs.lemmas.List.{append-nil, append_assoc, length-replicate, take-append-le, drop-append-le, take_all, length-drop}
 use Rattle.std.proofs.Math.Seq.{drop-append_seam}
 use Rattle.cell_object.specs.declared.object.Section.{Section as ObjectSection}
-use Rattle.cell_world.specs.Layout.{gap, offset_from, offset_in, own_bytes, laid_out, to_pages, image_of}
+use Rattle.cell_world.specs.Placed.Layout.{gap, offset_from, offset_in, own_bytes, laid_out, to_pages, image_of}
 use Rattle.cell_num.specs.Lists.{In}
-use Rattle.cell_lemmas.proofs.FieldsInside.{Sized, After, ends_laid}
-use Rattle.cell_lemmas.proofs.Slices.{slice}
-use Rattle.cell_lemmas.proofs.Offsets.{IsUnique, elsewhere}
+use Rattle.cell_lemmas.proofs.Fields.FieldsInside.{Sized, After, ends_laid}
+use Rattle.cell_lemmas.proofs.Fields.Slices.{slice}
+use Rattle.cell_lemmas.proofs.Placement.Offsets.{IsUnique, elsewhere}
 
 slice_front : (xs ys : List ℕ) (i n : ℕ) → i + n ≤ length xs → slice (xs ++ ys) i n ≡ slice xs i n
 slice_front xs ys i n h =

@@ -5,16 +5,16 @@ use Rattle.cell_world.specs.declared.command.Command.TheVariants.{Ns, Load, Spaw
 use Rattle.cell_world.specs.World.{World}
 use Rattle.cell_world.specs.Gather.{Source}
 use Rattle.cell_world.specs.Answer.{Done, present_cell}
-use Rattle.cell_world.specs.LinkCommands.{next_deps, next_users}
+use Rattle.cell_world.specs.Commands.LinkCommands.{next_deps, next_users}
 use Rattle.cell_world.specs.Next.{outcome_of, next}
 use Rattle.cell_world.specs.Coherent.{AreSound, IsCoherent}
-use Rattle.cell_lemmas.proofs.Appended.{ok_same}
-use Rattle.cell_lemmas.proofs.NamespaceAdded.{ns_coherent}
+use Rattle.cell_lemmas.proofs.Naming.Appended.{ok_same}
+use Rattle.cell_lemmas.proofs.Naming.NamespaceAdded.{ns_coherent}
 use Rattle.cell_lemmas.proofs.NextCoherent.{answered, dump_same, find_same, map_same}
 use Rattle.cell_lemmas.proofs.Outcomes.{bind_ok}
-use Rattle.cell_lemmas.proofs.Spawned.{spawn_keeps}
-use Rattle.cell_lemmas.proofs.Commands.{step_keeps, run_keeps, kill_keeps, tasks_keeps}
-use Rattle.cell_lemmas.proofs.Removals.{removed_coherent, purge_removed, unload_removed}
+use Rattle.cell_lemmas.proofs.Tasks.Spawned.{spawn_keeps}
+use Rattle.cell_lemmas.proofs.Tasks.Commands.{step_keeps, run_keeps, kill_keeps, tasks_keeps}
+use Rattle.cell_lemmas.proofs.Holding.Removals.{removed_coherent, purge_removed, unload_removed}
 use Rattle.cell_change_law.specs.Sound.{HasMade}
 use Rattle.cell_change_law.proofs.Asking.{load_made, swap_made}
 use Rattle.cell_change_law.proofs.Ending.{made_coherent}

@@ -10,30 +10,30 @@ use Rattle.cell_world.specs.declared.refusal.Refusal.TheVariants.{NoEntry, TooMa
 use Rattle.cell_world.specs.declared.state.Namespace.{Namespace}
 use Rattle.cell_world.specs.World.{World, Cell}
 use Rattle.cell_world.specs.Gather.{Source}
-use Rattle.cell_world.specs.NsCommand.{next_ns}
-use Rattle.cell_world.specs.Place.{start_of_run}
-use Rattle.cell_world.specs.SpawnCommand.{entry_named, next_spawn}
-use Rattle.cell_world.specs.Target.{target_of}
+use Rattle.cell_world.specs.Commands.NsCommand.{next_ns}
+use Rattle.cell_world.specs.Placed.Place.{start_of_run}
+use Rattle.cell_world.specs.Commands.SpawnCommand.{entry_named, next_spawn}
+use Rattle.cell_world.specs.Linked.Target.{target_of}
 use Rattle.cell_world.specs.Changed.{now_in}
 use Rattle.cell_world.specs.Outcome.{found, need}
 use Rattle.cell_world.specs.Answer.{Done, numbers_of, space_of}
 use Rattle.cell_world.specs.Next.{outcome_of}
 use Rattle.cell_world.specs.Coherent.{AreSound, IsCoherent}
-use Rattle.cell_lemmas.proofs.Appended.{ok_same}
+use Rattle.cell_lemmas.proofs.Naming.Appended.{ok_same}
 use Rattle.cell_num.proofs.Elements.{In-All, All-In, In-map, In-filtered}
-use Rattle.cell_lemmas.proofs.NamespaceAdded.{Added, ns_ok}
+use Rattle.cell_lemmas.proofs.Naming.NamespaceAdded.{Added, ns_ok}
 use Rattle.cell_lemmas.proofs.NextCoherent.{dump_same, find_same, map_same}
 use Rattle.cell_lemmas.proofs.Outcomes.{bind_ok, then_ok}
-use Rattle.cell_lemmas.proofs.Spaces.{stands_there, target_stays}
+use Rattle.cell_lemmas.proofs.Naming.Spaces.{stands_there, target_stays}
 use Rattle.cell_lemmas.specs.Kept.{KeepsCells}
-use Rattle.cell_lemmas.proofs.Commands.{step_cells, run_cells, kill_cells, tasks_same}
-use Rattle.cell_lemmas.proofs.KeptPaths.{holds-In}
-use Rattle.cell_lemmas.proofs.Removals.{Removed, removed_targets, purge_removed, unload_removed}
+use Rattle.cell_lemmas.proofs.Tasks.Commands.{step_cells, run_cells, kill_cells, tasks_same}
+use Rattle.cell_lemmas.proofs.Holding.KeptPaths.{holds-In}
+use Rattle.cell_lemmas.proofs.Holding.Removals.{Removed, removed_targets, purge_removed, unload_removed}
 use Rattle.cell_laws.specs.Commands.{BringsNoCells}
 use Rattle.cell_laws.specs.KeepsTargets.{KeepsTargets}
 use Rattle.cell_laws.proofs.NextCoherent.{deps_same, users_same, outcome_coherent}
-use Rattle.cell_lemmas.proofs.Settled.{found_now, mapped_same}
-use Rattle.cell_lemmas.proofs.SwapReady.{one_number}
+use Rattle.cell_lemmas.proofs.Holding.Settled.{found_now, mapped_same}
+use Rattle.cell_change_law.proofs.Placing.{one_number}
 
 module _ (w u : World) (h : IsCoherent w) (k : IsCoherent u) where
   -- where a cell is still present it is the one that it was

@@ -9,27 +9,27 @@ use Rattle.cell_num.specs.Lists.{each_pair, where_true, In}
 use Rattle.cell_object.specs.declared.object.Entry.{Entry}
 use Rattle.cell_world.specs.World.{World, Cell, Region}
 use Rattle.cell_world.specs.Coherent.{IsCoherent}
-use Rattle.cell_world.specs.Field.{fields_of, place_of}
-use Rattle.cell_world.specs.Layout.{sections_in, image_of, permission_of}
+use Rattle.cell_world.specs.Linked.Field.{fields_of, place_of}
+use Rattle.cell_world.specs.Placed.Layout.{sections_in, image_of, permission_of}
 use Rattle.cell_world.specs.declared.layout.Class.{Class}
 use Rattle.cell_world.specs.declared.layout.Class.TheVariants.{Text, ReadOnly, Writable}
-use Rattle.cell_world.specs.Memory.{covers, pasted, part_of, read, region_at}
-use Rattle.cell_world.specs.Relink.{Patch, patch_of, patches_of, bound_entries, class_start, is_region_of, images_for, restored}
+use Rattle.cell_world.specs.Running.Memory.{covers, pasted, part_of, read, region_at}
+use Rattle.cell_world.specs.Linked.Relink.{Patch, patch_of, patches_of, bound_entries, class_start, is_region_of, images_for, restored}
 use Rattle.cell_num.proofs.Elements.{all-In, In-left, In-right, In-append, In-map, In-flat_map, In-filtered, filter-In, filter_none, filter-Passes, find_there, found-In, first-In, first_has, map-In}
-use Rattle.cell_lemmas.proofs.Distinct.{one_class}
-use Rattle.cell_lemmas.proofs.FieldsInside.{fields_end_in, length-bytes_of}
-use Rattle.cell_lemmas.proofs.ImagesInside.{images_fit}
-use Rattle.cell_lemmas.proofs.Inside.{wide}
-use Rattle.cell_lemmas.proofs.Regions.{starts_at}
-use Rattle.cell_lemmas.proofs.Patches.{HasShape}
-use Rattle.cell_lemmas.proofs.Relinked.{patches, own_image, restore, restored_is}
-use Rattle.cell_lemmas.proofs.Bare.{covers_once}
-use Rattle.cell_lemmas.proofs.Fixed.{remade_fixed}
+use Rattle.cell_lemmas.proofs.Placement.Distinct.{one_class}
+use Rattle.cell_lemmas.proofs.Fields.FieldsInside.{fields_end_in, length-bytes_of}
+use Rattle.cell_lemmas.proofs.Placement.ImagesInside.{images_fit}
+use Rattle.cell_lemmas.proofs.Placement.Inside.{wide}
+use Rattle.cell_lemmas.proofs.Placement.Regions.{starts_at}
+use Rattle.cell_lemmas.proofs.Fields.Patches.{HasShape}
+use Rattle.cell_lemmas.proofs.Fields.Relinked.{patches, own_image, restore, restored_is}
+use Rattle.cell_lemmas.proofs.Placement.Bare.{covers_once}
+use Rattle.cell_lemmas.proofs.Fields.Fixed.{remade_fixed}
 use Rattle.cell_num.proofs.Sublists.{map_filter}
-use Rattle.cell_lemmas.proofs.Pastes.{over}
-use Rattle.cell_lemmas.proofs.Slices.{slice}
-use Rattle.cell_lemmas.proofs.Offsets.{Apart}
-use Rattle.cell_lemmas.proofs.Regrown.{filter_flat}
+use Rattle.cell_lemmas.proofs.Fields.Pastes.{over}
+use Rattle.cell_lemmas.proofs.Fields.Slices.{slice}
+use Rattle.cell_lemmas.proofs.Placement.Offsets.{Apart}
+use Rattle.cell_lemmas.proofs.Fields.Regrown.{filter_flat}
 use Rattle.cell_laws.proofs.Windows.{window, begins_in, IsIn, IsOut, pasted_here, window_by}
 
 -- where all other elements give nothing, only the one's list is left

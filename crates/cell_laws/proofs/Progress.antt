@@ -8,9 +8,9 @@ use Rattle.cell_world.specs.declared.reply.TaskState.{TaskState}
 use Rattle.cell_world.specs.declared.reply.TaskState.TheVariants.{Ready, Done, Fault as Faulted}
 use Rattle.cell_world.specs.declared.transfer.Routine.{Routine}
 use Rattle.cell_world.specs.World.{Region}
-use Rattle.cell_world.specs.Execute.{Seen}
-use Rattle.cell_world.specs.Move.{Hart, Move, move}
-use Rattle.cell_world.specs.Transfer.{Addresses, Ending, Transferred, routine_column, routine_from, is_success, transferred}
+use Rattle.cell_world.specs.Running.Execute.{Seen}
+use Rattle.cell_world.specs.Running.Move.{Hart, Move, move}
+use Rattle.cell_world.specs.Running.Transfer.{Addresses, Ending, Transferred, routine_column, routine_from, is_success, transferred}
 use Rattle.cell_laws.specs.Progress.{Running, Progress, Runs, Ended, starts, failed_in, moved_on, moved_in, turned, progress_after, cut_off}
 
 module _ (addresses : Addresses) (m : Seen) (stack : ℕ) where

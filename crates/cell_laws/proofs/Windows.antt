@@ -4,13 +4,13 @@ use Rattle.std.specs.Prelude.{filter, fold, nat_le, nat_lt}
 use Rattle.std.proofs.lemmas.Bool.{and_parts, and_from, cases_lt, leb-true, ltb-true, le-leb, lt-ltb}
 use Rattle.std.proofs.lemmas.List.{ext_get_or}
 use Rattle.cell_world.specs.World.{Region}
-use Rattle.cell_world.specs.Memory.{covers, pasted}
-use Rattle.cell_world.specs.Relink.{Patch, patched}
+use Rattle.cell_world.specs.Running.Memory.{covers, pasted}
+use Rattle.cell_world.specs.Linked.Relink.{Patch, patched}
 use Rattle.cell_num.specs.Lists.{In}
-use Rattle.cell_lemmas.proofs.Patches.{HasShape, AllEndIn, shape_by, length-pasted, pasted_before, pasted_in, pasted_after}
-use Rattle.cell_lemmas.proofs.Slices.{slice, slice_length, slice_at, untouched}
-use Rattle.cell_lemmas.proofs.Writes.{written_in}
-use Rattle.cell_lemmas.proofs.Offsets.{Apart}
+use Rattle.cell_lemmas.proofs.Fields.Patches.{HasShape, AllEndIn, shape_by, length-pasted, pasted_before, pasted_in, pasted_after}
+use Rattle.cell_lemmas.proofs.Fields.Slices.{slice, slice_length, slice_at, untouched}
+use Rattle.cell_lemmas.proofs.Fields.Writes.{written_in}
+use Rattle.cell_lemmas.proofs.Placement.Offsets.{Apart}
 
 -- a write that lies in the slice is the same write in it
 pub paste_inside : (bytes new : List ℕ) (j i n : ℕ) → i ≤ j → j + length new ≤ i + n → i + n ≤ length bytes → slice (pasted bytes j new) i n ≡ pasted (slice bytes i n) (j - i) new

@@ -2,7 +2,7 @@
 use Rattle.std.specs.Prelude.{◌≡◌, IsTrue, All}
 use Rattle.cell_num.specs.Lists.{holds}
 use Rattle.cell_world.specs.World.{World}
-use Rattle.cell_world.specs.Target.{target_of}
+use Rattle.cell_world.specs.Linked.Target.{target_of}
 use Rattle.cell_world.specs.Changed.{now_in}
 use Rattle.cell_world.specs.Answer.{numbers_of}
 

@@ -11,10 +11,10 @@ use Rattle.cell_num.specs.declared.ids.Why.TheVariants.{Budget, Returned, Trap}
 use Rattle.cell_world.specs.declared.reply.TaskState.TheVariants.{Ready, Done, Fault as Faulted}
 use Rattle.cell_world.specs.declared.transfer.Routine.{Routine}
 use Rattle.cell_world.specs.World.{Region}
-use Rattle.cell_world.specs.Execute.{Seen}
-use Rattle.cell_world.specs.Move.{Hart, Move, move}
-use Rattle.cell_world.specs.SpawnCommand.{first_registers}
-use Rattle.cell_world.specs.Transfer.{Addresses, Transferred, routine_column}
+use Rattle.cell_world.specs.Running.Execute.{Seen}
+use Rattle.cell_world.specs.Running.Move.{Hart, Move, move}
+use Rattle.cell_world.specs.Commands.SpawnCommand.{first_registers}
+use Rattle.cell_world.specs.Running.Transfer.{Addresses, Transferred, routine_column}
 
 -- before a turn: the regions, the routine that has the turn, its hart, and the routines that come after it
 pub record Running : Type 0 where

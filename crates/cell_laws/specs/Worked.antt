@@ -3,12 +3,12 @@ use Rattle.std.specs.Prelude.{ℕ, ◌+◌, ◌*◌, false, List, [], ◌∷◌,
 use Rattle.cell_num.specs.declared.ids.Why.{Why}
 use Rattle.cell_num.specs.Bits.{bytes_of}
 use Rattle.cell_world.specs.World.{Region}
-use Rattle.cell_world.specs.Layout.{permission_of}
+use Rattle.cell_world.specs.Placed.Layout.{permission_of}
 use Rattle.cell_world.specs.declared.layout.Class.TheVariants.{Text, Writable}
 use Rattle.cell_world.specs.declared.transfer.Failure.{Failure}
 use Rattle.cell_world.specs.declared.transfer.Routine.{Routine}
-use Rattle.cell_world.specs.Execute.{Seen}
-use Rattle.cell_world.specs.Transfer.{Addresses, Transferred, transferred}
+use Rattle.cell_world.specs.Running.Execute.{Seen}
+use Rattle.cell_world.specs.Running.Transfer.{Addresses, Transferred, transferred}
 use Rattle.cell_laws.specs.Progress.{Progress, Runs, Ended, progress_after}
 use Rattle.cell_world.specs.declared.transfer.Record.{Record}
 

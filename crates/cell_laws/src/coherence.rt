@@ -2,17 +2,17 @@
 
 ghost use Rattle.std.specs.Prelude.{ℕ, ◌≡◌, ◌≤◌, List, All, Some, Ok, Err, length, map, Bool};
 ghost use Rattle.cell_world.specs.Answer.{Done};
-ghost use Rattle.cell_world.specs.Asked.{load_by_change, swap_by_change};
+ghost use Rattle.cell_world.specs.Commands.Asked.{next_load, next_swap};
 ghost use Rattle.cell_world.specs.Coherent.{AreSound, IsCoherent};
 ghost use Rattle.cell_world.specs.Gather.{Source, source_of};
 ghost use Rattle.cell_num.specs.Limits.{max_file_bytes};
 ghost use Rattle.cell_world.specs.Next.{next};
-ghost use Rattle.cell_world.specs.NsCommand.{next_ns};
-ghost use Rattle.cell_world.specs.Pages.{IsSpace};
-ghost use Rattle.cell_world.specs.SpawnCommand.{next_spawn};
-ghost use Rattle.cell_world.specs.TaskCommands.{next_step, next_run, next_kill};
-ghost use Rattle.cell_world.specs.Turn.{turn};
-ghost use Rattle.cell_world.specs.UnloadCommand.{next_purge, next_unload};
+ghost use Rattle.cell_world.specs.Commands.NsCommand.{next_ns};
+ghost use Rattle.cell_world.specs.Placed.Pages.{IsSpace};
+ghost use Rattle.cell_world.specs.Commands.SpawnCommand.{next_spawn};
+ghost use Rattle.cell_world.specs.Commands.TaskCommands.{next_step, next_run, next_kill};
+ghost use Rattle.cell_world.specs.Running.Turn.{turn};
+ghost use Rattle.cell_world.specs.Commands.UnloadCommand.{next_purge, next_unload};
 ghost use Rattle.cell_world.specs.World.{World, empty_world, Task, task_of};
 ghost use Rattle.cell_world.specs.declared.command.CellName.{CellName};
 ghost use Rattle.cell_world.specs.declared.command.Command.{Command};
@@ -40,7 +40,7 @@ pub fn refused_changes_nothing()
 /// objects in the files are sound, which all that are read are (`files_are_sound`).
 pub fn commands_keep_coherent()
     ensures ns { (w : World) (name : List ℕ) (parent : List ℕ) (d : Done) → IsCoherent w → next_ns w name parent ≡ Ok d → IsCoherent d.world }
-    ensures load { (sources : List Source) (w : World) (ns : List ℕ) (stem : List ℕ) (d : Done) → AreSound sources → IsCoherent w → load_by_change sources w ns stem ≡ Ok d → IsCoherent d.world }
+    ensures load { (sources : List Source) (w : World) (ns : List ℕ) (stem : List ℕ) (d : Done) → AreSound sources → IsCoherent w → next_load sources w ns stem ≡ Ok d → IsCoherent d.world }
     ensures spawn { (w : World) (ns : List ℕ) (symbol : List ℕ) (arg : ℕ) (d : Done) → IsCoherent w → next_spawn w ns symbol arg ≡ Ok d → IsCoherent d.world }
     ensures step { (w : World) (task : ℕ) (n : ℕ) (d : Done) → IsCoherent w → next_step w task n ≡ Ok d → IsCoherent d.world }
     ensures run { (w : World) (n : ℕ) (d : Done) → IsCoherent w → next_run w n ≡ Ok d → IsCoherent d.world }
@@ -48,7 +48,7 @@ pub fn commands_keep_coherent()
     ensures unload { (w : World) (names : List CellName) (d : Done) → IsCoherent w → next_unload w names ≡ Ok d → IsCoherent d.world }
     ensures purge { (w : World) (d : Done) → IsCoherent w → next_purge w ≡ Ok d → IsCoherent d.world }
     ensures swap { (sources : List Source) (w : World) (items : List SwapItem) (reexport strict : Bool) (words : List (List ℕ)) (budget : ℕ) (d : Done) → AreSound sources → IsCoherent w →
-        swap_by_change sources w items reexport strict words budget ≡ Ok d → IsCoherent d.world }
+        next_swap sources w items reexport strict words budget ≡ Ok d → IsCoherent d.world }
 {}
 
 /// A turn of a live task keeps the machine coherent.

@@ -3,10 +3,10 @@
 ghost use Rattle.std.specs.Prelude.{◌≡◌, ◌<◌, ◌+◌, All, Some, false, length, slice_range};
 ghost use Rattle.cell_num.specs.Kinds.{width_of};
 ghost use Rattle.cell_world.specs.Coherent.{IsCoherent};
-ghost use Rattle.cell_world.specs.Field.{fields_of, place_of};
-ghost use Rattle.cell_world.specs.Fresh.{fields_in, fresh_bytes, value_bytes};
-ghost use Rattle.cell_world.specs.Memory.{read};
-ghost use Rattle.cell_world.specs.Target.{start_of};
+ghost use Rattle.cell_world.specs.Linked.Field.{fields_of, place_of};
+ghost use Rattle.cell_world.specs.Linked.Fresh.{fields_in, fresh_bytes, value_bytes};
+ghost use Rattle.cell_world.specs.Running.Memory.{read};
+ghost use Rattle.cell_world.specs.Linked.Target.{start_of};
 ghost use Rattle.cell_world.specs.World.{World};
 
 /// Each section that isn't writable holds exactly its fresh bytes from its start on, as long as it has any.

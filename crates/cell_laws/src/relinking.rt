@@ -1,23 +1,14 @@
 //! What linking makes of a machine, and what it writes after new cells have come and others have changed. `AreSound` holds of the sources of all files within the limit (`files_are_sound`).
 
-ghost use Rattle.std.specs.Prelude.{ℕ, ◌≡◌, ◌+◌, List, ◌++◌, All, Some, None, Err, map, length, false};
+ghost use Rattle.std.specs.Prelude.{◌≡◌, ◌+◌, List, ◌++◌, All, map, false};
 ghost use Rattle.cell_num.specs.Lists.{numbered};
-ghost use Rattle.cell_world.specs.Answer.{done, ids, numbers_of};
-ghost use Rattle.cell_world.specs.Changed.{changed_fields, differs, first_changed_misfit, now_in};
-ghost use Rattle.cell_world.specs.Coherent.{AreSound, IsCoherent, IsReady};
-ghost use Rattle.cell_world.specs.Fit.{first_misfit};
-ghost use Rattle.cell_world.specs.Gather.{Source, fresh_cells};
-ghost use Rattle.cell_world.specs.LoadCommand.{field_count, next_load};
-ghost use Rattle.cell_world.specs.Relink.{relink, link_of};
-ghost use Rattle.cell_world.specs.Linking.{link_refusal};
+ghost use Rattle.cell_world.specs.Changed.{differs, now_in};
+ghost use Rattle.cell_world.specs.Coherent.{IsCoherent, IsReady};
+ghost use Rattle.cell_world.specs.Linked.Relink.{relink, link_of};
 ghost use Rattle.cell_world.specs.World.{Cell, World};
-ghost use Rattle.cell_world.specs.declared.refusal.Refusal.{Refusal};
-ghost use Rattle.cell_world.specs.declared.reply.Reply.TheVariants.{Load as LoadDone};
 ghost use Rattle.cell_lemmas.specs.Grown.{HasAttached, IsRegrown, links_from, with_changes};
 ghost use Rattle.cell_lemmas.specs.Firm.{ChangesSoft};
 ghost use Rattle.cell_lemmas.specs.LinkSteps.{IsOneEntry, afters, befores, is_other_link, link_steps};
-ghost use Rattle.cell_lemmas.specs.Linkable.{IsLinkable};
-ghost use Rattle.cell_lemmas.specs.Loading.{HasPlaced};
 ghost use Rattle.cell_lemmas.specs.Targets.{FollowsTargets};
 
 /// Linking makes a ready machine coherent.

@@ -6,7 +6,7 @@ ghost use Rattle.cell_world.specs.Answer.{Done, numbers_of};
 ghost use Rattle.cell_world.specs.Coherent.{AreSound, IsCoherent};
 ghost use Rattle.cell_world.specs.Gather.{Source};
 ghost use Rattle.cell_world.specs.Kept.{Holding, IsKept, holder_in, holding_of, kept_in};
-ghost use Rattle.cell_world.specs.UnloadCommand.{first_held, garbage_of, named_cells, next_purge, next_unload, put_aside, without_cells};
+ghost use Rattle.cell_world.specs.Commands.UnloadCommand.{first_held, garbage_of, named_cells, next_purge, next_unload, put_aside, without_cells};
 ghost use Rattle.cell_world.specs.World.{Cell, World};
 ghost use Rattle.cell_world.specs.declared.command.CellName.{CellName};
 ghost use Rattle.cell_world.specs.declared.command.SwapItem.{SwapItem};

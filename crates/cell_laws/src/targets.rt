@@ -1,36 +1,26 @@
 //! Which targets change: what attaching, detaching and removing cells does to them, and what each command may. `AreSound` holds of the sources of all files within the limit (`files_are_sound`).
 
-ghost use Rattle.std.specs.Prelude.{ℕ, ◌≡◌, ◌<◌, ◌+◌, IsTrue, List, [], Some, None, All, Ok, length, true, false, Bool, not, ◌&&◌, filter, flat_map};
+ghost use Rattle.std.specs.Prelude.{ℕ, ◌≡◌, ◌<◌, IsTrue, List, Some, None, All, Ok, length, false};
 ghost use Rattle.cell_num.specs.Lists.{holds};
 ghost use Rattle.cell_object.specs.declared.object.Entry.{Entry};
-ghost use Rattle.cell_world.specs.Answer.{Done, ids, numbers_of};
-ghost use Rattle.cell_world.specs.Changed.{changed_fields, changed_in, differs, first_changed_misfit, now_in};
+ghost use Rattle.cell_world.specs.Answer.{Done};
 ghost use Rattle.cell_world.specs.Coherent.{AreSound, IsCoherent};
-ghost use Rattle.cell_world.specs.Fit.{first_misfit};
-ghost use Rattle.cell_world.specs.Gather.{Source, fresh_cells};
-ghost use Rattle.cell_world.specs.Linking.{link_refusal};
-ghost use Rattle.cell_world.specs.LoadCommand.{field_count, next_load};
+ghost use Rattle.cell_world.specs.Gather.{Source};
 ghost use Rattle.cell_world.specs.Names.{chain, provider_for, provider_of, strong_provider};
 ghost use Rattle.cell_world.specs.Next.{outcome_of};
-ghost use Rattle.cell_world.specs.NsCommand.{next_ns};
-ghost use Rattle.cell_world.specs.SwapCommand.{Plan, Wanted, all_wanted, old_numbers, plan_swap};
-ghost use Rattle.cell_world.specs.Target.{target_of};
-ghost use Rattle.cell_world.specs.UnloadCommand.{next_purge, next_unload, put_aside, detach};
+ghost use Rattle.cell_world.specs.Commands.NsCommand.{next_ns};
+ghost use Rattle.cell_world.specs.Linked.Target.{target_of};
+ghost use Rattle.cell_world.specs.Commands.UnloadCommand.{next_purge, next_unload, put_aside, detach};
 ghost use Rattle.cell_world.specs.World.{Cell, Standing, World, is_attached};
 ghost use Rattle.cell_world.specs.declared.state.Target.{Target};
 ghost use Rattle.cell_world.specs.declared.command.CellName.{CellName};
 ghost use Rattle.cell_world.specs.declared.command.Command.{Command};
-ghost use Rattle.cell_world.specs.declared.command.SwapItem.{SwapItem};
-ghost use Rattle.cell_world.specs.declared.reply.Reply.TheVariants.{Load as LoadDone};
 ghost use Rattle.cell_lemmas.specs.Grown.{HasAttached};
 ghost use Rattle.cell_lemmas.specs.Named.{IsNamed, IsNewGroup};
 ghost use Rattle.cell_lemmas.specs.Left.{LeavesTargets};
-ghost use Rattle.cell_lemmas.specs.Loading.{HasPlaced};
-ghost use Rattle.cell_lemmas.specs.Swapping.{HasSwapPlaced, HasSwapped};
-ghost use Rattle.cell_lemmas.specs.Targets.{FollowsTargets, is_target_in};
-ghost use Rattle.cell_lemmas.specs.Firm.{ChangesSoft, firm_target, weak_target};
+ghost use Rattle.cell_lemmas.specs.Targets.{is_target_in};
+ghost use Rattle.cell_lemmas.specs.Firm.{firm_target, weak_target};
 ghost use Rattle.cell_object.specs.Parts.{has_no_weak};
-ghost use Rattle.cell_lemmas.specs.Touched.{is_affected, swap_comers, touched};
 ghost use Rattle.cell_laws.specs.Commands.{BringsNoCells};
 ghost use Rattle.cell_laws.specs.KeepsTargets.{KeepsTargets};
 

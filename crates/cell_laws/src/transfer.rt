@@ -4,18 +4,21 @@ ghost use Rattle.std.specs.Prelude.{ℕ, ◌≡◌, List, Option, None, Some, Ok
 ghost use Rattle.cell_num.specs.declared.ids.Cause.TheVariants.{Call};
 ghost use Rattle.cell_num.specs.declared.ids.Why.TheVariants.{Budget, Returned, Trap};
 ghost use Rattle.cell_world.specs.Coherent.{IsCoherent};
-ghost use Rattle.cell_world.specs.Execute.{Seen, seen_in};
-ghost use Rattle.cell_world.specs.Move.{move};
-ghost use Rattle.cell_world.specs.Place.{start_of_run};
+ghost use Rattle.cell_world.specs.Running.Execute.{Seen, seen_in};
+ghost use Rattle.cell_world.specs.Running.Move.{move};
+ghost use Rattle.cell_world.specs.Placed.Place.{start_of_run};
 ghost use Rattle.cell_world.specs.declared.transfer.Routine.{Routine};
-ghost use Rattle.cell_world.specs.Transfer.{Addresses, Transferred, after_turns, routine_column, transfer, transferred};
-ghost use Rattle.cell_world.specs.Undo.{undone};
+ghost use Rattle.cell_world.specs.Running.Transfer.{Addresses, Transferred, after_turns, routine_column, transfer, transferred};
+ghost use Rattle.cell_world.specs.Running.Undo.{undone};
 ghost use Rattle.cell_world.specs.World.{World};
 ghost use Rattle.cell_lemmas.specs.Kept.{KeepsFields, KeepsReadOnly, KeepsSealed, KeepsShapes};
 ghost use Rattle.cell_laws.specs.Progress.{Ended, Running, Runs, cut_off, progress_after};
 ghost use Rattle.cell_laws.specs.Worked.{asking, displaced, failed, holding, pc_after, stores, storing};
 
-/// The turns of a transfer one by one. Each is the move of the hart at which the transfer stands, over the memory then: the hart of a routine begins at its entry with the registers of a spawn and goes on as its move leaves it, and where a routine ends with the code 0 the next one begins. A budget of n turns comes to what the first n of them leave; where they run out in a routine, the turn n + 1 is the move of that hart.
+/// The turns of a transfer one by one. Each is the move of the hart at which the transfer stands, over the memory
+/// then: the hart of a routine begins at its entry with the registers of a spawn and goes on as its move leaves it,
+/// and where a routine ends with the code 0 the next one begins. A budget of n turns comes to what the first n of
+/// them leave; where they run out in a routine, the turn n + 1 is the move of that hart.
 pub fn transfer_turn_by_turn()
     ensures is { (n : ℕ) (addresses : Addresses) (m : Seen) (stack : ℕ) (routines : List Routine) → transferred n addresses m stack routines ≡ cut_off (progress_after n addresses m stack routines) }
     ensures out { (n : ℕ) (addresses : Addresses) (m : Seen) (stack : ℕ) (routines : List Routine) (name : ℕ) → (transferred n addresses m stack routines).failure ≡ Some (record { routine = name; why = Budget }) →

@@ -3,10 +3,10 @@
 ghost use Rattle.std.specs.Prelude.{ℕ, ◌≡◌, Some, Ok};
 ghost use Rattle.cell_world.specs.Answer.{Done};
 ghost use Rattle.cell_world.specs.Coherent.{IsCoherent};
-ghost use Rattle.cell_world.specs.Execute.{Seen, seen_in};
-ghost use Rattle.cell_world.specs.Move.{Hart, Column, move};
-ghost use Rattle.cell_world.specs.TaskCommands.{next_step, next_run, next_kill};
-ghost use Rattle.cell_world.specs.Turn.{turn};
+ghost use Rattle.cell_world.specs.Running.Execute.{Seen, seen_in};
+ghost use Rattle.cell_world.specs.Running.Move.{Hart, Column, move};
+ghost use Rattle.cell_world.specs.Commands.TaskCommands.{next_step, next_run, next_kill};
+ghost use Rattle.cell_world.specs.Running.Turn.{turn};
 ghost use Rattle.cell_world.specs.World.{World, Task, task_of};
 ghost use Rattle.cell_lemmas.specs.Kept.{IsMemory, KeepsCells, KeepsFields, KeepsReadOnly, KeepsSealed, KeepsShapes, other_tasks, regions_left};
 

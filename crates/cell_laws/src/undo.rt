@@ -3,10 +3,10 @@
 ghost use Rattle.std.specs.Prelude.{ℕ, ◌≡◌, ◌<◌, IsTrue, List, ◌++◌, All, length, [], ◌∷◌};
 ghost use Rattle.cell_num.specs.Lists.{each_pair, In};
 ghost use Rattle.cell_world.specs.Coherent.{ends_before};
-ghost use Rattle.cell_world.specs.Place.{with_region};
-ghost use Rattle.cell_world.specs.Turn.{without_region};
+ghost use Rattle.cell_world.specs.Placed.Place.{with_region};
+ghost use Rattle.cell_world.specs.Running.Turn.{without_region};
 ghost use Rattle.cell_world.specs.declared.transfer.Record.{Record};
-ghost use Rattle.cell_world.specs.Undo.{AreBytes, ArePuts, IsPut, Write, journal_of, put_back, put_in, puts, record_of, undone};
+ghost use Rattle.cell_world.specs.Running.Undo.{AreBytes, ArePuts, IsPut, Write, journal_of, put_back, put_in, puts, record_of, undone};
 ghost use Rattle.cell_world.specs.World.{Region};
 ghost use Rattle.cell_lemmas.specs.Kept.{KeepsShapes};
 ghost use Rattle.cell_lemmas.specs.Undo.{GivesBack};

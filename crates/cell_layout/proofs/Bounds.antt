@@ -7,7 +7,7 @@ use Rattle.std.proofs.lemmas.Bool.Decides.{nat_tests}
 use Rattle.cell_object.specs.declared.object.Section.{Section as ObjectSection}
 use Rattle.cell_object.specs.Sound.{is_sound_section, is_zero}
 use Rattle.cell_num.specs.Lists.{upto}
-use Rattle.cell_world.specs.Layout.{gap, laid_end_from}
+use Rattle.cell_world.specs.Placed.Layout.{gap, laid_end_from}
 
 -- the parts of a sound section that count here
 parts : (a b c d : Bool) → (a && b && c && d) ≡ true → (b ≡ true) × (c ≡ true)

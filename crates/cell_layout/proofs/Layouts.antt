@@ -10,12 +10,12 @@ use Rattle.cell_num.specs.Lists.{each_pair, In}
 use Rattle.cell_object.specs.declared.object.Section.{Section as ObjectSection}
 use Rattle.cell_object.specs.Sound.{is_sound_section}
 use Rattle.cell_world.specs.declared.state.SecPlace.{SecPlace}
-use Rattle.cell_world.specs.Layout.{is_in_class, gap, class_of, offset_in, laid_end, laid_end_from}
+use Rattle.cell_world.specs.Placed.Layout.{is_in_class, gap, class_of, offset_in, laid_end, laid_end_from}
 use Rattle.cell_world.specs.declared.layout.Class.TheVariants.{Text, ReadOnly, Writable}
 use Rattle.cell_world.specs.declared.layout.Class.{Class}
 use Rattle.cell_num.proofs.Elements.{all-In, In-filtered, In-right}
 use Rattle.cell_num.proofs.Sublists.{all-filter}
-use Rattle.cell_lemmas.proofs.LoadOffsets.{running_offset}
+use Rattle.cell_lemmas.proofs.Placement.LoadOffsets.{running_offset}
 use Rattle.cell_layout.specs.declared.layout.Ends.{Ends}
 use Rattle.cell_layout.specs.Layout.{in_class, end_for, with_end, end_of, AreEnds, AreSmall, next_in, offset_among, offset_place}
 use Rattle.cell_layout.proofs.Bounds.{laid_small, gap_small, size_small, filter_shorter}

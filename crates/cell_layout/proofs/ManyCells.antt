@@ -12,12 +12,12 @@ use Rattle.cell_world.specs.declared.state.SecPlace.{SecPlace}
 use Rattle.cell_world.specs.World.{Region}
 use Rattle.cell_world.specs.Outcome.{Outcome, ◌>>=◌}
 use Rattle.cell_world.specs.declared.layout.Starts.{Starts}
-use Rattle.cell_world.specs.Layout.{places_in}
+use Rattle.cell_world.specs.Placed.Layout.{places_in}
 use Rattle.cell_num.specs.Lists.{In}
 use Rattle.cell_num.proofs.Elements.{All-In, In-right}
 use Rattle.cell_lemmas.specs.Loads.{AllTaken, ManyTaken, take_runs, take_all, all_regions, regions_at}
 use Rattle.cell_lemmas.proofs.Binds.{bind_err}
-use Rattle.cell_lemmas.proofs.Placing.{all_append}
+use Rattle.cell_lemmas.proofs.Placement.Placing.{all_append}
 use Rattle.cell_place.specs.Space.{SpaceState}
 use Rattle.cell_layout.specs.declared.placements.Placements.{Placements}
 use Rattle.cell_layout.specs.declared.placement.Placement.{Placement}

@@ -6,7 +6,7 @@ use Rattle.cell_object.specs.declared.object.Object.{Object}
 use Rattle.cell_object.specs.declared.object.Section.{Section as ObjectSection}
 use Rattle.cell_object.specs.Sound.{IsSoundObject, is_sound_section}
 use Rattle.cell_world.specs.Outcome.{Outcome, ◌>>=◌}
-use Rattle.cell_world.specs.Layout.{is_in_class, sections_in, place_in, start_in, class_of, laid_end, run_size}
+use Rattle.cell_world.specs.Placed.Layout.{is_in_class, sections_in, place_in, start_in, class_of, laid_end, run_size}
 use Rattle.cell_world.specs.declared.layout.Class.TheVariants.{Text, ReadOnly, Writable}
 use Rattle.cell_world.specs.declared.layout.Class.{Class}
 use Rattle.cell_world.specs.declared.layout.Starts.{Starts}
@@ -15,7 +15,7 @@ use Rattle.cell_lemmas.specs.Loads.{Taken, AllTaken, take_run, take_for, take_cl
 use Rattle.cell_lemmas.proofs.Binds.{bind_same}
 use Rattle.cell_num.proofs.Sublists.{all-filter, pairs-filter}
 use Rattle.cell_num.proofs.Elements.{filter-In}
-use Rattle.cell_lemmas.proofs.LoadOffsets.{run_rounded, run_within}
+use Rattle.cell_lemmas.proofs.Placement.LoadOffsets.{run_rounded, run_within}
 use Rattle.cell_layout.specs.declared.layout.Ends.{Ends}
 use Rattle.cell_layout.specs.Layout.{in_class, end_for, end_of, AreEnds, AreSmall}
 use Rattle.cell_layout.specs.Placing.{taken_by, all_taken_by}

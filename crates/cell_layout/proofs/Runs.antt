@@ -4,7 +4,7 @@ use Rattle.std.specs.Prelude.{filter}
 use Rattle.std.specs.List.{list_any}
 use Rattle.cell_object.specs.declared.object.Section.{Section as ObjectSection}
 use Rattle.cell_world.specs.World.{Region, Permission}
-use Rattle.cell_world.specs.Layout.{is_in_class, image_of, permission_of}
+use Rattle.cell_world.specs.Placed.Layout.{is_in_class, image_of, permission_of}
 use Rattle.cell_world.specs.declared.layout.Class.{Class}
 use Rattle.cell_num.specs.Lists.{In}
 use Rattle.cell_lemmas.specs.Loads.{run_region}

@@ -2,7 +2,7 @@
 use Rattle.std.specs.Prelude.{ℕ, ◌+◌, ◌≡◌, ◌<◌, ◌^◌, List, [], ◌∷◌, Option, Some, None, filter, map, unwrap_or}
 use Rattle.cell_object.specs.declared.object.Section.{Section as ObjectSection}
 use Rattle.cell_world.specs.declared.state.SecPlace.{SecPlace}
-use Rattle.cell_world.specs.Layout.{is_in_class, gap, class_of, offset_in, laid_end}
+use Rattle.cell_world.specs.Placed.Layout.{is_in_class, gap, class_of, offset_in, laid_end}
 use Rattle.cell_world.specs.declared.layout.Class.TheVariants.{Text, ReadOnly, Writable}
 use Rattle.cell_world.specs.declared.layout.Class.{Class}
 use Rattle.cell_layout.specs.declared.layout.Ends.{Ends}

@@ -10,7 +10,7 @@ use Rattle.cell_world.specs.declared.state.NewCell.{NewCell}
 use Rattle.cell_world.specs.declared.state.SecPlace.{SecPlace}
 use Rattle.cell_world.specs.declared.layout.Starts.{Starts}
 use Rattle.cell_world.specs.Outcome.{Outcome, ◌>>=◌}
-use Rattle.cell_world.specs.Layout.{places_in}
+use Rattle.cell_world.specs.Placed.Layout.{places_in}
 use Rattle.cell_lemmas.specs.Loads.{take_all, all_regions}
 use Rattle.cell_place.specs.Space.{SpaceState}
 use Rattle.cell_layout.specs.declared.cells.TakenRuns.{TakenRuns}

@@ -10,7 +10,7 @@ use Rattle.cell_num.specs.Pages.{rounded_to_page}
 use Rattle.cell_object.specs.declared.object.Object.{Object}
 use Rattle.cell_world.specs.declared.refusal.Refusal.TheVariants.{Exhausted}
 use Rattle.cell_world.specs.Outcome.{Outcome, ◌>>=◌}
-use Rattle.cell_world.specs.Layout.{places_in}
+use Rattle.cell_world.specs.Placed.Layout.{places_in}
 use Rattle.cell_lemmas.specs.Loads.{Taken, AllTaken, take_run, take_runs, regions_at}
 use Rattle.cell_place.specs.Space.{SpaceState}
 use Rattle.cell_place.specs.declared.search.NoRun.{NoRun}

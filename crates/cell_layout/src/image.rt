@@ -1,7 +1,7 @@
 //! What the pages of a class hold before its fields are written.
 
 ghost use Rattle.std.specs.Prelude.{◌≡◌, ◌++◌, ◌<◌, ◌≤◌, ◌^◌, ◌+◌, OnOk, IfOk, [], replicate, length};
-ghost use Rattle.cell_world.specs.Layout.{gap as gap_of, own_bytes, laid_out, to_pages, image_of};
+ghost use Rattle.cell_world.specs.Placed.Layout.{gap as gap_of, own_bytes, laid_out, to_pages, image_of};
 ghost use Rattle.cell_layout.specs.Layout.{in_class};
 
 use cell_num::PAGE_SIZE;

@@ -4,7 +4,7 @@ ghost use Rattle.std.specs.Prelude.{◌≡◌, ◌+◌, ◌≤◌, ◌<◌, ◌^
 ghost use Rattle.std.specs.List.{list_all};
 ghost use Rattle.cell_num.specs.Lists.{each_pair};
 ghost use Rattle.cell_object.specs.Sound.{is_sound_section};
-ghost use Rattle.cell_world.specs.Layout.{class_of as class};
+ghost use Rattle.cell_world.specs.Placed.Layout.{class_of as class};
 ghost use Rattle.cell_layout.specs.Layout.{end_for, with_end, next_in, AreEnds, AreSmall, offsets_of};
 
 use crate::image::gap;

@@ -2,7 +2,7 @@
 
 ghost use Rattle.std.specs.Prelude.{◌≡◌, ◌<◌, ◌^◌, IfOk};
 ghost use Rattle.cell_object.specs.declared.object.Section.{Section as SomeSection};
-ghost use Rattle.cell_world.specs.Layout.{places_in, place_in};
+ghost use Rattle.cell_world.specs.Placed.Layout.{places_in, place_in};
 ghost use Rattle.cell_num.specs.Lists.{In};
 ghost use Rattle.cell_layout.specs.Layout.{offset_place, offsets_of};
 

@@ -2,7 +2,7 @@
 
 ghost use Rattle.std.specs.Prelude.{◌≡◌, ◌++◌, OnOk, IfOk};
 ghost use Rattle.std.specs.List.{list_any};
-ghost use Rattle.cell_world.specs.Layout.{is_in_class};
+ghost use Rattle.cell_world.specs.Placed.Layout.{is_in_class};
 ghost use Rattle.cell_lemmas.specs.Loads.{run_region, regions_at};
 ghost use Rattle.cell_layout.specs.Layout.{in_class};
 

@@ -9,12 +9,6 @@ bind_is a f x r e h = ap (λ o. o >>= f) e ∙ h
 pub bind_err : {X Y : Type 0} (a : Outcome X) (f : X → Outcome Y) (r : Refusal) → a ≡ Err r → (a >>= f) ≡ Err r
 bind_err a f r e = ap (λ o. o >>= f) e
 
-pub then_is : {X Y : Type 0} (a : Outcome X) (next r : Outcome Y) (x : X) → a ≡ Ok x → next ≡ r → (a >> next) ≡ r
-then_is a next r x e h = ap (λ o. o >> next) e ∙ h
-
-pub then_err : {X Y : Type 0} (a : Outcome X) (next : Outcome Y) (r : Refusal) → a ≡ Err r → (a >> next) ≡ Err r
-then_err a next r e = ap (λ o. o >> next) e
-
 -- first a function of the value, and then the rest
 pub bind_map : {X Y Z : Type 0} (a : Outcome X) (g : X → Y) (f : Y → Outcome Z) → ((a >>= (λ x. Ok (g x))) >>= f) ≡ (a >>= (λ x. f (g x)))
 bind_map (Ok x) g f = refl

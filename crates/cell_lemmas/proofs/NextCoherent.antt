@@ -4,16 +4,16 @@ use Rattle.std.specs.Prelude.{decimal}
 use Rattle.cell_object.specs.Parts.{section_of}
 use Rattle.cell_world.specs.declared.refusal.Refusal.TheVariants.{Unknown}
 use Rattle.cell_world.specs.World.{World, empty_world}
-use Rattle.cell_world.specs.Pages.{IsSpace}
+use Rattle.cell_world.specs.Placed.Pages.{IsSpace}
 use Rattle.cell_world.specs.Outcome.{Outcome, found}
 use Rattle.cell_world.specs.Answer.{Done, present_cell, space_of}
-use Rattle.cell_world.specs.FindCommand.{next_find}
-use Rattle.cell_world.specs.MapCommand.{next_map}
-use Rattle.cell_world.specs.DumpCommand.{next_dump}
+use Rattle.cell_world.specs.Commands.FindCommand.{next_find}
+use Rattle.cell_world.specs.Commands.MapCommand.{next_map}
+use Rattle.cell_world.specs.Commands.DumpCommand.{next_dump}
 use Rattle.cell_world.specs.Next.{answered_by}
 use Rattle.cell_world.specs.Coherent.{IsReady, IsCoherent}
 use Rattle.cell_lemmas.proofs.Outcomes.{bind_ok}
-use Rattle.cell_lemmas.proofs.Appended.{ok_same}
+use Rattle.cell_lemmas.proofs.Naming.Appended.{ok_same}
 
 pub dump_same : (w : World) (cell section : ℕ) (d : Done) → next_dump w cell section ≡ Ok d → w ≡ d.world
 dump_same w cell section d h =

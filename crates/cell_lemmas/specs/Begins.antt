@@ -3,7 +3,7 @@
 use Rattle.std.specs.Prelude.{ℕ, ◌+◌, ◌%◌, ◌≡◌, ◌≤◌, true}
 use Rattle.cell_object.specs.declared.object.Section.{Section}
 use Rattle.cell_world.specs.World.{Cell}
-use Rattle.cell_world.specs.Target.{start_of}
+use Rattle.cell_world.specs.Linked.Target.{start_of}
 use Rattle.cell_num.specs.Lists.{In}
 
 pub record BeginsIn (c : Cell) (addr : ℕ) : Type 0 where

@@ -13,7 +13,7 @@ use Rattle.cell_world.specs.declared.state.Target.{Target}
 use Rattle.cell_world.specs.declared.state.Target.TheVariants.{Number}
 use Rattle.cell_world.specs.World.{World, Cell}
 use Rattle.cell_world.specs.Names.{Provider, strong_provider, weak_provider}
-use Rattle.cell_world.specs.Target.{own_target, provided_target, naming_entry}
+use Rattle.cell_world.specs.Linked.Target.{own_target, provided_target, naming_entry}
 use Rattle.cell_world.specs.Changed.{differs}
 
 abbrev pub strong_given : World → Cell → Symbol → Option Target

@@ -4,15 +4,14 @@
 --     HasAttached v w new        w has the cells of v as they were, and then the new ones, which are attached
 --     patch_at w f               what linking writes at the field
 --     with_changes v w new r     the region with the fields that change and those of the new cells written
---     with_fields w new r        the region with the fields of the new cells written
 --     links_from w new           one link for each entry of the new cells whose target is a section
 use Rattle.std.specs.Prelude.{ℕ, ◌≡◌, ◌⊎◌, IsTrue, List, ◌++◌, Some, All, filter_map, flat_map, fold, map}
 use Rattle.std.specs.List.{list_all}
 use Rattle.cell_num.specs.Lists.{In, numbered}
 use Rattle.cell_world.specs.declared.state.LinkRow.{LinkRow}
 use Rattle.cell_world.specs.World.{World, Cell, Region, is_attached}
-use Rattle.cell_world.specs.Relink.{Patch, bound_entries, class_start, patch_of, patched, patches_of, link_of}
-use Rattle.cell_world.specs.Layout.{permission_of, sections_in, image_of}
+use Rattle.cell_world.specs.Linked.Relink.{Patch, bound_entries, class_start, patch_of, patched, patches_of, link_of}
+use Rattle.cell_world.specs.Placed.Layout.{permission_of, sections_in, image_of}
 use Rattle.cell_world.specs.declared.layout.Class.{Class}
 use Rattle.cell_world.specs.Changed.{FieldAt, changed_fields, now_in}
 
@@ -44,9 +43,6 @@ patch_at w f = patch_of f.cell (bound_entries w f.cell) f.field
 
 abbrev pub with_changes : World → World → List Cell → Region → Region
 with_changes v w new r = fold patched r (map (patch_at w) (changed_fields v w) ++ flat_map (patches_of w) new)
-
-abbrev pub with_fields : World → List Cell → Region → Region
-with_fields w new r = fold patched r (flat_map (patches_of w) new)
 
 abbrev pub links_from : World → List Cell → List LinkRow
 links_from w new = flat_map (λ c. filter_map (link_of w c) (numbered c.object.entries)) new

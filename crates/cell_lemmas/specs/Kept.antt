@@ -12,11 +12,11 @@ use Rattle.cell_num.specs.Lists.{each_pair, In}
 use Rattle.cell_world.specs.declared.reply.TaskState.{TaskState}
 use Rattle.cell_world.specs.declared.reply.TaskState.TheVariants.{Ready, Done, Fault as Faulted}
 use Rattle.cell_world.specs.World.{World, Region, Task}
-use Rattle.cell_world.specs.Memory.{read, read_in}
-use Rattle.cell_world.specs.Field.{place_of, fields_of}
+use Rattle.cell_world.specs.Running.Memory.{read, read_in}
+use Rattle.cell_world.specs.Linked.Field.{place_of, fields_of}
 use Rattle.cell_world.specs.Coherent.{shape_of, ends_before}
-use Rattle.cell_world.specs.Execute.{Seen}
-use Rattle.cell_world.specs.Turn.{without_region}
+use Rattle.cell_world.specs.Running.Execute.{Seen}
+use Rattle.cell_world.specs.Running.Turn.{without_region}
 
 -- w with the regions and tasks of v is v: cells, links, namespaces, space and numbers are the same
 abbrev pub KeepsCells : World → World → Type 0

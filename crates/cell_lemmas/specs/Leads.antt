@@ -6,7 +6,7 @@ use Rattle.cell_object.specs.declared.object.Entry.{Entry}
 use Rattle.cell_world.specs.declared.state.Target.{Target}
 use Rattle.cell_world.specs.declared.state.Target.TheVariants.{Section, Number}
 use Rattle.cell_world.specs.World.{World, Cell}
-use Rattle.cell_world.specs.Target.{target_of}
+use Rattle.cell_world.specs.Linked.Target.{target_of}
 use Rattle.cell_world.specs.Changed.{now_in}
 
 abbrev pub cell_in : Option Target → Option ℕ

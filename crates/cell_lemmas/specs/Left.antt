@@ -8,11 +8,11 @@ use Rattle.std.specs.Prelude.{suc, ◌≡◌, ◌==◌, false, List, All, map}
 use Rattle.cell_num.specs.Kinds.{width_of}
 use Rattle.cell_world.specs.World.{World, Cell, is_attached}
 use Rattle.cell_world.specs.Answer.{numbers_of}
-use Rattle.cell_world.specs.Field.{fields_of, place_of}
+use Rattle.cell_world.specs.Linked.Field.{fields_of, place_of}
 use Rattle.cell_world.specs.Kept.{IsKept, holding_of, claim_of, is_claimed_by, has_link_to, has_word_in, writable_words}
-use Rattle.cell_world.specs.Memory.{read}
-use Rattle.cell_world.specs.Target.{target_of}
-use Rattle.cell_world.specs.UnloadCommand.{detach}
+use Rattle.cell_world.specs.Running.Memory.{read}
+use Rattle.cell_world.specs.Linked.Target.{target_of}
+use Rattle.cell_world.specs.Commands.UnloadCommand.{detach}
 
 -- w with the cells put aside, as `unload` looks at it
 abbrev pub with_aside : World → List Cell → World

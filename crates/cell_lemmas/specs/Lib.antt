@@ -3,7 +3,6 @@ pub mod Present
 pub mod Linkable
 pub mod Named
 pub mod Grown
-pub mod Loading
 pub mod Loads
 pub mod Kept
 pub mod Undo
@@ -11,7 +10,6 @@ pub mod Left
 pub mod Targets
 pub mod Firm
 pub mod Touched
-pub mod Swapping
 pub mod Moved
 pub mod LinkSteps
 pub mod Begins

@@ -9,7 +9,7 @@ use Rattle.std.specs.Prelude.{Bool, true, false, ◌≡◌, not, List, Option, S
 use Rattle.cell_num.specs.Lists.{numbered, where_true}
 use Rattle.cell_world.specs.declared.state.LinkRow.{LinkRow}
 use Rattle.cell_world.specs.World.{World, Cell}
-use Rattle.cell_world.specs.Relink.{link_of}
+use Rattle.cell_world.specs.Linked.Relink.{link_of}
 use Rattle.cell_world.specs.Changed.{is_same_key, now_in}
 
 pub record LinkStep : Type 0 where

@@ -3,21 +3,18 @@
 --     regions_at starts object      the classes' regions there
 --     take_all base table objects   where the classes of each object start, one object after another
 --     placed_after starts w cells   the machine with the cells in their places
---     gathered_by sources w ns stem the machine with the cells that a load brings, not placed yet
 use Rattle.std.specs.Prelude.{ℕ, ◌+◌, ◌*◌, ◌/◌, Bool, true, List, [], ◌∷◌, ◌++◌, Some, None, Ok, Err, length, map}
 use Rattle.cell_num.specs.Limits.{page_size}
 use Rattle.cell_object.specs.declared.object.Object.{Object}
 use Rattle.cell_object.specs.declared.object.Section.{Section as ObjectSection}
 use Rattle.cell_world.specs.declared.refusal.Refusal.TheVariants.{Exhausted}
 use Rattle.cell_world.specs.World.{World, Cell, Region}
-use Rattle.cell_world.specs.Layout.{sections_in, image_of, permission_of, places_in, run_size}
+use Rattle.cell_world.specs.Placed.Layout.{sections_in, image_of, permission_of, places_in, run_size}
 use Rattle.cell_world.specs.declared.layout.Starts.{Starts}
 use Rattle.cell_world.specs.declared.layout.Class.TheVariants.{Text, ReadOnly, Writable}
 use Rattle.cell_world.specs.declared.layout.Class.{Class}
-use Rattle.cell_world.specs.Pages.{lowest_run, longest_run, filled}
-use Rattle.cell_world.specs.Place.{with_region}
-use Rattle.cell_world.specs.Gather.{Source, bring}
-use Rattle.cell_world.specs.LoadCommand.{append_named}
+use Rattle.cell_world.specs.Placed.Pages.{lowest_run, longest_run, filled}
+use Rattle.cell_world.specs.Placed.Place.{with_region}
 use Rattle.cell_world.specs.Outcome.{Outcome, ◌>>=◌}
 
 -- where a run starts, and the page table with it
@@ -123,6 +120,3 @@ placed_after starts w cells =
       next_cell = w.next_cell + length cells;
       regions = with_all starts (objects_of cells) w.regions;
     }
-
-abbrev pub gathered_by : List Source → World → List ℕ → List ℕ → Outcome World
-gathered_by sources w ns stem = append_named sources w ns stem >>= (λ appended. bring sources w.next_cell appended)

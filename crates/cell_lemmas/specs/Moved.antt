@@ -7,7 +7,7 @@ use Rattle.cell_world.specs.declared.state.LinkRow.{LinkRow}
 use Rattle.cell_world.specs.declared.state.Target.{Target}
 use Rattle.cell_world.specs.declared.state.Target.TheVariants.{Section, Number}
 use Rattle.cell_world.specs.World.{World, Cell, cell_of}
-use Rattle.cell_world.specs.Target.{target_of}
+use Rattle.cell_world.specs.Linked.Target.{target_of}
 
 abbrev pub entry_at : World → LinkRow → Option (Cell × Entry)
 entry_at w l = option_and_then (λ c. option_map (λ e. (c, e)) (slice_get c.object.entries l.entry)) (cell_of w l.user.cell.0)

@@ -14,8 +14,8 @@ use Rattle.cell_world.specs.declared.state.LinkRow.{LinkRow}
 use Rattle.cell_world.specs.declared.state.Target.{Target}
 use Rattle.cell_world.specs.declared.state.Target.TheVariants.{Section, Number}
 use Rattle.cell_world.specs.World.{World, Cell, Region, cell_of}
-use Rattle.cell_world.specs.Memory.{end_of, region_at}
-use Rattle.cell_world.specs.Target.{start_of, target_of}
+use Rattle.cell_world.specs.Running.Memory.{end_of, region_at}
+use Rattle.cell_world.specs.Linked.Target.{start_of, target_of}
 
 pub record IsInside (w : World) (addr n : ℕ) : Type 0 where
   pub region : Region

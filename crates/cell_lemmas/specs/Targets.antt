@@ -11,8 +11,8 @@ use Rattle.cell_object.specs.declared.object.Entry.{Entry}
 use Rattle.cell_world.specs.declared.state.Target.{Target}
 use Rattle.cell_world.specs.declared.state.Target.TheVariants.{Section, Number}
 use Rattle.cell_world.specs.World.{World, Cell}
-use Rattle.cell_world.specs.Target.{target_of}
-use Rattle.cell_world.specs.Field.{is_at, fields_of}
+use Rattle.cell_world.specs.Linked.Target.{target_of}
+use Rattle.cell_world.specs.Linked.Field.{is_at, fields_of}
 use Rattle.cell_world.specs.Changed.{FieldAt, now_in, differs}
 
 abbrev pub is_target_in : List ℕ → Option Target → Bool

@@ -12,7 +12,7 @@ use Rattle.cell_object.specs.Parts.{has_no_weak}
 use Rattle.cell_world.specs.World.{World, Cell}
 use Rattle.cell_world.specs.Answer.{numbers_of}
 use Rattle.cell_world.specs.Names.{symbol_named, weak_symbol_named, weak_definitions_of}
-use Rattle.cell_world.specs.Relink.{link_of}
+use Rattle.cell_world.specs.Linked.Relink.{link_of}
 
 abbrev pub holds_name : Cell → List ℕ → Bool
 holds_name c name = is_some (symbol_named c name) || is_some (weak_symbol_named c name)

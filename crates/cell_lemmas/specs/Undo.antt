@@ -2,7 +2,7 @@
 use Rattle.std.specs.Prelude.{All, List, [], ◌∷◌}
 use Rattle.cell_world.specs.World.{Region}
 use Rattle.cell_world.specs.declared.transfer.Record.{Record}
-use Rattle.cell_world.specs.Undo.{put_back_in, undone}
+use Rattle.cell_world.specs.Running.Undo.{put_back_in, undone}
 use Rattle.cell_num.specs.Lists.{In}
 
 -- going back by the records leaves each region of `saved` as it is there

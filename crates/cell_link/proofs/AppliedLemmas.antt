@@ -10,7 +10,7 @@ use Rattle.std.proofs.lemmas.List.Elements.{filter-append}
 use Rattle.cell_num.specs.Bits.{wrap_ℤ}
 use Rattle.cell_reloc.specs.Relocation.{put_in}
 use Rattle.cell_world.specs.declared.state.NewCell.{NewCell}
-use Rattle.cell_world.specs.Field.{Bound, number_of, own_number}
+use Rattle.cell_world.specs.Linked.Field.{Bound, number_of, own_number}
 use Rattle.cell_link.specs.Tables.{spot_cmp}
 use Rattle.cell_link.specs.Applied.{applied, held_among, spot_of, stands_at}
 

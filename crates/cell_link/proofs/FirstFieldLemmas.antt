@@ -8,7 +8,7 @@ use Rattle.std.proofs.lemmas.List.{take_more}
 use Rattle.cell_object.specs.declared.object.Entry.{Entry}
 use Rattle.cell_world.specs.declared.state.NewCell.{NewCell}
 use Rattle.cell_world.specs.declared.state.Target.{Target}
-use Rattle.cell_world.specs.Field.{bound_by, fields_among, is_at}
+use Rattle.cell_world.specs.Linked.Field.{bound_by, fields_among, is_at}
 use Rattle.cell_link.specs.Linked.{bound_in}
 use Rattle.cell_link.specs.Applied.{held_among, spot_of, stands_at}
 

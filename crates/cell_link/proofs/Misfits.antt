@@ -9,8 +9,8 @@ use Rattle.cell_world.specs.declared.refusal.Refusal.{Refusal}
 use Rattle.cell_world.specs.declared.state.NewCell.{NewCell}
 use Rattle.cell_world.specs.declared.state.Target.{Target}
 use Rattle.cell_world.specs.World.{attached}
-use Rattle.cell_world.specs.Field.{Bound, bound_by, fits, misfit_of}
-use Rattle.cell_world.specs.Fit.{overflow_at}
+use Rattle.cell_world.specs.Linked.Field.{Bound, bound_by, fits, misfit_of}
+use Rattle.cell_world.specs.Linked.Fit.{overflow_at}
 use Rattle.cell_link.specs.Linked.{bound_in, first_unfit}
 use Rattle.cell_link.specs.LinksBy.{entry_overflow}
 

@@ -10,8 +10,8 @@ use Rattle.cell_reloc.specs.declared.values.Unfit.{Unfit}
 use Rattle.cell_object.specs.declared.object.Entry.{Entry}
 use Rattle.cell_object.specs.Parts.{label_of}
 use Rattle.cell_world.specs.declared.state.NewCell.{NewCell}
-use Rattle.cell_world.specs.Field.{Bound, bound_high_of, number_at, number_of, place_of}
-use Rattle.cell_world.specs.Target.{address_of}
+use Rattle.cell_world.specs.Linked.Field.{Bound, bound_high_of, number_at, number_of, place_of}
+use Rattle.cell_world.specs.Linked.Target.{address_of}
 use Rattle.cell_link.specs.declared.numbers.Operands.{Operands}
 use Rattle.cell_link.specs.Tables.{is_high_at, operands_of, number_by, IsNumber, IsNumberOf}
 

@@ -6,7 +6,7 @@ use Rattle.std.proofs.lemmas.List.Folds.{find-append}
 use Rattle.cell_object.specs.declared.object.Entry.{Entry}
 use Rattle.cell_world.specs.declared.state.NewCell.{NewCell}
 use Rattle.cell_world.specs.declared.state.Target.{Target}
-use Rattle.cell_world.specs.Field.{Bound}
+use Rattle.cell_world.specs.Linked.Field.{Bound}
 use Rattle.cell_link.specs.Linked.{bound_in}
 use Rattle.cell_link.specs.Tables.{high_among, is_high_at, operands_of}
 use Rattle.cell_link.proofs.BoundLemmas.{bound_more, bound_all}

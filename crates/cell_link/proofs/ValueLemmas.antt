@@ -7,7 +7,7 @@ use Rattle.cell_num.specs.Kinds.{width_of}
 use Rattle.cell_object.specs.declared.object.Entry.{Entry}
 use Rattle.cell_world.specs.declared.state.NewCell.{NewCell}
 use Rattle.cell_world.specs.declared.state.Target.{Target}
-use Rattle.cell_world.specs.Field.{Bound, bound_by, field_value_of, fields_among, fields_of, is_at, own_number, place_of}
+use Rattle.cell_world.specs.Linked.Field.{Bound, bound_by, field_value_of, fields_among, fields_of, is_at, own_number, place_of}
 use Rattle.cell_link.specs.declared.value.FieldValue.{FieldValue}
 use Rattle.cell_link.specs.Linked.{bound_in, field_values, first_unfit, value_at}
 use Rattle.cell_link.specs.Applied.{applied, held_among, spot_of, stands_at}

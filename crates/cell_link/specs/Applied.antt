@@ -14,7 +14,7 @@ use Rattle.cell_reloc.specs.Relocation.{inserted}
 use Rattle.cell_object.specs.declared.object.Entry.{Entry}
 use Rattle.cell_world.specs.declared.state.NewCell.{NewCell}
 use Rattle.cell_world.specs.declared.state.Target.{Target}
-use Rattle.cell_world.specs.Field.{Bound, fits, is_at, number_of, own_number, field_value_of, place_of}
+use Rattle.cell_world.specs.Linked.Field.{Bound, fits, is_at, number_of, own_number, field_value_of, place_of}
 use Rattle.cell_link.specs.declared.fail.LinkFail.{LinkFail}
 use Rattle.cell_link.specs.declared.fail.LinkFail.TheVariants.{Overflow as EntryOverflow, OutOfMemory}
 use Rattle.cell_link.specs.declared.fail.Overflow.{Overflow}

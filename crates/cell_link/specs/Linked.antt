@@ -4,7 +4,7 @@ use Rattle.cell_num.specs.Kinds.{width_of}
 use Rattle.cell_object.specs.declared.object.Entry.{Entry}
 use Rattle.cell_world.specs.declared.state.NewCell.{NewCell}
 use Rattle.cell_world.specs.declared.state.Target.{Target}
-use Rattle.cell_world.specs.Field.{Bound, bound_by, fields_of, field_value_of, fits, is_at, place_of}
+use Rattle.cell_world.specs.Linked.Field.{Bound, bound_by, fields_of, field_value_of, fits, is_at, place_of}
 use Rattle.cell_link.specs.declared.value.FieldValue.{FieldValue}
 use Rattle.cell_link.specs.declared.fail.Overflow.{Overflow as EntryOverflow}
 use Rattle.cell_link.specs.declared.fail.LinkFail.{LinkFail}

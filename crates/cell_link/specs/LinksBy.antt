@@ -10,8 +10,8 @@ use Rattle.cell_world.specs.declared.refusal.Refusal.TheVariants.{Overflow}
 use Rattle.cell_world.specs.declared.state.NewCell.{NewCell}
 use Rattle.cell_world.specs.declared.state.Target.{Target}
 use Rattle.cell_world.specs.World.{attached}
-use Rattle.cell_world.specs.Field.{misfit_of}
-use Rattle.cell_world.specs.Fit.{overflow_at}
+use Rattle.cell_world.specs.Linked.Field.{misfit_of}
+use Rattle.cell_world.specs.Linked.Fit.{overflow_at}
 use Rattle.cell_link.specs.declared.value.FieldValue.{FieldValue}
 use Rattle.cell_link.specs.Linked.{bound_in, field_values}
 

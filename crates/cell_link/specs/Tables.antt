@@ -21,8 +21,8 @@ use Rattle.cell_reloc.specs.declared.values.Unfit.{Unfit}
 use Rattle.cell_object.specs.declared.object.Section.{Section}
 use Rattle.cell_object.specs.declared.object.Entry.{Entry}
 use Rattle.cell_world.specs.declared.state.NewCell.{NewCell}
-use Rattle.cell_world.specs.Field.{Bound, fits, number_of, place_of}
-use Rattle.cell_world.specs.Target.{address_of}
+use Rattle.cell_world.specs.Linked.Field.{Bound, fits, number_of, place_of}
+use Rattle.cell_world.specs.Linked.Target.{address_of}
 use Rattle.cell_link.specs.declared.numbers.Operands.{Operands}
 
 abbrev pub section_among : List Section → ℕ → Option Section

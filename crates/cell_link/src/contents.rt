@@ -5,7 +5,7 @@ ghost use Rattle.std.specs.Ordering.{nat_cmp};
 ghost use Rattle.std.specs.BTreeMap.{get};
 ghost use Rattle.cell_num.specs.Bits.{little};
 ghost use Rattle.cell_object.specs.Parts.{section_of};
-ghost use Rattle.cell_world.specs.Field.{own_number as own};
+ghost use Rattle.cell_world.specs.Linked.Field.{own_number as own};
 ghost use Rattle.cell_link.specs.Tables.{section_among, number_among};
 ghost use Rattle.cell_link.specs.declared.fail.LinkFail.TheVariants.{OutOfMemory};
 

@@ -2,7 +2,7 @@
 
 ghost use Rattle.std.specs.Prelude.{◌≡◌, ◌<◌, ◌++◌, ◌∷◌, [], ◌^◌, ℕ, true, length, cond, map, is_some, unwrap_or, All, IfOk, IfErr, OnOk, None};
 ghost use Rattle.std.specs.BTreeMap.{get};
-ghost use Rattle.cell_world.specs.Field.{fields_of as firsts_of, fits, own_number as own};
+ghost use Rattle.cell_world.specs.Linked.Field.{fields_of as firsts_of, fits, own_number as own};
 ghost use Rattle.cell_link.specs.Linked.{bound_in, first_unfit};
 ghost use Rattle.cell_link.specs.Tables.{spot_cmp};
 ghost use Rattle.cell_link.specs.Applied.{spot_of, IsHeldAfter, IsHeld, IsMisfit, IsFirstMisfit, field_at};

@@ -3,8 +3,8 @@
 ghost use Rattle.std.specs.Prelude.{◌≡◌, ◌<◌, ℕ, length, IfOk, IfErr, OnOk, Option, Some, option_map};
 ghost use Rattle.std.specs.BTreeMap.{get};
 ghost use Rattle.cell_object.specs.Parts.{label_of as label, symbol_at as symbol_with};
-ghost use Rattle.cell_world.specs.Field.{Bound, bound_high_of};
-ghost use Rattle.cell_world.specs.Target.{address_of};
+ghost use Rattle.cell_world.specs.Linked.Field.{Bound, bound_high_of};
+ghost use Rattle.cell_world.specs.Linked.Target.{address_of};
 ghost use Rattle.cell_link.specs.Linked.{bound_in};
 ghost use Rattle.cell_link.specs.Tables.{spot_cmp, operands_of, high_among, IsNumber, IsNumberOf, IsHighs, IsHighInserted};
 ghost use Rattle.cell_link.specs.declared.fail.LinkFail.TheVariants.{OutOfMemory};

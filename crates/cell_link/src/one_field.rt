@@ -3,8 +3,8 @@
 ghost use Rattle.std.specs.Prelude.{◌≡◌, ◌<◌, ◌==◌, ◌&&◌, ◌^◌, ℕ, All, IfSome, find, length, option_map, slice_get};
 ghost use Rattle.cell_num.specs.Kinds.{is_pcrel_hi20 as hi20};
 ghost use Rattle.cell_object.specs.Parts.{section_of};
-ghost use Rattle.cell_world.specs.Field.{bound_high_of, is_at as at, own_number as own, place_of};
-ghost use Rattle.cell_world.specs.Target.{start_of};
+ghost use Rattle.cell_world.specs.Linked.Field.{bound_high_of, is_at as at, own_number as own, place_of};
+ghost use Rattle.cell_world.specs.Linked.Target.{start_of};
 ghost use Rattle.cell_link.specs.Linked.{IsFieldValue, bound_in};
 ghost use Rattle.cell_link.specs.Applied.{IsAppliedAt, IsValueAt};
 ghost use Rattle.cell_link.specs.Tables.{IsNumber, high_among, operands_of};

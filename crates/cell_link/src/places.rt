@@ -3,8 +3,8 @@
 ghost use Rattle.std.specs.Prelude.{◌≡◌, ◌<◌, ◌^◌, ◌+◌, ◌==◌, ℕ, All, IfOk, IfErr, find, option_map};
 ghost use Rattle.std.specs.Ordering.{nat_cmp};
 ghost use Rattle.std.specs.BTreeMap.{get};
-ghost use Rattle.cell_world.specs.Field.{place_of};
-ghost use Rattle.cell_world.specs.Target.{start_of};
+ghost use Rattle.cell_world.specs.Linked.Field.{place_of};
+ghost use Rattle.cell_world.specs.Linked.Target.{start_of};
 ghost use Rattle.cell_link.specs.Tables.{operands_of};
 ghost use Rattle.cell_link.specs.declared.fail.LinkFail.TheVariants.{OutOfMemory};
 

@@ -1,13 +1,12 @@
 -- The machine with the staged cells is sound, and it is what linking comes to.
-use Rattle.std.proofs.Common.{◌≡◌, refl, ◌∙◌, ap, arith, ℕ, ◌+◌, ◌-◌, ◌^◌, ◌≤◌, List, [], ◌∷◌, ◌++◌, length, map, min}
+use Rattle.std.proofs.Common.{◌≡◌, ◌∙◌, ap, arith, ℕ, ◌+◌, ◌-◌, ◌^◌, ◌≤◌, List, ◌++◌, length, map, min}
 use Rattle.std.specs.Prelude.{fold}
 use Rattle.std.proofs.lemmas.List.{length-map}
 use Rattle.cell_world.specs.declared.state.LinkRow.{LinkRow}
 use Rattle.cell_world.specs.World.{World, Region}
-use Rattle.cell_world.specs.Relink.{Patch, patched}
+use Rattle.cell_world.specs.Linked.Relink.{Patch, patched}
 use Rattle.cell_lemmas.specs.Loads.{objects_of}
 use Rattle.cell_mem.specs.State.{MemoryState}
-use Rattle.cell_graph.specs.Moves.{moved}
 use Rattle.cell_link.specs.declared.value.FieldValue.{FieldValue}
 use Rattle.cell_commit.specs.Commit.{all_mapped, patches_from}
 use Rattle.cell_commit.proofs.Mapping.{mapped_base, mapped_maps, mapped_pages, mapped_patches, mapped_regions, mapped_sealed, mapped_undo}
@@ -22,12 +21,8 @@ use Rattle.cell_machine.proofs.StagedAdded.{maps_raised, patches_raised, regions
 use Rattle.cell_machine.proofs.StagedWorld.{W}
 use Rattle.cell_load.specs.Adding.{IsAdded, IsReadyToAdd, memory_with}
 
-pub none_moved : (rows : List LinkRow) → moved rows [] ≡ rows
-none_moved [] = refl
-none_moved (row ∷ rows) = ap (λ (ls : List LinkRow). row ∷ ls) (none_moved rows)
-
-module _ (m n : Machine) (s : Staged) (patches : List FieldValue) (moves rows : List LinkRow) (lead : moved m.graph.rows moves ≡ rows) (changed : List Patch) (are : patches_from patches ≡ changed) (r : IsReadyToAdd m changed rows s)
-    (a : IsAdded m patches moves s (arrivals s.cells.items s.names.items) n) where
+module _ (m n : Machine) (s : Staged) (patches : List FieldValue) (rows : List LinkRow) (changed : List Patch) (are : patches_from patches ≡ changed) (r : IsReadyToAdd m changed rows s)
+    (a : IsAdded m patches rows s (arrivals s.cells.items s.names.items) n) where
   abbrev roomy : MemoryState
   roomy = record m.memory { spare = a.spare }
 
@@ -42,6 +37,7 @@ module _ (m n : Machine) (s : Staged) (patches : List FieldValue) (moves rows : 
   is : IsCommitted m mid rows (arrivals s.cells.items s.names.items) s n
   is = record {
     cells = a.is.cells;
+    soft = a.is.soft;
     next = a.is.next;
     swaps = a.is.swaps;
     namespaces = a.is.namespaces;
@@ -49,7 +45,7 @@ module _ (m n : Machine) (s : Staged) (patches : List FieldValue) (moves rows : 
     space = a.is.space;
     memory = a.is.memory;
     sections = a.is.sections;
-    rows = a.is.rows ∙ ap (λ (ls : List LinkRow). ls ++ s.rows.items) lead;
+    rows = a.is.rows;
     tasks = a.is.tasks;
   }
 

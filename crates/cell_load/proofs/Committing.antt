@@ -12,11 +12,12 @@ use Rattle.cell_world.specs.declared.state.LinkRow.{LinkRow}
 use Rattle.cell_world.specs.declared.state.NewCell.{NewCell}
 use Rattle.cell_world.specs.World.{Alias, World, Cell, Region, Standing, is_attached}
 use Rattle.cell_world.specs.Coherent.{IsLoadable, ends_before, is_in_space, is_known_cell}
-use Rattle.cell_world.specs.Relink.{Patch}
+use Rattle.cell_world.specs.Linked.Relink.{Patch}
 use Rattle.cell_num.proofs.Elements.{all-In, All-In, In-map, In-right}
 use Rattle.cell_lemmas.specs.Loads.{objects_of}
 use Rattle.cell_link.specs.declared.value.FieldValue.{FieldValue}
-use Rattle.cell_graph.specs.Moves.{moved}
+use Rattle.cell_lemmas.specs.LinkSteps.{afters}
+use Rattle.cell_commit.specs.declared.wiring.Rewiring.{Rewiring}
 use Rattle.cell_graph.specs.Order.{Rises, below_link}
 use Rattle.cell_space.specs.declared.cell.SpaceCell.{SpaceCell}
 use Rattle.cell_space.specs.Joined.{placed_of}
@@ -40,8 +41,8 @@ use Rattle.cell_load.specs.declared.prepared.Prepared.{Prepared}
 use Rattle.cell_load.specs.Adding.{CanChange, HasRoomFor, IsCommittable, IsPrepared, IsReadyToAdd}
 use Rattle.cell_load.proofs.Ready.{change_same, ready_same}
 
-module _ (m : Machine) (s : Staged) (p : Prepared) (patches : List FieldValue) (moves : List LinkRow) (changed : List Patch) (r : IsReadyToAdd m changed (moved m.graph.rows moves) s) (prepared : IsPrepared s.cells.items s.names.items p) (room : HasRoomFor m s p)
-    (change : CanChange m s patches moves) where
+module _ (m : Machine) (s : Staged) (p : Prepared) (patches : List FieldValue) (links : Rewiring) (change : CanChange m s patches links) (changed : List Patch) (r : IsReadyToAdd m changed (afters change.steps) s) (prepared : IsPrepared s.cells.items s.names.items p)
+    (room : HasRoomFor m s p (length links.binds.items)) where
   abbrev u : World
   u = world_of m
 
@@ -119,15 +120,15 @@ module _ (m : Machine) (s : Staged) (p : Prepared) (patches : List FieldValue) (
   all_keys : keys_of (m.cells.items ++ s.cells.items) ≡ m.graph.sections ++ keys_of s.cells.items
   all_keys = flat_map-append section_keys m.cells.items s.cells.items ∙ ap (λ (keys : List SecKey). keys ++ keys_of s.cells.items) (sym r.parts.sections)
 
-  rows_are : r.after.links ≡ moved m.graph.rows moves ++ s.rows.items
-  rows_are = ap (λ (w : World). w.links) r.comes.is ∙ ap (λ (rows : List LinkRow). moved m.graph.rows moves ++ rows) (sym st.rows)
+  rows_are : r.after.links ≡ afters change.steps ++ s.rows.items
+  rows_are = ap (λ (w : World). w.links) r.comes.is ∙ ap (λ (rows : List LinkRow). afters change.steps ++ rows) (sym st.rows)
 
   all_present : All (λ (x : LinkRow). Contains (m.graph.sections ++ keys_of s.cells.items) x.user × Contains (m.graph.sections ++ keys_of s.cells.items) x.target) s.rows.items
   all_present =
       subst (λ (keys : List SecKey). All (λ (x : LinkRow). Contains keys x.user × Contains keys x.target) s.rows.items) all_keys
-      (rows_present r.after r.comes.coherent (m.cells.items ++ s.cells.items) all_cells (moved m.graph.rows moves) s.rows.items rows_are)
+      (rows_present r.after r.comes.coherent (m.cells.items ++ s.cells.items) all_cells (afters change.steps) s.rows.items rows_are)
 
-  all_rise : Rises below_link (moved m.graph.rows moves ++ s.rows.items)
+  all_rise : Rises below_link (afters change.steps ++ s.rows.items)
   all_rise = subst (Rises below_link) rows_are (in_graph_order r.after.links (links_rise r.after r.comes.coherent))
 
   known : (c : Cell) → In c new → (is_attached c.standing ≡ true) × (is_known_cell later c ≡ true)
@@ -146,9 +147,10 @@ module _ (m : Machine) (s : Staged) (p : Prepared) (patches : List FieldValue) (
       let next = ap (λ (w : World). w.next_cell) r.comes.is ∙ ap (λ (k : ℕ). m.next + k) (new_count u r.new s st) in
       subst (λ (n : ℕ). n ≤ 65536) next r.comes.coherent.ready.cell_numbers
 
-  pub committable : IsCommittable m s p patches moves
+  pub committable : IsCommittable m s p patches links
   committable = record {
     sections = prepared.sections;
+    soft = prepared.soft;
     room = room;
     regions = regions_room;
     mapped = fields_are_mapped;
@@ -161,33 +163,36 @@ module _ (m : Machine) (s : Staged) (p : Prepared) (patches : List FieldValue) (
     next = number_left;
   }
 
--- once there is room, and the names have been taken out of what was staged
-pub committable_then : (old new : Machine) (s : Staged) (p : Prepared) (names : Vec (List Alias) Global) (patches : List FieldValue) (moves : List LinkRow) (changed : List Patch) → IsSame old new
-    → IsReadyToAdd old changed (moved old.graph.rows moves) s → IsPrepared s.cells.items s.names.items p
-    → HasRoomFor new (record s { names = names }) p → CanChange old s patches moves → IsCommittable new (record s { names = names }) p patches moves
-committable_then old new s p names patches moves changed same r prepared room change =
-    let ready : IsReadyToAdd new changed (moved new.graph.rows moves) s =
-    subst (λ (rows : List LinkRow). IsReadyToAdd new changed (moved rows moves) s) (sym same.rows) (ready_same old new same changed (moved old.graph.rows moves) s r) in
-    let c : IsCommittable new s p patches moves = committable new s p patches moves changed ready prepared
+-- once there is room, and the names have been taken out of what was staged, by the same steps
+pub committable_then : (old new : Machine) (s : Staged) (p : Prepared) (names : Vec (List Alias) Global) (patches : List FieldValue) (links : Rewiring) (change : CanChange old s patches links) (changed : List Patch) → IsSame old new
+    → IsReadyToAdd old changed (afters change.steps) s → IsPrepared s.cells.items s.names.items p
+    → HasRoomFor new (record s { names = names }) p (length links.binds.items) → (c : IsCommittable new (record s { names = names }) p patches links) × (c.change.steps ≡ change.steps)
+unfolding committable
+committable_then old new s p names patches links change changed same r prepared room =
+    let there : CanChange new s patches links = change_same old new same s patches links change in
+    let c : IsCommittable new s p patches links = committable new s p patches links there changed (ready_same old new same changed (afters change.steps) s r) prepared
     (record {
       cells = room.cells;
+      soft = room.soft;
       regions = room.regions;
       sections = room.sections;
       rows = room.rows;
       newcomers = room.newcomers;
       names = room.names;
-    })
-    (change_same old new same s patches moves change) in
-    record {
-      sections = c.sections;
-      room = room;
-      regions = c.regions;
-      mapped = c.mapped;
-      undo = c.undo;
-      change = record { mapped = c.change.mapped; bound = c.change.bound; apart = c.change.apart; present = c.change.present };
-      above = c.above;
-      present = c.present;
-      rise = c.rise;
-      free = c.free;
-      next = c.next;
-    }
+    }) in (
+      record {
+        sections = c.sections;
+        soft = c.soft;
+        room = room;
+        regions = c.regions;
+        mapped = c.mapped;
+        undo = c.undo;
+        change = record { mapped = there.mapped; steps = change.steps; rewires = there.rewires; backs = there.backs; present = there.present };
+        above = c.above;
+        present = c.present;
+        rise = c.rise;
+        free = c.free;
+        next = c.next;
+      },
+      refl,
+    )

@@ -11,10 +11,10 @@ use Rattle.cell_world.specs.declared.state.NewCell.{NewCell}
 use Rattle.cell_world.specs.declared.state.Target.{Target}
 use Rattle.cell_world.specs.declared.state.Target.TheVariants.{Number}
 use Rattle.cell_world.specs.World.{World, Cell, attached}
-use Rattle.cell_world.specs.Field.{bound_by, misfit_of}
-use Rattle.cell_world.specs.Fit.{first_misfit, misfit_in, overflow_at}
-use Rattle.cell_world.specs.Relink.{link_of, link_to}
-use Rattle.cell_world.specs.Target.{target_of, targets_of}
+use Rattle.cell_world.specs.Linked.Field.{bound_by, misfit_of}
+use Rattle.cell_world.specs.Linked.Fit.{first_misfit, misfit_in, overflow_at}
+use Rattle.cell_world.specs.Linked.Relink.{link_of, link_to}
+use Rattle.cell_world.specs.Linked.Target.{target_of, targets_of}
 use Rattle.cell_lemmas.specs.Grown.{links_from}
 use Rattle.cell_link.specs.declared.value.FieldValue.{FieldValue}
 use Rattle.cell_link.specs.Linked.{field_values}

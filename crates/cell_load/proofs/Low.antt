@@ -7,7 +7,7 @@ use Rattle.cell_world.specs.Coherent.{IsLoadable, is_known_cell}
 use Rattle.cell_num.specs.Lists.{In}
 use Rattle.cell_lemmas.specs.Linkable.{IsLinkable}
 use Rattle.cell_num.proofs.Elements.{All-In, In-All, all-In}
-use Rattle.cell_lemmas.proofs.Known.{known_parts}
+use Rattle.cell_lemmas.proofs.Naming.Known.{known_parts}
 use Rattle.cell_machine.proofs.Low.{place_low}
 use Rattle.cell_load.specs.Linking.{CanLink}
 

@@ -5,9 +5,9 @@ use Rattle.cell_num.specs.Lists.{numbered, or_else, In}
 use Rattle.cell_world.specs.declared.state.LinkRow.{LinkRow}
 use Rattle.cell_world.specs.World.{World, Cell, Standing, attached}
 use Rattle.cell_world.specs.declared.state.Standing.TheVariants.{Attached}
-use Rattle.cell_world.specs.Fit.{first_misfit, misfit_in}
-use Rattle.cell_world.specs.Relink.{link_of}
-use Rattle.cell_world.specs.Target.{targets_of}
+use Rattle.cell_world.specs.Linked.Fit.{first_misfit, misfit_in}
+use Rattle.cell_world.specs.Linked.Relink.{link_of}
+use Rattle.cell_world.specs.Linked.Target.{targets_of}
 use Rattle.cell_lemmas.specs.Grown.{links_from}
 use Rattle.cell_link.specs.declared.value.FieldValue.{FieldValue}
 use Rattle.cell_link.specs.Linked.{field_values}

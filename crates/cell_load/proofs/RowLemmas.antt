@@ -7,7 +7,7 @@ use Rattle.cell_object.specs.declared.object.Entry.{Entry}
 use Rattle.cell_world.specs.declared.state.LinkRow.{LinkRow}
 use Rattle.cell_world.specs.declared.state.NewCell.{NewCell}
 use Rattle.cell_world.specs.declared.state.Target.{Target}
-use Rattle.cell_world.specs.Relink.{link_to}
+use Rattle.cell_world.specs.Linked.Relink.{link_to}
 use Rattle.cell_world.specs.World.{attached}
 use Rattle.cell_load.specs.Linking.{rows_from}
 

@@ -11,11 +11,11 @@ use Rattle.cell_world.specs.declared.layout.Starts.{Starts}
 use Rattle.cell_world.specs.declared.state.NewCell.{NewCell}
 use Rattle.cell_world.specs.World.{World, Cell}
 use Rattle.cell_world.specs.declared.state.Standing.TheVariants.{Attached}
-use Rattle.cell_world.specs.Fit.{first_misfit}
+use Rattle.cell_world.specs.Linked.Fit.{first_misfit}
 use Rattle.cell_world.specs.Outcome.{Outcome, ◌>>=◌, ◌>>◌, refused_by}
-use Rattle.cell_world.specs.Layout.{places_in}
-use Rattle.cell_world.specs.Place.{page_table}
-use Rattle.cell_world.specs.Target.{targets_of}
+use Rattle.cell_world.specs.Placed.Layout.{places_in}
+use Rattle.cell_world.specs.Placed.Place.{page_table}
+use Rattle.cell_world.specs.Linked.Target.{targets_of}
 use Rattle.cell_lemmas.specs.Grown.{links_from}
 use Rattle.cell_num.proofs.Elements.{All-In, In-All, In-map, In-right}
 use Rattle.cell_lemmas.specs.Loads.{ManyTaken, all_regions, objects_of, placed_after, placed_cells, take_all}

@@ -12,9 +12,9 @@ use Rattle.cell_world.specs.declared.state.Namespace.{Namespace}
 use Rattle.cell_world.specs.declared.state.NewCell.{NewCell}
 use Rattle.cell_world.specs.declared.state.Target.{Target}
 use Rattle.cell_world.specs.World.{World, attached}
-use Rattle.cell_world.specs.Fit.{first_misfit, misfit_in}
-use Rattle.cell_world.specs.Relink.{link_to}
-use Rattle.cell_world.specs.Target.{targets_of}
+use Rattle.cell_world.specs.Linked.Fit.{first_misfit, misfit_in}
+use Rattle.cell_world.specs.Linked.Relink.{link_to}
+use Rattle.cell_world.specs.Linked.Target.{targets_of}
 use Rattle.cell_link.specs.Linked.{field_values}
 use Rattle.cell_world.specs.declared.fail.Fail.{Fail}
 use Rattle.cell_world.specs.declared.fail.Fail.TheVariants.{Refused, OutOfMemory}

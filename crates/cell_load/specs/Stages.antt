@@ -14,10 +14,10 @@ use Rattle.cell_world.specs.declared.fail.Fail.TheVariants.{Refused, OutOfMemory
 use Rattle.cell_world.specs.World.{World, Cell}
 use Rattle.cell_world.specs.declared.state.Standing.TheVariants.{Attached}
 use Rattle.cell_world.specs.Coherent.{IsLoadable}
-use Rattle.cell_world.specs.Fit.{first_misfit}
+use Rattle.cell_world.specs.Linked.Fit.{first_misfit}
 use Rattle.cell_world.specs.Outcome.{Outcome, ◌>>=◌, ◌>>◌, refused_by}
 use Rattle.cell_layout.specs.Placing.{extra_start}
-use Rattle.cell_world.specs.Place.{page_table}
+use Rattle.cell_world.specs.Placed.Place.{page_table}
 use Rattle.cell_lemmas.specs.Loads.{ManyTaken, objects_of, placed_after, placed_cells, take_all}
 use Rattle.cell_space.specs.Joined.{cells_of, placed_of}
 use Rattle.cell_space.specs.Machine.{called}
@@ -28,7 +28,7 @@ use Rattle.cell_machine.specs.declared.staged.Staged.{Staged}
 use Rattle.cell_machine.specs.Machine.{AreParts, world_of}
 use Rattle.cell_machine.specs.Staged.{AreLinkedIn, AreNewIn, IsStaged}
 use Rattle.cell_target.specs.Scene.{AreCells, seen}
-use Rattle.cell_world.specs.Target.{targets_of}
+use Rattle.cell_world.specs.Linked.Target.{targets_of}
 use Rattle.cell_load.specs.declared.landing.Landed.{Landed}
 
 abbrev pub new_cells : Gathered → List Cell

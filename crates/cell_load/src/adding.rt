@@ -1,33 +1,37 @@
 //! Adding what was staged. There is room for all of it, so nothing can fail.
 
-ghost use Rattle.std.specs.Prelude.{◌≡◌, ◌+◌, ◌≤◌, ◌++◌, map, vec_capacity, vec_len};
+ghost use Rattle.std.specs.Prelude.{◌≡◌, ◌+◌, ◌≤◌, ◌++◌, length, map, vec_capacity, vec_len};
 ghost use Rattle.cell_commit.specs.Cells.{arrived};
 ghost use Rattle.cell_commit.specs.Commit.{IsLaidOut, all_mapped};
-ghost use Rattle.cell_world.specs.Undo.{AreBytes};
+ghost use Rattle.cell_world.specs.Running.Undo.{AreBytes};
 ghost use Rattle.cell_load.specs.Adding.{IsCommittable, memory_with};
-ghost use Rattle.cell_graph.specs.Moves.{moved};
+ghost use Rattle.cell_lemmas.specs.LinkSteps.{afters};
 ghost use Rattle.cell_machine.specs.Staged.{IsCommitted};
 
 use crate::prepared::Prepared;
 use cell_commit::{
-    add_sections, attach_cells, bind_rows, map_regions, move_rows, patch_fields, write_fields,
+    Rewiring, add_sections, attach_cells, bind_rows, map_regions, patch_fields, rewire,
+    write_fields,
 };
 use cell_link::FieldValue;
 use cell_machine::{Machine, Staged};
-use cell_world::{LinkRow, NewCell};
+use cell_num::CellId;
+use cell_world::NewCell;
 
-/// Adds the staged cells, for which there is room, and has other cells lead to them: `patches` are
-/// the fields of others that change, and `moves` the links of others as they lead then. This takes
-/// no memory.
+/// Adds the staged cells, for which there is room, and has other cells lead to them: `patches` are the
+/// fields of others that change, and `links` the links of others that do. This takes no memory, and leaves
+/// room for the links that went.
 pub fn commit(
     machine: &mut Machine,
     staged: Staged,
     prepared: Prepared,
     patches: &[FieldValue],
-    moves: &[LinkRow],
+    links: &Rewiring,
 )
-    requires { IsCommittable machine.old staged prepared patches.now moves.now }
-    ensures committed { IsCommitted machine.old (memory_with machine.old.memory staged.regions.items patches.now) (moved machine.old.graph.rows moves.now) (map arrived prepared.newcomers.items) staged machine.new }
+    requires { IsCommittable machine.old staged prepared patches.now links.now }
+    ensures committed { (c : IsCommittable machine.old staged prepared patches.now links.now) →
+        IsCommitted machine.old (memory_with machine.old.memory staged.regions.items patches.now) (afters c.change.steps) (map arrived prepared.newcomers.items) staged machine.new }
+    ensures room { length links.now.unbinds.items ≤ machine.new.graph.spare_rows }
 
     // The new regions stand apart from the others, before a field is written.
     ensures laid { IsLaidOut (all_mapped machine.old.memory staged.regions.items) }
@@ -44,6 +48,7 @@ pub fn commit(
     let Prepared {
         newcomers,
         sections,
+        soft,
     } = prepared;
     map_regions(&mut machine.memory, regions);
     machine.memory.laid_out();
@@ -51,12 +56,26 @@ pub fn commit(
     patch_fields(&mut machine.memory, patches);
     write_fields(&mut machine.memory, &fields);
     add_sections(&mut machine.graph, &sections);
-    move_rows(&mut machine.graph, moves);
+    rewire(
+        &mut machine.graph,
+        &links.unbinds,
+        &links.binds,
+        &links.moves,
+    );
     bind_rows(&mut machine.graph, &rows);
     attach_cells(&mut machine.spaces, newcomers);
     machine.space = space;
     machine.next += cells.len() as u32;
     append(&mut machine.cells, cells);
+    append_numbers(&mut machine.soft, soft);
+}
+
+/// Appends to a list of numbers that has room.
+fn append_numbers(into: &mut Vec<CellId>, mut cells: Vec<CellId>)
+    requires { vec_len into.old + vec_len cells ≤ vec_capacity into.old }
+    ensures { into.new.items ≡ into.old.items ++ cells.items }
+{
+    let _ = into.append(&mut cells);
 }
 
 /// Appends to a vector that has room.

@@ -1,23 +1,28 @@
 //! What the parts of the machine take over from staged cells.
 
-ghost use Rattle.std.specs.Prelude.{◌≡◌, All, IfOk, length, map};
+ghost use Rattle.std.specs.Prelude.{◌≡◌, ◌++◌, ◌∷◌, [], All, IfOk, OnOk, length, map, not};
+ghost use Rattle.std.specs.List.{list_all};
 ghost use Rattle.cell_commit.specs.Cells.{arrived};
 ghost use Rattle.cell_machine.specs.Staged.{arrival, arrivals};
+ghost use Rattle.cell_machine.specs.Machine.{soft_of};
+ghost use Rattle.cell_object.specs.Parts.{has_no_weak, is_weak};
 ghost use Rattle.cell_world.specs.Coherent.{IsLoadable};
 ghost use Rattle.cell_load.specs.Adding.{listed, numbers_in};
 
 use cell_commit::{CellSections, Newcomer};
 use cell_gather::weak_definitions;
 use cell_num::{CellId, Listed};
+use cell_object::{Bind, Object, Symbol};
 use cell_space::NameRows;
 use cell_world::NewCell;
 use std::alloc::{AllocError, Global};
 
-/// What the staged cells are called, and their sections.
+/// What the staged cells are called, their sections, and which of them have a WEAK symbol.
 #[derive(Drop)]
 pub struct Prepared {
     pub newcomers: Vec<Newcomer>,
     pub sections: Vec<CellSections>,
+    pub soft: Vec<CellId>,
 }
 
 impl Prepared {
@@ -31,10 +36,12 @@ impl Prepared {
         requires loadable { All (λ c. IsLoadable c.object) cells.now }
         ensures newcomers { IfOk result (λ p. map arrived p.newcomers.items ≡ arrivals cells.now names.items) }
         ensures sections { IfOk result (λ p. map listed p.sections.items ≡ map numbers_in cells.now) }
+        ensures soft { IfOk result (λ p. p.soft.items ≡ soft_of cells.now) }
     {
         Ok(Prepared {
             newcomers: newcomers(alloc, cells, names)?,
             sections: all_sections(alloc, cells)?,
+            soft: soft_cells(alloc, cells)?,
         })
     }
 }
@@ -94,6 +101,46 @@ fn sections_of(alloc: Global, cell: &NewCell) -> Result<CellSections, AllocError
         cell: cell.id,
         sections,
     })
+}
+
+fn isnt_weak(symbol: &Symbol) -> bool
+    ensures { result ≡ not (is_weak symbol.now.bind) }
+{
+    !matches!(symbol.bind, Bind::Weak)
+}
+
+fn arent_weak(symbols: &[Symbol]) -> bool
+    ensures { result ≡ list_all (λ s. not (is_weak s.bind)) symbols.now }
+{
+    symbols.iter().all(|symbol| isnt_weak(symbol))
+}
+
+/// Whether the object has a WEAK symbol.
+fn is_soft(object: &Object) -> bool
+    ensures { result ≡ not (has_no_weak object.now) }
+{
+    !arent_weak(object.symbols.as_slice())
+}
+
+/// Adds the cell, if it has a WEAK symbol.
+fn add_soft(soft: &mut Vec<CellId>, cell: &NewCell) -> Result<(), AllocError>
+    ensures { OnOk result (soft.new.items ≡ soft.old.items ++ soft_of (cell.now ∷ [])) }
+{
+    if is_soft(&cell.object) {
+        soft.push(cell.id)?;
+    }
+    Ok(())
+}
+
+/// The numbers of the cells that have a WEAK symbol.
+fn soft_cells(alloc: Global, cells: &[NewCell]) -> Result<Vec<CellId>, AllocError>
+    ensures { IfOk result (λ soft. soft.items ≡ soft_of cells.now) }
+{
+    let mut soft = Vec::new(alloc);
+    for cell in cells {
+        add_soft(&mut soft, cell)?;
+    }
+    Ok(soft)
 }
 
 /// The numbers of the cells.

@@ -52,23 +52,25 @@ fn name_count(newcomers: &[Newcomer]) -> Result<u32, AllocError>
     Ok(n)
 }
 
-/// Makes room for all that the staged cells add. Nothing else changes, also where memory is lacking.
+/// Makes room for all that the staged cells add, and for so many links of others. Nothing else changes, also where memory is lacking.
 #[tactic(auto, using(cell_machine::proofs::Unchanged::same_itself))]
 pub fn reserve(
     machine: &mut Machine,
     staged: &Staged,
     prepared: &Prepared,
+    binds: usize,
 ) -> Result<(), AllocError>
-    ensures room { OnOk result (HasRoomFor machine.new staged.now prepared.now) }
+    ensures room { OnOk result (HasRoomFor machine.new staged.now prepared.now binds) }
     ensures same { IsSame machine.old machine.new }
 {
     let regions = count(staged.regions.len())?;
     let sections = section_count(&prepared.sections)?;
-    let rows = count(staged.rows.len())?;
+    let rows = plus(count(binds)?, staged.rows.len())?;
     let newcomers = count(prepared.newcomers.len())?;
     let names = name_count(&prepared.newcomers)?;
     machine.memory.reserve(regions)?;
     machine.graph.reserve(sections, rows)?;
     machine.spaces.reserve(newcomers, names)?;
+    machine.soft.reserve(prepared.soft.len())?;
     machine.cells.reserve(staged.cells.len())
 }

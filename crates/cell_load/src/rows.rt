@@ -1,32 +1,11 @@
 //! The links of a cell.
 
 ghost use Rattle.std.specs.Prelude.{◌≡◌, ◌<◌, ◌^◌, ◌++◌, IfOk, OnOk, length, option_to_list};
-ghost use Rattle.cell_world.specs.Relink.{link_to};
-ghost use Rattle.cell_world.specs.World.{attached};
 ghost use Rattle.cell_load.specs.Linking.{rows_by};
 
-use cell_num::SecKey;
-use cell_object::Entry;
+use cell_commit::link_row;
 use cell_world::{LinkRow, NewCell, Target};
 use std::alloc::{AllocError, Global};
-
-/// The link of an entry whose target is a section.
-fn row(cell: &NewCell, index: usize, entry: &Entry, target: &Target) -> Option<LinkRow>
-    requires { index < 2 ^ 32 }
-    ensures { result ≡ link_to (attached cell.now) index entry.now target.now }
-{
-    match target {
-        Target::Section { key, .. } => Some(LinkRow {
-            user: SecKey {
-                cell: cell.id,
-                section: entry.section,
-            },
-            entry: index as u32,
-            target: *key,
-        }),
-        Target::Number { .. } => None,
-    }
-}
 
 /// Adds the link, where there is one.
 fn add_row(rows: &mut Vec<LinkRow>, row: Option<LinkRow>) -> Result<(), AllocError>
@@ -47,7 +26,7 @@ pub fn rows(alloc: Global, cell: &NewCell, targets: &[Target]) -> Result<Vec<Lin
     let mut rows = Vec::new(alloc);
     let entries = cell.object.entries.as_slice();
     for index in 0..entries.len() {
-        let row = row(cell, index, &entries[index], &targets[index]);
+        let row = link_row(cell, index, &entries[index], &targets[index]);
         add_row(&mut rows, row)?;
     }
     Ok(rows)

@@ -1,11 +1,11 @@
 -- The machine before the first command is sound.
 use Rattle.std.proofs.Common.{◌≡◌, refl, sym, ◌∙◌, ap, ap₂, subst, arith, ℕ, zero, suc, ◌-◌, ◌*◌, ◌^◌, ◌≤◌, Bool, false, List, [], ◌∷◌, map, replicate}
 use Rattle.cell_num.specs.Lists.{from_on}
-use Rattle.cell_world.specs.Pages.{IsSpace}
+use Rattle.cell_world.specs.Placed.Pages.{IsSpace}
 use Rattle.cell_world.specs.declared.state.LinkRow.{LinkRow}
 use Rattle.cell_world.specs.World.{empty_world}
 use Rattle.cell_world.specs.Coherent.{IsCoherent}
-use Rattle.cell_world.specs.Place.{is_taken, page_table}
+use Rattle.cell_world.specs.Placed.Place.{is_taken, page_table}
 use Rattle.cell_lemmas.proofs.NextCoherent.{empty_coherent}
 use Rattle.cell_mem.specs.State.{MemoryState, empty_memory}
 use Rattle.cell_place.specs.Space.{SpaceState}
@@ -17,7 +17,7 @@ use Rattle.cell_space.proofs.Joined.{joined_by}
 use Rattle.cell_task.specs.State.{TasksState, no_tasks}
 use Rattle.cell_space.specs.Spaces.{kernel}
 use Rattle.cell_world.specs.declared.state.Namespace.{Namespace}
-use Rattle.cell_machine.specs.Machine.{IsSound, field_bytes, keys_of, world_by, world_of}
+use Rattle.cell_machine.specs.Machine.{IsSound, field_bytes, keys_of, soft_of, world_by, world_of}
 
 -- no byte is sealed where there is no field
 none_sealed : (base size : ℕ) → replicate size false ≡ seal_table base size []
@@ -31,7 +31,7 @@ all_free : (base pages a n : ℕ) → map (is_taken (empty_world base pages)) (f
 all_free base pages a zero = refl
 all_free base pages a (suc n) = ap (λ (bs : List Bool). false ∷ bs) (all_free base pages (suc a) n)
 
-module _ (base pages : ℕ) (space : IsSpace base pages) (m : Machine) (cells : m.cells.items ≡ []) (next : m.next ≡ 1) (swaps : m.swaps ≡ 0) (free : m.space ≡ record { base = base; taken = replicate pages false })
+module _ (base pages : ℕ) (space : IsSpace base pages) (m : Machine) (cells : m.cells.items ≡ []) (soft : m.soft.items ≡ []) (next : m.next ≡ 1) (swaps : m.swaps ≡ 0) (free : m.space ≡ record { base = base; taken = replicate pages false })
     (spaces : m.spaces.namespaces ≡ kernel) (none : m.spaces.cells ≡ []) (memory : m.memory ≡ empty_memory base pages) (sections : m.graph.sections ≡ []) (rows : m.graph.rows ≡ []) (tasks : m.tasks ≡ no_tasks) where
   pub world_empty : world_of m ≡ empty_world base pages
   world_empty =
@@ -49,6 +49,7 @@ module _ (base pages : ℕ) (space : IsSpace base pages) (m : Machine) (cells : 
       joined = joined_by [] m.cells.items m.spaces.cells cells none;
       table = ap (λ (s : SpaceState). s.taken) free ∙ (sym (all_free base pages 0 pages) ∙ ap page_table (sym world_empty));
       base = ap (λ (s : SpaceState). s.base) free ∙ ap (λ (x : MemoryState). x.base) (sym memory);
+      soft = soft ∙ ap soft_of (sym cells);
       sections = sections ∙ ap keys_of (sym cells);
       seals =
           ap (λ (x : MemoryState). x.sealed) memory

@@ -9,14 +9,14 @@ use Rattle.cell_num.specs.Lists.{where_true, In}
 use Rattle.cell_object.specs.declared.object.Entry.{Entry}
 use Rattle.cell_world.specs.declared.state.Target.{Target}
 use Rattle.cell_world.specs.World.{World, Cell, Region}
-use Rattle.cell_world.specs.Field.{fields_of, place_of}
-use Rattle.cell_world.specs.Memory.{end_of}
-use Rattle.cell_world.specs.Target.{targets_of}
+use Rattle.cell_world.specs.Linked.Field.{fields_of, place_of}
+use Rattle.cell_world.specs.Running.Memory.{end_of}
+use Rattle.cell_world.specs.Linked.Target.{targets_of}
 use Rattle.cell_lemmas.specs.Linkable.{IsLinkable}
 use Rattle.cell_lemmas.specs.Present.{IsInside}
 use Rattle.cell_num.proofs.Elements.{All-In, In-All, In-flat_map, In-map}
-use Rattle.cell_lemmas.proofs.FieldsInside.{among-In}
-use Rattle.cell_lemmas.proofs.Inside.{fields_lie}
+use Rattle.cell_lemmas.proofs.Fields.FieldsInside.{among-In}
+use Rattle.cell_lemmas.proofs.Placement.Inside.{fields_lie}
 use Rattle.cell_mem.specs.State.{MemoryState, is_width, region_with}
 use Rattle.cell_link.specs.Linked.{field_values, value_at}
 use Rattle.cell_commit.specs.Commit.{IsMapped}

@@ -9,9 +9,9 @@ use Rattle.cell_num.specs.Lists.{each_pair, equals, holds, holds_name, In}
 use Rattle.cell_world.specs.World.{Alias, World, Cell, is_attached}
 use Rattle.cell_world.specs.Names.{are_on_one_path, chain, names_of, has_name}
 use Rattle.cell_world.specs.Coherent.{all_names, is_known_cell, may_both_stand}
-use Rattle.cell_lemmas.proofs.Distinct.{pairs_across}
+use Rattle.cell_lemmas.proofs.Placement.Distinct.{pairs_across}
 use Rattle.cell_num.proofs.Elements.{none-In, In-none, In-All, In-filtered, filter-Passes, In-map, map-In}
-use Rattle.cell_lemmas.proofs.Known.{known_parts}
+use Rattle.cell_lemmas.proofs.Naming.Known.{known_parts}
 use Rattle.cell_space.specs.declared.cell.SpaceCell.{SpaceCell}
 use Rattle.cell_space.specs.Machine.{called}
 use Rattle.cell_space.specs.Named.{clash_name, clash_stem, is_rival, number_of, rivals}

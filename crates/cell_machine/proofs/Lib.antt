@@ -4,6 +4,7 @@ pub mod Begins
 pub mod NewFields
 pub mod NewRuns
 pub mod StagedWorld
+pub mod Soft
 pub mod StagedAdded
 pub mod Rooms
 pub mod FieldsMapped

@@ -11,8 +11,8 @@ use Rattle.cell_world.specs.declared.state.Target.{Target}
 use Rattle.cell_world.specs.declared.state.Target.TheVariants.{Section, Number}
 use Rattle.cell_world.specs.World.{World, Cell, key_of}
 use Rattle.cell_world.specs.Coherent.{IsCoherent}
-use Rattle.cell_world.specs.Relink.{link_of, link_to}
-use Rattle.cell_world.specs.Target.{target_of}
+use Rattle.cell_world.specs.Linked.Relink.{link_of, link_to}
+use Rattle.cell_world.specs.Linked.Target.{target_of}
 use Rattle.cell_num.proofs.Elements.{all-In, In-all, In-append, In-flat_map}
 use Rattle.cell_num.proofs.Sublists.{pairs-append}
 use Rattle.cell_graph.specs.Order.{Rises, below_link}

@@ -5,11 +5,11 @@ use Rattle.cell_num.specs.Lists.{each_pair, In}
 use Rattle.cell_world.specs.declared.state.NewCell.{NewCell}
 use Rattle.cell_world.specs.declared.state.Target.{Target}
 use Rattle.cell_world.specs.Names.{Provider, attached_provider, chain}
-use Rattle.cell_world.specs.Target.{provided_target}
+use Rattle.cell_world.specs.Linked.Target.{provided_target}
 use Rattle.cell_world.specs.World.{World, cell_of}
 use Rattle.cell_lemmas.specs.Linkable.{IsLinkable}
 use Rattle.cell_num.proofs.Elements.{found-In}
-use Rattle.cell_lemmas.proofs.Inside.{ready_linkable}
+use Rattle.cell_lemmas.proofs.Placement.Inside.{ready_linkable}
 use Rattle.cell_placed.specs.Low.{IsLow}
 use Rattle.cell_space.specs.Joined.{placed_of}
 use Rattle.cell_space.specs.Named.{provider_for}

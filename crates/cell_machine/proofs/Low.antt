@@ -16,10 +16,10 @@ use Rattle.cell_world.specs.declared.state.SecPlace.{SecPlace}
 use Rattle.cell_world.specs.World.{World, Cell}
 use Rattle.cell_world.specs.Coherent.{IsLoadable, is_placed, stands_by_rule}
 use Rattle.cell_world.specs.declared.layout.Class.TheVariants.{Text, ReadOnly, Writable}
-use Rattle.cell_world.specs.Target.{start_of}
+use Rattle.cell_world.specs.Linked.Target.{start_of}
 use Rattle.cell_lemmas.specs.Linkable.{IsLinkable}
 use Rattle.cell_num.proofs.Elements.{All-In, all-In, found-In}
-use Rattle.cell_lemmas.proofs.Inside.{places_lie}
+use Rattle.cell_lemmas.proofs.Placement.Inside.{places_lie}
 use Rattle.cell_placed.specs.Low.{IsLow}
 use Rattle.cell_machine.proofs.Lists.{pairs-map, same_names}
 

@@ -9,17 +9,16 @@ use Rattle.cell_num.specs.Kinds.{width_of}
 use Rattle.cell_object.specs.declared.object.Entry.{Entry}
 use Rattle.cell_world.specs.World.{World, Cell}
 use Rattle.cell_world.specs.Coherent.{is_in_space}
-use Rattle.cell_world.specs.Field.{fields_of, place_of}
-use Rattle.cell_world.specs.LoadCommand.{field_count}
-use Rattle.cell_world.specs.Memory.{covers}
-use Rattle.cell_world.specs.Relink.{Patch, patches_of}
-use Rattle.cell_world.specs.Target.{targets_of}
+use Rattle.cell_world.specs.Linked.Field.{fields_of, place_of}
+use Rattle.cell_world.specs.Running.Memory.{covers}
+use Rattle.cell_world.specs.Linked.Relink.{field_count, Patch, patches_of}
+use Rattle.cell_world.specs.Linked.Target.{targets_of}
 use Rattle.cell_num.specs.Lists.{In}
 use Rattle.cell_lemmas.specs.Linkable.{IsLinkable}
 use Rattle.cell_lemmas.specs.Present.{IsInside}
 use Rattle.cell_num.proofs.Elements.{All-In, In-All, In-flat_map, In-map, all-In, found-In}
-use Rattle.cell_lemmas.proofs.FieldsInside.{among-In}
-use Rattle.cell_lemmas.proofs.Inside.{fields_lie}
+use Rattle.cell_lemmas.proofs.Fields.FieldsInside.{among-In}
+use Rattle.cell_lemmas.proofs.Placement.Inside.{fields_lie}
 use Rattle.cell_link.specs.Linked.{field_values, value_at}
 use Rattle.cell_commit.specs.Commit.{patch_from, patches_from}
 use Rattle.cell_commit.specs.Seals.{IsInSpace, span_of, spans_of}

@@ -8,9 +8,9 @@ use Rattle.cell_object.specs.declared.object.Object.{Object}
 use Rattle.cell_object.specs.declared.object.Section.{Section as ObjectSection}
 use Rattle.cell_world.specs.World.{World, Region}
 use Rattle.cell_world.specs.Coherent.{Shape, shape_of}
-use Rattle.cell_world.specs.Memory.{covers}
-use Rattle.cell_world.specs.Place.{is_taken, page_table, with_region}
-use Rattle.cell_world.specs.Layout.{sections_in}
+use Rattle.cell_world.specs.Running.Memory.{covers}
+use Rattle.cell_world.specs.Placed.Place.{is_taken, page_table, with_region}
+use Rattle.cell_world.specs.Placed.Layout.{sections_in}
 use Rattle.cell_world.specs.declared.layout.Starts.{Starts}
 use Rattle.cell_world.specs.declared.layout.Class.TheVariants.{Text, ReadOnly, Writable}
 use Rattle.cell_world.specs.declared.layout.Class.{Class}

@@ -11,8 +11,8 @@ use Rattle.cell_world.specs.Coherent.{IsCoherent, is_known_cell}
 use Rattle.cell_num.specs.Lists.{In}
 use Rattle.cell_lemmas.specs.Present.{HasSection, JoinsPresent}
 use Rattle.cell_num.proofs.Elements.{all-In, found-In, In-right, All-In, In-All, map-In, In-map, flat_map-In, In-flat_map}
-use Rattle.cell_lemmas.proofs.Known.{known_parts}
-use Rattle.cell_lemmas.proofs.Present.{links_present}
+use Rattle.cell_lemmas.proofs.Naming.Known.{known_parts}
+use Rattle.cell_lemmas.proofs.Targeting.Present.{links_present}
 use Rattle.cell_space.specs.Joined.{placed_of}
 use Rattle.cell_machine.specs.Machine.{keys_of, section_keys}
 

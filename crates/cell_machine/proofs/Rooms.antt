@@ -9,21 +9,21 @@ use Rattle.cell_object.specs.declared.object.Section.{Section as ObjectSection}
 use Rattle.cell_world.specs.declared.refusal.Refusal.TheVariants.{Exhausted}
 use Rattle.cell_world.specs.World.{World, Region}
 use Rattle.cell_world.specs.Coherent.{ends_before, is_in_space}
-use Rattle.cell_world.specs.Memory.{end_of}
+use Rattle.cell_world.specs.Running.Memory.{end_of}
 use Rattle.cell_world.specs.Outcome.{Outcome, ◌>>=◌}
-use Rattle.cell_world.specs.Pages.{filled, longest_run, lowest_run}
-use Rattle.cell_world.specs.Place.{page_table, place_class}
-use Rattle.cell_world.specs.Layout.{image_of, laid_out, sections_in}
+use Rattle.cell_world.specs.Placed.Pages.{filled, longest_run, lowest_run}
+use Rattle.cell_world.specs.Placed.Place.{page_table, place_class}
+use Rattle.cell_world.specs.Placed.Layout.{image_of, laid_out, sections_in}
 use Rattle.cell_world.specs.declared.layout.Starts.{Starts}
 use Rattle.cell_world.specs.declared.layout.Class.TheVariants.{Text, ReadOnly, Writable}
 use Rattle.cell_world.specs.declared.layout.Class.{Class}
 use Rattle.cell_lemmas.specs.Clear.{IsClear}
 use Rattle.cell_num.proofs.Elements.{All-In, In-all}
-use Rattle.cell_lemmas.proofs.Tables.{class_spaced, run_clear, run_inside}
+use Rattle.cell_lemmas.proofs.Placement.Tables.{class_spaced, run_clear, run_inside}
 use Rattle.cell_lemmas.specs.Loads.{AllTaken, ManyTaken, Taken, all_regions, regions_at, run_region, take_all, take_class, take_for, take_runs, with_all, with_classes, with_run_of}
 use Rattle.cell_lemmas.proofs.Binds.{bind_ok, ok_same}
-use Rattle.cell_lemmas.proofs.LoadOffsets.{image_pages}
-use Rattle.cell_lemmas.proofs.Placing.{class_is, class_table, runs_table, with_class_in}
+use Rattle.cell_lemmas.proofs.Placement.LoadOffsets.{image_pages}
+use Rattle.cell_lemmas.proofs.Placement.Placing.{class_is, class_table, runs_table, with_class_in}
 use Rattle.cell_mem.specs.State.{IsRoom, MemoryState}
 use Rattle.cell_commit.specs.Commit.{AreRoom, all_mapped, mapped_one}
 use Rattle.cell_commit.proofs.Mapping.{mapped_base, mapped_pages, mapped_spare}

@@ -5,7 +5,7 @@ use Rattle.cell_world.specs.declared.state.Namespace.{Namespace}
 use Rattle.cell_world.specs.declared.state.NewCell.{NewCell}
 use Rattle.cell_world.specs.World.{Cell}
 use Rattle.cell_world.specs.Coherent.{IsCoherent}
-use Rattle.cell_world.specs.Place.{page_table}
+use Rattle.cell_world.specs.Placed.Place.{page_table}
 use Rattle.cell_mem.specs.State.{MemoryState}
 use Rattle.cell_place.specs.Space.{SpaceState}
 use Rattle.cell_space.specs.Joined.{AreJoined, cells_of}
@@ -13,7 +13,7 @@ use Rattle.cell_space.specs.declared.cell.SpaceCell.{SpaceCell}
 use Rattle.cell_task.specs.State.{TasksState}
 use Rattle.cell_commit.specs.Seals.{seal_table}
 use Rattle.cell_machine.specs.declared.machine.Machine.{Machine}
-use Rattle.cell_machine.specs.Machine.{AreParts, IsSound, field_bytes, keys_of, world_by, world_of}
+use Rattle.cell_machine.specs.Machine.{AreParts, IsSound, field_bytes, keys_of, soft_of, world_by, world_of}
 use Rattle.cell_machine.specs.Same.{IsSame, without_counts}
 
 module _ (old new : Machine) (same : IsSame old new) where
@@ -44,6 +44,7 @@ module _ (old new : Machine) (same : IsSame old new) where
         (subst (λ (known : List SpaceCell). AreJoined old.cells.items known) (sym same.known) s.joined);
     table = ap (λ (x : SpaceState). x.taken) same.space ∙ (s.table ∙ ap page_table (sym world_same));
     base = ap (λ (x : SpaceState). x.base) same.space ∙ (s.base ∙ ap (λ (m : MemoryState). m.base) (sym same.memory));
+    soft = same.soft ∙ (s.soft ∙ ap soft_of (sym same.cells));
     sections = same.sections ∙ (s.sections ∙ ap keys_of (sym same.cells));
     seals =
         ap (λ (m : MemoryState). m.sealed) same.memory
@@ -67,13 +68,14 @@ module _ (old new : Machine) (same : IsSame old (without_counts old new)) where
       let s : IsSound (without_counts old new) = sound_same old (without_counts old new) same sound in
       record {
         coherent = s.coherent;
-        parts = record { joined = s.joined; table = s.table; base = s.base; sections = s.sections; seals = s.seals; patches = patches; maps = maps };
+        parts = record { joined = s.joined; table = s.table; base = s.base; soft = s.soft; sections = s.sections; seals = s.seals; patches = patches; maps = maps };
         undo = s.undo;
       }
 
 pub counts_same : (old new : Machine) → IsSame old new → IsSame old (without_counts old new)
 counts_same old new same = record {
   cells = same.cells;
+  soft = same.soft;
   next = same.next;
   swaps = same.swaps;
   namespaces = same.namespaces;
@@ -90,6 +92,7 @@ counts_same old new same = record {
 pub same_counted : (old new : Machine) → IsSame old (without_counts old new) → new.memory.patches ≡ old.memory.patches → new.memory.maps ≡ old.memory.maps → IsSame old new
 same_counted old new same patches maps = record {
   cells = same.cells;
+  soft = same.soft;
   next = same.next;
   swaps = same.swaps;
   namespaces = same.namespaces;

@@ -9,12 +9,12 @@ use Rattle.cell_world.specs.declared.state.Namespace.{Namespace}
 use Rattle.cell_world.specs.declared.state.NewCell.{NewCell}
 use Rattle.cell_world.specs.World.{World, Cell, Region}
 use Rattle.cell_world.specs.Coherent.{IsCoherent, wanted_shapes}
-use Rattle.cell_world.specs.Place.{page_table}
-use Rattle.cell_world.specs.Relink.{Patch, patched, patches_of}
+use Rattle.cell_world.specs.Placed.Place.{page_table}
+use Rattle.cell_world.specs.Linked.Relink.{Patch, patched, patches_of}
 use Rattle.cell_num.specs.Lists.{In}
 use Rattle.cell_lemmas.specs.Loads.{objects_of, with_all}
 use Rattle.cell_num.proofs.Elements.{In-right}
-use Rattle.cell_lemmas.proofs.Placing.{all_table}
+use Rattle.cell_lemmas.proofs.Placement.Placing.{all_table}
 use Rattle.cell_link.specs.declared.value.FieldValue.{FieldValue}
 use Rattle.cell_mem.specs.State.{MemoryState}
 use Rattle.cell_place.specs.Space.{SpaceState}
@@ -27,8 +27,10 @@ use Rattle.cell_commit.specs.Seals.{IsInSpace, seal_table, spans_of}
 use Rattle.cell_commit.proofs.Sealing.{written_sealed}
 use Rattle.cell_commit.proofs.Writing.{written_base, written_maps, written_pages, written_patches, written_regions, written_undo}
 use Rattle.cell_machine.specs.declared.machine.Machine.{Machine}
+use Rattle.cell_machine.proofs.Soft.{soft_append}
+use Rattle.cell_num.specs.declared.ids.CellId.{CellId}
 use Rattle.cell_machine.specs.declared.staged.Staged.{Staged}
-use Rattle.cell_machine.specs.Machine.{AreParts, IsSound, field_bytes, keys_of, own_field_bytes, section_keys, world_by, world_of}
+use Rattle.cell_machine.specs.Machine.{AreParts, IsSound, field_bytes, keys_of, own_field_bytes, section_keys, soft_of, world_by, world_of}
 use Rattle.cell_machine.specs.Staged.{AreNewIn, ComesTo, IsCommitted, IsStaged, arrivals}
 use Rattle.cell_machine.proofs.Lists.{map-map}
 use Rattle.cell_machine.proofs.NewFields.{fields_in_space, patches_are, spans_are}
@@ -181,6 +183,7 @@ module _ (m n : Machine) (s : Staged) (parts : AreParts m) (new : List Cell) (st
           joined = all_joined;
           table = ap (λ (x : SpaceState). x.taken) c.space ∙ (table_is ∙ ap page_table (sym world_is));
           base = ap (λ (x : SpaceState). x.base) c.space ∙ (st.base ∙ sym base_is);
+          soft = c.soft ∙ (ap (λ (ids : List CellId). ids ++ soft_of s.cells.items) parts.soft ∙ (sym (soft_append m.cells.items s.cells.items) ∙ ap soft_of (sym c.cells)));
           sections = keys_are;
           seals = seals_are;
           patches = let k = patches_raised few_patches in omega (arith, k);

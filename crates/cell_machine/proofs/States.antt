@@ -4,7 +4,7 @@ use Rattle.std.specs.Prelude.{Option, Some, None, IsSome, ◌==◌, find, nat_lt
 use Rattle.std.proofs.lemmas.Bool.{ltb-true, eqb-true, eq-eqb}
 use Rattle.cell_num.specs.Lists.{each_pair, In}
 use Rattle.cell_world.specs.declared.state.NewCell.{NewCell}
-use Rattle.cell_world.specs.MapCommand.{group_of}
+use Rattle.cell_world.specs.Commands.MapCommand.{group_of}
 use Rattle.cell_world.specs.World.{Cell, Standing}
 use Rattle.cell_world.specs.declared.state.Standing.TheVariants.{Attached, Detached}
 use Rattle.cell_num.proofs.Elements.{find_there, found-In, pairs-In}

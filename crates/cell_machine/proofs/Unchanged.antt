@@ -6,6 +6,7 @@ use Rattle.cell_machine.specs.Same.{IsSame}
 pub same_itself : (m : Machine) → IsSame m m
 same_itself m = record {
   cells = refl;
+  soft = refl;
   next = refl;
   swaps = refl;
   namespaces = refl;

@@ -8,6 +8,7 @@ use Rattle.cell_machine.specs.declared.machine.Machine.{Machine}
 -- the same but for the room that is reserved
 pub record IsSame (old new : Machine) : Type 0 where
   pub cells : new.cells.items ≡ old.cells.items
+  pub soft : new.soft.items ≡ old.soft.items
   pub next : new.next ≡ old.next
   pub swaps : new.swaps ≡ old.swaps
   pub namespaces : new.spaces.namespaces ≡ old.spaces.namespaces

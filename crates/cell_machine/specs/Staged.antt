@@ -16,12 +16,12 @@ use Rattle.cell_world.specs.declared.state.NewCell.{NewCell}
 use Rattle.cell_world.specs.World.{Alias, World, Cell, Region, attached}
 use Rattle.cell_world.specs.declared.state.Standing.TheVariants.{Attached}
 use Rattle.cell_world.specs.Coherent.{IsCoherent, IsReady}
-use Rattle.cell_world.specs.Fit.{first_misfit}
+use Rattle.cell_world.specs.Linked.Fit.{first_misfit}
 use Rattle.cell_world.specs.Gather.{fresh_cells}
 use Rattle.cell_world.specs.Names.{names_of, weak_definitions_of}
-use Rattle.cell_world.specs.Place.{page_table}
-use Rattle.cell_world.specs.Relink.{Patch, patched, patches_of}
-use Rattle.cell_world.specs.Target.{targets_of}
+use Rattle.cell_world.specs.Placed.Place.{page_table}
+use Rattle.cell_world.specs.Linked.Relink.{Patch, patched, patches_of}
+use Rattle.cell_world.specs.Linked.Target.{targets_of}
 use Rattle.cell_lemmas.specs.Grown.{links_from}
 use Rattle.cell_lemmas.specs.Linkable.{IsLinkable}
 use Rattle.cell_lemmas.specs.Loads.{all_regions, objects_of, placed_after, placed_cells, take_all}
@@ -34,7 +34,7 @@ use Rattle.cell_space.specs.declared.cell.SpaceCell.{SpaceCell}
 use Rattle.cell_space.specs.Joined.{placed_of}
 use Rattle.cell_machine.specs.declared.machine.Machine.{Machine}
 use Rattle.cell_machine.specs.declared.staged.Staged.{Staged}
-use Rattle.cell_machine.specs.Machine.{keys_of}
+use Rattle.cell_machine.specs.Machine.{keys_of, soft_of}
 
 -- cells under their own names
 abbrev pub all_attached : List NewCell → List Cell
@@ -90,6 +90,7 @@ pub record IsLike (v : World) (m : Machine) : Type 0 where
 -- mid is the memory with the new regions before the fields of the new cells are written
 pub record IsCommitted (m : Machine) (mid : MemoryState) (links : List LinkRow) (newcomers : List SpaceCell) (s : Staged) (n : Machine) : Type 0 where
   pub cells : n.cells.items ≡ m.cells.items ++ s.cells.items
+  pub soft : n.soft.items ≡ m.soft.items ++ soft_of s.cells.items
   pub next : n.next ≡ m.next + length s.cells.items
   pub swaps : n.swaps ≡ m.swaps
   pub namespaces : n.spaces.namespaces ≡ m.spaces.namespaces

@@ -3,10 +3,10 @@
 ghost use Rattle.std.specs.Prelude.{◌≡◌, ◌<◌, length, option_and_then, option_map};
 ghost use Rattle.cell_machine.specs.Machine.{IsSound, world_of};
 ghost use Rattle.cell_num.specs.Lists.{In};
-ghost use Rattle.cell_world.specs.MapCommand.{group_of};
+ghost use Rattle.cell_world.specs.Commands.MapCommand.{group_of};
 ghost use Rattle.cell_space.specs.Joined.{placed_of};
 ghost use Rattle.cell_world.specs.Names.{attached_provider};
-ghost use Rattle.cell_world.specs.Target.{provided_target};
+ghost use Rattle.cell_world.specs.Linked.Target.{provided_target};
 ghost use Rattle.cell_world.specs.World.{Cell, cell_of};
 
 use crate::Machine;

@@ -2,11 +2,12 @@
 
 ghost use Rattle.std.specs.Prelude.{◌≡◌, IfOk};
 ghost use Rattle.cell_machine.specs.Machine.{IsSound, world_of};
-ghost use Rattle.cell_world.specs.Pages.{IsSpace};
+ghost use Rattle.cell_world.specs.Placed.Pages.{IsSpace};
 ghost use Rattle.cell_world.specs.World.{empty_world};
 
 use cell_graph::Graph;
 use cell_mem::Memory;
+use cell_num::CellId;
 use cell_place::Space;
 use cell_space::Spaces;
 use cell_task::Tasks;
@@ -18,6 +19,8 @@ use std::alloc::{AllocError, Global};
 pub struct Machine {
     /// In the order of their numbers.
     pub cells: Vec<NewCell>,
+    /// Those that have a WEAK symbol, in this order too.
+    pub soft: Vec<CellId>,
     /// The number of the next cell.
     pub next: u32,
     /// How many swaps were accepted.
@@ -43,6 +46,7 @@ impl Machine {
     {
         Ok(Machine {
             cells: Vec::new(alloc),
+            soft: Vec::new(alloc),
             next: 1,
             swaps: 0,
             spaces: Spaces::new(alloc)?,

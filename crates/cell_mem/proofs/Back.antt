@@ -8,8 +8,8 @@ use Rattle.cell_num.specs.Bits.{bytes_of}
 use Rattle.cell_num.specs.Lists.{where_true}
 use Rattle.cell_world.specs.declared.transfer.Record.{Record}
 use Rattle.cell_world.specs.World.{Region}
-use Rattle.cell_world.specs.Memory.{covers, end_of, part_of, written}
-use Rattle.cell_world.specs.Undo.{put_back, put_back_in, put_in}
+use Rattle.cell_world.specs.Running.Memory.{covers, end_of, part_of, written}
+use Rattle.cell_world.specs.Running.Undo.{put_back, put_back_in, put_in}
 use Rattle.cell_mem.specs.Index.{IsLaid}
 use Rattle.cell_mem.specs.State.{MemoryState, bytes_at, write_at}
 use Rattle.cell_mem.specs.Writing.{put}

@@ -3,7 +3,7 @@ use Rattle.std.proofs.Common.{◌≡◌, ℕ, ◌+◌, ◌-◌, ◌<◌, ◌≤�
 use Rattle.std.proofs.Math.ListN.{set}
 use Rattle.std.proofs.lemmas.List.{take_all, length-replicate, length-take-le, get_or_append_left, get_or-append_right, get_or-take, get_or-drop, get_or-replicate}
 use Rattle.std.proofs.lemmas.List.Edits.{fill_from_more}
-use Rattle.cell_world.specs.Pages.{filled}
+use Rattle.cell_world.specs.Placed.Pages.{filled}
 
 whole : {X : Type 0} (xs : List X) (from i : ℕ) (x : X) → filled xs from i x ≡ take from xs ++ take i (replicate i x) ++ drop (from + i) xs
 whole {X} xs from i x =

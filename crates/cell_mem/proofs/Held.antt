@@ -4,8 +4,8 @@ use Rattle.std.specs.List.{find, list_all}
 use Rattle.std.proofs.Math.ListN.{set}
 use Rattle.std.proofs.lemmas.Bool.{and_parts, lt-ltb, le-ltb, ne_eqb, eq-eqb}
 use Rattle.cell_world.specs.World.{Region}
-use Rattle.cell_world.specs.Memory.{covers, end_of, written}
-use Rattle.cell_world.specs.Place.{with_region}
+use Rattle.cell_world.specs.Running.Memory.{covers, end_of, written}
+use Rattle.cell_world.specs.Placed.Place.{with_region}
 use Rattle.cell_mem.specs.Index.{IsLaid, AreInPlace, held}
 use Rattle.cell_mem.specs.Writing.{put}
 use Rattle.cell_mem.proofs.Laid.{Lies, laid_low, covers_low, covers_high, not_above}

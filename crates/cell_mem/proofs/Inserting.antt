@@ -3,8 +3,8 @@ use Rattle.std.proofs.Common.{◌≡◌, ℕ, ◌<◌, ◌≤◌, Bool, true, fa
 use Rattle.std.specs.List.{find, list_all}
 use Rattle.std.proofs.lemmas.Bool.{and_parts, or_cases, leb-true, ltb-true, ltb-false}
 use Rattle.cell_world.specs.World.{Region}
-use Rattle.cell_world.specs.Memory.{covers, end_of}
-use Rattle.cell_world.specs.Place.{with_region}
+use Rattle.cell_world.specs.Running.Memory.{covers, end_of}
+use Rattle.cell_world.specs.Placed.Place.{with_region}
 use Rattle.cell_mem.specs.Index.{IsWhole, IsLaid}
 use Rattle.cell_mem.proofs.Laid.{covers_low, covers_high, not_below, not_above, find_here, find_skip}
 

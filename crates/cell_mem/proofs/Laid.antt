@@ -3,7 +3,7 @@ use Rattle.std.proofs.Common.{◌≡◌, ℕ, ◌+◌, ◌-◌, ◌*◌, ◌/◌
 use Rattle.std.specs.List.{find}
 use Rattle.std.proofs.lemmas.Bool.{cases_lt, leb-true, ltb-true, le-leb, lt-leb, lt-ltb, le-ltb, and_parts, and_from, and_left, and_right}
 use Rattle.cell_world.specs.World.{Region}
-use Rattle.cell_world.specs.Memory.{covers, end_of}
+use Rattle.cell_world.specs.Running.Memory.{covers, end_of}
 use Rattle.cell_mem.specs.Index.{IsWhole, IsLaid, covers_page}
 
 -- a region of whole pages between two addresses

@@ -6,7 +6,7 @@ use Rattle.cell_num.specs.Lists.{In, each_pair}
 use Rattle.cell_num.proofs.Elements.{In-all}
 use Rattle.cell_mem.specs.Index.{IsLaid}
 use Rattle.cell_mem.proofs.Laid.{Lies, covers_high, covers_low, laid_low, laid_lower}
-use Rattle.cell_world.specs.Memory.{covers, end_of}
+use Rattle.cell_world.specs.Running.Memory.{covers, end_of}
 use Rattle.cell_world.specs.World.{Region}
 use Rattle.cell_world.specs.Coherent.{Shape, ends_before, shape_of}
 use Rattle.std.specs.List.{list_all}

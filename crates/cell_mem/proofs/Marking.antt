@@ -3,9 +3,9 @@ use Rattle.std.proofs.Common.{◌≡◌, ℕ, ◌+◌, ◌*◌, ◌/◌, ◌%◌
 use Rattle.std.specs.Prelude.{option_map}
 use Rattle.std.specs.List.{find}
 use Rattle.std.proofs.lemmas.Bool.{cases_lt}
-use Rattle.cell_world.specs.Memory.{end_of}
+use Rattle.cell_world.specs.Running.Memory.{end_of}
 use Rattle.cell_world.specs.World.{Region}
-use Rattle.cell_world.specs.Pages.{filled}
+use Rattle.cell_world.specs.Placed.Pages.{filled}
 use Rattle.cell_mem.specs.Index.{IsIndex, IsWhole, covers_page, first_page}
 use Rattle.cell_mem.proofs.Filling.{length-filled, filled_inside, filled_below, filled_above}
 use Rattle.cell_mem.proofs.Laid.{covers_from, not_below, not_above}

@@ -2,7 +2,7 @@
 use Rattle.std.proofs.Common.{◌≡◌, ℕ, ◌≤◌, ◌-◌, Option, Some, None, Ok, Err, Result, false, refl, sym, ap, ◌∙◌, subst, arith}
 use Rattle.std.specs.Prelude.{OnOk, OnErr, IfSome, is_some}
 use Rattle.cell_world.specs.declared.transfer.Record.{Record}
-use Rattle.cell_world.specs.Undo.{put_in, record_of}
+use Rattle.cell_world.specs.Running.Undo.{put_in, record_of}
 use Rattle.cell_mem.specs.declared.fault.MemFault.{MemFault}
 use Rattle.cell_mem.specs.Access.{Checked, ◌>>◌, storable, stored}
 use Rattle.cell_mem.specs.State.{MemoryState, HasWrites, write_at, written_at}

@@ -3,7 +3,7 @@ use Rattle.std.proofs.Common.{◌≡◌, ℕ, suc, ◌+◌, ◌-◌, ◌<◌, �
 use Rattle.std.specs.Prelude.{slice_set}
 use Rattle.std.proofs.lemmas.List.{take_more_set, drop-set-lt, take-append-drop}
 use Rattle.cell_num.specs.Bits.{bytes_of}
-use Rattle.cell_world.specs.Memory.{pasted}
+use Rattle.cell_world.specs.Running.Memory.{pasted}
 
 pub pasted_set : (bytes rest : List ℕ) (j b : ℕ) → j < length bytes → pasted (slice_set bytes j b) (j + 1) rest ≡ pasted bytes j (b ∷ rest)
 pasted_set bytes rest j b lt =

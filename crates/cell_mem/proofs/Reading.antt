@@ -7,7 +7,7 @@ use Rattle.std.specs.Result.{result_map_both}
 use Rattle.std.proofs.lemmas.Bool.{leb-true, le-leb, false≢true, or_cases, eqb-true, eq-eqb}
 use Rattle.cell_num.specs.Lists.{where_true}
 use Rattle.cell_world.specs.World.{Region}
-use Rattle.cell_world.specs.Memory.{covers, end_of}
+use Rattle.cell_world.specs.Running.Memory.{covers, end_of}
 use Rattle.cell_mem.specs.declared.fault.MemFault.TheVariants.{Misaligned, Unmapped}
 use Rattle.cell_mem.specs.Access.{need, ◌>>◌, found as found_or, region_for}
 use Rattle.cell_mem.specs.Index.{IsWhole, IsLaid}

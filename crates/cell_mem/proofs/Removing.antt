@@ -3,7 +3,7 @@ use Rattle.std.proofs.Common.{◌≡◌, ℕ, ◌<◌, Bool, true, false, not, c
 use Rattle.std.specs.List.{find}
 use Rattle.std.proofs.lemmas.Bool.{eqb-true, ne_eqb}
 use Rattle.cell_world.specs.World.{Region}
-use Rattle.cell_world.specs.Memory.{covers, end_of}
+use Rattle.cell_world.specs.Running.Memory.{covers, end_of}
 use Rattle.cell_mem.specs.Index.{IsLaid}
 use Rattle.cell_mem.proofs.Laid.{laid_lower, covers_low, covers_high, not_above, none_low, find_lies, find_skip}
 

@@ -5,9 +5,9 @@ use Rattle.std.proofs.lemmas.List.Elements.{All-append, All-cons, All-drop, All-
 use Rattle.std.proofs.lemmas.Nat.{mod_below}
 use Rattle.cell_num.specs.Bits.{bytes_of}
 use Rattle.cell_world.specs.World.{Region}
-use Rattle.cell_world.specs.Memory.{covers, pasted, written}
-use Rattle.cell_world.specs.Place.{with_region}
-use Rattle.cell_world.specs.Undo.{AreBytes}
+use Rattle.cell_world.specs.Running.Memory.{covers, pasted, written}
+use Rattle.cell_world.specs.Placed.Place.{with_region}
+use Rattle.cell_world.specs.Running.Undo.{AreBytes}
 
 abbrev pub IsSmall : ℕ → Type 0
 IsSmall b = b < 256

@@ -8,11 +8,11 @@ use Rattle.std.proofs.lemmas.List.{length-set, length-map}
 use Rattle.std.proofs.lemmas.Bool.{eqb-true, leb-true, or_cases}
 use Rattle.cell_num.specs.Bits.{bytes_of}
 use Rattle.cell_world.specs.World.{Region, Permission}
-use Rattle.cell_world.specs.Memory.{covers, end_of, written}
-use Rattle.cell_world.specs.Pages.{filled}
-use Rattle.cell_world.specs.Place.{with_region}
-use Rattle.cell_world.specs.Turn.{without_region}
-use Rattle.cell_world.specs.Undo.{AreBytes, put_in}
+use Rattle.cell_world.specs.Running.Memory.{covers, end_of, written}
+use Rattle.cell_world.specs.Placed.Pages.{filled}
+use Rattle.cell_world.specs.Placed.Place.{with_region}
+use Rattle.cell_world.specs.Running.Turn.{without_region}
+use Rattle.cell_world.specs.Running.Undo.{AreBytes, put_in}
 use Rattle.cell_mem.specs.declared.memory.Memory.TheInside.{Inside}
 use Rattle.cell_mem.specs.Inside.{IsSound, state_of, undo_over}
 use Rattle.cell_mem.specs.Index.{IsLaid, IsWhole, IsIndex, AreInPlace, held, first_page, covers_page}

@@ -5,12 +5,12 @@ use Rattle.std.proofs.lemmas.Bool.{le-leb}
 use Rattle.cell_num.specs.Lists.{each_pair, where_true}
 use Rattle.cell_world.specs.declared.transfer.Record.{Record}
 use Rattle.cell_world.specs.Coherent.{ends_before, shape_of}
-use Rattle.cell_world.specs.Place.{with_region}
-use Rattle.cell_world.specs.Turn.{without_region}
-use Rattle.cell_world.specs.Memory.{end_of, part_of}
-use Rattle.cell_world.specs.Undo.{AreBytes, IsPut, Write, put_in, record_of, undone}
+use Rattle.cell_world.specs.Placed.Place.{with_region}
+use Rattle.cell_world.specs.Running.Turn.{without_region}
+use Rattle.cell_world.specs.Running.Memory.{end_of, part_of}
+use Rattle.cell_world.specs.Running.Undo.{AreBytes, IsPut, Write, put_in, record_of, undone}
 use Rattle.cell_world.specs.World.{Region}
-use Rattle.cell_lemmas.proofs.Undone.{undo_next, undo_one, undo_shapes, undone_mapped, undone_unmapped}
+use Rattle.cell_lemmas.proofs.Tasks.Undone.{undo_next, undo_one, undo_shapes, undone_mapped, undone_unmapped}
 use Rattle.cell_mem.specs.Inside.{undo_over}
 use Rattle.cell_mem.specs.Index.{IsLaid}
 use Rattle.cell_mem.specs.State.{HasWrites, MemoryState, before_in, region_with, write_at, written_at}

@@ -5,7 +5,7 @@ use Rattle.std.specs.List.{find}
 use Rattle.std.proofs.lemmas.List.{length-take-le}
 use Rattle.cell_num.specs.Bits.{bytes_of}
 use Rattle.cell_world.specs.World.{Region}
-use Rattle.cell_world.specs.Memory.{covers, end_of, pasted, written}
+use Rattle.cell_world.specs.Running.Memory.{covers, end_of, pasted, written}
 use Rattle.cell_mem.specs.Index.{IsLaid, IsIndex, covers_page, first_page}
 use Rattle.cell_mem.specs.Writing.{put}
 use Rattle.cell_mem.proofs.Laid.{covers_low, covers_high, not_below, find_here, find_skip}

@@ -6,7 +6,7 @@
 use Rattle.std.specs.Prelude.{◌≡◌, ◌<◌, ◌≤◌, ℕ, ◌+◌, ◌-◌, ◌*◌, ◌/◌, ◌%◌, Bool, List, [], ◌∷◌, Option, Some, None, length, find, slice_index_or, option_map}
 use Rattle.cell_num.specs.Limits.{page_size}
 use Rattle.cell_world.specs.World.{Region}
-use Rattle.cell_world.specs.Memory.{covers, end_of}
+use Rattle.cell_world.specs.Running.Memory.{covers, end_of}
 
 -- one or more whole pages
 pub record IsWhole (r : Region) : Type 0 where

@@ -1,8 +1,8 @@
 -- What the fields of a memory mean, and what always holds of them.
 use Rattle.std.specs.Prelude.{◌≡◌, ◌≤◌, ◌+◌, ◌*◌, ◌^◌, List, length, option_map}
 use Rattle.cell_num.specs.Limits.{page_size}
-use Rattle.cell_world.specs.Pages.{IsSpace}
-use Rattle.cell_world.specs.Undo.{AreBytes, undone}
+use Rattle.cell_world.specs.Placed.Pages.{IsSpace}
+use Rattle.cell_world.specs.Running.Undo.{AreBytes, undone}
 use Rattle.cell_world.specs.World.{Region}
 use Rattle.cell_mem.specs.declared.memory.Memory.TheInside.{Inside}
 use Rattle.cell_mem.specs.Index.{IsLaid, IsIndex, AreInPlace, held}

@@ -16,13 +16,13 @@ use Rattle.std.specs.List.{list_any, list_all}
 use Rattle.cell_num.specs.Limits.{page_size}
 use Rattle.cell_num.specs.Lists.{holds, where_true}
 use Rattle.cell_world.specs.World.{Region, Permission}
-use Rattle.cell_world.specs.Memory.{covers, end_of}
-pub use Rattle.cell_world.specs.Memory.{part_of}
-use Rattle.cell_world.specs.Pages.{filled}
-use Rattle.cell_world.specs.Place.{with_region}
-use Rattle.cell_world.specs.Turn.{without_region}
+use Rattle.cell_world.specs.Running.Memory.{covers, end_of}
+pub use Rattle.cell_world.specs.Running.Memory.{part_of}
+use Rattle.cell_world.specs.Placed.Pages.{filled}
+use Rattle.cell_world.specs.Placed.Place.{with_region}
+use Rattle.cell_world.specs.Running.Turn.{without_region}
 use Rattle.cell_world.specs.declared.transfer.Record.{Record}
-use Rattle.cell_world.specs.Undo.{Write, put_in, record_of}
+use Rattle.cell_world.specs.Running.Undo.{Write, put_in, record_of}
 use Rattle.cell_mem.specs.Undo.{UndoState, begun, noted, with_mapped, with_unmapped}
 
 -- regions ascend by their starts; `sealed` has one Bool a byte of the space; `spare` is how many regions

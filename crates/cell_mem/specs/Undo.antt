@@ -7,8 +7,8 @@
 use Rattle.std.specs.Prelude.{ℕ, ◌-◌, List, [], ◌∷◌, ◌++◌, Option, option_map}
 use Rattle.cell_lemmas.specs.Undo.{undone_in}
 use Rattle.cell_world.specs.declared.transfer.Record.{Record}
-use Rattle.cell_world.specs.Place.{with_region}
-use Rattle.cell_world.specs.Turn.{without_region}
+use Rattle.cell_world.specs.Placed.Place.{with_region}
+use Rattle.cell_world.specs.Running.Turn.{without_region}
 use Rattle.cell_world.specs.World.{Region}
 
 -- how many writes may still be noted, and the records of those that are

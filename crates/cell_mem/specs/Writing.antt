@@ -3,7 +3,7 @@
 --     put addr new r         the region with new from the address on
 use Rattle.std.specs.Prelude.{◌≤◌, ℕ, ◌+◌, ◌-◌, List}
 use Rattle.cell_world.specs.World.{Region}
-use Rattle.cell_world.specs.Memory.{end_of, pasted}
+use Rattle.cell_world.specs.Running.Memory.{end_of, pasted}
 
 pub record HasBytes (r : Region) (addr n : ℕ) : Type 0 where
   pub low : r.start ≤ addr

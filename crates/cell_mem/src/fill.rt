@@ -1,7 +1,7 @@
 //! Lists of one value.
 
 ghost use Rattle.std.specs.Prelude.{◌≡◌, ◌+◌, ◌≤◌, length, replicate, IfOk, None};
-ghost use Rattle.cell_world.specs.Pages.{filled};
+ghost use Rattle.cell_world.specs.Placed.Pages.{filled};
 
 use std::alloc::{AllocError, Global};
 

@@ -12,4 +12,5 @@ mod undo;
 
 pub use fault::MemFault;
 pub use memory::Memory;
+pub use number::write_number;
 pub use perm::Perm;

@@ -4,10 +4,10 @@ ghost use Rattle.std.specs.Prelude.{ℕ, ◌≡◌, ◌≢◌, ◌<◌, ◌+◌,
 ghost use Rattle.std.specs.Result.{result_map_both};
 ghost use Rattle.cell_num.specs.Limits.{page_size};
 ghost use Rattle.cell_num.specs.Bits.{bytes_of};
-ghost use Rattle.cell_world.specs.Memory.{covers};
-ghost use Rattle.cell_world.specs.Pages.{IsSpace};
+ghost use Rattle.cell_world.specs.Running.Memory.{covers};
+ghost use Rattle.cell_world.specs.Placed.Pages.{IsSpace};
 ghost use Rattle.cell_world.specs.Coherent.{shape_of};
-ghost use Rattle.cell_world.specs.Undo.{AreBytes, put_back, put_in, record_of};
+ghost use Rattle.cell_world.specs.Running.Undo.{AreBytes, put_back, put_in, record_of};
 ghost use Rattle.cell_mem.specs.Access.{fetched, loaded, region_for, storable, stored};
 ghost use Rattle.cell_mem.specs.Index.{IsLaid, IsWhole, first_page};
 ghost use Rattle.cell_mem.specs.Inside.{undo_over};

@@ -2,7 +2,7 @@
 
 ghost use Rattle.std.specs.Prelude.{◌≡◌, ◌+◌, ◌≤◌, length, slice_range};
 ghost use Rattle.cell_num.specs.Bits.{bytes_of, little};
-ghost use Rattle.cell_world.specs.Memory.{pasted};
+ghost use Rattle.cell_world.specs.Running.Memory.{pasted};
 
 use byteorder::{ByteOrder, LittleEndian};
 use cell_num::Listed;

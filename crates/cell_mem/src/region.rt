@@ -2,7 +2,7 @@
 
 ghost use Rattle.std.specs.Prelude.{All, ◌<◌, ◌≡◌, ◌+◌, ◌≤◌, true, length, option_map};
 ghost use Rattle.cell_num.specs.Bits.{bytes_of};
-ghost use Rattle.cell_world.specs.Memory.{covers, end_of};
+ghost use Rattle.cell_world.specs.Running.Memory.{covers, end_of};
 ghost use Rattle.cell_mem.specs.Access.{number_in};
 ghost use Rattle.cell_mem.specs.Perm.{permission_of};
 ghost use Rattle.cell_mem.specs.State.{part_of};

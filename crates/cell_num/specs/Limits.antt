@@ -36,6 +36,10 @@ max_all_bytes = 67108864
 abbrev pub max_script_bytes : ℕ
 max_script_bytes = 1048576
 
+-- the bytes of a file with a dump of the machine
+abbrev pub max_dump_bytes : ℕ
+max_dump_bytes = 67108864
+
 -- the bytes of a page
 abbrev pub page_size : ℕ
 page_size = 4096

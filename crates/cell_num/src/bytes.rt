@@ -1,9 +1,10 @@
 //! Bytes, whoever has them.
 
-ghost use Rattle.std.specs.Prelude.{◌≡◌, ◌==◌};
+ghost use Rattle.std.specs.Prelude.{◌≡◌, ◌==◌, IfOk, replicate};
 ghost use Rattle.std.specs.List.{before_first, position};
 
 use crate::Shared;
+use std::alloc::{AllocError, Global};
 use std::marker::Model;
 
 /// Who has the bytes: a vector of their own, or a buffer with several owners.
@@ -72,6 +73,13 @@ impl Bytes {
     }
 }
 
+/// So many bytes that are 0.
+pub fn zeros(alloc: Global, count: usize) -> Result<Vec<u8>, AllocError>
+    ensures { IfOk result (λ bytes. bytes.items ≡ replicate count 0) }
+{
+    vec![in alloc; 0u8; count]
+}
+
 fn first_zero(bytes: &[u8]) -> Option<usize>
     ensures { result ≡ position (λ b. b == 0) bytes.now }
 {
@@ -79,7 +87,7 @@ fn first_zero(bytes: &[u8]) -> Option<usize>
 }
 
 /// The bytes before the first zero byte, or all.
-#[tactic(auto, using(crate::proofs::Zeros::zeros))]
+#[tactic(auto, using(crate::proofs::FirstZeros::zeros))]
 fn before_zero(bytes: &[u8]) -> &[u8]
     ensures { result.now ≡ before_first (λ b. b == 0) bytes.now }
 {

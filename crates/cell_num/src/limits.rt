@@ -30,6 +30,9 @@ pub const MAX_ALL_BYTES: u64 = 67108864;
 /// The bytes of the script.
 pub const MAX_SCRIPT_BYTES: u32 = 1048576;
 
+/// The bytes of a file with a dump of the machine.
+pub const MAX_DUMP_BYTES: u32 = 67108864;
+
 /// The bytes of a page.
 pub const PAGE_SIZE: u64 = 4096;
 

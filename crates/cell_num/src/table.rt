@@ -142,7 +142,6 @@ pub fn kind_row(kind: RelKind) -> Row
 }
 
 /// The kind with a number. R_RISCV_NONE and R_RISCV_RELAX ask for nothing, and have none.
-/// R_RISCV_GOT_HI20 isn't read yet.
 pub fn kind_of(number: u32) -> Option<RelKind>
     ensures { result ≡ kind_with number }
 {
@@ -155,10 +154,7 @@ pub fn kind_of(number: u32) -> Option<RelKind>
         };
     }
     let kind = kinds!(by_number(number));
-    match kind {
-        RelKind::GotHi20 => None,
-        _ => Some(kind),
-    }
+    Some(kind)
 }
 
 /// How many bytes the field has.

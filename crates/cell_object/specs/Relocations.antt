@@ -15,7 +15,7 @@ use Rattle.cell_object.specs.Bytes.{number_at, Broken, broken_where, between}
 use Rattle.cell_object.specs.Header.{file_header, section_place, section_header, is_section_number}
 use Rattle.cell_object.specs.Sections.{is_alloc, is_nobits, has_flag}
 use Rattle.cell_object.specs.Symbols.{symtab, symbol_count, symbols_of}
-use Rattle.cell_num.specs.Kinds.{kind_of, is_passed_over, width_of, is_instruction, is_stacking, is_pcrel_lo12, is_pcrel_hi20}
+use Rattle.cell_num.specs.Kinds.{kind_of, is_passed_over, width_of, is_instruction, is_stacking, is_pcrel_lo12, is_got_hi20, is_upper_pcrel}
 
 abbrev pub is_rela : SectionHeader → Bool
 is_rela h = h.sh_type == 4
@@ -159,9 +159,9 @@ section_entries file n =
 abbrev pub entries_of : List ℕ → List Entry
 entries_of file = flat_map (section_entries file) (between 1 (file_header file).e_shnum)
 
--- the symbol with a number from 1 is in this section at the offset of a PCREL_HI20 entry of the list
+-- the symbol with a number from 1 is in this section at the offset of a PCREL_HI20 or GOT_HI20 entry of the list
 abbrev pub is_label : ℕ → List Entry → Home → ℕ → Bool
-is_label section entries (Inside n) value = n == section && list_any (λ e. is_pcrel_hi20 e.kind && e.offset == value) entries
+is_label section entries (Inside n) value = n == section && list_any (λ e. is_upper_pcrel e.kind && e.offset == value) entries
 is_label section entries _ value = false
 
 abbrev pub is_label_symbol : ℕ → List Entry → Option Symbol → Bool
@@ -171,12 +171,12 @@ is_label_symbol section entries (Some s) = is_label section entries s.home s.val
 abbrev pub has_label : ℕ → List Entry → List Symbol → ℕ → Bool
 has_label section entries symbols j = not (j == 0) && is_label_symbol section entries (slice_get symbols (j - 1))
 
--- a PCREL_LO12 in a section with an addend other than 0, or without the label of a PCREL_HI20 there
+-- a PCREL_LO12 in a section with an addend other than 0, or without the label of an upper part there
 abbrev pub is_unpaired : List Symbol → List Entry → ℕ → RelKind → ℤ → ℕ → Bool
 is_unpaired symbols entries section kind addend j =
     is_pcrel_lo12 kind && (not (int_eq addend (pos 0)) || not (has_label section entries symbols j))
 
--- Rule 24: a PCREL_LO12 has the addend 0, and the label of a PCREL_HI20 in its own section.
+-- Rule 24: a PCREL_LO12 has the addend 0, and the label of a PCREL_HI20 or GOT_HI20 in its own section.
 abbrev pub rule_24 : List Symbol → List Entry → ℕ → Entry → List Broken
 rule_24 symbols entries at e = broken_where (is_unpaired symbols entries e.section e.kind e.addend e.symbol) 24 at
 
@@ -192,3 +192,23 @@ section_pairs file n =
 -- all entries again
 abbrev pub pairs_rules : List ℕ → List Broken
 pairs_rules file = flat_map (section_pairs file) (between 1 (file_header file).e_shnum)
+
+-- a GOT_HI20 with an addend other than 0
+abbrev pub is_past_slot : RelKind → ℤ → Bool
+is_past_slot kind addend = is_got_hi20 kind && not (int_eq addend (pos 0))
+
+-- Rule 25: a GOT_HI20 has the addend 0.
+abbrev pub rule_25 : ℕ → Entry → List Broken
+rule_25 at e = broken_where (is_past_slot e.kind e.addend) 25 at
+
+unfoldable pub slot_rules : List ℕ → SectionHeader → ℕ → List Broken
+slot_rules file h k = flat_map (rule_25 (entry_place h k)) (entry_of file h k)
+
+unfoldable pub section_slots : List ℕ → ℕ → List Broken
+section_slots file n =
+    let h = section_header file n in
+    if is_rela h && is_for_loaded file h then flat_map (slot_rules file h) (between 0 (entry_count h)) else []
+
+-- all entries once more
+abbrev pub slots_rules : List ℕ → List Broken
+slots_rules file = flat_map (section_slots file) (between 1 (file_header file).e_shnum)

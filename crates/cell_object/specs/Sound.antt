@@ -1,5 +1,5 @@
 -- What holds of the object of each present cell, as it does of every object that was read.
-use Rattle.std.specs.Prelude.{pos, ◌+◌, ◌%◌, ◌^◌, ◌==◌, nat_lt, nat_le, Bool, IsTrue, true, false, not, ◌&&◌, ◌||◌, length, is_some, option_map, unwrap_or}
+use Rattle.std.specs.Prelude.{pos, ◌+◌, ◌%◌, ◌^◌, ◌<◌, ◌==◌, nat_lt, nat_le, Bool, IsTrue, true, false, not, ◌&&◌, ◌||◌, length, is_some, option_map, unwrap_or}
 use Rattle.std.specs.List.{list_any, list_all}
 use Rattle.std.specs.Ordering.{int_eq}
 use Rattle.cell_num.specs.Limits.{max_section_bytes}
@@ -94,3 +94,9 @@ pub record IsSoundObject (object : Object) : Type 0 where
   pub names : IsTrue (each_pair may_both_be object.symbols)
   pub entries : IsTrue (list_all (is_sound_entry object) object.entries)
   pub apart : IsTrue (each_pair may_share object.entries)
+
+-- an object that a present cell may have
+pub record IsLoadable (object : Object) : Type 0 where
+  pub sound : IsSoundObject object
+  pub symbols : length object.symbols < 2 ^ 32
+  pub entries : length object.entries < 2 ^ 32

@@ -1,12 +1,12 @@
--- Which objects can be written, so that the image is read as the object again: those that are sound, and
+-- Which objects can be written, so that the image is read as the object again: those that keep the rules, and
 -- whose parts can be stored.
 use Rattle.std.specs.Prelude.{◌≡◌, ℕ, ◌+◌, ◌^◌, ◌<◌, ◌≤◌, Bool, true, false, List, [], length, slice_get, FitsSigned, Some}
 use Rattle.std.specs.List.{list_any, flat_map}
 use Rattle.std.specs.Int.{w64}
 use Rattle.cell_num.specs.Lists.{numbered_from}
 use Rattle.cell_object.specs.Bytes.{is_zero}
-use Rattle.cell_object.specs.Parts.{is_global, is_local}
-use Rattle.cell_object.specs.Sound.{IsSoundObject}
+use Rattle.cell_object.specs.Parts.{is_external, is_local}
+use Rattle.cell_object.specs.Readable.{IsReadable}
 use Rattle.cell_object.specs.declared.object.Object.{Object}
 use Rattle.cell_object.specs.declared.object.Section.{Section}
 use Rattle.cell_object.specs.declared.object.Symbol.{Symbol}
@@ -38,7 +38,7 @@ pub record IsStorableSymbol (object : Object) (k : ℕ) (s : Symbol) : Type 0 wh
   pub name : IsPlain s.name
   -- the LOCAL symbols come first
   pub first : k < local_count object → is_local s.bind ≡ true
-  pub last : local_count object ≤ k → is_global s.bind ≡ true
+  pub last : local_count object ≤ k → is_external s.bind ≡ true
   -- a FILE symbol is absolute
   pub filed : is_file s.sort ≡ true → s.home ≡ Abs
   pub value : s.value < 2 ^ 64
@@ -61,7 +61,7 @@ pub record FitsImage (object : Object) : Type 0 where
   pub size : offset_after (parts object) < 2 ^ 64
 
 pub record IsWritable (object : Object) : Type 0 where
-  pub sound : IsSoundObject object
+  pub readable : IsReadable object
   pub sections : (k : ℕ) (s : Section) → slice_get object.sections k ≡ Some s → IsStorableSection k s
   pub symbols : (k : ℕ) (s : Symbol) → slice_get object.symbols k ≡ Some s → IsStorableSymbol object k s
   pub entries : (k : ℕ) (e : Entry) → slice_get object.entries k ≡ Some e → IsStorableEntry e

@@ -63,7 +63,7 @@ fn bytes_of_sources(rt: HostRuntime) -> Result<(), Fail> {
     Ok(())
 }
 
-const GOOD: [&[u8]; 14] = [
+const GOOD: [&[u8]; 17] = [
     b"",
     b"  # nothing",
     b"\t .text",
@@ -74,9 +74,12 @@ const GOOD: [&[u8]; 14] = [
     b".bss\n.zero 16777216\nx:",
     b".text\na0: j a0\nbeq a0,zero,a0",
     b".globl x\n.globl x",
+    b".weak x\n.weak a0\n.weak x",
+    b".weak x\n.text\nx: auipc a0,%pcrel_hi(y)\naddi a0,a0,%pcrel_lo(x)",
     b".text\nx:\n.globl x\nauipc a0,%pcrel_hi(y-4)\naddi a0,a0,%pcrel_lo(x)",
     b".text\nx: la a0,y\nld a0,%pcrel_lo(x)(a0)",
     b".text\nx:\nauipc a0,%pcrel_hi(y)\nsd a0,%pcrel_lo(x)(a0)",
+    b".text\nx:\nauipc a0,%got_pcrel_hi(y)\nld a0,%pcrel_lo(x)(a0)",
     b".text\n.align 12\nnop\n.align 2",
 ];
 
@@ -91,7 +94,7 @@ fn sources_without_a_fault(rt: HostRuntime) -> Result<(), Fail> {
 /// A source, and by hand what its object is made of.
 struct Assembled(&'static [u8], Plain);
 
-const ASSEMBLED: [Assembled; 2] = [
+const ASSEMBLED: [Assembled; 4] = [
     // A `la`: the label that it makes stands among the LOCAL ones, in order of definition.
     Assembled(
         b".text\n.globl w::go\nw::go: la t0,w::p\nsd zero,0(t0)\nret\n.data\nw::p: .quad w::go",
@@ -118,6 +121,30 @@ const ASSEMBLED: [Assembled; 2] = [
                 PlainEntry(1, 0, RelKind::PcrelHi20, 2, 0),
                 PlainEntry(1, 4, RelKind::PcrelLo12I, 1, 0),
                 PlainEntry(2, 0, RelKind::Abs64, 3, 0),
+            ],
+        },
+    ),
+    // An address that is loaded from a slot.
+    Assembled(
+        b".text\nx: auipc a0,%got_pcrel_hi(y)\nld a0,%pcrel_lo(x)(a0)",
+        Plain {
+            sections: &[PlainSection(
+                1,
+                b".text",
+                false,
+                true,
+                Fill::Prog,
+                4,
+                8,
+                b"\x17\x05\0\0\x03\x35\x05\0",
+            )],
+            symbols: &[
+                PlainSymbol(b"x", Bind::Local, Sort::NoType, Home::Inside(1), 0),
+                PlainSymbol(b"y", Bind::Global, Sort::NoType, Home::Undef, 0),
+            ],
+            entries: &[
+                PlainEntry(1, 0, RelKind::GotHi20, 2, 0),
+                PlainEntry(1, 4, RelKind::PcrelLo12I, 1, 0),
             ],
         },
     ),
@@ -150,6 +177,39 @@ const ASSEMBLED: [Assembled; 2] = [
                 PlainEntry(1, 8, RelKind::Add32, 3, 0),
                 PlainEntry(1, 8, RelKind::Sub32, 4, 0),
                 PlainEntry(2, 0, RelKind::CallPlt, 2, 2),
+            ],
+        },
+    ),
+    // WEAK and GLOBAL names stand in order of first mention, also where the directive comes later.
+    Assembled(
+        b".rodata\n.quad d,b,c\nb: .byte 1\n.weak a\n.globl b\nl: .byte 2\n.weak e\ne: .weak d\n.quad l",
+        Plain {
+            sections: &[PlainSection(
+                1,
+                b".rodata",
+                false,
+                false,
+                Fill::Prog,
+                8,
+                34,
+                &[
+                    0, 0, 0, 0, 0, 0, 0, 0, 0, 0, 0, 0, 0, 0, 0, 0, 0, 0, 0, 0, 0, 0, 0, 0, 1, 2,
+                    0, 0, 0, 0, 0, 0, 0, 0,
+                ],
+            )],
+            symbols: &[
+                PlainSymbol(b"l", Bind::Local, Sort::NoType, Home::Inside(1), 25),
+                PlainSymbol(b"d", Bind::Weak, Sort::NoType, Home::Undef, 0),
+                PlainSymbol(b"b", Bind::Global, Sort::NoType, Home::Inside(1), 24),
+                PlainSymbol(b"c", Bind::Global, Sort::NoType, Home::Undef, 0),
+                PlainSymbol(b"a", Bind::Weak, Sort::NoType, Home::Undef, 0),
+                PlainSymbol(b"e", Bind::Weak, Sort::NoType, Home::Inside(1), 26),
+            ],
+            entries: &[
+                PlainEntry(1, 0, RelKind::Abs64, 2, 0),
+                PlainEntry(1, 8, RelKind::Abs64, 3, 0),
+                PlainEntry(1, 16, RelKind::Abs64, 4, 0),
+                PlainEntry(1, 26, RelKind::Abs64, 1, 0),
             ],
         },
     ),

@@ -35,7 +35,7 @@ const UNKNOWN: [Faulty; 12] = [
     Faulty(b"foo:: nop", 1),
     Faulty(b"1: nop", 1),
     Faulty(b".La1: nop", 1),
-    Faulty(b".weak x", 1),
+    Faulty(b".local x", 1),
     Faulty(b".text\nnop\r", 2),
     Faulty(b".text\nadd 5,foo", 2),
     Faulty(b".text\nlw a0,%pcrel_lo(x)(a0)\nfrob", 3),
@@ -57,7 +57,7 @@ const UNREAD_OPERANDS: [Faulty; 11] = [
 ];
 
 /// Operands of the wrong number or kind.
-const WRONG_OPERANDS: [Faulty; 15] = [
+const WRONG_OPERANDS: [Faulty; 20] = [
     Faulty(b"nop a0", 1),
     Faulty(b".text\nadd 5,a1,a2", 2),
     Faulty(b".text\nadd a0,5,a2", 2),
@@ -70,9 +70,14 @@ const WRONG_OPERANDS: [Faulty; 15] = [
     Faulty(b".text\naddi a0,a1,%hi(x)", 2),
     Faulty(b".text\nslli a0,a1,%lo(x)", 2),
     Faulty(b".text\nlw a0,%pcrel_lo(x+4)(a1)", 2),
+    Faulty(b".text\nauipc a0,%got_pcrel_hi(x+4)", 2),
+    Faulty(b".text\nlui a0,%got_pcrel_hi(x)", 2),
     Faulty(b".data\n.byte x", 2),
     Faulty(b".data\n.word", 2),
     Faulty(b"x: add a0,a1,5", 1),
+    Faulty(b".weak", 1),
+    Faulty(b".weak x,y", 1),
+    Faulty(b".weak 5", 1),
 ];
 
 /// Numbers that are too far for an instruction.
@@ -106,7 +111,7 @@ const FAR_DATA: [Faulty; 11] = [
 ];
 
 /// Statements in no section or a wrong one.
-const MISPLACED: [Faulty; 10] = [
+const MISPLACED: [Faulty; 11] = [
     Faulty(b".text\nx:\nx: .byte 1", 3),
     Faulty(b"nop", 1),
     Faulty(b"x:", 1),
@@ -116,17 +121,24 @@ const MISPLACED: [Faulty; 10] = [
     Faulty(b".text\n.half 1", 2),
     Faulty(b".data\nnop", 2),
     Faulty(b".bss\n.quad 0", 2),
+    Faulty(b".weak x\nx: .globl x", 2),
     Faulty(
         b".text\n.zero 99999999999999999999999999999999999999999998",
         2,
     ),
 ];
 
-/// Names that are defined twice.
-const REPEATED: [Faulty; 3] = [
+/// Names that are defined twice, or get two bindings.
+const REPEATED: [Faulty; 9] = [
     Faulty(b".data\nx:\nx: .zero 1048577", 3),
     Faulty(b".text\nx: nop\nlw a0,%pcrel_lo(x)(a0)\nx: nop", 4),
     Faulty(b".text\nx:\nx: nop", 3),
+    Faulty(b".globl x\n.weak x", 2),
+    Faulty(b".weak x\n.globl x", 2),
+    Faulty(b".weak x\n.weak y\n.weak x\n.globl y\n.globl x", 4),
+    Faulty(b".weak x\n.text\nx: ret\n.globl x\nfrob", 4),
+    Faulty(b".globl x\n.data\nx: .weak x\nx: .byte 256", 3),
+    Faulty(b".weak x\n.bss\nx:\nx: .globl x", 4),
 ];
 
 /// Sections that grow above their limit.

@@ -18,13 +18,14 @@ fn fields(rt: HostRuntime) {
 /// R_RISCV_ numbers of GNU binutils 2.40, include/elf/riscv.h, and how many bytes each kind changes.
 struct Kind(u32, RelKind, u8);
 
-const KINDS: [Kind; 26] = [
+const KINDS: [Kind; 27] = [
     Kind(1, RelKind::Abs32, 4),
     Kind(2, RelKind::Abs64, 8),
     Kind(16, RelKind::Branch, 4),
     Kind(17, RelKind::Jal, 4),
     Kind(18, RelKind::Call, 8),
     Kind(19, RelKind::CallPlt, 8),
+    Kind(20, RelKind::GotHi20, 4),
     Kind(23, RelKind::PcrelHi20, 4),
     Kind(24, RelKind::PcrelLo12I, 4),
     Kind(25, RelKind::PcrelLo12S, 4),
@@ -47,8 +48,8 @@ const KINDS: [Kind; 26] = [
     Kind(57, RelKind::Pcrel32, 4),
 ];
 
-/// NONE, GOT_HI20, ALIGN, RELAX, SET_ULEB128, and numbers without a kind.
-const NO_KINDS: [u32; 8] = [0, 20, 43, 51, 60, 3, 58, u32::MAX];
+/// NONE, ALIGN, RELAX, SET_ULEB128, and numbers without a kind.
+const NO_KINDS: [u32; 8] = [0, 21, 43, 51, 60, 3, 58, u32::MAX];
 
 #[test]
 fn kinds(rt: HostRuntime) {

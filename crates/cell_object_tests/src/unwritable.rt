@@ -12,7 +12,7 @@ use std::test::*;
 /// What is wrong with an object, its parts, and the rule, or 0 where another object would be read.
 struct Unwritable(&'static str, Plain, u8);
 
-const UNWRITABLE: [Unwritable; 9] = [
+const UNWRITABLE: [Unwritable; 16] = [
     Unwritable(
         "fields that share bytes",
         Plain {
@@ -33,6 +33,69 @@ const UNWRITABLE: [Unwritable; 9] = [
             entries: &[],
         },
         16,
+    ),
+    Unwritable(
+        "a WEAK that is absolute",
+        Plain {
+            sections: &[DATA],
+            symbols: &[PlainSymbol(b"a::n", Bind::Weak, Sort::NoType, Home::Abs, 0)],
+            entries: &[],
+        },
+        16,
+    ),
+    Unwritable(
+        "a WEAK in no loaded section",
+        Plain {
+            sections: &[DATA],
+            symbols: &[PlainSymbol(b"a::n", Bind::Weak, Sort::NoType, Home::Elsewhere, 0)],
+            entries: &[],
+        },
+        16,
+    ),
+    Unwritable(
+        "a WEAK section",
+        Plain {
+            sections: &[DATA],
+            symbols: &[PlainSymbol(b"a::n", Bind::Weak, Sort::Section, Home::Inside(1), 0)],
+            entries: &[],
+        },
+        15,
+    ),
+    Unwritable(
+        "a WEAK before a LOCAL",
+        Plain {
+            sections: &[DATA],
+            symbols: &[
+                PlainSymbol(b"a::n", Bind::Weak, Sort::NoType, Home::Inside(1), 0),
+                PlainSymbol(b"l", Bind::Local, Sort::NoType, Home::Inside(1), 0),
+            ],
+            entries: &[],
+        },
+        15,
+    ),
+    Unwritable(
+        "a name that a WEAK has and then a GLOBAL",
+        Plain {
+            sections: &[DATA],
+            symbols: &[
+                PlainSymbol(b"a::n", Bind::Weak, Sort::NoType, Home::Inside(1), 0),
+                WANTED,
+            ],
+            entries: &[],
+        },
+        18,
+    ),
+    Unwritable(
+        "a name that two WEAK symbols have",
+        Plain {
+            sections: &[DATA],
+            symbols: &[
+                PlainSymbol(b"a::n", Bind::Weak, Sort::NoType, Home::Inside(1), 0),
+                PlainSymbol(b"a::n", Bind::Weak, Sort::NoType, Home::Undef, 0),
+            ],
+            entries: &[],
+        },
+        18,
     ),
     Unwritable(
         "more bytes than there are",
@@ -60,6 +123,15 @@ const UNWRITABLE: [Unwritable; 9] = [
             entries: &[PlainEntry(1, 4, RelKind::PcrelLo12I, 1, 0)],
         },
         24,
+    ),
+    Unwritable(
+        "a slot with an addend",
+        Plain {
+            sections: &[CODE],
+            symbols: &[WANTED],
+            entries: &[PlainEntry(1, 0, RelKind::GotHi20, 1, 8)],
+        },
+        25,
     ),
     Unwritable(
         "a section number that isn't its place",

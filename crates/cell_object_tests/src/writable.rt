@@ -97,7 +97,7 @@ fn an_image_cut_short(rt: HostRuntime) -> Result<(), Fail> {
 }
 
 /// Objects that can be written.
-const WRITABLE: [Plain; 4] = [
+const WRITABLE: [Plain; 5] = [
     // empty sections, and one without a name
     Plain {
         sections: &[
@@ -143,6 +143,20 @@ const WRITABLE: [Plain; 4] = [
             N,
         ],
         entries: &[],
+    },
+    // WEAK symbols among GLOBAL ones, and a LOCAL of the same name
+    Plain {
+        sections: &[CODE],
+        symbols: &[
+            PlainSymbol(b"a::f", Bind::Local, Sort::NoType, Home::Inside(1), 4),
+            PlainSymbol(b"a::f", Bind::Weak, Sort::Func, Home::Inside(1), 0),
+            WANTED,
+            PlainSymbol(b"b", Bind::Weak, Sort::NoType, Home::Undef, 0),
+        ],
+        entries: &[
+            PlainEntry(1, 0, RelKind::PcrelHi20, 4, 0),
+            PlainEntry(1, 4, RelKind::PcrelLo12I, 2, 0),
+        ],
     },
     Plain {
         sections: &[CODE, MORE_CODE],

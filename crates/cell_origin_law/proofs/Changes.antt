@@ -22,17 +22,17 @@ use Rattle.cell_world.specs.Answer.{Done}
 use Rattle.cell_world.specs.Change.{Change, Made, Plan, Want, append_want, exchange_at, exchanges_from, gather, garbage_after, make_change, old_of, replaced, set_aside, swapped_out, with_names}
 use Rattle.cell_world.specs.Coherent.{IsCoherent}
 use Rattle.cell_world.specs.Gather.{Source, append_cell, file_named, fresh_cells, new_cell}
-use Rattle.cell_world.specs.Layout.{image_of, places_in}
+use Rattle.cell_world.specs.Placed.Layout.{image_of, places_in}
 use Rattle.cell_world.specs.Names.{names_of}
 use Rattle.cell_world.specs.Outcome.{each}
-use Rattle.cell_world.specs.Place.{Placing, place_cell, place_sections, start_of_run, with_places, with_run}
+use Rattle.cell_world.specs.Placed.Place.{Placing, place_cell, place_sections, start_of_run, with_places, with_run}
 use Rattle.cell_world.specs.Reexport.{Exchange, heir_of, take_on, with_alias, with_reexports}
-use Rattle.cell_world.specs.UnloadCommand.{put_aside, without_cells}
+use Rattle.cell_world.specs.Commands.UnloadCommand.{put_aside, without_cells}
 use Rattle.cell_world.specs.World.{Alias, Cell, World, cell_of}
-use Rattle.cell_lemmas.proofs.Appended.{Appended, append_ok, ok_same}
-use Rattle.cell_lemmas.proofs.Brought.{brought}
+use Rattle.cell_lemmas.proofs.Naming.Appended.{Appended, append_ok, ok_same}
+use Rattle.cell_lemmas.proofs.Naming.Brought.{brought}
 use Rattle.cell_lemmas.proofs.Outcomes.{bind_ok}
-use Rattle.cell_lemmas.proofs.PlacedAll.{CellRuns, cell_runs, each_keeps}
+use Rattle.cell_lemmas.proofs.Placement.PlacedAll.{CellRuns, cell_runs, each_keeps}
 use Rattle.cell_change_law.specs.Sound.{HasMade, IsSound}
 use Rattle.cell_change_law.proofs.Ending.{second_is}
 use Rattle.cell_change_law.proofs.Steps.{Changed, Planned, changed, planned}

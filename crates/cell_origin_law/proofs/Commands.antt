@@ -4,7 +4,6 @@ use Rattle.std.specs.Prelude.{nat_le, nat_lt}
 use Rattle.std.specs.List.{list_all}
 use Rattle.cell_num.specs.Lists.{In}
 use Rattle.cell_num.proofs.Elements.{All-In, In-All, In-append, In-map, all-In}
-use Rattle.cell_object.specs.Reads.{reads}
 use Rattle.cell_depot.specs.ObjectName.{is_object_name}
 use Rattle.cell_script.specs.Grammar.{is_name}
 use Rattle.cell_script.specs.Script.{is_said}
@@ -17,20 +16,20 @@ use Rattle.cell_world.specs.declared.state.Namespace.{Namespace}
 use Rattle.cell_world.specs.Answer.{Done, present_cell, space_of}
 use Rattle.cell_world.specs.Coherent.{AreSound, IsCoherent}
 use Rattle.cell_world.specs.Gather.{Source, source_of}
-use Rattle.cell_world.specs.LinkCommands.{next_deps, next_users}
+use Rattle.cell_world.specs.Commands.LinkCommands.{next_deps, next_users}
 use Rattle.cell_world.specs.Next.{outcome_of}
-use Rattle.cell_world.specs.NsCommand.{next_ns}
+use Rattle.cell_world.specs.Commands.NsCommand.{next_ns}
 use Rattle.cell_world.specs.Outcome.{found, need}
-use Rattle.cell_world.specs.Place.{start_of_run}
-use Rattle.cell_world.specs.SpawnCommand.{entry_named, next_spawn}
+use Rattle.cell_world.specs.Placed.Place.{start_of_run}
+use Rattle.cell_world.specs.Commands.SpawnCommand.{entry_named, next_spawn}
 use Rattle.cell_world.specs.World.{Cell, World, empty_world}
 use Rattle.cell_lemmas.specs.Kept.{KeepsCells}
-use Rattle.cell_lemmas.proofs.Appended.{ok_same}
-use Rattle.cell_lemmas.proofs.Commands.{kill_cells, run_cells, step_cells, tasks_same}
-use Rattle.cell_lemmas.proofs.NamespaceAdded.{Added, ns_ok}
+use Rattle.cell_lemmas.proofs.Naming.Appended.{ok_same}
+use Rattle.cell_lemmas.proofs.Tasks.Commands.{kill_cells, run_cells, step_cells, tasks_same}
+use Rattle.cell_lemmas.proofs.Naming.NamespaceAdded.{Added, ns_ok}
 use Rattle.cell_lemmas.proofs.NextCoherent.{dump_same, find_same, map_same}
 use Rattle.cell_lemmas.proofs.Outcomes.{bind_ok, then_ok}
-use Rattle.cell_lemmas.proofs.Removals.{Removed, purge_removed, unload_removed}
+use Rattle.cell_lemmas.proofs.Holding.Removals.{Removed, purge_removed, unload_removed}
 use Rattle.cell_change_law.proofs.Asking.{load_made, swap_made}
 use Rattle.cell_origin_law.specs.Readings.{AreApart, AreRead, IsRead}
 use Rattle.cell_origin_law.specs.Spelled.{AreNamed, IsNamedSource, IsSpelled, IsSpelledCell}
@@ -39,7 +38,7 @@ use Rattle.cell_origin_law.proofs.FileNames.{file_named_well, stem_named}
 use Rattle.cell_origin_law.proofs.Numbers.{reading_short}
 
 source_named : (f : File) → is_object_name f.name ≡ true → IsNamedSource (source_of f)
-source_named f h = record { stem = stem_named f.name h; file = file_named_well f.name h; reading = reading_short f.bytes (reads f.bytes) refl }
+source_named f h = record { stem = stem_named f.name h; file = file_named_well f.name h; reading = reading_short f.bytes }
 
 -- the files of a folder
 pub files_named : (files : List File) → list_all (λ f. is_object_name f.name) files ≡ true → AreNamed (map source_of files)

@@ -14,7 +14,7 @@ use Rattle.cell_object.specs.declared.object.Symbol.{Symbol}
 use Rattle.cell_world.specs.Coherent.{IsCoherent}
 use Rattle.cell_world.specs.Names.{definitions_of, is_definition, names_of}
 use Rattle.cell_world.specs.World.{World, Cell, Alias}
-use Rattle.cell_lemmas.proofs.Known.{object_sound}
+use Rattle.cell_lemmas.proofs.Naming.Known.{object_sound}
 use Rattle.cell_origin_law.specs.Spelled.{IsSpelledCell}
 
 unlocal : (b : Bind) → is_global b ≡ true → is_local b ≡ false

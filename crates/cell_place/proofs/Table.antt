@@ -7,7 +7,7 @@ use Rattle.std.proofs.lemmas.Bool.{cases_lt, leb-true, and_parts, false≢true}
 use Rattle.std.proofs.lemmas.List.Sums.{prefix_len-le-length}
 use Rattle.std.proofs.lemmas.Bool.Decides.{nat_tests}
 use Rattle.cell_num.specs.Lists.{from_on}
-use Rattle.cell_world.specs.Pages.{is_free_run, is_taken_run, lowest_run}
+use Rattle.cell_world.specs.Placed.Pages.{is_free_run, is_taken_run, lowest_run}
 use Rattle.cell_place.specs.declared.search.Found.{Found}
 use Rattle.cell_place.specs.Runs.{AreTakenBefore, HasRun, IsFound}
 

@@ -6,7 +6,7 @@
 use Rattle.std.specs.Prelude.{◌≡◌, ◌<◌, ◌≤◌, ◌-◌, ℕ, Bool, true, not, List, Some, None, Result, Ok, Err, drop, find, length, slice_index_or}
 use Rattle.std.specs.List.{prefix_len}
 use Rattle.cell_num.specs.Lists.{from_on}
-use Rattle.cell_world.specs.Pages.{is_free_run, lowest_run, longest_run}
+use Rattle.cell_world.specs.Placed.Pages.{is_free_run, lowest_run, longest_run}
 use Rattle.cell_place.specs.declared.search.Run.{Run}
 use Rattle.cell_place.specs.declared.search.NoRun.{NoRun}
 use Rattle.cell_place.specs.declared.search.Found.{Found}

@@ -1,6 +1,6 @@
 -- The space as contracts see it.
 use Rattle.std.specs.Prelude.{ℕ, Bool, List}
-use Rattle.cell_world.specs.Pages.{filled}
+use Rattle.cell_world.specs.Placed.Pages.{filled}
 use Rattle.cell_place.specs.declared.search.Run.{Run}
 
 -- the address of the first page, and for each page whether it is taken

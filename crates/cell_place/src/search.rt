@@ -2,7 +2,7 @@
 
 ghost use Rattle.std.specs.Prelude.{if◌then◌else◌, ◌≡◌, ◌+◌, ◌<◌, ◌≤◌, length, IfOk};
 ghost use Rattle.cell_num.specs.Limits.{max_pages};
-ghost use Rattle.cell_world.specs.Pages.{longest_run, lowest_run};
+ghost use Rattle.cell_world.specs.Placed.Pages.{longest_run, lowest_run};
 ghost use Rattle.cell_place.specs.Runs.{AreTakenBefore, IsFound, run_of};
 
 /// A run of pages: its first page, by its number in the space, and how many pages it has.

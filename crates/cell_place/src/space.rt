@@ -2,7 +2,7 @@
 
 ghost use Rattle.std.specs.Prelude.{◌≡◌, ◌+◌, ◌*◌, ◌≤◌, ◌<◌, ◌^◌, false, true, length, replicate, IfOk, OnErr};
 ghost use Rattle.cell_num.specs.Limits.{page_size};
-ghost use Rattle.cell_world.specs.Pages.{IsSpace, is_taken_run, filled};
+ghost use Rattle.cell_world.specs.Placed.Pages.{IsSpace, is_taken_run, filled};
 ghost use Rattle.cell_place.specs.Runs.{run_of};
 
 use crate::search::{NoRun, Run, search};
@@ -21,7 +21,7 @@ pub struct Space {
 
 impl Model for Space {
     ghost use Rattle.std.specs.Prelude.{◌≤◌, length};
-    ghost use Rattle.cell_world.specs.Pages.{IsSpace};
+    ghost use Rattle.cell_world.specs.Placed.Pages.{IsSpace};
     ghost use Rattle.cell_place.specs.Runs.{AreTakenBefore};
     ghost use Rattle.cell_place.specs.Space.{SpaceState};
 

@@ -8,7 +8,7 @@ use Rattle.cell_world.specs.declared.state.NewCell.{NewCell}
 use Rattle.cell_world.specs.declared.state.Target.{Target}
 use Rattle.cell_world.specs.World.{World, Cell, cell_of}
 use Rattle.cell_world.specs.Names.{Provider}
-use Rattle.cell_world.specs.Target.{own_target, provided_target}
+use Rattle.cell_world.specs.Linked.Target.{own_target, provided_target}
 use Rattle.cell_num.specs.Lists.{In}
 
 in_slice : {X : Type 0} (xs : List X) (i : ℕ) (x : X) → slice_get xs i ≡ Some x → In x xs

@@ -2,7 +2,7 @@
 
 ghost use Rattle.std.specs.Prelude.{◌≡◌, option_map, option_and_then};
 ghost use Rattle.cell_object.specs.Parts.{symbol_at as symbol_with};
-ghost use Rattle.cell_world.specs.Target.{own_target as own};
+ghost use Rattle.cell_world.specs.Linked.Target.{own_target as own};
 ghost use Rattle.cell_num.specs.Lists.{In};
 ghost use Rattle.cell_placed.specs.Low.{IsLow};
 

@@ -2,7 +2,7 @@
 
 ghost use Rattle.std.specs.Prelude.{IsTrue, nat_lt, ◌≡◌, ◌==◌, find, option_map};
 ghost use Rattle.cell_num.specs.Lists.{each_pair};
-ghost use Rattle.cell_world.specs.Target.{start_of as start_in};
+ghost use Rattle.cell_world.specs.Linked.Target.{start_of as start_in};
 ghost use Rattle.cell_world.specs.Before.{AreBefore};
 ghost use Rattle.cell_placed.specs.Keys.{section_in};
 

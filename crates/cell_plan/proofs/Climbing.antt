@@ -9,7 +9,7 @@ use Rattle.std.proofs.Math.ListN.{drop_of_length-le}
 use Rattle.cell_num.proofs.Sublists.{and_left, and_right}
 use Rattle.cell_link.proofs.FirstFieldLemmas.{among_new, at_self}
 use Rattle.cell_object.specs.declared.object.Entry.{Entry}
-use Rattle.cell_world.specs.Field.{fields_among, is_at}
+use Rattle.cell_world.specs.Linked.Field.{fields_among, is_at}
 use Rattle.cell_link.specs.Applied.{spot_of}
 use Rattle.cell_plan.specs.Firsts.{is_entry_at}
 use Rattle.cell_plan.specs.Rising.{key_of, rises}

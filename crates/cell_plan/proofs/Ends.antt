@@ -11,12 +11,12 @@ use Rattle.cell_num.proofs.Elements.{none-In, filter_none}
 use Rattle.cell_object.specs.declared.object.Object.{Object}
 use Rattle.cell_object.specs.declared.object.Entry.{Entry}
 use Rattle.cell_world.specs.declared.state.NewCell.{NewCell}
-use Rattle.cell_world.specs.Field.{place_of}
+use Rattle.cell_world.specs.Linked.Field.{place_of}
 use Rattle.cell_world.specs.Torn.{is_low, partner_of, goes_with, last_low}
 use Rattle.cell_link.specs.Applied.{spot_of}
 use Rattle.cell_link.specs.Tables.{spot_cmp}
 use Rattle.cell_plan.proofs.Lists.{map_append}
-use Rattle.cell_plan.specs.Lasts.{Ends, IsLastAfter, may_go, goes_to, end_of}
+use Rattle.cell_plan.specs.Lasts.{may_go, goes_to, end_of}
 
 goes_nowhere : (object : Object) (e : Entry) (q : ℕ × ℕ) → option_map spot_of (partner_of object e) ≡ None → goes_to object q e ≡ false
 goes_nowhere object e q none = go (partner_of object e) none
@@ -51,10 +51,6 @@ spot_is (a, b) (c, d) h = both (eqb-true a c (left_of (a == c) (b == d) h)) (eqb
 
     both : {a b c d : ℕ} → a ≡ c → b ≡ d → ◌≡◌ {A = ℕ × ℕ} (c, d) (a, b)
     both e f = rw (e, f) refl
-
--- an entry that goes with no high one
-pub left_out : (c : NewCell) (e : Entry) (ends : Ends) → option_map spot_of (partner_of c.object e) ≡ None → IsLastAfter c e ends ends
-left_out c e ends none = λ q. rw (goes_nowhere c.object e q none) refl
 
 -- an entry that goes with the high one at k
 pub taken_in : (c : NewCell) (e : Entry) (k : ℕ × ℕ) (end : ℕ) (f g : ℕ × ℕ → Option ℕ)

@@ -8,8 +8,7 @@ pub mod Marking
 pub mod Climbing
 pub mod Staying
 pub mod Using
-pub mod Moving
-pub mod Swapped
-pub mod Covering
+pub mod Stepped
+pub mod Stepping
 pub mod Lacking
 pub mod Exchanging

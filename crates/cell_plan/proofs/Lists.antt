@@ -6,16 +6,13 @@ use Rattle.std.proofs.lemmas.List.{get_or-map, length-map, take_more}
 use Rattle.std.proofs.lemmas.List.Elements.{filter_more}
 use Rattle.std.proofs.lemmas.List.Folds.{list_any_more}
 use Rattle.cell_object.specs.declared.object.Entry.{Entry}
-use Rattle.cell_world.specs.declared.state.LinkRow.{LinkRow}
-use Rattle.cell_world.specs.declared.state.Target.{Target}
-use Rattle.cell_world.specs.Field.{fields_among}
+use Rattle.cell_world.specs.Linked.Field.{fields_among}
 use Rattle.cell_link.specs.declared.value.FieldValue.{FieldValue}
 use Rattle.cell_link.specs.Applied.{spot_of}
 use Rattle.cell_link.proofs.FirstFieldLemmas.{among_push}
 use Rattle.cell_plan.specs.declared.changes.Change.{Change}
 use Rattle.cell_plan.specs.Changes.{change_by}
 use Rattle.cell_plan.specs.Firsts.{is_entry_at}
-use Rattle.cell_plan.specs.Lost.{is_lost, is_lost_at, is_some_at}
 
 pub any_map : {X Y : Type 0} (p : Y → Bool) (f : X → Y) (xs : List X) → list_any p (map f xs) ≡ list_any (λ x. p (f x)) xs
 any_map p f [] = refl
@@ -55,26 +52,6 @@ pub firsts_push : (es : List Entry) (i : ℕ) (d : Entry) (seen : Bool) (old new
     → old ≡ fields_among [] (take i es) → new ≡ old ++ cond seen [] (get_or es i d ∷ []) → new ≡ fields_among [] (take (i + 1) es)
 firsts_push es i d seen old new below has were is =
     is ∙ rw (were, has) (sym (among_push [] (take i es) (get_or es i d)) ∙ ap (fields_among []) (sym (take_more es i d below)))
-
--- whether the entry of a link that moves is at a place
-pub spot_there : (old : List ℕ) (entries : List Entry) (targets : List Target) (q : ℕ × ℕ) (l : LinkRow) (e : Entry) → is_lost old targets l ≡ true → slice_get entries l.entry ≡ Some e
-    → is_entry_at q e ≡ is_lost_at old entries targets q l
-spot_there old entries targets q l e lost there = rw (lost, there) refl
-
-pub spot_nowhere : (old : List ℕ) (entries : List Entry) (targets : List Target) (q : ℕ × ℕ) (l : LinkRow) (before : Bool) → is_lost old targets l && is_some_at q (slice_get entries l.entry) ≡ false
-    → before ≡ (before || is_lost_at old entries targets q l)
-spot_nowhere old entries targets q l before none = rw none (sym (or_none before))
-  where
-    or_none : (b : Bool) → (b || false) ≡ b
-    or_none true = refl
-    or_none false = refl
-
-pub nowhere_out : (old : List ℕ) (entries : List Entry) (targets : List Target) (q : ℕ × ℕ) (l : LinkRow) → slice_get entries l.entry ≡ None → (is_lost old targets l && is_some_at q (slice_get entries l.entry)) ≡ false
-nowhere_out old entries targets q l out = rw out (and_none (is_lost old targets l))
-  where
-    and_none : (b : Bool) → (b && false) ≡ false
-    and_none true = refl
-    and_none false = refl
 
 -- what a list of references refers to
 pub referred : {X : Type 0} (refs : List (Bor X)) (place : ℕ) (r : Bor X) → place < length refs → r ≡ get_or refs place r → (place < length (map (λ x. x.now) refs)) × (r.now ≡ get_or (map (λ x. x.now) refs) place r.now)

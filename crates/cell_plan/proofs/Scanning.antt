@@ -9,7 +9,7 @@ use Rattle.cell_link.proofs.Misfits as misfits
 use Rattle.cell_object.specs.declared.object.Entry.{Entry}
 use Rattle.cell_world.specs.declared.state.NewCell.{NewCell}
 use Rattle.cell_world.specs.declared.state.Target.{Target}
-use Rattle.cell_world.specs.Field.{Bound, fits, is_at, misfit_of}
+use Rattle.cell_world.specs.Linked.Field.{Bound, fits, is_at, misfit_of}
 use Rattle.cell_link.specs.declared.value.FieldValue.{FieldValue}
 use Rattle.cell_link.specs.Linked.{IsFieldValue, bound_in, first_unfit_at, value_at}
 use Rattle.cell_plan.proofs.Lists.{map_append}

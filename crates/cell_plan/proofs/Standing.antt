@@ -9,7 +9,7 @@ use Rattle.cell_num.specs.declared.kinds.RelKind.TheVariants.{Call, CallPlt, Pcr
 use Rattle.cell_object.specs.declared.object.Entry.{Entry}
 use Rattle.cell_world.specs.declared.state.NewCell.{NewCell}
 use Rattle.cell_world.specs.World.{Task}
-use Rattle.cell_world.specs.Field.{place_of}
+use Rattle.cell_world.specs.Linked.Field.{place_of}
 use Rattle.cell_world.specs.Changed.{FieldAt}
 use Rattle.cell_world.specs.Torn.{is_inside, is_torn, is_lower, lower_of, last_low, torn_of, torn_refusal, first_torn}
 use Rattle.cell_plan.specs.declared.torn.Torn.{Torn}

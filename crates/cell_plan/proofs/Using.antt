@@ -14,8 +14,8 @@ use Rattle.cell_world.specs.declared.state.LinkRow.{LinkRow}
 use Rattle.cell_world.specs.declared.state.Target.{Target}
 use Rattle.cell_world.specs.declared.state.Target.TheVariants.{Section, Number}
 use Rattle.cell_world.specs.World.{World, Cell}
-use Rattle.cell_world.specs.Relink.{link_of, link_to, links_of}
-use Rattle.cell_world.specs.Target.{target_of}
+use Rattle.cell_world.specs.Linked.Relink.{link_of, link_to, links_of}
+use Rattle.cell_world.specs.Linked.Target.{target_of}
 use Rattle.cell_plan.specs.Staying.{links_in}
 use Rattle.cell_plan.specs.Users.{leads_among}
 

@@ -9,7 +9,7 @@ use Rattle.std.specs.BTreeMap.{BTreeMap, get}
 use Rattle.cell_object.specs.declared.object.Object.{Object}
 use Rattle.cell_object.specs.declared.object.Entry.{Entry}
 use Rattle.cell_world.specs.declared.state.NewCell.{NewCell}
-use Rattle.cell_world.specs.Field.{place_of}
+use Rattle.cell_world.specs.Linked.Field.{place_of}
 use Rattle.cell_num.specs.Kinds.{is_pcrel_lo12}
 use Rattle.cell_world.specs.Torn.{is_low, partner_of}
 use Rattle.cell_link.specs.Tables.{spot_cmp}

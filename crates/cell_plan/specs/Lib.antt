@@ -3,11 +3,12 @@ pub mod Uppers
 pub mod Lasts
 pub mod Firsts
 pub mod Rising
-pub mod Lost
+pub mod Steps
 pub mod Changes
 pub mod Taking
 pub mod Staying
 pub mod Users
+pub mod Marked
 pub mod Coverage
 pub mod Known
 pub mod Exchanged

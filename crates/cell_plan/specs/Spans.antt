@@ -12,7 +12,7 @@ use Rattle.cell_world.specs.declared.refusal.Refusal.{Refusal}
 use Rattle.cell_world.specs.declared.refusal.Refusal.TheVariants.{Torn as TornRefusal}
 use Rattle.cell_world.specs.declared.state.NewCell.{NewCell}
 use Rattle.cell_world.specs.World.{Task}
-use Rattle.cell_world.specs.Field.{place_of}
+use Rattle.cell_world.specs.Linked.Field.{place_of}
 use Rattle.cell_world.specs.Changed.{FieldAt}
 use Rattle.cell_world.specs.Torn.{last_low}
 use Rattle.cell_plan.specs.declared.span.Span.{Span}

@@ -1,4 +1,4 @@
-//! What a swap changes in cells that stay.
+//! What a change changes in cells that stay.
 
 ghost use Rattle.std.specs.Prelude.{◌≡◌, ◌<◌, ◌^◌, ◌++◌, [], ◌∷◌, All, Bool, IfOk, OnOk, cond, filter, length, map, true};
 ghost use Rattle.cell_object.specs.declared.object.Entry.{Entry as SomeEntry};
@@ -6,28 +6,27 @@ ghost use Rattle.cell_link.specs.declared.value.FieldValue.{FieldValue as Value}
 ghost use Rattle.cell_placed.specs.Low.{IsLow};
 ghost use Rattle.cell_plan.specs.Rising.{rises as Rises};
 ghost use Rattle.cell_plan.specs.Spans.{span_in};
-ghost use Rattle.cell_plan.specs.Taking.{AreMarked, Takes};
+ghost use Rattle.cell_plan.specs.Taking.{Takes};
 
-use crate::changes::{Changes, changes_of};
+use crate::changes::{Change, marked_fields};
 use crate::lasts::Lasts;
-use crate::marks::mark_lost;
-use crate::old::Old;
 use crate::rising::rises;
 use crate::span::Span;
 use crate::spans::span_of;
+use crate::steps::take_steps;
 use crate::values::values_of;
-use cell_link::FieldValue;
+use cell_commit::Rewiring;
+use cell_link::{FieldValue, link_fields};
 use cell_object::Entry;
 use cell_world::{Fail, LinkRow, NewCell, Target};
 use std::alloc::{AllocError, Global};
 use std::mem::replace;
 
-/// The fields that change, by what they hold then; the links that move, as they lead then; and where
-/// no task may stand.
+/// The fields that change, by what they hold then; what becomes of links; and where no task may stand.
 #[derive(Drop)]
 pub struct Changed {
     pub patches: Vec<FieldValue>,
-    pub moves: Vec<LinkRow>,
+    pub links: Rewiring,
     pub spans: Vec<Span>,
 }
 
@@ -48,34 +47,36 @@ impl FieldRoom {
 }
 
 impl Changed {
-    /// Nothing changes, with room for so many fields and links.
+    /// Nothing changes, with room for so many fields and links that lead elsewhere.
     pub fn with_room(alloc: Global, room: usize) -> Result<Changed, AllocError>
         ensures patches { IfOk result (λ changed. changed.patches.items ≡ []) }
-        ensures moves { IfOk result (λ changed. changed.moves.items ≡ []) }
+        ensures moves { IfOk result (λ changed. changed.links.moves.items ≡ []) }
+        ensures backs { IfOk result (λ changed. changed.links.backs.items ≡ []) }
+        ensures binds { IfOk result (λ changed. changed.links.binds.items ≡ []) }
+        ensures unbinds { IfOk result (λ changed. changed.links.unbinds.items ≡ []) }
         ensures spans { IfOk result (λ changed. changed.spans.items ≡ []) }
     {
         Ok(Changed {
             patches: Vec::with_capacity(alloc, room)?,
-            moves: Vec::with_capacity(alloc, room)?,
+            links: Rewiring {
+                moves: Vec::with_capacity(alloc, room)?,
+                backs: Vec::with_capacity(alloc, room)?,
+                binds: Vec::new(alloc),
+                unbinds: Vec::new(alloc),
+            },
             spans: Vec::with_capacity(alloc, room)?,
         })
     }
 
-    /// Adds what changes in one cell.
-    pub fn add(
-        &mut self,
-        alloc: Global,
-        cell: &NewCell,
-        changes: &Changes,
-    ) -> Result<(), AllocError>
+    /// Adds fields that change in one cell.
+    fn add(&mut self, alloc: Global, cell: &NewCell, changes: &[Change]) -> Result<(), AllocError>
         requires { IsLow cell.now }
-        ensures patches { OnOk result (self.new.patches.items ≡ self.old.patches.items ++ map (λ f. f.value) changes.now.fields.items) }
-        ensures moves { OnOk result (self.new.moves.items ≡ self.old.moves.items ++ changes.now.moves.items) }
-        ensures spans { OnOk result (self.new.spans.items ≡ self.old.spans.items ++ map (span_in cell.now) (map (λ f. f.field) changes.now.fields.items)) }
+        ensures patches { OnOk result (self.new.patches.items ≡ self.old.patches.items ++ map (λ f. f.value) changes.now) }
+        ensures spans { OnOk result (self.new.spans.items ≡ self.old.spans.items ++ map (span_in cell.now) (map (λ f. f.field) changes.now)) }
+        ensures links { self.new.links ≡ self.old.links }
     {
-        self.moves.extend_from_slice(&changes.moves)?;
         let lasts = Lasts::of(alloc, cell)?;
-        for change in &changes.fields {
+        for change in changes {
             self.add_field(&lasts, &change.field, &change.value, true)?;
         }
         Ok(())
@@ -92,7 +93,7 @@ impl Changed {
         requires { IsLow lasts.now.cell.now }
         ensures patches { OnOk result (self.new.patches.items ≡ self.old.patches.items ++ cond changes (value.now ∷ []) []) }
         ensures spans { OnOk result (self.new.spans.items ≡ self.old.spans.items ++ cond changes (span_in lasts.now.cell.now field.now ∷ []) []) }
-        ensures moves { self.new.moves.items ≡ self.old.moves.items }
+        ensures links { self.new.links ≡ self.old.links }
     {
         if changes {
             self.patches.push(*value)?;
@@ -115,7 +116,7 @@ impl Changed {
             OnOk result (self.new.patches.items ≡ self.old.patches.items ++ map value (filter kept lasts.now.cell.now.object.entries)) }
         ensures spans { (kept : SomeEntry → Bool) → marks.now ≡ map kept lasts.now.cell.now.object.entries →
             OnOk result (self.new.spans.items ≡ self.old.spans.items ++ map (span_in lasts.now.cell.now) (filter kept lasts.now.cell.now.object.entries)) }
-        ensures moves { self.new.moves.items ≡ self.old.moves.items }
+        ensures links { self.new.links ≡ self.old.links }
     {
         let entries = lasts.cell.object.entries.as_slice();
         for index in 0..entries.len() {
@@ -132,27 +133,47 @@ impl Changed {
         cell: &NewCell,
         targets: &[Target],
         links: &[LinkRow],
-        old: &Old,
     ) -> Result<(), Fail>
         requires rises { Rises 0 cell.now.object.entries ≡ true }
         requires each { length targets.now ≡ length cell.now.object.entries }
         requires few { length cell.now.object.entries < 2 ^ 32 }
         requires places { All (λ p. p.start < 2 ^ 63) cell.now.places }
         requires low { IsLow cell.now }
-        ensures { Takes (map (λ c. c.0) old.now.cells.now) cell.now targets.now links.now self.old result self.new }
+        ensures { Takes cell.now targets.now links.now self.old result self.new }
     {
         let values = replace(&mut room.values, Vec::new(alloc));
         let values = values_of(alloc, values, cell, targets)?;
-        let count = cell.object.entries.as_slice().len();
-        mark_lost(&mut room.marks, &mut self.moves, count, old, targets, links)?;
+        take_steps(&mut room.marks, &mut self.links, cell, targets, links)?;
         let lasts = Lasts::of(alloc, cell)?;
         self.add_marked(&lasts, values.as_slice(), &room.marks)?;
         room.values = values.into_vec();
         Ok(())
     }
 
-    /// Adds what changes in one cell where the old cells are put aside: `links` are its links before,
-    /// and `targets` what its entries name by now. The first entry that doesn't fit is refused.
+    /// Adds what changes in a cell, whatever its table.
+    fn take_in_any(
+        &mut self,
+        alloc: Global,
+        room: &mut FieldRoom,
+        cell: &NewCell,
+        targets: &[Target],
+        links: &[LinkRow],
+    ) -> Result<(), Fail>
+        requires each { length targets.now ≡ length cell.now.object.entries }
+        requires few { length cell.now.object.entries < 2 ^ 32 }
+        requires places { All (λ p. p.start < 2 ^ 63) cell.now.places }
+        requires low { IsLow cell.now }
+        ensures { Takes cell.now targets.now links.now self.old result self.new }
+    {
+        let values = link_fields(alloc, cell, targets)?;
+        take_steps(&mut room.marks, &mut self.links, cell, targets, links)?;
+        let changes = marked_fields(alloc, &cell.object, values.as_slice(), &room.marks)?;
+        self.add(alloc, cell, &changes)?;
+        Ok(())
+    }
+
+    /// Adds what changes in one cell: `links` are its links before, and `targets` what its entries name by
+    /// now. The first entry that doesn't fit is refused.
     pub(crate) fn take_in(
         &mut self,
         alloc: Global,
@@ -160,19 +181,17 @@ impl Changed {
         cell: &NewCell,
         targets: &[Target],
         links: &[LinkRow],
-        old: &Old,
     ) -> Result<(), Fail>
         requires each { length targets.now ≡ length cell.now.object.entries }
         requires few { length cell.now.object.entries < 2 ^ 32 }
         requires places { All (λ p. p.start < 2 ^ 63) cell.now.places }
         requires low { IsLow cell.now }
-        ensures { Takes (map (λ c. c.0) old.now.cells.now) cell.now targets.now links.now self.old result self.new }
+        ensures { Takes cell.now targets.now links.now self.old result self.new }
     {
         if rises(cell.object.entries.as_slice()) {
-            return self.take_in_rising(alloc, room, cell, targets, links, old);
+            self.take_in_rising(alloc, room, cell, targets, links)
+        } else {
+            self.take_in_any(alloc, room, cell, targets, links)
         }
-        let changes = changes_of(alloc, cell, targets, links, old)?;
-        self.add(alloc, cell, &changes)?;
-        Ok(())
     }
 }

@@ -1,20 +1,19 @@
-//! What a swap changes in one cell.
+//! The fields that change in one cell.
 
-ghost use Rattle.std.specs.Prelude.{◌≡◌, ◌<◌, ◌^◌, ◌++◌, [], ◌∷◌, All, IfOk, OnOk, cond, length, map, filter};
+ghost use Rattle.std.specs.Prelude.{◌≡◌, ◌++◌, [], ◌∷◌, IfOk, OnOk, cond, length, map, filter};
 ghost use Rattle.std.specs.BTreeSet.{contains};
 ghost use Rattle.cell_object.specs.declared.object.Entry.{Entry as SomeEntry};
 ghost use Rattle.cell_link.specs.declared.value.FieldValue.{FieldValue as Value};
 ghost use Rattle.cell_link.specs.Applied.{spot_of};
 ghost use Rattle.cell_link.specs.Tables.{spot_cmp};
-ghost use Rattle.cell_plan.specs.Changes.{AreChanges, change_by};
+ghost use Rattle.cell_world.specs.Linked.Field.{fields_of};
+ghost use Rattle.cell_plan.specs.Changes.{change_by};
+ghost use Rattle.cell_plan.specs.Steps.{is_marked_spot};
 
 use crate::firsts::first_entries;
-use crate::moves::moves_of;
-use crate::old::Old;
 use crate::spots::spots_of;
-use cell_link::{FieldValue, link_fields, spot};
-use cell_object::Entry;
-use cell_world::{Fail, LinkRow, NewCell, Target};
+use cell_link::{FieldValue, spot};
+use cell_object::{Entry, Object};
 use std::alloc::{AllocError, Global};
 use std::collections::BTreeSet;
 
@@ -23,13 +22,6 @@ use std::collections::BTreeSet;
 pub struct Change {
     pub field: Entry,
     pub value: FieldValue,
-}
-
-/// What a swap changes in a cell: fields in table order, and links that lead somewhere else.
-#[derive(Drop)]
-pub struct Changes {
-    pub fields: Vec<Change>,
-    pub moves: Vec<LinkRow>,
 }
 
 /// Adds a field with its value, where it is at one of the places.
@@ -67,24 +59,20 @@ fn fields_at(
     Ok(changes)
 }
 
-/// What changes in a cell where the old cells are put aside: `links` are its links before, and
-/// `targets` what its entries name by now. The first entry that doesn't fit is refused.
-pub fn changes_of(
+/// The fields of a cell that change, in table order, each with what it holds by then: those an entry of which
+/// is marked.
+pub fn marked_fields(
     alloc: Global,
-    cell: &NewCell,
-    targets: &[Target],
-    links: &[LinkRow],
-    old: &Old,
-) -> Result<Changes, Fail>
-    requires each { length targets.now ≡ length cell.now.object.entries }
-    requires few { length cell.now.object.entries < 2 ^ 32 }
-    requires low { All (λ p. p.start < 2 ^ 63) cell.now.places }
-    ensures { AreChanges (map (λ c. c.0) old.now.cells.now) cell.now targets.now links.now result }
+    object: &Object,
+    values: &[FieldValue],
+    marks: &[bool],
+) -> Result<Vec<Change>, AllocError>
+    requires values { length values.now ≡ length (fields_of object.now) }
+    requires marks { length marks.now ≡ length object.now.entries }
+    ensures { (value : SomeEntry → Value) → values.now ≡ map value (fields_of object.now) →
+        IfOk result (λ changes. changes.items ≡ map (change_by value) (filter (λ f. is_marked_spot object.now.entries marks.now (spot_of f)) (fields_of object.now))) }
 {
-    let values = link_fields(alloc, cell, targets)?;
-    let firsts = first_entries(alloc, &cell.object)?;
-    let spots = spots_of(alloc, old, cell.object.entries.as_slice(), targets, links)?;
-    let fields = fields_at(alloc, &firsts, values.as_slice(), &spots)?;
-    let moves = moves_of(alloc, old, targets, links)?;
-    Ok(Changes { fields, moves })
+    let firsts = first_entries(alloc, object)?;
+    let spots = spots_of(alloc, object.entries.as_slice(), marks)?;
+    fields_at(alloc, &firsts, values, &spots)
 }

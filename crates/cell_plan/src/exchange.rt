@@ -7,21 +7,19 @@ ghost use Rattle.cell_target.specs.Named.{IsNamed, world_of};
 ghost use Rattle.cell_plan.specs.Viewed.{Adds, view_of};
 
 use crate::changed::{Changed, FieldRoom};
-use crate::old::Old;
 use cell_graph::Graph;
 use cell_space::Spaces;
 use cell_target::{Named, Scene, Targets};
 use cell_world::{Fail, LinkRow, NewCell};
 use std::alloc::{AllocError, Global};
 
-/// The old cells, which are put aside in the spaces, the links as they are still, and the scene in
-/// which new cells are among those that names are looked up in.
+/// The spaces, in which the old cells are put aside, the links as they are still, and the scene in which
+/// new cells are among those that names are looked up in.
 #[derive(Drop)]
 pub struct Exchange<'a> {
     pub spaces: &'a Spaces,
     pub graph: &'a Graph,
     pub scene: &'a Scene<'a>,
-    pub old: &'a Old<'a>,
 }
 
 /// Room for what is looked up of one user after the other.
@@ -84,12 +82,11 @@ impl<'a> Exchange<'a> {
             cell,
             &room.targets.entries,
             &room.links,
-            self.old,
         )?;
         Ok(())
     }
 
-    /// What changes in the users of the old cells. The first entry that doesn't fit is refused.
+    /// What changes in some cells. The first entry that doesn't fit is refused.
     pub fn changed<'n>(&self, alloc: Global, users: &[&'n NewCell]) -> Result<Changed, Fail>
         requires there { All (λ c. In c.now (self.now.scene.now.present.now ++ self.now.scene.now.fresh.now)) users.now }
         requires may { All (λ c. MayChange (view_of self.now) c.now) users.now }

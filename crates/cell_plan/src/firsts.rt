@@ -2,7 +2,7 @@
 
 ghost use Rattle.std.specs.Prelude.{◌≡◌, ◌++◌, ◌||◌, [], ◌∷◌, ℕ, cond, IfOk, OnOk};
 ghost use Rattle.std.specs.BTreeSet.{contains};
-ghost use Rattle.cell_world.specs.Field.{fields_of, fields_among};
+ghost use Rattle.cell_world.specs.Linked.Field.{fields_of, fields_among};
 ghost use Rattle.cell_link.specs.Tables.{spot_cmp};
 ghost use Rattle.cell_link.specs.Applied.{spot_of};
 ghost use Rattle.cell_plan.specs.Firsts.{AreSeen, is_entry_at};

@@ -1,14 +1,12 @@
-//! The cells that a swap puts aside.
+//! Some cells by their numbers.
 
-ghost use Rattle.std.specs.Prelude.{◌≡◌, ◌==◌, ◌||◌, ℕ, IfOk, OnOk, map, slice_get};
+ghost use Rattle.std.specs.Prelude.{◌≡◌, ◌==◌, ◌||◌, ℕ, IfOk, OnOk, map};
 ghost use Rattle.std.specs.List.{list_any};
 ghost use Rattle.std.specs.Ordering.{nat_cmp};
 ghost use Rattle.std.specs.BTreeSet.{contains};
 ghost use Rattle.cell_num.specs.Lists.{holds};
-ghost use Rattle.cell_lemmas.specs.Targets.{is_target_in};
 
 use cell_num::CellId;
-use cell_world::Target;
 use std::alloc::{AllocError, Global};
 use std::collections::BTreeSet;
 
@@ -62,15 +60,5 @@ impl<'a> Old<'a> {
             return is_among(self.cells, cell);
         }
         self.numbers.contains(&cell.0)
-    }
-
-    /// Whether the target at a place of a table is in one of the cells.
-    pub fn has_target(&self, targets: &[Target], place: u32) -> bool
-        ensures { result ≡ is_target_in (map (λ c. c.0) self.now.cells.now) (slice_get targets.now place) }
-    {
-        match targets.get(place as usize) {
-            Some(Target::Section { key, .. }) => self.has(key.cell),
-            _ => false,
-        }
     }
 }

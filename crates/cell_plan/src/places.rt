@@ -1,7 +1,7 @@
 //! The address of the field that an entry is at.
 
 ghost use Rattle.std.specs.Prelude.{◌≡◌, ◌<◌, ◌+◌, ◌^◌};
-ghost use Rattle.cell_world.specs.Field.{place_of as place};
+ghost use Rattle.cell_world.specs.Linked.Field.{place_of as place};
 ghost use Rattle.cell_placed.specs.Low.{IsLow};
 
 use cell_object::Entry;

@@ -1,8 +1,9 @@
-//! The cells that use those that a swap puts aside.
+//! The cells that a change may change.
 
 ghost use Rattle.std.specs.Prelude.{◌≡◌, ◌++◌, ◌∷◌, [], ℕ, IfOk, OnOk, filter, map};
 ghost use Rattle.cell_graph.specs.Users.{is_marked};
-ghost use Rattle.cell_plan.specs.Users.{leads_among, uses};
+ghost use Rattle.cell_plan.specs.Marked.{has_mark};
+ghost use Rattle.cell_plan.specs.Users.{leads_among, may_change as may_change_by};
 
 use crate::old::Old;
 use cell_graph::Graph;
@@ -10,7 +11,7 @@ use cell_num::CellId;
 use cell_world::NewCell;
 use std::alloc::{AllocError, Global};
 
-/// Marks the cells with a link into an old one, by their numbers.
+/// Marks the cells with a link into one of some cells, by their numbers.
 fn mark_users(alloc: Global, graph: &Graph, old: &Old) -> Result<Vec<bool>, AllocError>
     ensures { IfOk result (λ marks. (n : ℕ) → is_marked marks.items n ≡ leads_among (map (λ c. c.0) old.now.cells.now) graph.now.rows n) }
 {
@@ -28,15 +29,32 @@ fn is_marked(marks: &[bool], cell: CellId) -> bool
     place < marks.len() && marks[place]
 }
 
+/// Marks of cells that use others, and some cells themselves.
+#[derive(Drop)]
+struct Marks<'a> {
+    of_old: Vec<bool>,
+    of_soft: Vec<bool>,
+    soft: &'a Old<'a>,
+}
+
+impl<'a> Marks<'a> {
+    /// Whether the cell is one of them.
+    fn has(&self, cell: CellId) -> bool
+        ensures { result ≡ has_mark self.now cell.0 }
+    {
+        is_marked(&self.of_old, cell) || is_marked(&self.of_soft, cell) || self.soft.has(cell)
+    }
+}
+
 /// Adds the cell, where it is marked.
 fn add_marked<'a>(
     users: &mut Vec<&'a NewCell>,
-    marks: &[bool],
+    marks: &Marks,
     cell: &'a NewCell,
 ) -> Result<(), AllocError>
-    ensures { OnOk result (map (λ c. c.now) users.new.items ≡ map (λ c. c.now) users.old.items ++ filter (λ c. is_marked marks.now c.id.0) (cell.now ∷ [])) }
+    ensures { OnOk result (map (λ c. c.now) users.new.items ≡ map (λ c. c.now) users.old.items ++ filter (λ c. has_mark marks.now c.id.0) (cell.now ∷ [])) }
 {
-    if is_marked(marks, cell.id) {
+    if marks.has(cell.id) {
         users.push(cell)?;
     }
     Ok(())
@@ -46,9 +64,9 @@ fn add_marked<'a>(
 fn marked<'a>(
     alloc: Global,
     cells: &'a [NewCell],
-    marks: &[bool],
+    marks: &Marks,
 ) -> Result<Vec<&'a NewCell>, AllocError>
-    ensures { IfOk result (λ users. map (λ c. c.now) users.items ≡ filter (λ c. is_marked marks.now c.id.0) cells.now) }
+    ensures { IfOk result (λ users. map (λ c. c.now) users.items ≡ filter (λ c. has_mark marks.now c.id.0) cells.now) }
 {
     let mut users = Vec::new(alloc);
     for index in 0..cells.len() {
@@ -57,17 +75,23 @@ fn marked<'a>(
     Ok(users)
 }
 
-/// The present cells with a link into an old one, in their order. It goes over these links alone, and
-/// once over the cells.
-pub fn users_of<'a>(
+/// The present cells that may change, in their order: those with a link into an old cell, those with one
+/// into a cell that has a WEAK symbol, since it may yield a name, and the latter themselves. It goes over
+/// these links alone, and once over the cells.
+pub fn may_change<'a>(
     alloc: Global,
     present: &'a [NewCell],
     graph: &Graph,
     old: &Old,
+    soft: &Old,
 ) -> Result<Vec<&'a NewCell>, AllocError>
-    ensures { IfOk result (λ users. map (λ c. c.now) users.items ≡ filter (uses (map (λ c. c.0) old.now.cells.now) graph.now.rows) present.now) }
+    ensures { IfOk result (λ users. map (λ c. c.now) users.items ≡ filter (may_change_by (map (λ c. c.0) old.now.cells.now) (map (λ c. c.0) soft.now.cells.now) graph.now.rows) present.now) }
 {
-    let marks = mark_users(alloc, graph, old)?;
+    let marks = Marks {
+        of_old: mark_users(alloc, graph, old)?,
+        of_soft: mark_users(alloc, graph, soft)?,
+        soft,
+    };
     let users = marked(alloc, present, &marks)?;
     Ok(users)
 }

@@ -1,7 +1,7 @@
 //! What the fields of a cell hold where each entry is a field of its own.
 
 ghost use Rattle.std.specs.Prelude.{◌≡◌, ◌<◌, ◌^◌, All, IfOk, IfSome, None, length, map, true, option_map};
-ghost use Rattle.cell_world.specs.Field.{misfit_of};
+ghost use Rattle.cell_world.specs.Linked.Field.{misfit_of};
 ghost use Rattle.cell_link.specs.Linked.{bound_in, value_at};
 ghost use Rattle.cell_link.specs.LinksBy.{LinksBy};
 ghost use Rattle.cell_plan.specs.Rising.{rises};

@@ -7,10 +7,10 @@ use Rattle.cell_link.specs.Linked.{first_unfit}
 use Rattle.cell_num.specs.Lists.{In, or_else}
 use Rattle.cell_num.proofs.Elements.{or_else_parts}
 use Rattle.cell_object.specs.declared.object.Entry.{Entry}
-use Rattle.cell_world.specs.Field.{Bound, bound_by, fits}
+use Rattle.cell_world.specs.Linked.Field.{Bound, bound_by, fits}
 use Rattle.cell_world.specs.Gather.{Source}
-use Rattle.cell_world.specs.Relink.{bound_entries}
-use Rattle.cell_world.specs.Target.{targets_of}
+use Rattle.cell_world.specs.Linked.Relink.{bound_entries}
+use Rattle.cell_world.specs.Linked.Target.{targets_of}
 use Rattle.cell_world.specs.World.{Cell, World}
 use Rattle.cell_world.specs.declared.state.Target.{Target}
 use Rattle.cell_audit.specs.Described.{cell_of}

@@ -6,7 +6,7 @@ use Rattle.std.proofs.lemmas.List.Folds.{list_any-append}
 use Rattle.cell_link.proofs.FirstFieldLemmas.{among_push}
 use Rattle.cell_link.specs.Applied.{spot_of}
 use Rattle.cell_object.specs.declared.object.Entry.{Entry}
-use Rattle.cell_world.specs.Field.{fields_among}
+use Rattle.cell_world.specs.Linked.Field.{fields_among}
 use Rattle.cell_relinked.specs.Contents.{AreSeen, Seen, is_seen, stands_at}
 
 module _ (entries : List Entry) (i : ℕ) (e : Entry) (below : i < length entries) (here : e ≡ get_or entries i e) where

@@ -14,7 +14,7 @@ use Rattle.cell_object.specs.declared.object.Symbol.{Symbol}
 use Rattle.cell_object.specs.Parts.{is_defined, section_of}
 use Rattle.cell_object.specs.Sound.{IsSoundObject, is_sound_home, is_sound_section, is_sound_symbol}
 use Rattle.cell_world.specs.Coherent.{IsLoadable}
-use Rattle.cell_world.specs.Pages.{IsSpace}
+use Rattle.cell_world.specs.Placed.Pages.{IsSpace}
 use Rattle.cell_world.specs.declared.state.SecPlace.{SecPlace}
 use Rattle.cell_described.specs.Faults.{object_at}
 use Rattle.cell_described.specs.Standing.{IsStanding, Stand}

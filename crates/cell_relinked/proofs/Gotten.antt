@@ -1,7 +1,8 @@
 -- What is read of a list that is another one's.
-use Rattle.std.proofs.Common.{◌≡◌, sym, ◌∙◌, ap, subst, arith, ℕ, zero, suc, ◌+◌, ◌<◌, true, List, [], ◌∷◌, ◌++◌, length, get_or, take, map}
-use Rattle.std.specs.Prelude.{Some, All, slice_get, nat_lt}
-use Rattle.std.proofs.lemmas.Bool.{ltb-true}
+use Rattle.std.proofs.Common.{◌≡◌, sym, ◌∙◌, ap, subst, arith, ℕ, zero, suc, ◌+◌, ◌<◌, true, false, List, [], ◌∷◌, ◌++◌, length, get_or, take, map}
+use Rattle.std.specs.Prelude.{Some, None, All, slice_get, nat_lt}
+use Rattle.std.proofs.lemmas.Bool.{ltb-false, ltb-true}
+use Rattle.std.proofs.lemmas.Option.{slice_get_past}
 use Rattle.std.proofs.lemmas.List.{map_more}
 use Rattle.cell_num.specs.Lists.{In}
 use Rattle.cell_num.proofs.Elements.{All-In, get-In}
@@ -10,6 +11,9 @@ pub got : {X : Type 0} (xs : List X) (i : ℕ) (x : X) → i < length xs → x �
 got [] i x lt e = absurd (omega (arith, lt))
 got (y ∷ ys) zero x lt e = ap Some (sym e)
 got (y ∷ ys) (suc i) x lt e = got ys i x (omega (arith, lt)) e
+
+pub none_by_test : {X : Type 0} (read xs : List X) → read ≡ xs → (i : ℕ) → false ≡ nat_lt i (length read) → slice_get xs i ≡ None
+none_by_test read xs same i t = slice_get_past xs i (ltb-false i (length xs) (sym (t ∙ ap (λ ys. nat_lt i (length ys)) same)))
 
 module _ {X : Type 0} (read xs : List X) (same : read ≡ xs) (i : ℕ) (x : X) (here : x ≡ get_or read i x) where
   pub got_there : i < length read → slice_get xs i ≡ Some x

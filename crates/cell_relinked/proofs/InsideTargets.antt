@@ -3,7 +3,7 @@ use Rattle.std.proofs.Common.{◌≡◌, sym, ◌∙◌, ap, ℕ, ◌+◌}
 use Rattle.std.specs.Prelude.{Some}
 use Rattle.cell_object.specs.declared.object.Home.TheVariants.{Inside}
 use Rattle.cell_object.specs.declared.object.Symbol.{Symbol}
-use Rattle.cell_world.specs.Target.{own_target, start_of}
+use Rattle.cell_world.specs.Linked.Target.{own_target, start_of}
 use Rattle.cell_world.specs.World.{key_of}
 use Rattle.cell_world.specs.declared.state.NewCell.{NewCell}
 use Rattle.cell_world.specs.declared.state.Target.TheVariants.{Section}

@@ -2,10 +2,9 @@ pub mod Gotten
 mod InsideTargets
 mod Chaining
 mod Providing
-mod Strong
-mod Strongly
+mod Lacking
 pub mod Provided
-mod Tabled
+mod Naming
 pub mod Earlier
 pub mod Seeing
 pub mod Moving

@@ -11,7 +11,7 @@ use Rattle.cell_num.specs.Kinds.{width_of}
 use Rattle.cell_num.proofs.Elements.{map_same}
 use Rattle.cell_object.specs.declared.object.Entry.{Entry}
 use Rattle.cell_object.specs.declared.object.Section.{Section as ObjectSection}
-use Rattle.cell_world.specs.Memory.{pasted}
+use Rattle.cell_world.specs.Running.Memory.{pasted}
 use Rattle.cell_relinked.specs.Contents.{with_field, with_fields, written_in}
 use Rattle.cell_relinked.proofs.OneField.{below}
 

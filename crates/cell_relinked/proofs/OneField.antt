@@ -8,10 +8,10 @@ use Rattle.std.proofs.lemmas.Option.{get_or_from_slice_get, slice_get-map}
 use Rattle.cell_num.specs.Bits.{bytes_of}
 use Rattle.cell_num.specs.Lists.{In, each_pair}
 use Rattle.cell_num.proofs.Elements.{all-In, get-In, map_same, unfound-In}
-use Rattle.cell_lemmas.proofs.FieldsInside.{length-bytes_of}
-use Rattle.cell_lemmas.proofs.Patches.{length-pasted}
+use Rattle.cell_lemmas.proofs.Fields.FieldsInside.{length-bytes_of}
+use Rattle.cell_lemmas.proofs.Fields.Patches.{length-pasted}
 use Rattle.cell_object.specs.declared.object.Section.{Section as ObjectSection}
-use Rattle.cell_world.specs.Memory.{pasted}
+use Rattle.cell_world.specs.Running.Memory.{pasted}
 use Rattle.cell_relinked.specs.Contents.{written_in}
 
 abbrev pub rises : ObjectSection → ObjectSection → Bool

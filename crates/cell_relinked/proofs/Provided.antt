@@ -1,6 +1,6 @@
 -- The target of a provider that is told by its place.
-use Rattle.std.proofs.Common.{◌≡◌, sym, ◌∙◌, ap, ℕ, zero, suc, ◌==◌, Bool, true, cond, List, [], ◌∷◌, map}
-use Rattle.std.specs.Prelude.{Option, Some, find, nat_lt, option_and_then, option_map, slice_get, unwrap_or}
+use Rattle.std.proofs.Common.{◌≡◌, refl, sym, ◌∙◌, ap, ℕ, zero, suc, ◌==◌, Bool, true, false, cond, List, [], ◌∷◌, map}
+use Rattle.std.specs.Prelude.{Option, Some, None, find, is_none, is_some, not, nat_lt, option_and_then, option_map, slice_get, unwrap_or}
 use Rattle.std.specs.List.{list_all}
 use Rattle.std.proofs.Common.{arith}
 use Rattle.std.proofs.lemmas.Bool.{and_parts, eq-eqb, ltb-true, ne_eqb}
@@ -9,12 +9,14 @@ use Rattle.cell_num.specs.Lists.{each_pair}
 use Rattle.cell_num.proofs.Elements.{all-In, get-In}
 use Rattle.cell_object.specs.declared.object.Object.{Object}
 use Rattle.cell_object.specs.declared.object.Symbol.{Symbol}
-use Rattle.cell_object.specs.Parts.{symbol_at}
+use Rattle.cell_object.specs.declared.object.Bind.{Bind}
+use Rattle.cell_object.specs.declared.object.Bind.TheVariants.{Local, Global, Weak}
+use Rattle.cell_object.specs.Parts.{is_global, is_local, is_weak, symbol_at}
 use Rattle.cell_audit.specs.Described.{no_object, standing_of}
 use Rattle.cell_described.specs.Faults.{object_at}
 use Rattle.cell_described.specs.declared.cell.DescribedCell.{DescribedCell}
-use Rattle.cell_world.specs.Names.{chain, provider_for, provider_of}
-use Rattle.cell_world.specs.Target.{own_target, provided_target}
+use Rattle.cell_world.specs.Names.{chain, provider_for, provider_of, strong_provider}
+use Rattle.cell_world.specs.Linked.Target.{own_target, provided_target}
 use Rattle.cell_world.specs.World.{Cell, cell_of}
 use Rattle.cell_bearers.specs.Asked.{provider_at}
 use Rattle.cell_bearers.specs.Index.{row_of_symbol}
@@ -28,6 +30,13 @@ use Rattle.cell_relinked.specs.declared.scene.Scene.{Scene}
 
 abbrev rises : DescribedCell → DescribedCell → Bool
 rises a b = nat_lt a.id.0 b.id.0
+
+-- whether there is none, where it is told whether there is one
+pub none_if : {X : Type 0} (o : Option X) (none : Bool) → is_some o ≡ not none → none ≡ is_none o
+none_if None true e = refl
+none_if None false e = absurd (cc e)
+none_if (Some x) true e = absurd (cc e)
+none_if (Some x) false e = refl
 
 module _ (s : Scene) where
   numbered : (cells : List DescribedCell) → each_pair rises cells ≡ true → (k : ℕ) (c : DescribedCell) → slice_get cells k ≡ Some c → find (λ d. d.id.0 == c.id.0) (map (seen_in s) cells) ≡ Some (seen_in s c)
@@ -49,14 +58,35 @@ module _ (s : Scene) where
       (sym (ap (cell_of (world_of s)) (ap (λ (o : Option DescribedCell). unwrap_or (option_map (λ (d : DescribedCell). d.id.0) o) 0) at) ∙ numbered s.cells.now s.rising b.cell c at))
 
   -- who bears the name of a symbol
-  pub symbol_bearers : (c : DescribedCell) → IsFit s.objects.now c → (k : ℕ) (x : Symbol) → slice_get (object_at s.objects.now c.object).symbols k ≡ Some x
+  pub symbol_bearers : (c : DescribedCell) → IsFit s.objects.now c → (k : ℕ) (x : Symbol) → slice_get (object_at s.objects.now c.object).symbols k ≡ Some x → is_local x.bind ≡ false
       → AreBearers s x.name (row_of_symbol s.index.now c.object k)
-  symbol_bearers c fit k x at =
+  symbol_bearers c fit k x at shared =
       s.indexed.symbols c.object k (object_at s.objects.now c.object) x
-      (slice_get-get_or s.objects.now c.object no_object fit.there ∙ ap (λ (o : Object). Some o) (sym (unwrap_or-slice_get s.objects.now c.object no_object))) at
+      (slice_get-get_or s.objects.now c.object no_object fit.there ∙ ap (λ (o : Object). Some o) (sym (unwrap_or-slice_get s.objects.now c.object no_object))) at shared
 
-  -- what a cell finds that asks
-  pub asked : (c : DescribedCell) (sights : Sights) → IsAsking s c sights → (o : Option FirstBearer) (bearers : List Bearer)
-      → ((ns : ℕ) (name : List ℕ) → sights.spaces.now ≡ chain s.namespaces.now ns → AreBearers s name bearers → option_map (provider_at s.cells.now) o ≡ provider_for (world_of s) (standing_of sights.group) ns name)
-      → (name : List ℕ) → AreBearers s name bearers → option_map (provider_at s.cells.now) o ≡ provider_of (world_of s) (seen_in s c) name
-  asked c sights asking o bearers law name are = law c.ns name asking.spaces are ∙ ap (λ (g : Option ℕ). provider_for (world_of s) (standing_of g) c.ns name) asking.group
+  pub is_nobody : (o : Option FirstBearer) → is_none o ≡ is_none (option_map (provider_at s.cells.now) o)
+  is_nobody None = refl
+  is_nobody (Some b) = refl
+
+  -- the strong holder that a cell finds that asks
+  pub asked_strongly : (c : DescribedCell) (sights : Sights) → IsAsking s c sights → (o : Option FirstBearer) (name : List ℕ)
+      → ((ns : ℕ) → sights.spaces.now ≡ chain s.namespaces.now ns → option_map (provider_at s.cells.now) o ≡ strong_provider (world_of s) (standing_of sights.group) ns name)
+      → option_map (provider_at s.cells.now) o ≡ strong_provider (world_of s) (standing_of c.group) c.ns name
+  asked_strongly c sights asking o name law = law c.ns asking.spaces ∙ ap (λ (g : Option ℕ). strong_provider (world_of s) (standing_of g) c.ns name) asking.group
+
+  -- and the provider
+  pub asked : (c : DescribedCell) (sights : Sights) → IsAsking s c sights → (o : Option FirstBearer) (name : List ℕ)
+      → ((ns : ℕ) → sights.spaces.now ≡ chain s.namespaces.now ns → option_map (provider_at s.cells.now) o ≡ provider_for (world_of s) (standing_of sights.group) ns name)
+      → option_map (provider_at s.cells.now) o ≡ provider_of (world_of s) (seen_in s c) name
+  asked c sights asking o name law = law c.ns asking.spaces ∙ ap (λ (g : Option ℕ). provider_for (world_of s) (standing_of g) c.ns name) asking.group
+
+-- which symbols aren't LOCAL
+pub global_shared : (b : Bind) → is_global b ≡ true → is_local b ≡ false
+global_shared Local e = absurd (cc e)
+global_shared Global e = refl
+global_shared Weak e = refl
+
+pub weak_shared : (b : Bind) → is_weak b ≡ true → is_local b ≡ false
+weak_shared Local e = absurd (cc e)
+weak_shared Global e = absurd (cc e)
+weak_shared Weak e = refl

@@ -17,13 +17,13 @@ use Rattle.cell_audit.specs.Told.{byte_told}
 use Rattle.cell_audit.specs.declared.told_bytes.Told.{Told}
 use Rattle.cell_described.specs.Faults.{object_at}
 use Rattle.cell_described.specs.declared.cell.DescribedCell.{DescribedCell}
-use Rattle.cell_lemmas.proofs.FieldsInside.{among-In, own_length}
-use Rattle.cell_lemmas.proofs.Targets.{entry_parts}
+use Rattle.cell_lemmas.proofs.Fields.FieldsInside.{among-In, own_length}
+use Rattle.cell_lemmas.proofs.Targeting.Targets.{entry_parts}
 use Rattle.cell_link.specs.Linked.{bound_in, field_values}
 use Rattle.cell_link.specs.declared.value.FieldValue.{FieldValue}
-use Rattle.cell_world.specs.Field.{field_value_of, fields_of}
-use Rattle.cell_world.specs.Layout.{own_bytes}
-use Rattle.cell_world.specs.Target.{targets_of}
+use Rattle.cell_world.specs.Linked.Field.{field_value_of, fields_of}
+use Rattle.cell_world.specs.Placed.Layout.{own_bytes}
+use Rattle.cell_world.specs.Linked.Target.{targets_of}
 use Rattle.cell_world.specs.World.{Cell, World}
 use Rattle.cell_world.specs.declared.state.Target.{Target}
 use Rattle.cell_relinked.specs.Contents.{AreInside, first_bytes, with_fields}

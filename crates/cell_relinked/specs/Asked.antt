@@ -4,12 +4,14 @@
 --     IsOf scene asked spaces sight         and of those that are of that swap, or else attached, and stand in the namespaces
 --     AreSights scene sights                they are of their swap, if there is one, and of attached cells
 --     IsAsking scene c sights               they are what the cell sees
---     own_first cells group spaces name     the first cell of that swap that stands in the namespaces and has the name
+--     own_asked ask group                   whom those of that swap find, if there is one
+--     own_first cells group spaces name     the first cell of that swap that stands in the namespaces and has the name strongly
+--     own_nearest cells group spaces name   the nearest one that has it weakly
 use Rattle.std.specs.Prelude.{◌≡◌, ℕ, List, Option, Some, None}
 use Rattle.cell_world.specs.Names.{Provider, chain}
 use Rattle.cell_world.specs.World.{Cell}
 use Rattle.cell_described.specs.declared.cell.DescribedCell.{DescribedCell}
-use Rattle.cell_bearers.specs.Asked.{first_in}
+use Rattle.cell_bearers.specs.Asked.{first_in, nearest_in}
 use Rattle.cell_bearers.specs.Bearers.{bearers_of}
 use Rattle.cell_bearers.specs.Sight.{IsSight}
 use Rattle.cell_bearers.specs.declared.bearer.Bearer.{Bearer}
@@ -44,6 +46,12 @@ pub record IsAsking (s : Scene) (c : DescribedCell) (sights : Sights) : Type 0 w
   pub group : sights.group ≡ c.group
   pub spaces : sights.spaces.now ≡ chain s.namespaces.now c.ns
 
+abbrev pub own_asked : (Option ℕ → Option Provider) → Option ℕ → Option Provider
+own_asked ask None = None
+own_asked ask (Some k) = ask (Some k)
+
 abbrev pub own_first : List Cell → Option ℕ → List ℕ → List ℕ → Option Provider
-own_first cells None spaces name = None
-own_first cells (Some k) spaces name = first_in cells (Some k) spaces name
+own_first cells group spaces name = own_asked (λ g. first_in cells g spaces name) group
+
+abbrev pub own_nearest : List Cell → Option ℕ → List ℕ → List ℕ → Option Provider
+own_nearest cells group spaces name = own_asked (λ g. nearest_in cells g spaces name) group

@@ -16,9 +16,9 @@ use Rattle.cell_object.specs.declared.object.Section.{Section as ObjectSection}
 use Rattle.cell_audit.specs.Linking.{relinked_bytes}
 use Rattle.cell_audit.specs.Told.{byte_told}
 use Rattle.cell_audit.specs.declared.told_bytes.Told.{Told}
-use Rattle.cell_world.specs.Layout.{own_bytes}
-use Rattle.cell_world.specs.Memory.{pasted}
-use Rattle.cell_world.specs.Target.{start_of}
+use Rattle.cell_world.specs.Placed.Layout.{own_bytes}
+use Rattle.cell_world.specs.Running.Memory.{pasted}
+use Rattle.cell_world.specs.Linked.Target.{start_of}
 use Rattle.cell_world.specs.World.{Cell, World}
 
 abbrev pub Seen : Type 0

@@ -1,7 +1,6 @@
 pub mod Fit
 pub mod Scene
 pub mod Asked
-pub mod Symbols
 pub mod Entries
 pub mod Linking
 pub mod Indexed

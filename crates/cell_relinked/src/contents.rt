@@ -6,7 +6,7 @@ ghost use Rattle.cell_object.specs.declared.object.Section.{Section as SomeSecti
 ghost use Rattle.cell_audit.specs.Linking.{unlinked_in};
 ghost use Rattle.cell_described.specs.Faults.{object_at};
 ghost use Rattle.cell_link.specs.Linked.{field_values, first_unfit};
-ghost use Rattle.cell_world.specs.Field.{fields_of};
+ghost use Rattle.cell_world.specs.Linked.Field.{fields_of};
 ghost use Rattle.cell_relinked.specs.Contents.{first_bytes, relinked};
 ghost use Rattle.cell_relinked.specs.Fit.{IsFit, placed_in, start_among};
 ghost use Rattle.cell_relinked.specs.Indexed.{IsIndexed};

@@ -2,7 +2,7 @@
 
 ghost use Rattle.std.specs.Prelude.{◌≡◌, ◌||◌, ℕ, IfOk, OnOk, not};
 ghost use Rattle.cell_link.specs.Applied.{spot_of};
-ghost use Rattle.cell_world.specs.Field.{fields_of};
+ghost use Rattle.cell_world.specs.Linked.Field.{fields_of};
 ghost use Rattle.cell_relinked.specs.Contents.{is_seen, stands_at};
 
 use cell_link::{insert_first, spot};

@@ -14,7 +14,6 @@ mod provider;
 mod scene;
 mod section_bytes;
 mod symbols;
-mod targets;
 mod unlinked;
 mod writing;
 

@@ -4,7 +4,7 @@ ghost use Rattle.std.specs.Prelude.{◌≡◌, ◌<◌, length, option_and_then,
 ghost use Rattle.cell_num.specs.Lists.{In};
 ghost use Rattle.cell_described.specs.Faults.{object_at};
 ghost use Rattle.cell_object.specs.Parts.{symbol_at as symbol_with};
-ghost use Rattle.cell_world.specs.Target.{own_target as own, provided_target as provided_at};
+ghost use Rattle.cell_world.specs.Linked.Target.{own_target as own, provided_target as provided_at};
 ghost use Rattle.cell_bearers.specs.Asked.{provider_at};
 ghost use Rattle.cell_relinked.specs.Fit.{IsFit, placed_in};
 ghost use Rattle.cell_relinked.specs.Scene.{world_of};

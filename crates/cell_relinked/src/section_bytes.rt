@@ -3,7 +3,7 @@
 ghost use Rattle.std.specs.Prelude.{◌≡◌, ◌+◌, ◌<◌, ◌^◌, IfOk, map, replicate};
 ghost use Rattle.cell_num.specs.Lists.{upto};
 ghost use Rattle.cell_audit.specs.Told.{byte_told};
-ghost use Rattle.cell_world.specs.Layout.{own_bytes};
+ghost use Rattle.cell_world.specs.Placed.Layout.{own_bytes};
 ghost use Rattle.cell_relinked.specs.Contents.{first_bytes};
 
 use cell_audit::Told;

@@ -7,10 +7,10 @@ ghost use Rattle.cell_num.specs.Lists.{In, each_pair};
 ghost use Rattle.cell_object.specs.declared.object.Entry.{Entry as SomeEntry};
 ghost use Rattle.cell_object.specs.declared.object.Section.{Section as SomeSection};
 ghost use Rattle.cell_world.specs.Before.{AreBefore};
-ghost use Rattle.cell_world.specs.Memory.{pasted};
 ghost use Rattle.cell_relinked.specs.Contents.{AreInside, StandsAt, with_fields, written_in};
 
 use cell_link::FieldValue;
+use cell_mem::write_number;
 use cell_num::{Listed, width};
 use cell_object::{Entry, Section};
 
@@ -19,19 +19,6 @@ use cell_object::{Entry, Section};
 pub struct Fields {
     pub firsts: Vec<Entry>,
     pub values: Listed<FieldValue>,
-}
-
-/// Writes so many of the number's low bytes.
-fn write_number(bytes: &mut Listed<u8>, at: usize, width: u8, value: u64)
-    requires { at + width ≤ length bytes.old }
-    ensures { bytes.new ≡ pasted bytes.old at (bytes_of width value) }
-{
-    let _len = bytes.as_slice().len();
-    let mut left = value;
-    for k in 0..width {
-        bytes.set(at + usize::from(k), (left % 256) as u8);
-        left /= 256;
-    }
 }
 
 /// How many of the sections, which are in the order of their numbers, have a lower one.

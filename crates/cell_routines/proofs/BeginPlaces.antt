@@ -13,8 +13,8 @@ use Rattle.cell_world.specs.declared.state.NewCell.{NewCell}
 use Rattle.cell_world.specs.declared.state.SecPlace.{SecPlace}
 use Rattle.cell_world.proofs.InOrder.{none_there, other_there, this_there}
 use Rattle.cell_world.specs.Before.{AreBefore}
-use Rattle.cell_world.specs.Layout.{offset_in, sections_in}
-use Rattle.cell_world.specs.SpawnCommand.{is_entry_in}
+use Rattle.cell_world.specs.Placed.Layout.{offset_in, sections_in}
+use Rattle.cell_world.specs.Commands.SpawnCommand.{is_entry_in}
 use Rattle.cell_routines.specs.declared.entries.Begin.{Begin}
 use Rattle.cell_routines.specs.Begins.{begin_at, section_number}
 

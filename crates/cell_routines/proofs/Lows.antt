@@ -14,10 +14,10 @@ use Rattle.cell_object.specs.Parts.{section_of, symbol_at}
 use Rattle.cell_object.specs.Sound.{is_sound_section, is_zero}
 use Rattle.cell_world.specs.declared.state.NewCell.{NewCell}
 use Rattle.cell_world.specs.Coherent.{IsLoadable}
-use Rattle.cell_world.specs.Layout.{offset_in, sections_in}
+use Rattle.cell_world.specs.Placed.Layout.{offset_in, sections_in}
 use Rattle.cell_world.specs.declared.layout.Class.TheVariants.{Text}
-use Rattle.cell_world.specs.SpawnCommand.{entry_offset, inside_of, is_entry_in}
-use Rattle.cell_world.specs.SwapTransfer.{Begin as Place, begin_of, definition_named}
+use Rattle.cell_world.specs.Commands.SpawnCommand.{entry_offset, inside_of, is_entry_in}
+use Rattle.cell_world.specs.Commands.SwapTransfer.{Begin as Place, begin_of, definition_named}
 use Rattle.cell_world.specs.World.{attached}
 use Rattle.cell_num.proofs.Elements.{All-In, all-In, found-In}
 use Rattle.cell_routines.proofs.Named.{defined, of_definition}

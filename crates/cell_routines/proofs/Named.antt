@@ -9,8 +9,8 @@ use Rattle.cell_object.specs.declared.object.Symbol.{Symbol}
 use Rattle.cell_object.specs.Parts.{section_of, symbol_at}
 use Rattle.cell_world.specs.declared.state.NewCell.{NewCell}
 use Rattle.cell_world.specs.Names.{is_definition}
-use Rattle.cell_world.specs.SpawnCommand.{entry_offset, inside_of, is_entry_in}
-use Rattle.cell_world.specs.SwapTransfer.{Begin as Place, begin_of, definition_named}
+use Rattle.cell_world.specs.Commands.SpawnCommand.{entry_offset, inside_of, is_entry_in}
+use Rattle.cell_world.specs.Commands.SwapTransfer.{Begin as Place, begin_of, definition_named}
 use Rattle.cell_world.specs.World.{Alias, Cell, attached}
 use Rattle.cell_num.proofs.Elements.{In-numbered}
 use Rattle.cell_xfer.specs.Named.{AnswersAs, first_named}

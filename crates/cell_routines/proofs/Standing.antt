@@ -5,7 +5,7 @@ use Rattle.std.proofs.lemmas.List.{map-append, take_more}
 use Rattle.cell_num.specs.Lists.{numbered_from}
 use Rattle.cell_world.specs.declared.state.NewCell.{NewCell}
 use Rattle.cell_world.specs.declared.transfer.Routine.{Routine}
-use Rattle.cell_world.specs.SwapTransfer.{Begin as Place}
+use Rattle.cell_world.specs.Commands.SwapTransfer.{Begin as Place}
 use Rattle.cell_world.specs.World.{Alias}
 use Rattle.cell_num.proofs.Elements.{All-In, found-In}
 use Rattle.cell_placed.specs.Low.{IsLow}

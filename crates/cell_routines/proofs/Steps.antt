@@ -9,7 +9,7 @@ use Rattle.cell_world.specs.declared.state.NewCell.{NewCell}
 use Rattle.cell_world.specs.Coherent.{IsLoadable}
 use Rattle.cell_world.specs.Following.{Follows}
 use Rattle.cell_world.specs.Outcome.{Outcome, ◌>>=◌, each, found}
-use Rattle.cell_world.specs.SwapTransfer.{Begin as Place, begin_of, begins_of}
+use Rattle.cell_world.specs.Commands.SwapTransfer.{Begin as Place, begin_of, begins_of}
 use Rattle.cell_world.specs.World.{attached}
 use Rattle.cell_xfer.specs.Named.{AnswersAs}
 use Rattle.cell_routines.specs.declared.entries.Begin.{Begin}

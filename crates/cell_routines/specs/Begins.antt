@@ -15,8 +15,8 @@ use Rattle.cell_world.specs.declared.refusal.Refusal.TheVariants.{NoEntry}
 use Rattle.cell_world.specs.declared.state.NewCell.{NewCell}
 use Rattle.cell_world.specs.Names.{is_definition}
 use Rattle.cell_world.specs.Outcome.{Outcome, ◌>>=◌, each, found}
-use Rattle.cell_world.specs.SpawnCommand.{inside_of, is_entry_in}
-use Rattle.cell_world.specs.SwapTransfer.{Begin as Place}
+use Rattle.cell_world.specs.Commands.SpawnCommand.{inside_of, is_entry_in}
+use Rattle.cell_world.specs.Commands.SwapTransfer.{Begin as Place}
 use Rattle.cell_xfer.specs.Named.{first_named}
 use Rattle.cell_routines.specs.declared.entries.Begin.{Begin}
 

@@ -8,8 +8,8 @@ use Rattle.cell_num.specs.Lists.{numbered}
 use Rattle.cell_object.specs.Parts.{symbol_at}
 use Rattle.cell_world.specs.declared.state.NewCell.{NewCell}
 use Rattle.cell_world.specs.declared.transfer.Routine.{Routine}
-use Rattle.cell_world.specs.SwapTransfer.{Begin as Place}
-use Rattle.cell_world.specs.Target.{address_of, own_target, start_of}
+use Rattle.cell_world.specs.Commands.SwapTransfer.{Begin as Place}
+use Rattle.cell_world.specs.Linked.Target.{address_of, own_target, start_of}
 use Rattle.cell_world.specs.World.{Alias}
 
 -- 0 where no cell has the number

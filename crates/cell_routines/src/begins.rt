@@ -5,7 +5,7 @@ ghost use Rattle.cell_world.specs.declared.refusal.Refusal.TheVariants.{NoEntry 
 ghost use Rattle.cell_world.specs.Coherent.{IsLoadable};
 ghost use Rattle.cell_world.specs.Following.{Follows};
 ghost use Rattle.cell_world.specs.Outcome.{found};
-ghost use Rattle.cell_world.specs.SwapTransfer.{begins_of as begins_said};
+ghost use Rattle.cell_world.specs.Commands.SwapTransfer.{begins_of as begins_said};
 ghost use Rattle.cell_world.specs.World.{attached};
 ghost use Rattle.cell_routines.specs.Begins.{begin_as, begin_named, begins_by as begins_named, with_begin};
 

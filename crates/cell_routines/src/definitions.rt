@@ -1,26 +1,18 @@
 //! The names that cells define, each with the place at which its routine may begin.
 
-ghost use Rattle.std.specs.Prelude.{◌≡◌, ◌++◌, ◌∷◌, [], All, IfOk, OnOk};
+ghost use Rattle.std.specs.Prelude.{◌++◌, ◌∷◌, [], All, IfOk, OnOk};
 ghost use Rattle.cell_world.specs.Coherent.{IsLoadable};
-ghost use Rattle.cell_world.specs.Names.{is_definition as definition};
 ghost use Rattle.cell_xfer.specs.Named.{AnswersAs};
 ghost use Rattle.cell_routines.specs.Begins.{all_rows, definition_rows};
 
 use crate::entries::{Begin, Entries};
-use cell_object::{Bind, Home, Symbol};
+use cell_object::{Symbol, is_definition};
 use cell_world::NewCell;
 use cell_xfer::Firsts;
 use std::alloc::{AllocError, Global};
 
 /// The names of definitions; a definition has no place where nothing can begin at it.
 pub type Definitions = Firsts<Option<Begin>>;
-
-/// Whether the symbol is a GLOBAL that its object defines.
-fn is_definition(symbol: &Symbol) -> bool
-    ensures { result ≡ definition symbol.now }
-{
-    symbol.bind == Bind::Global && matches!(symbol.home, Home::Inside(_))
-}
 
 /// Adds a symbol of a cell, where it is a definition.
 fn add_symbol(

@@ -6,7 +6,7 @@ ghost use Rattle.cell_script.specs.Script.{is_said};
 ghost use Rattle.cell_system.specs.State.{State};
 ghost use Rattle.cell_world.specs.declared.command.Command.{Command};
 ghost use Rattle.cell_world.specs.declared.file.File.{File};
-ghost use Rattle.cell_world.specs.Pages.{IsSpace};
+ghost use Rattle.cell_world.specs.Placed.Pages.{IsSpace};
 ghost use Rattle.cell_run.specs.Machine.{Answer, HasAnswered, IsNext, MayStart, first_state};
 
 use cell_system::{Command, Fail, File, Reply};

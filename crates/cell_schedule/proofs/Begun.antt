@@ -7,18 +7,18 @@ use Rattle.std.proofs.lemmas.List.{length-replicate}
 use Rattle.cell_world.specs.declared.refusal.Refusal.TheVariants.{Exhausted}
 use Rattle.cell_world.specs.declared.reply.Reply.TheVariants.{Spawn as SpawnDone}
 use Rattle.cell_world.specs.Answer.{done}
-use Rattle.cell_world.specs.Memory.{end_of}
+use Rattle.cell_world.specs.Running.Memory.{end_of}
 use Rattle.cell_world.specs.Outcome.{Outcome, ◌>>=◌}
-use Rattle.cell_world.specs.Pages.{filled, is_free_run, is_taken_run, longest_run, lowest_run}
-use Rattle.cell_world.specs.Place.{page_table, start_of_run, with_region}
-use Rattle.cell_world.specs.Layout.{permission_of}
+use Rattle.cell_world.specs.Placed.Pages.{filled, is_free_run, is_taken_run, longest_run, lowest_run}
+use Rattle.cell_world.specs.Placed.Place.{page_table, start_of_run, with_region}
+use Rattle.cell_world.specs.Placed.Layout.{permission_of}
 use Rattle.cell_world.specs.declared.layout.Class.TheVariants.{Writable}
-use Rattle.cell_world.specs.SpawnCommand.{new_task}
+use Rattle.cell_world.specs.Commands.SpawnCommand.{new_task}
 use Rattle.cell_world.specs.World.{World, Region, cell_of}
 use Rattle.cell_lemmas.specs.Clear.{IsClear}
 use Rattle.cell_num.proofs.Elements.{All-In, In-all}
-use Rattle.cell_lemmas.proofs.Places.{FreeAt, run_at, table_length}
-use Rattle.cell_lemmas.proofs.Tables.{run_clear, table_filled}
+use Rattle.cell_lemmas.proofs.Placement.Places.{FreeAt, run_at, table_length}
+use Rattle.cell_lemmas.proofs.Placement.Tables.{run_clear, table_filled}
 use Rattle.cell_mem.specs.State.{IsRoom, MemoryState, mapped, one_more, reserved}
 use Rattle.cell_mem.specs.Undo.{with_mapped}
 use Rattle.cell_place.specs.declared.search.NoRun.{NoRun}
@@ -26,7 +26,7 @@ use Rattle.cell_place.specs.declared.search.Run.{Run}
 use Rattle.cell_place.specs.Runs.{run_of}
 use Rattle.cell_place.specs.Space.{SpaceState, with_run}
 use Rattle.cell_task.specs.State.{TasksState, with_new}
-use Rattle.cell_lemmas.proofs.Spawned.{spawn_coherent}
+use Rattle.cell_lemmas.proofs.Tasks.Spawned.{spawn_coherent}
 use Rattle.cell_machine.specs.declared.machine.Machine.{Machine}
 use Rattle.cell_machine.specs.Machine.{IsSound, world_of}
 use Rattle.cell_machine.proofs.Counts.{one_stack}
@@ -136,6 +136,7 @@ module _ (m : Machine) (sound : IsSound m) where
           joined = sound.joined;
           table = table_begun;
           base = sound.base;
+          soft = sound.soft;
           sections = sound.sections;
           seals = sound.seals;
           patches = sound.patches;

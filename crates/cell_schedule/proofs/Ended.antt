@@ -8,9 +8,9 @@ use Rattle.cell_world.specs.declared.state.Namespace.{Namespace}
 use Rattle.cell_world.specs.declared.state.NewCell.{NewCell}
 use Rattle.cell_world.specs.World.{World, Cell, Region, Task, task_of}
 use Rattle.cell_world.specs.Coherent.{IsCoherent}
-use Rattle.cell_world.specs.Pages.{filled, is_taken_run}
-use Rattle.cell_world.specs.Place.{page_table}
-use Rattle.cell_world.specs.Turn.{without_task}
+use Rattle.cell_world.specs.Placed.Pages.{filled, is_taken_run}
+use Rattle.cell_world.specs.Placed.Place.{page_table}
+use Rattle.cell_world.specs.Running.Turn.{without_task}
 use Rattle.cell_num.specs.Lists.{In}
 use Rattle.cell_num.proofs.Elements.{found-In, find_there}
 use Rattle.cell_mem.specs.State.{MemoryState, region_from, size_of, unmapped}
@@ -20,10 +20,10 @@ use Rattle.cell_space.specs.declared.cell.SpaceCell.{SpaceCell}
 use Rattle.cell_space.specs.Joined.{AreJoined, cells_of}
 use Rattle.cell_task.specs.State.{TasksState, without}
 use Rattle.cell_commit.specs.Seals.{seal_table}
-use Rattle.cell_lemmas.proofs.Bare.{region_once}
-use Rattle.cell_lemmas.proofs.Killed.{kill_coherent}
+use Rattle.cell_lemmas.proofs.Placement.Bare.{region_once}
+use Rattle.cell_lemmas.proofs.Tasks.Killed.{kill_coherent}
 use Rattle.cell_machine.specs.declared.machine.Machine.{Machine}
-use Rattle.cell_machine.specs.Machine.{IsSound, field_bytes, keys_of, world_by, world_of}
+use Rattle.cell_machine.specs.Machine.{IsSound, field_bytes, keys_of, soft_of, world_by, world_of}
 use Rattle.cell_schedule.specs.Ends.{IsEnded}
 use Rattle.cell_schedule.proofs.Freed.{Stack, page_of, stack_of, stack_taken, table_freed}
 use Rattle.cell_schedule.proofs.Unsealed.{seals_left}
@@ -109,6 +109,7 @@ module _ (old : Machine) (sound : IsSound old) (t : Task) (live : task_of (world
         joined = subst (λ (cells : List NewCell). AreJoined cells new.spaces.cells) (sym is.cells) (subst (λ (known : List SpaceCell). AreJoined old.cells.items known) (sym is.known) sound.joined);
         table = table_ended;
         base = ap (λ (s : SpaceState). s.base) is.space ∙ (sound.base ∙ ap (λ (m : MemoryState). m.base) (sym is.memory));
+        soft = is.soft ∙ (sound.soft ∙ ap soft_of (sym is.cells));
         sections = is.sections ∙ (sound.sections ∙ ap keys_of (sym is.cells));
         seals = seals_ended;
         patches = subst (λ (n : ℕ). n ≤ 2 ^ 64 - 1) (sym patches_ended) sound.patches;

@@ -15,13 +15,13 @@ use Rattle.cell_world.specs.declared.state.Target.{Target}
 use Rattle.cell_world.specs.declared.state.Target.TheVariants.{Section, Number}
 use Rattle.cell_world.specs.Coherent.{IsCoherent}
 use Rattle.cell_world.specs.Names.{Provider, attached_provider}
-use Rattle.cell_world.specs.Layout.{offset_in, sections_in}
+use Rattle.cell_world.specs.Placed.Layout.{offset_in, sections_in}
 use Rattle.cell_world.specs.declared.layout.Class.TheVariants.{Text}
-use Rattle.cell_world.specs.SpawnCommand.{entry_address, entry_named, inside_of, is_entry_in}
-use Rattle.cell_world.specs.Target.{own_target, provided_target, start_of}
+use Rattle.cell_world.specs.Commands.SpawnCommand.{entry_address, entry_named, inside_of, is_entry_in}
+use Rattle.cell_world.specs.Linked.Target.{own_target, provided_target, start_of}
 use Rattle.cell_world.specs.World.{World, Cell, cell_of}
 use Rattle.cell_num.proofs.Elements.{find_there, found-In}
-use Rattle.cell_lemmas.proofs.TextPlaces.{text_rest}
+use Rattle.cell_lemmas.proofs.Placement.TextPlaces.{text_rest}
 use Rattle.cell_machine.specs.declared.machine.Machine.{Machine}
 use Rattle.cell_machine.specs.Machine.{IsSound, world_of}
 use Rattle.cell_schedule.specs.Starts.{entry_at, entry_in, is_entry_at}

@@ -6,18 +6,18 @@ use Rattle.std.proofs.lemmas.Bool.{and_parts, cases_lt, eqb-true, eq-eqb, leb-tr
 use Rattle.std.proofs.lemmas.List.{ext_get_or}
 use Rattle.cell_num.specs.Lists.{from_on, In}
 use Rattle.cell_world.specs.World.{World, Region, Task}
-use Rattle.cell_world.specs.Memory.{covers}
-use Rattle.cell_world.specs.Pages.{filled, is_taken_run}
-use Rattle.cell_world.specs.Place.{is_taken, page_table}
+use Rattle.cell_world.specs.Running.Memory.{covers}
+use Rattle.cell_world.specs.Placed.Pages.{filled, is_taken_run}
+use Rattle.cell_world.specs.Placed.Place.{is_taken, page_table}
 use Rattle.cell_world.specs.Coherent.{IsCoherent, Shape, shape_of, stack_shape, wanted_shapes, is_in_space}
-use Rattle.cell_world.specs.Turn.{without_task}
-use Rattle.cell_lemmas.proofs.Distinct.{cell_shapes}
+use Rattle.cell_world.specs.Running.Turn.{without_task}
+use Rattle.cell_lemmas.proofs.Placement.Distinct.{cell_shapes}
 use Rattle.cell_num.proofs.Elements.{all-In, none-In, In-none, any-In, any-Has, filter-In, filter-Passes, In-filtered, In-map, In-right, map-In}
-use Rattle.cell_lemmas.proofs.FieldsInside.{In-fold_shape}
-use Rattle.cell_lemmas.proofs.Places.{table_length, taken_at, whole_region}
+use Rattle.cell_lemmas.proofs.Fields.FieldsInside.{In-fold_shape}
+use Rattle.cell_lemmas.proofs.Placement.Places.{table_length, taken_at, whole_region}
 use Rattle.cell_mem.proofs.Filling.{filled_above, filled_below, filled_inside, length-filled}
-use Rattle.cell_lemmas.proofs.Bare.{covers_once, region_once}
-use Rattle.cell_lemmas.proofs.Writes.{begins_below, covered, ends_above}
+use Rattle.cell_lemmas.proofs.Placement.Bare.{covers_once, region_once}
+use Rattle.cell_lemmas.proofs.Fields.Writes.{begins_below, covered, ends_above}
 
 not_equal : (a b : ℕ) → not (a == b) ≡ true → a ≡ b → ⊥
 not_equal a b h e = true≢false (sym h ∙ ap not (eq-eqb a b e))

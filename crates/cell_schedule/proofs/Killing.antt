@@ -5,8 +5,8 @@ use Rattle.cell_world.specs.declared.reply.Reply.TheVariants.{Kill as KillDone}
 use Rattle.std.specs.Prelude.{decimal, option_map}
 use Rattle.cell_world.specs.Answer.{done, live_task}
 use Rattle.cell_world.specs.Outcome.{◌>>=◌}
-use Rattle.cell_world.specs.TaskCommands.{next_kill}
-use Rattle.cell_world.specs.Turn.{without_task}
+use Rattle.cell_world.specs.Commands.TaskCommands.{next_kill}
+use Rattle.cell_world.specs.Running.Turn.{without_task}
 use Rattle.cell_world.specs.World.{Task, task_of}
 use Rattle.cell_lemmas.proofs.Outcomes.{found_ok}
 use Rattle.cell_world.specs.Following.{FailsAs}

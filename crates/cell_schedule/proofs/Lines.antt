@@ -5,7 +5,7 @@ use Rattle.std.proofs.lemmas.Bool.{eq-eqb, eqb-true, ltb-true}
 use Rattle.std.proofs.lemmas.List.{map-append}
 use Rattle.cell_num.specs.Lists.{each_pair, In}
 use Rattle.cell_world.specs.World.{Task}
-use Rattle.cell_world.specs.TaskCommands.{task_line as line_of}
+use Rattle.cell_world.specs.Commands.TaskCommands.{task_line as line_of}
 use Rattle.cell_num.proofs.Elements.{find_there, found-In, pairs-In}
 
 -- the task at a place of the list, whose number comes next

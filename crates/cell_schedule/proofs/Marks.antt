@@ -10,8 +10,8 @@ use Rattle.cell_num.specs.declared.kinds.RelKind.TheVariants.{Abs32, Abs64, Bran
 use Rattle.cell_object.specs.declared.object.Entry.{Entry}
 use Rattle.cell_world.specs.declared.state.NewCell.{NewCell}
 use Rattle.cell_world.specs.World.{Cell}
-use Rattle.cell_world.specs.Execute.{is_field_at}
-use Rattle.cell_world.specs.Field.{fields_of, place_of}
+use Rattle.cell_world.specs.Running.Execute.{is_field_at}
+use Rattle.cell_world.specs.Linked.Field.{fields_of, place_of}
 use Rattle.cell_commit.specs.Seals.{is_in_span, seal_table}
 use Rattle.cell_space.specs.Joined.{placed_of}
 use Rattle.cell_machine.specs.Machine.{field_bytes, own_field_bytes}

@@ -6,8 +6,8 @@ use Rattle.cell_world.specs.declared.reply.Reply.TheVariants.{Step as StepDone}
 use Rattle.cell_world.specs.declared.reply.TaskRun.{TaskRun}
 use Rattle.cell_world.specs.Answer.{Done, done, live_task}
 use Rattle.cell_world.specs.Outcome.{Outcome, ◌>>=◌, ◌>>◌}
-use Rattle.cell_world.specs.TaskCommands.{can_run, next_step}
-use Rattle.cell_world.specs.Turn.{turns_of}
+use Rattle.cell_world.specs.Commands.TaskCommands.{can_run, next_step}
+use Rattle.cell_world.specs.Running.Turn.{turns_of}
 use Rattle.cell_world.specs.World.{Fault, Task, task_of}
 use Rattle.cell_lemmas.proofs.Outcomes.{found_ok}
 use Rattle.cell_world.specs.Following.{FailsAs}

@@ -5,9 +5,9 @@ use Rattle.std.proofs.lemmas.Bool.{eqb-true, eq-eqb}
 use Rattle.cell_world.specs.declared.reply.TaskState.{TaskState}
 use Rattle.cell_world.specs.declared.reply.TaskState.TheVariants.{Ready, Done, Fault as Faulted}
 use Rattle.cell_world.specs.World.{World, Task, task_of}
-use Rattle.cell_world.specs.Execute.{seen_in}
-use Rattle.cell_world.specs.Move.{Move, move}
-use Rattle.cell_world.specs.Turn.{hart_of, standing, task_column, turn, turned, with_task}
+use Rattle.cell_world.specs.Running.Execute.{seen_in}
+use Rattle.cell_world.specs.Running.Move.{Move, move}
+use Rattle.cell_world.specs.Running.Turn.{hart_of, standing, task_column, turn, turned, with_task}
 
 -- the task `task` stands where t stood
 pub record IsReplaced (t : Task) (tasks after : List Task) : Type 0 where

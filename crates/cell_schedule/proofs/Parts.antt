@@ -3,8 +3,8 @@ use Rattle.std.proofs.Common.{◌≡◌, refl}
 use Rattle.cell_world.specs.declared.reply.TaskState.{TaskState}
 use Rattle.cell_world.specs.declared.reply.TaskState.TheVariants.{Ready, Done, Fault as Faulted}
 use Rattle.cell_world.specs.World.{World, Task}
-use Rattle.cell_world.specs.Move.{Move}
-use Rattle.cell_world.specs.Turn.{Turned, standing, turned}
+use Rattle.cell_world.specs.Running.Move.{Move}
+use Rattle.cell_world.specs.Running.Turn.{Turned, standing, turned}
 use Rattle.cell_task.specs.Turns.{with_parts}
 
 -- the tasks and regions of a turn, in the machine

@@ -6,16 +6,16 @@ use Rattle.std.proofs.lemmas.Bool.{leb-true}
 use Rattle.std.proofs.lemmas.List.{length-map}
 use Rattle.cell_num.specs.Lists.{upto, In}
 use Rattle.cell_world.specs.World.{World, Region}
-use Rattle.cell_world.specs.Memory.{covers, end_of, region_in, written}
+use Rattle.cell_world.specs.Running.Memory.{covers, end_of, region_in, written}
 use Rattle.cell_world.specs.Coherent.{IsCoherent, Shape, is_in_space, shape_of}
-use Rattle.cell_world.specs.Execute.{allows, seen_in}
-use Rattle.cell_world.specs.Place.{is_taken, page_table}
+use Rattle.cell_world.specs.Running.Execute.{allows, seen_in}
+use Rattle.cell_world.specs.Placed.Place.{is_taken, page_table}
 use Rattle.cell_mem.specs.State.{size_of}
 use Rattle.cell_num.proofs.Elements.{all-In, found-In, map_same}
-use Rattle.cell_lemmas.proofs.Executed.{Stored}
+use Rattle.cell_lemmas.proofs.Tasks.Executed.{Stored}
 use Rattle.cell_num.proofs.Sublists.{and_left, and_right}
-use Rattle.cell_lemmas.proofs.Stored.{stored_shape}
-use Rattle.cell_lemmas.proofs.Writes.{begins_below}
+use Rattle.cell_lemmas.proofs.Tasks.Stored.{stored_shape}
+use Rattle.cell_lemmas.proofs.Fields.Writes.{begins_below}
 use Rattle.cell_schedule.proofs.Marks.{any_map}
 
 -- the shapes are the same, one by one

@@ -11,8 +11,8 @@ use Rattle.cell_world.specs.declared.reply.TaskState.{TaskState}
 use Rattle.cell_world.specs.declared.reply.TaskState.TheVariants.{Ready, Done, Fault as Faulted}
 use Rattle.cell_world.specs.World.{Fault, World, Task, is_ready, task_of}
 use Rattle.cell_world.specs.Answer.{done}
-use Rattle.cell_world.specs.TaskCommands.{Round, next_run, run_task}
-use Rattle.cell_world.specs.Turn.{Ran, ran, slice_of, turn, turns_from}
+use Rattle.cell_world.specs.Commands.TaskCommands.{Round, next_run, run_task}
+use Rattle.cell_world.specs.Running.Turn.{Ran, ran, slice_of, turn, turns_from}
 use Rattle.cell_num.proofs.Elements.{all-In, filter-Passes, found-In, pairs-map}
 use Rattle.cell_num.proofs.Sublists.{and_left, and_right, filter_same, map_filter, pairs-filter}
 use Rattle.cell_task.specs.State.{IsReady, TasksState, live_in}

@@ -5,7 +5,7 @@ use Rattle.std.proofs.lemmas.Bool.{eqb-true}
 use Rattle.cell_world.specs.declared.reply.TaskState.{TaskState}
 use Rattle.cell_world.specs.declared.reply.TaskState.TheVariants.{Ready, Done, Fault as Faulted}
 use Rattle.cell_world.specs.World.{World, Task, task_of}
-use Rattle.cell_world.specs.Turn.{Ran, Turned, ran, turn, turns_from}
+use Rattle.cell_world.specs.Running.Turn.{Ran, Turned, ran, turn, turns_from}
 use Rattle.cell_num.proofs.Elements.{found-In}
 use Rattle.cell_task.specs.declared.turned.Turned.{Turned as Answer}
 use Rattle.cell_task.specs.State.{IsReady, live_in}

@@ -11,7 +11,7 @@ use Rattle.cell_world.specs.declared.refusal.Refusal.TheVariants.{NoEntry, TooMa
 use Rattle.cell_world.specs.declared.reply.Reply.{Reply}
 use Rattle.cell_world.specs.Answer.{Done, space_of}
 use Rattle.cell_world.specs.Outcome.{Outcome, ◌>>=◌, ◌>>◌, found, need}
-use Rattle.cell_world.specs.SpawnCommand.{entry_named, next_spawn}
+use Rattle.cell_world.specs.Commands.SpawnCommand.{entry_named, next_spawn}
 use Rattle.cell_world.specs.World.{World}
 use Rattle.cell_lemmas.proofs.Outcomes.{need_ok, then_ok}
 use Rattle.cell_task.specs.State.{TasksState}

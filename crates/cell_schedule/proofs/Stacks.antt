@@ -5,7 +5,7 @@ use Rattle.std.specs.Prelude.{Result, slice_index_or}
 use Rattle.std.proofs.lemmas.Bool.{and_parts, cases_lt}
 use Rattle.std.proofs.lemmas.List.{ext_get_or}
 use Rattle.cell_num.specs.Lists.{from_on}
-use Rattle.cell_world.specs.Pages.{filled, is_free, is_free_run, is_taken_run, longest_run, lowest_run}
+use Rattle.cell_world.specs.Placed.Pages.{filled, is_free, is_free_run, is_taken_run, longest_run, lowest_run}
 use Rattle.cell_mem.proofs.Filling.{filled_above, filled_below, filled_inside, length-filled}
 use Rattle.cell_place.specs.declared.search.NoRun.{NoRun}
 use Rattle.cell_place.specs.declared.search.Run.{Run}

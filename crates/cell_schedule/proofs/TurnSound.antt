@@ -2,8 +2,8 @@
 use Rattle.std.proofs.Common.{◌≡◌, refl, sym, ◌∙◌, ap, subst, ◌≤◌, ◌<◌, arith, ℕ, ◌*◌, Bool, true, false, List, ◌++◌, Some}
 use Rattle.std.specs.Prelude.{◌==◌, ◌-◌}
 use Rattle.std.proofs.lemmas.Bool.{eqb-true}
-use Rattle.cell_world.specs.Pages.{filled, is_taken_run}
-use Rattle.cell_lemmas.proofs.TurnKept.{turn_cells}
+use Rattle.cell_world.specs.Placed.Pages.{filled, is_taken_run}
+use Rattle.cell_lemmas.proofs.Tasks.TurnKept.{turn_cells}
 use Rattle.cell_mem.specs.State.{MemoryState, is_sealed, unmapped}
 use Rattle.cell_hart.specs.Step.{seen_of}
 use Rattle.cell_hart.proofs.Alike.{execute_alike}
@@ -12,13 +12,13 @@ use Rattle.cell_world.specs.declared.reply.TaskState.{TaskState}
 use Rattle.cell_world.specs.declared.reply.TaskState.TheVariants.{Ready, Done, Fault as Faulted}
 use Rattle.cell_world.specs.World.{World, Region, Task, task_of}
 use Rattle.cell_world.specs.Coherent.{IsCoherent}
-use Rattle.cell_world.specs.Execute.{Effect, allows, execute, seen_in}
-use Rattle.cell_world.specs.Move.{Move, move, moved_by}
-use Rattle.cell_world.specs.Turn.{Turned, hart_of, task_column, turn, turned, without_task}
+use Rattle.cell_world.specs.Running.Execute.{Effect, allows, execute, seen_in}
+use Rattle.cell_world.specs.Running.Move.{Move, move, moved_by}
+use Rattle.cell_world.specs.Running.Turn.{Turned, hart_of, task_column, turn, turned, without_task}
 use Rattle.cell_num.specs.Lists.{In}
 use Rattle.cell_num.proofs.Elements.{found-In}
-use Rattle.cell_lemmas.proofs.Executed.{Stored, good_move}
-use Rattle.cell_lemmas.proofs.Turned.{stored_coherent, turn_coherent}
+use Rattle.cell_lemmas.proofs.Tasks.Executed.{Stored, good_move}
+use Rattle.cell_lemmas.proofs.Tasks.Turned.{stored_coherent, turn_coherent}
 use Rattle.cell_task.specs.declared.turned.Turned.{Turned as Answer}
 use Rattle.cell_task.specs.State.{IsReady, TasksState, live_in}
 use Rattle.cell_task.specs.Turns.{IsTurn, answer_of, memory_after, turned_in}
@@ -71,6 +71,7 @@ module _ (old : Machine) (sound : IsSound old) where
       joined = sound.joined;
       table = sound.table ∙ sym (table_stored w coherent regions s);
       base = sound.base;
+      soft = sound.soft;
       sections = sound.sections;
       seals = sound.seals;
       patches = sound.patches;
@@ -131,6 +132,7 @@ module _ (old : Machine) (sound : IsSound old) where
         let mid : IsSound (before_end regions) = sound_with regions old.tasks.tasks stored (stored_coherent w coherent regions stored) in
         let ends : IsEnded (before_end regions) t (after y) = record {
           cells = refl;
+          soft = refl;
           next = refl;
           swaps = refl;
           namespaces = refl;

@@ -9,20 +9,20 @@ use Rattle.cell_num.specs.Lists.{from_on, upto, In}
 use Rattle.cell_object.specs.declared.object.Entry.{Entry}
 use Rattle.cell_world.specs.declared.state.NewCell.{NewCell}
 use Rattle.cell_world.specs.World.{World, Cell, Task}
-use Rattle.cell_world.specs.Field.{fields_of, place_of}
-use Rattle.cell_world.specs.Memory.{covers}
-use Rattle.cell_world.specs.Pages.{filled}
+use Rattle.cell_world.specs.Linked.Field.{fields_of, place_of}
+use Rattle.cell_world.specs.Running.Memory.{covers}
+use Rattle.cell_world.specs.Placed.Pages.{filled}
 use Rattle.cell_world.specs.Coherent.{IsCoherent}
-use Rattle.cell_world.specs.Turn.{without_task}
+use Rattle.cell_world.specs.Running.Turn.{without_task}
 use Rattle.cell_lemmas.specs.Present.{IsInside}
 use Rattle.cell_num.proofs.Elements.{All-In, In-none, In-flat_map, In-map, found-In, map-In}
-use Rattle.cell_lemmas.proofs.FieldsInside.{among-In}
-use Rattle.cell_lemmas.proofs.Inside.{fields_lie, ready_linkable}
-use Rattle.cell_lemmas.proofs.Places.{length-from}
+use Rattle.cell_lemmas.proofs.Fields.FieldsInside.{among-In}
+use Rattle.cell_lemmas.proofs.Placement.Inside.{fields_lie, ready_linkable}
+use Rattle.cell_lemmas.proofs.Placement.Places.{length-from}
 use Rattle.cell_commit.specs.Seals.{is_in_span, seal_table}
 use Rattle.cell_mem.proofs.Filling.{filled_above, filled_below, filled_inside, length-filled}
-use Rattle.cell_lemmas.proofs.Killed.{kill_coherent}
-use Rattle.cell_lemmas.proofs.Writes.{begins_below, covered}
+use Rattle.cell_lemmas.proofs.Tasks.Killed.{kill_coherent}
+use Rattle.cell_lemmas.proofs.Fields.Writes.{begins_below, covered}
 use Rattle.cell_space.specs.Joined.{placed_of}
 use Rattle.cell_machine.specs.Machine.{field_bytes, own_field_bytes}
 use Rattle.cell_schedule.proofs.Freed.{left_clear, stack_of}

@@ -3,8 +3,8 @@ use Rattle.std.proofs.Common.{◌≡◌, refl, List}
 use Rattle.cell_world.specs.declared.reply.TaskState.{TaskState}
 use Rattle.cell_world.specs.declared.reply.TaskState.TheVariants.{Ready, Done, Fault as Faulted}
 use Rattle.cell_world.specs.World.{World, Region, Task}
-use Rattle.cell_world.specs.Move.{Move}
-use Rattle.cell_world.specs.Turn.{standing, turned, without_task}
+use Rattle.cell_world.specs.Running.Move.{Move}
+use Rattle.cell_world.specs.Running.Turn.{standing, turned, without_task}
 
 -- the world after the turn has these regions, or is without the task
 abbrev pub Leaves : World → Task → List Region → TaskState → World → Type 0

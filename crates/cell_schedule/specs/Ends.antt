@@ -17,6 +17,7 @@ stack_run base stack = record { page = (stack - base) / page_size; count = stack
 -- its region is unmapped, and its pages are free
 pub record IsEnded (old : Machine) (t : Task) (new : Machine) : Type 0 where
   pub cells : new.cells.items ≡ old.cells.items
+  pub soft : new.soft.items ≡ old.soft.items
   pub next : new.next ≡ old.next
   pub swaps : new.swaps ≡ old.swaps
   pub namespaces : new.spaces.namespaces ≡ old.spaces.namespaces

@@ -15,8 +15,8 @@ use Rattle.cell_world.specs.declared.state.Target.{Target}
 use Rattle.cell_world.specs.declared.state.Target.TheVariants.{Section, Number}
 use Rattle.cell_world.specs.Answer.{Done, done}
 use Rattle.cell_world.specs.Outcome.{Outcome, ◌>>=◌, ◌>>◌, need}
-use Rattle.cell_world.specs.Place.{start_of_run}
-use Rattle.cell_world.specs.SpawnCommand.{new_task, with_stack}
+use Rattle.cell_world.specs.Placed.Place.{start_of_run}
+use Rattle.cell_world.specs.Commands.SpawnCommand.{new_task, with_stack}
 use Rattle.cell_world.specs.World.{World, cell_of}
 use Rattle.cell_task.specs.State.{TasksState}
 use Rattle.cell_schedule.specs.declared.entry.Entry.{Entry}

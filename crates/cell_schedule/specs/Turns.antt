@@ -7,7 +7,7 @@ use Rattle.std.specs.Prelude.{ℕ, ◌≡◌, ◌≤◌, Bool, false, Option, So
 use Rattle.cell_world.specs.declared.reply.TaskRun.{TaskRun}
 use Rattle.cell_world.specs.declared.reply.TaskState.{TaskState}
 use Rattle.cell_world.specs.declared.reply.TaskState.TheVariants.{Ready as IsReady, Done as IsDone, Fault as IsFault}
-use Rattle.cell_world.specs.Turn.{Ran, turn}
+use Rattle.cell_world.specs.Running.Turn.{Ran, turn}
 use Rattle.cell_world.specs.World.{Task}
 use Rattle.cell_task.specs.declared.turned.Turned.{Turned as Answer}
 use Rattle.cell_task.specs.Turns.{answer_of}

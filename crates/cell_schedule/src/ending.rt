@@ -1,7 +1,7 @@
 //! `kill`
 
 ghost use Rattle.cell_machine.specs.Machine.{IsSound, world_of};
-ghost use Rattle.cell_world.specs.TaskCommands.{next_kill};
+ghost use Rattle.cell_world.specs.Commands.TaskCommands.{next_kill};
 ghost use Rattle.cell_machine.specs.Does.{Does, no_stack};
 
 use crate::live::live;

@@ -5,7 +5,7 @@ ghost use Rattle.cell_world.specs.Following.{Follows};
 ghost use Rattle.cell_machine.specs.Machine.{IsSound, world_of};
 ghost use Rattle.cell_world.specs.declared.refusal.Refusal.TheVariants.{NoEntry as NoSuchEntry};
 ghost use Rattle.cell_world.specs.Outcome.{found};
-ghost use Rattle.cell_world.specs.SpawnCommand.{entry_named};
+ghost use Rattle.cell_world.specs.Commands.SpawnCommand.{entry_named};
 ghost use Rattle.cell_schedule.specs.Starts.{entry_as, entry_at as entry_of, entry_in as entry_inside, is_entry_at};
 
 use cell_machine::Machine;

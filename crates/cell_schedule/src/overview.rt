@@ -6,7 +6,7 @@ ghost use Rattle.cell_num.specs.Lists.{each_pair};
 ghost use Rattle.cell_task.specs.State.{seen_as};
 ghost use Rattle.cell_world.specs.Following.{Follows};
 ghost use Rattle.cell_machine.specs.Does.{answer_in};
-ghost use Rattle.cell_world.specs.TaskCommands.{next_tasks, task_line as line_of};
+ghost use Rattle.cell_world.specs.Commands.TaskCommands.{next_tasks, task_line as line_of};
 
 use cell_machine::Machine;
 use cell_num::{Cause, Listed};

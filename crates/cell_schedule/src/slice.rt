@@ -3,7 +3,7 @@
 ghost use Rattle.std.specs.Prelude.{◌≡◌, ◌+◌, ◌*◌, ◌≤◌, Some, [], vec_capacity};
 ghost use Rattle.cell_machine.specs.Machine.{IsSound, world_of};
 ghost use Rattle.cell_task.specs.State.{IsReady, live_in};
-ghost use Rattle.cell_world.specs.Turn.{turns_from};
+ghost use Rattle.cell_world.specs.Running.Turn.{turns_from};
 ghost use Rattle.cell_world.specs.World.{Task as WorldTask};
 ghost use Rattle.cell_schedule.specs.Turns.{HasRun, stopped_by};
 

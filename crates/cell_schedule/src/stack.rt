@@ -2,7 +2,7 @@
 
 ghost use Rattle.std.specs.Prelude.{◌≡◌, ◌<◌, ◌≤◌, true, false};
 ghost use Rattle.cell_num.specs.Limits.{max_pages};
-ghost use Rattle.cell_world.specs.Pages.{is_taken_run};
+ghost use Rattle.cell_world.specs.Placed.Pages.{is_taken_run};
 ghost use Rattle.cell_place.specs.Space.{with_run};
 ghost use Rattle.cell_schedule.specs.Ends.{stack_run};
 

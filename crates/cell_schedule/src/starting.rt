@@ -1,10 +1,10 @@
 //! `spawn`
 
-ghost use Rattle.std.specs.Prelude.{◌≡◌, ◌<◌, ◌≤◌, IfOk, is_some, length, replicate, true};
+ghost use Rattle.std.specs.Prelude.{◌≡◌, ◌<◌, ◌≤◌, is_some, length, true};
 ghost use Rattle.cell_world.specs.Following.{Follows};
 ghost use Rattle.cell_machine.specs.Machine.{IsSound, world_of};
 ghost use Rattle.cell_world.specs.declared.refusal.Refusal.TheVariants.{Exhausted as TooFull};
-ghost use Rattle.cell_world.specs.SpawnCommand.{next_spawn};
+ghost use Rattle.cell_world.specs.Commands.SpawnCommand.{next_spawn};
 ghost use Rattle.cell_world.specs.World.{cell_of};
 ghost use Rattle.cell_machine.specs.Does.{Does, one_stack};
 ghost use Rattle.cell_schedule.specs.Starts.{entry_as, may_start, started};
@@ -12,11 +12,11 @@ ghost use Rattle.cell_schedule.specs.Starts.{entry_as, may_start, started};
 use crate::entry::{Entry, entry_for};
 use cell_machine::{Machine, namespace};
 use cell_mem::Perm;
-use cell_num::{MAX_TASK_NUMBER, MAX_TASKS, STACK_PAGES, STACK_SIZE};
+use cell_num::{MAX_TASK_NUMBER, MAX_TASKS, STACK_PAGES, STACK_SIZE, zeros};
 use cell_place::NoRun;
 use cell_task::Tasks;
 use cell_world::{Fail, Many, Permission, Refusal, Reply};
-use std::alloc::{AllocError, Global};
+use std::alloc::Global;
 
 /// A stack may be read and written.
 const READ_WRITE: Permission = Permission {
@@ -52,12 +52,6 @@ fn exhausted(none: NoRun) -> Refusal
         wanted: none.wanted,
         largest: none.largest,
     }
-}
-
-fn zeros(alloc: Global, count: usize) -> Result<Vec<u8>, AllocError>
-    ensures { IfOk result (λ bytes. bytes.items ≡ replicate count 0) }
-{
-    vec![in alloc; 0u8; count]
 }
 
 /// Starts a task on a stack of its own. All that can fail comes before the stack is mapped, or is

@@ -4,7 +4,7 @@ ghost use Rattle.std.specs.Prelude.{◌≡◌, ◌*◌, ◌≤◌, [], IfOk, vec
 ghost use Rattle.cell_world.specs.Following.{Follows};
 ghost use Rattle.cell_machine.specs.Machine.{IsSound, world_of};
 ghost use Rattle.cell_task.specs.State.{seen_as};
-ghost use Rattle.cell_world.specs.TaskCommands.{can_run as can_run_as, next_step};
+ghost use Rattle.cell_world.specs.Commands.TaskCommands.{can_run as can_run_as, next_step};
 ghost use Rattle.cell_machine.specs.Does.{Does, no_stack};
 
 use crate::live::live;

@@ -4,7 +4,7 @@ ghost use Rattle.std.specs.Prelude.{◌≡◌, ◌+◌, ◌<◌, ◌≤◌, Some
 ghost use Rattle.cell_num.specs.Limits.{max_pages};
 ghost use Rattle.cell_machine.specs.Machine.{IsSound, world_of};
 ghost use Rattle.cell_task.specs.State.{IsReady, live_in};
-ghost use Rattle.cell_world.specs.Pages.{is_taken_run};
+ghost use Rattle.cell_world.specs.Placed.Pages.{is_taken_run};
 ghost use Rattle.cell_world.specs.World.{Task as WorldTask};
 ghost use Rattle.cell_schedule.specs.Ends.{stack_run};
 ghost use Rattle.cell_schedule.specs.Turns.{HasTurned, space_after};

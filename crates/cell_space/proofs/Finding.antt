@@ -16,34 +16,34 @@ use Rattle.cell_space.specs.declared.index.Holder.{Holder}
 use Rattle.cell_space.specs.declared.index.Holder.TheVariants.{One}
 use Rattle.cell_space.specs.declared.word.WordKind.{WordKind}
 use Rattle.cell_space.specs.declared.word.WordKind.TheVariants.{Stem, Name, Weak}
-use Rattle.cell_space.specs.Hash.{stem_hash, name_hash}
+use Rattle.cell_space.specs.Hash.{stem_hash}
 use Rattle.cell_space.specs.Named.{is_in, is_holder, is_rival, provider_at, first_provider, cell_numbered}
 use Rattle.cell_space.specs.Rising.{IsRising, lower}
-use Rattle.cell_space.specs.Index.{may_be, IsTaken, IsListed, IsWhole, anywhere, hashes_of, name_hashes, rows_of, has_word, word_hash, is_at, kept_if}
+use Rattle.cell_space.specs.Index.{may_be, IsTaken, IsListed, IsWhole, anywhere, hashes_of, name_hashes, row_hashes, has_word, word_hash, is_at, kept_if}
 use Rattle.cell_space.proofs.Holding.{hashes_back, hashes_front}
 use Rattle.cell_space.proofs.NameTables.{is_some_symbol}
 use Rattle.cell_space.proofs.Searches.{filter-filter}
 use Rattle.cell_space.proofs.Rising.{one_at_most, none_passes, find-or, same_number, turned, left, right}
 
 -- what holds of each hash of a cell holds of that of a word that it has
-module _ (P : ℕ → Type 0) (q : List ℕ) where
-  name_by : (b : Bool) (a : Alias) (rows : List Alias) → equals a.name q ≡ b → All P (name_hash a.name ∷ name_hashes rows) → (list_any (λ r. equals r.name q) rows ≡ true → P (name_hash q))
-      → (b || list_any (λ r. equals r.name q) rows) ≡ true → P (name_hash q)
+module _ (P : ℕ → Type 0) (kind : WordKind) (q : List ℕ) where
+  name_by : (b : Bool) (a : Alias) (rows : List Alias) → equals a.name q ≡ b → All P (word_hash kind a.name ∷ name_hashes kind rows) → (list_any (λ r. equals r.name q) rows ≡ true → P (word_hash kind q))
+      → (b || list_any (λ r. equals r.name q) rows) ≡ true → P (word_hash kind q)
   name_by true a rows e all rest has =
-      let Q : List ℕ → Type 0 = λ name. P (name_hash name) in
-      subst Q ((bytes_decides a.name q).0 e) (All-head P (name_hash a.name) (name_hashes rows) all)
+      let Q : List ℕ → Type 0 = λ name. P (word_hash kind name) in
+      subst Q ((bytes_decides a.name q).0 e) (All-head P (word_hash kind a.name) (name_hashes kind rows) all)
   name_by false a rows e all rest has = rest has
 
-  of_name : (rows : List Alias) → All P (name_hashes rows) → has_name rows q ≡ true → P (name_hash q)
+  of_name : (rows : List Alias) → All P (name_hashes kind rows) → has_name rows q ≡ true → P (word_hash kind q)
   of_name [] all has = absurd (cc has)
-  of_name (a ∷ rows) all has = name_by (equals a.name q) a rows refl all (of_name rows (All-tail P (name_hash a.name) (name_hashes rows) all)) has
+  of_name (a ∷ rows) all has = name_by (equals a.name q) a rows refl all (of_name rows (All-tail P (word_hash kind a.name) (name_hashes kind rows) all)) has
 
 of_word : (P : ℕ → Type 0) (kind : WordKind) (word : List ℕ) (c : SpaceCell) → All P (hashes_of c) → has_word kind word c ≡ true → P (word_hash kind word)
 of_word P Stem word c all has =
     let Q : List ℕ → Type 0 = λ name. P (stem_hash name) in
-    subst Q ((bytes_decides c.stem word).0 has) (All-head P (stem_hash c.stem) (name_hashes (rows_of c)) all)
-of_word P Name word c all has = of_name P word c.names (hashes_back P c.weak c.names (All-tail P (stem_hash c.stem) (name_hashes (rows_of c)) all)) has
-of_word P Weak word c all has = of_name P word c.weak (hashes_front P c.weak c.names (All-tail P (stem_hash c.stem) (name_hashes (rows_of c)) all)) has
+    subst Q ((bytes_decides c.stem word).0 has) (All-head P (stem_hash c.stem) (row_hashes c) all)
+of_word P Name word c all has = of_name P Name word c.names (hashes_back P (name_hashes Weak c.weak) (name_hashes Name c.names) (All-tail P (stem_hash c.stem) (row_hashes c) all)) has
+of_word P Weak word c all has = of_name P Weak word c.weak (hashes_front P (name_hashes Weak c.weak) (name_hashes Name c.names) (All-tail P (stem_hash c.stem) (row_hashes c) all)) has
 
 module _ (f : ℕ → ℕ → Option Holder) (ns : ℕ) (kind : WordKind) (word : List ℕ) where
   -- the index answers for a cell that has the word

@@ -2,19 +2,20 @@
 use Rattle.std.proofs.Common.{◌≡◌, ℕ, zero, suc, ◌+◌, ◌*◌, ◌<◌, ◌≤◌, take, Bool, true, false, cond, List, [], ◌∷◌, ◌++◌, Some, None, length, get_or, inl, inr, refl, ap, sym, subst, ◌∙◌, arith}
 use Rattle.std.specs.Map.{lookup}
 use Rattle.std.specs.Prelude.{Option, Result, Ok, Err, OnOk, OnErr, ◌⊎◌, All, IsSome, is_some, slice_get, not, ◌&&◌, ◌||◌, ◌==◌, nat_eq}
-use Rattle.std.proofs.lemmas.List.Elements.{All-filter, All-map, All-head, All-tail, All-same, All-push, All-cons, All-nil, All-weaker, All-take, All-more}
+use Rattle.std.proofs.lemmas.List.Elements.{All-append, All-filter, All-map, All-head, All-tail, All-same, All-push, All-cons, All-nil, All-weaker, All-take, All-more}
 use Rattle.std.proofs.lemmas.List.{take_all, length-map}
 use Rattle.cell_world.specs.World.{Alias}
-use Rattle.cell_space.specs.Hash.{stem_hash, name_hash}
+use Rattle.cell_space.specs.Hash.{stem_hash}
 use Rattle.cell_space.proofs.Apart.{take_next}
 use Rattle.cell_world.specs.declared.state.Standing.TheVariants.{Attached, Detached}
 use Rattle.cell_space.specs.declared.cell.SpaceCell.{SpaceCell}
 use Rattle.cell_space.specs.declared.index.Index.{Index}
 use Rattle.cell_space.specs.declared.index.Holder.{Holder}
+use Rattle.cell_space.specs.declared.word.WordKind.{WordKind}
 use Rattle.cell_space.specs.declared.index.Holder.TheVariants.{One, Many}
 use Rattle.cell_space.specs.Named.{is_numbered, is_in, put_into, with_cell, with_state, without, cell_numbered}
 use Rattle.cell_space.specs.Rising.{IsRising}
-use Rattle.cell_space.specs.Index.{held, attached_at, claimed, may_be, IsTaken, Grows, AreHeld, AreTaken, IsCellTaken, IsListed, IsWhole, anywhere, hashes, hashes_of, name_hashes}
+use Rattle.cell_space.specs.Index.{held, attached_at, claimed, may_be, IsTaken, Grows, AreHeld, AreTaken, IsCellTaken, IsListed, IsWhole, anywhere, hashes_of, name_hashes, word_hash}
 use Rattle.cell_space.proofs.Changes.{All-with_cell, All-find}
 use Rattle.cell_space.proofs.Rising.{attached_there, numbered_there, same_number, itself, left, right}
 
@@ -184,83 +185,76 @@ pub whole_without : (n : ℕ) (f : ℕ → ℕ → Option Holder) (cells : List 
 whole_without n f cells whole = record { each = All-filter (λ c. not (is_numbered n c)) (IsListed f) cells whole.each }
 
 -- a row at its place among the hashes
-at_mapped : (rows : List Alias) (i : ℕ) (row : Alias) → slice_get rows i ≡ Some row → slice_get (name_hashes rows) i ≡ Some (name_hash row.name)
-at_mapped [] i row e = absurd (cc e)
-at_mapped (a ∷ rows) zero row e = let same : a ≡ row = cc in ap (λ r. Some (name_hash r.name)) same
-at_mapped (a ∷ rows) (suc i) row e = at_mapped rows i row e
+at_mapped : (kind : WordKind) (rows : List Alias) (i : ℕ) (row : Alias) → slice_get rows i ≡ Some row → slice_get (name_hashes kind rows) i ≡ Some (word_hash kind row.name)
+at_mapped kind [] i row e = absurd (cc e)
+at_mapped kind (a ∷ rows) zero row e = let same : a ≡ row = cc in ap (λ r. Some (word_hash kind r.name)) same
+at_mapped kind (a ∷ rows) (suc i) row e = at_mapped kind rows i row e
 
-module _ (P : ℕ → Type 0) (rows : List Alias) where
-  pub hashes_more : (i : ℕ) (row : Alias) → slice_get rows i ≡ Some row → All P (take i (name_hashes rows)) → P (name_hash row.name) → All P (take (i + 1) (name_hashes rows))
+module _ (P : ℕ → Type 0) (kind : WordKind) (rows : List Alias) where
+  pub hashes_more : (i : ℕ) (row : Alias) → slice_get rows i ≡ Some row → All P (take i (name_hashes kind rows)) → P (word_hash kind row.name) → All P (take (i + 1) (name_hashes kind rows))
   hashes_more i row at all one =
-      All-same P (take (i + 1) (name_hashes rows)) (take i (name_hashes rows) ++ name_hash row.name ∷ [])
-      (take_next (name_hashes rows) i (name_hash row.name) (at_mapped rows i row at))
-      (All-push P (take i (name_hashes rows)) (name_hash row.name) all one)
+      All-same P (take (i + 1) (name_hashes kind rows)) (take i (name_hashes kind rows) ++ word_hash kind row.name ∷ [])
+      (take_next (name_hashes kind rows) i (word_hash kind row.name) (at_mapped kind rows i row at))
+      (All-push P (take i (name_hashes kind rows)) (word_hash kind row.name) all one)
 
-  pub hashes_end : (i : ℕ) → length rows ≤ i → All P (take i (name_hashes rows)) → All P (name_hashes rows)
+  pub hashes_end : (i : ℕ) → length rows ≤ i → All P (take i (name_hashes kind rows)) → All P (name_hashes kind rows)
   hashes_end i le all =
-      All-same P (name_hashes rows) (take i (name_hashes rows))
-      (sym (take_all i (name_hashes rows) (omega (arith, length-map rows (λ (a : Alias). name_hash a.name))))) all
+      All-same P (name_hashes kind rows) (take i (name_hashes kind rows))
+      (sym (take_all i (name_hashes kind rows) (omega (arith, length-map rows (λ (a : Alias). word_hash kind a.name))))) all
 
-  pub hash_in : (i : ℕ) (row : Alias) → slice_get rows i ≡ Some row → All P (name_hashes rows) → P (name_hash row.name)
+  pub hash_in : (i : ℕ) (row : Alias) → slice_get rows i ≡ Some row → All P (name_hashes kind rows) → P (word_hash kind row.name)
   hash_in i row at all = by rows i row at all
     where
-      by : (rs : List Alias) (j : ℕ) (r : Alias) → slice_get rs j ≡ Some r → All P (name_hashes rs) → P (name_hash r.name)
+      by : (rs : List Alias) (j : ℕ) (r : Alias) → slice_get rs j ≡ Some r → All P (name_hashes kind rs) → P (word_hash kind r.name)
       by [] j r e h = absurd (cc e)
-      by (a ∷ rs) zero r e h = let same : a ≡ r = cc in subst (λ (x : Alias). P (name_hash x.name)) same (All-head P (name_hash a.name) (name_hashes rs) h)
-      by (a ∷ rs) (suc j) r e h = by rs j r e (All-tail P (name_hash a.name) (name_hashes rs) h)
+      by (a ∷ rs) zero r e h = let same : a ≡ r = cc in subst (λ (x : Alias). P (word_hash kind x.name)) same (All-head P (word_hash kind a.name) (name_hashes kind rs) h)
+      by (a ∷ rs) (suc j) r e h = by rs j r e (All-tail P (word_hash kind a.name) (name_hashes kind rs) h)
 
--- the hashes of two lists of names
+-- the parts of two lists of hashes
 module _ (P : ℕ → Type 0) where
-  pub hashes_joined : (xs ys : List Alias) → All P (name_hashes xs) → All P (name_hashes ys) → All P (name_hashes (xs ++ ys))
-  hashes_joined [] ys front back = back
-  hashes_joined (a ∷ xs) ys front back =
-      All-cons P (name_hash a.name) (name_hashes (xs ++ ys)) (All-head P (name_hash a.name) (name_hashes xs) front) (hashes_joined xs ys (All-tail P (name_hash a.name) (name_hashes xs) front) back)
-
-  pub hashes_front : (xs ys : List Alias) → All P (name_hashes (xs ++ ys)) → All P (name_hashes xs)
+  pub hashes_front : (xs ys : List ℕ) → All P (xs ++ ys) → All P xs
   hashes_front [] ys all = All-nil P
-  hashes_front (a ∷ xs) ys all =
-      All-cons P (name_hash a.name) (name_hashes xs) (All-head P (name_hash a.name) (name_hashes (xs ++ ys)) all) (hashes_front xs ys (All-tail P (name_hash a.name) (name_hashes (xs ++ ys)) all))
+  hashes_front (h ∷ xs) ys all = All-cons P h xs (All-head P h (xs ++ ys) all) (hashes_front xs ys (All-tail P h (xs ++ ys) all))
 
-  pub hashes_back : (xs ys : List Alias) → All P (name_hashes (xs ++ ys)) → All P (name_hashes ys)
+  pub hashes_back : (xs ys : List ℕ) → All P (xs ++ ys) → All P ys
   hashes_back [] ys all = all
-  hashes_back (a ∷ xs) ys all = hashes_back xs ys (All-tail P (name_hash a.name) (name_hashes (xs ++ ys)) all)
+  hashes_back (h ∷ xs) ys all = hashes_back xs ys (All-tail P h (xs ++ ys) all)
 
 module _ (cells : List SpaceCell) (n : ℕ) (f g : ℕ → ℕ → Option Holder) (ns : ℕ) (grows : Grows cells n f g) where
   -- the first names are taken in, and then the others
-  pub rows_taken : (attached : Bool) (xs ys : List Alias) → All (λ h. IsTaken n attached (f ns h)) (name_hashes xs) → All (λ h. IsTaken n attached (g ns h)) (name_hashes ys)
-      → All (λ h. IsTaken n attached (g ns h)) (name_hashes (xs ++ ys))
+  pub rows_taken : (attached : Bool) (xs ys : List ℕ) → All (λ h. IsTaken n attached (f ns h)) xs → All (λ h. IsTaken n attached (g ns h)) ys → All (λ h. IsTaken n attached (g ns h)) (xs ++ ys)
   rows_taken attached xs ys front back =
-      hashes_joined (λ h. IsTaken n attached (g ns h)) xs ys
-      (All-weaker (λ h. IsTaken n attached (f ns h)) (λ h. IsTaken n attached (g ns h)) (λ h t. taken_more cells n attached f g ns h grows t) (name_hashes xs) front) back
+      All-append (λ h. IsTaken n attached (g ns h)) xs ys
+      (All-weaker (λ h. IsTaken n attached (f ns h)) (λ h. IsTaken n attached (g ns h)) (λ h t. taken_more cells n attached f g ns h grows t) xs front) back
 
   -- there is room for the others then, or they are there
-  pub back_ready : (xs ys : List Alias) (a b before now : ℕ) → before ≤ now + a → (a + b ≤ before) ⊎ All (λ h. IsSome (f ns h)) (name_hashes (xs ++ ys)) → (b ≤ now) ⊎ All (λ h. IsSome (g ns h)) (name_hashes ys)
+  pub back_ready : (xs ys : List ℕ) (a b before now : ℕ) → before ≤ now + a → (a + b ≤ before) ⊎ All (λ h. IsSome (f ns h)) (xs ++ ys) → (b ≤ now) ⊎ All (λ h. IsSome (g ns h)) ys
   back_ready xs ys a b before now room (inl le) = inl (omega arith)
   back_ready xs ys a b before now room (inr all) =
-      inr (All-weaker (λ h. IsSome (f ns h)) (λ h. IsSome (g ns h)) (λ h t. grows.there ns h t) (name_hashes ys) (hashes_back (λ h. IsSome (f ns h)) xs ys all))
+      inr (All-weaker (λ h. IsSome (f ns h)) (λ h. IsSome (g ns h)) (λ h t. grows.there ns h t) ys (hashes_back (λ h. IsSome (f ns h)) xs ys all))
 
-  pub names_more : (attached : Bool) (rows : List Alias) (i : ℕ) (row : Alias) → slice_get rows i ≡ Some row → IsTaken n attached (g ns (name_hash row.name))
-      → All (λ h. IsTaken n attached (f ns h)) (take i (name_hashes rows)) → All (λ h. IsTaken n attached (g ns h)) (take (i + 1) (name_hashes rows))
-  names_more attached rows i row at one all =
-      hashes_more (λ h. IsTaken n attached (g ns h)) rows i row at
-      (All-weaker (λ h. IsTaken n attached (f ns h)) (λ h. IsTaken n attached (g ns h)) (λ h t. taken_more cells n attached f g ns h grows t) (take i (name_hashes rows)) all) one
+  pub names_more : (attached : Bool) (kind : WordKind) (rows : List Alias) (i : ℕ) (row : Alias) → slice_get rows i ≡ Some row → IsTaken n attached (g ns (word_hash kind row.name))
+      → All (λ h. IsTaken n attached (f ns h)) (take i (name_hashes kind rows)) → All (λ h. IsTaken n attached (g ns h)) (take (i + 1) (name_hashes kind rows))
+  names_more attached kind rows i row at one all =
+      hashes_more (λ h. IsTaken n attached (g ns h)) kind rows i row at
+      (All-weaker (λ h. IsTaken n attached (f ns h)) (λ h. IsTaken n attached (g ns h)) (λ h t. taken_more cells n attached f g ns h grows t) (take i (name_hashes kind rows)) all) one
 
   -- the stem is taken in, and then the names
-  pub all_taken : (attached : Bool) (stem : List ℕ) (rows : List Alias) → IsTaken n attached (f ns (stem_hash stem)) → All (λ h. IsTaken n attached (g ns h)) (name_hashes rows) → All (λ h. IsTaken n attached (g ns h)) (hashes stem rows)
+  pub all_taken : (attached : Bool) (stem : List ℕ) (rows : List ℕ) → IsTaken n attached (f ns (stem_hash stem)) → All (λ h. IsTaken n attached (g ns h)) rows → All (λ h. IsTaken n attached (g ns h)) (stem_hash stem ∷ rows)
   all_taken attached stem rows one all =
-      All-cons (λ h. IsTaken n attached (g ns h)) (stem_hash stem) (name_hashes rows) (taken_more cells n attached f g ns (stem_hash stem) grows one) all
+      All-cons (λ h. IsTaken n attached (g ns h)) (stem_hash stem) rows (taken_more cells n attached f g ns (stem_hash stem) grows one) all
 
   -- there is room for the next name, or it is there
-  pub name_ready : (rows : List Alias) (i : ℕ) (row : Alias) (before now : ℕ) → slice_get rows i ≡ Some row → i < length rows → before ≤ now + i
-      → (length rows ≤ before) ⊎ All (λ h. IsSome (f ns h)) (name_hashes rows) → (0 < now) ⊎ IsSome (g ns (name_hash row.name))
-  name_ready rows i row before now at lt room (inl le) = inl (omega arith)
-  name_ready rows i row before now at lt room (inr all) = inr (grows.there ns (name_hash row.name) (hash_in (λ h. IsSome (f ns h)) rows i row at all))
+  pub name_ready : (kind : WordKind) (rows : List Alias) (i : ℕ) (row : Alias) (before now : ℕ) → slice_get rows i ≡ Some row → i < length rows → before ≤ now + i
+      → (length rows ≤ before) ⊎ All (λ h. IsSome (f ns h)) (name_hashes kind rows) → (0 < now) ⊎ IsSome (g ns (word_hash kind row.name))
+  name_ready kind rows i row before now at lt room (inl le) = inl (omega arith)
+  name_ready kind rows i row before now at lt room (inr all) = inr (grows.there ns (word_hash kind row.name) (hash_in (λ h. IsSome (f ns h)) kind rows i row at all))
 
-  pub names_ready : (stem : List ℕ) (rows : List Alias) (count before now : ℕ) → before ≤ now + 1
-      → (count < before) ⊎ All (λ h. IsSome (f ns h)) (hashes stem rows) → (count ≤ now) ⊎ All (λ h. IsSome (g ns h)) (name_hashes rows)
+  pub names_ready : (stem : List ℕ) (rows : List ℕ) (count before now : ℕ) → before ≤ now + 1
+      → (count < before) ⊎ All (λ h. IsSome (f ns h)) (stem_hash stem ∷ rows) → (count ≤ now) ⊎ All (λ h. IsSome (g ns h)) rows
   names_ready stem rows count before now room (inl lt) = inl (omega arith)
   names_ready stem rows count before now room (inr all) =
-      inr (All-weaker (λ h. IsSome (f ns h)) (λ h. IsSome (g ns h)) (λ h t. grows.there ns h t) (name_hashes rows) (All-tail (λ h. IsSome (f ns h)) (stem_hash stem) (name_hashes rows) all))
+      inr (All-weaker (λ h. IsSome (f ns h)) (λ h. IsSome (g ns h)) (λ h t. grows.there ns h t) rows (All-tail (λ h. IsSome (f ns h)) (stem_hash stem) rows all))
 
 -- a cell is taken in anywhere, and then in its namespace
 module _ (cells : List SpaceCell) (n : ℕ) (f g : ℕ → ℕ → Option Holder) (ns : ℕ) (grows : Grows cells n f g) (all : List ℕ) where
@@ -275,14 +269,14 @@ pub first_ready : (f : ℕ → ℕ → Option Holder) (ns : ℕ) (all : List ℕ
 first_ready f ns all count before (inl lt) = inl (omega arith)
 first_ready f ns all count before (inr held) = inr held.1
 
-pub front_ready : (f : ℕ → ℕ → Option Holder) (ns : ℕ) (xs ys : List Alias) (a b before : ℕ) → (a + b ≤ before) ⊎ All (λ h. IsSome (f ns h)) (name_hashes (xs ++ ys)) → (a ≤ before) ⊎ All (λ h. IsSome (f ns h)) (name_hashes xs)
+pub front_ready : (f : ℕ → ℕ → Option Holder) (ns : ℕ) (xs ys : List ℕ) (a b before : ℕ) → (a + b ≤ before) ⊎ All (λ h. IsSome (f ns h)) (xs ++ ys) → (a ≤ before) ⊎ All (λ h. IsSome (f ns h)) xs
 front_ready f ns xs ys a b before (inl le) = inl (omega arith)
 front_ready f ns xs ys a b before (inr all) = inr (hashes_front (λ h. IsSome (f ns h)) xs ys all)
 
-pub stem_ready : (f : ℕ → ℕ → Option Holder) (ns : ℕ) (stem : List ℕ) (rows : List Alias) (count before : ℕ)
-    → (count < before) ⊎ All (λ h. IsSome (f ns h)) (hashes stem rows) → (0 < before) ⊎ IsSome (f ns (stem_hash stem))
+pub stem_ready : (f : ℕ → ℕ → Option Holder) (ns : ℕ) (stem : List ℕ) (rows : List ℕ) (count before : ℕ)
+    → (count < before) ⊎ All (λ h. IsSome (f ns h)) (stem_hash stem ∷ rows) → (0 < before) ⊎ IsSome (f ns (stem_hash stem))
 stem_ready f ns stem rows count before (inl lt) = inl (omega arith)
-stem_ready f ns stem rows count before (inr all) = inr (All-head (λ h. IsSome (f ns h)) (stem_hash stem) (name_hashes rows) all)
+stem_ready f ns stem rows count before (inr all) = inr (All-head (λ h. IsSome (f ns h)) (stem_hash stem) rows all)
 
 pub ok_more : {A E : Type 0} (r : Result A E) (P Q : Type 0) → (P → Q) → OnOk r P → OnOk r Q
 ok_more (Ok x) P Q more p = more p

@@ -9,11 +9,12 @@ use Rattle.cell_world.specs.World.{Alias}
 use Rattle.cell_world.specs.declared.state.Standing.TheVariants.{Attached}
 use Rattle.cell_space.specs.declared.cell.SpaceCell.{SpaceCell}
 use Rattle.cell_space.specs.declared.index.Holder.{Holder}
+use Rattle.cell_space.specs.declared.word.WordKind.TheVariants.{Name, Weak}
 use Rattle.cell_space.specs.Ahead.{AreAhead}
 use Rattle.cell_world.specs.Before.{AreBefore}
 use Rattle.cell_space.specs.Keys.{number_in}
-use Rattle.cell_space.specs.Hash.{name_hash}
-use Rattle.cell_space.specs.Index.{AreTaken, Grows, IsListed, IsTaken, anywhere, hashes, hashes_of, name_hashes, rows_of}
+use Rattle.cell_space.specs.Hash.{name_hash, stem_hash}
+use Rattle.cell_space.specs.Index.{AreTaken, Grows, IsListed, IsTaken, anywhere, hashes_of, name_hashes}
 use Rattle.cell_space.specs.Named.{LacksName, cell_numbered, is_in, is_numbered, take_name, with_name}
 use Rattle.cell_space.specs.Rising.{IsRising}
 use Rattle.cell_world.specs.Names.{has_name}
@@ -111,10 +112,10 @@ state-take_name n a c = by (is_numbered n c)
     by true = refl
     by false = refl
 
-hashes-more : (stem : List ℕ) (names : List Alias) (a : Alias) → hashes stem (names ++ a ∷ []) ≡ hashes stem names ++ name_hash a.name ∷ []
-hashes-more stem names a = ap (λ hs. hashes stem [] ++ hs) (by names)
+hashes-more : (front : List ℕ) (names : List Alias) (a : Alias) → front ++ name_hashes Name (names ++ a ∷ []) ≡ (front ++ name_hashes Name names) ++ name_hash a.name ∷ []
+hashes-more front names a = ap (λ hs. front ++ hs) (by names) ∙ sym (append_assoc front (name_hashes Name names) (name_hash a.name ∷ []))
   where
-    by : (rows : List Alias) → name_hashes (rows ++ a ∷ []) ≡ name_hashes rows ++ name_hash a.name ∷ []
+    by : (rows : List Alias) → name_hashes Name (rows ++ a ∷ []) ≡ name_hashes Name rows ++ name_hash a.name ∷ []
     by [] = refl
     by (r ∷ rows) = ap (λ hs. name_hash r.name ∷ hs) (by rows)
 
@@ -129,7 +130,7 @@ module _ (g : ℕ → ℕ → Option Holder) (n ns : ℕ) (a : Alias) where
   listed_named false c listed more = listed
   listed_named true c listed more =
       let both = more refl in
-      let all = ap (hashes c.stem) (sym (append_assoc c.weak c.names (a ∷ []))) ∙ hashes-more c.stem (rows_of c) a in (
+      let all = hashes-more (stem_hash c.stem ∷ name_hashes Weak c.weak) c.names a in (
         subst (λ hs. All (λ h. IsTaken c.cell.0 (is_in Attached c) (g c.ns h)) hs) (sym all) (taken_in c.ns c.cell.0 (is_in Attached c) (hashes_of c) listed.0 both.0),
         subst (λ hs. All (λ h. IsTaken c.cell.0 (is_in Attached c) (g anywhere h)) hs) (sym all) (taken_in anywhere c.cell.0 (is_in Attached c) (hashes_of c) listed.1 both.1),
       )

@@ -14,3 +14,7 @@ stem_hash stem = hash_from 1 stem
 
 unfoldable pub name_hash : List ℕ → ℕ
 name_hash name = hash_from 14695981039346656037 name
+
+-- a WEAK symbol's name has another one, so that who holds a name strongly is found beside who holds it weakly
+unfoldable pub weak_hash : List ℕ → ℕ
+weak_hash name = hash_from 2 name

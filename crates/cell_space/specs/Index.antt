@@ -1,7 +1,7 @@
 -- Which cell may have a stem or a name, by namespace and hash.
 --     held index ns hash         what the index has there
 --     claimed cells n b holder   what it has there once the cell of that number is added, attached or not
---     rows_of c                  all that the cell holds, weak names first
+--     hashes_of c                those of its stem and of all names that it holds, weak ones first
 --     IsTaken n b holder         the cell is answered for: the entry is there, and, if the cell is attached, may be of it
 --     Grows cells n f g          each attached cell that f answers for, and the cell of that number, g answers for
 --     anywhere                   where the index has what it holds of a hash in whatever namespace
@@ -20,7 +20,7 @@ use Rattle.cell_space.specs.declared.cell.SpaceCell.{SpaceCell}
 use Rattle.cell_num.specs.Lists.{equals}
 use Rattle.cell_world.specs.Names.{has_name}
 use Rattle.cell_space.specs.Named.{is_in, cell_numbered}
-use Rattle.cell_space.specs.Hash.{stem_hash, name_hash}
+use Rattle.cell_space.specs.Hash.{stem_hash, name_hash, weak_hash}
 
 abbrev pub held : Index → ℕ → ℕ → Option Holder
 held index ns hash = get (λ a b. nat_eq a.0 b.0 && nat_eq a.1 b.1) index.holders (ns, hash)
@@ -54,22 +54,25 @@ pub record Grows (cells : List SpaceCell) (number : ℕ) (f g : ℕ → ℕ → 
   pub there : (ns hash : ℕ) → IsSome (f ns hash) → IsSome (g ns hash)
   pub answers : (ns hash other : ℕ) → (other == number || attached_at cells other) ≡ true → may_be other (f ns hash) ≡ true → may_be other (g ns hash) ≡ true
 
--- the hashes of a stem and of names
-abbrev pub name_hashes : List Alias → List ℕ
-name_hashes names = map (λ a. name_hash a.name) names
+abbrev pub word_hash : WordKind → List ℕ → ℕ
+word_hash Stem word = stem_hash word
+word_hash Name word = name_hash word
+word_hash Weak word = weak_hash word
 
-abbrev pub hashes : List ℕ → List Alias → List ℕ
-hashes stem names = stem_hash stem ∷ name_hashes names
+-- the hashes of names that are held one way
+abbrev pub name_hashes : WordKind → List Alias → List ℕ
+name_hashes kind names = map (λ a. word_hash kind a.name) names
 
-abbrev pub rows_of : SpaceCell → List Alias
-rows_of c = c.weak ++ c.names
+-- of all names that the cell holds, weak ones first
+abbrev pub row_hashes : SpaceCell → List ℕ
+row_hashes c = name_hashes Weak c.weak ++ name_hashes Name c.names
 
 abbrev pub row_count : SpaceCell → ℕ
 row_count c = length c.weak + length c.names
 
 -- those of its stem and of all these
 abbrev pub hashes_of : SpaceCell → List ℕ
-hashes_of c = hashes c.stem (rows_of c)
+hashes_of c = stem_hash c.stem ∷ row_hashes c
 
 -- the entries of the hashes are there, in the namespace and anywhere
 abbrev pub AreHeld : (ℕ → ℕ → Option Holder) → ℕ → List ℕ → Type 0
@@ -94,11 +97,6 @@ abbrev pub has_word : WordKind → List ℕ → SpaceCell → Bool
 has_word Stem word c = equals c.stem word
 has_word Name word c = has_name c.names word
 has_word Weak word c = has_name c.weak word
-
-abbrev pub word_hash : WordKind → List ℕ → ℕ
-word_hash Stem word = stem_hash word
-word_hash Name word = name_hash word
-word_hash Weak word = name_hash word
 
 -- the cell is attached in the namespace and has the word
 abbrev pub is_at : ℕ → WordKind → List ℕ → SpaceCell → Bool

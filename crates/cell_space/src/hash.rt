@@ -1,7 +1,7 @@
 //! A number for a stem or a name, by which it is looked up. Two may have the same number.
 
 ghost use Rattle.std.specs.Prelude.{◌≡◌};
-ghost use Rattle.cell_space.specs.Hash.{mixed, hash_from, stem_hash, name_hash};
+ghost use Rattle.cell_space.specs.Hash.{mixed, hash_from, stem_hash, name_hash, weak_hash};
 
 /// One more byte. FNV-1a
 #[tactic(auto, unfolding(crate::specs::Hash::mixed))]
@@ -31,4 +31,11 @@ pub fn name_hash(name: &[u8]) -> u64
     ensures { result ≡ name_hash name.now }
 {
     hash_from(0xcbf2_9ce4_8422_2325, name)
+}
+
+#[tactic(auto, unfolding(crate::specs::Hash::weak_hash))]
+pub fn weak_hash(name: &[u8]) -> u64
+    ensures { result ≡ weak_hash name.now }
+{
+    hash_from(2, name)
 }

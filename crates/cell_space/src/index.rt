@@ -7,12 +7,13 @@ ghost use Rattle.indexmap.specs.IndexMap.{spare};
 ghost use Rattle.cell_space.specs.Hash.{name_hash as name_number};
 ghost use Rattle.cell_space.specs.Rising.{IsRising};
 ghost use Rattle.cell_space.specs.Named.{cell_numbered as numbered};
-ghost use Rattle.cell_space.specs.Index.{held, claimed, attached_at, name_hashes, Grows, IsTaken, AreHeld, AreTaken, IsCellTaken, IsListed, IsWhole, rows_of, row_count, hashes_of};
+ghost use Rattle.cell_space.specs.Index.{held, claimed, attached_at, name_hashes, Grows, IsTaken, AreHeld, AreTaken, IsCellTaken, IsListed, IsWhole, row_count, row_hashes, hashes_of};
 
 use crate::cell::SpaceCell;
 use crate::hash::{name_hash, stem_hash};
 use crate::lookup::cell_numbered;
 use crate::names::NameRows;
+use crate::word::{WordKind, word_hash};
 use cell_world::Standing;
 use indexmap::IndexMap;
 use std::alloc::{AllocError, Global};
@@ -25,6 +26,13 @@ pub const ANYWHERE: u16 = 65535;
 pub enum Holder {
     One(u32),
     Many,
+}
+
+/// Names that a cell holds strongly, or those that it holds weakly.
+#[derive(Clone, Copy)]
+struct Rows<'a> {
+    kind: WordKind,
+    names: &'a NameRows,
 }
 
 /// The holders by namespace and hash.
@@ -139,19 +147,19 @@ impl Index {
         &mut self,
         cells: &[SpaceCell],
         ns: u16,
-        names: &NameRows,
+        rows: Rows,
         cell: u32,
         attached: bool,
     ) -> Result<(), AllocError>
         requires { IsRising cells.now }
         ensures grows { Grows cells.now cell (held self.old) (held self.new) }
-        ensures taken { OnOk result (All (λ h. IsTaken cell attached (held self.new ns h)) (name_hashes names.now)) }
-        ensures succeeds { (length names.now ≤ spare self.old.holders) ⊎ All (λ h. IsSome (held self.old ns h)) (name_hashes names.now) → IsOk result }
-        ensures room { spare self.old.holders ≤ spare self.new.holders + length names.now }
+        ensures taken { OnOk result (All (λ h. IsTaken cell attached (held self.new ns h)) (name_hashes rows.entry.kind rows.entry.names.now)) }
+        ensures succeeds { (length rows.entry.names.now ≤ spare self.old.holders) ⊎ All (λ h. IsSome (held self.old ns h)) (name_hashes rows.entry.kind rows.entry.names.now) → IsOk result }
+        ensures room { spare self.old.holders ≤ spare self.new.holders + length rows.entry.names.now }
     {
-        for place in 0..names.len() {
-            let (name, _) = names.at(place);
-            self.claim(cells, ns, name_hash(name), cell, attached)?;
+        for place in 0..rows.names.len() {
+            let (name, _) = rows.names.at(place);
+            self.claim(cells, ns, word_hash(rows.kind, name), cell, attached)?;
         }
         Ok(())
     }
@@ -166,13 +174,21 @@ impl Index {
     ) -> Result<(), AllocError>
         requires { IsRising cells.now }
         ensures grows { Grows cells.now cell.now.cell.0 (held self.old) (held self.new) }
-        ensures taken { OnOk result (All (λ h. IsTaken cell.now.cell.0 attached (held self.new ns h)) (name_hashes (rows_of cell.now))) }
-        ensures succeeds { (row_count cell.now ≤ spare self.old.holders) ⊎ All (λ h. IsSome (held self.old ns h)) (name_hashes (rows_of cell.now)) → IsOk result }
+        ensures taken { OnOk result (All (λ h. IsTaken cell.now.cell.0 attached (held self.new ns h)) (row_hashes cell.now)) }
+        ensures succeeds { (row_count cell.now ≤ spare self.old.holders) ⊎ All (λ h. IsSome (held self.old ns h)) (row_hashes cell.now) → IsOk result }
         ensures room { spare self.old.holders ≤ spare self.new.holders + row_count cell.now }
     {
         let number = cell.cell.0;
-        self.claim_names(cells, ns, &cell.weak, number, attached)?;
-        self.claim_names(cells, ns, &cell.names, number, attached)
+        let weak = Rows {
+            kind: WordKind::Weak,
+            names: &cell.weak,
+        };
+        let strong = Rows {
+            kind: WordKind::Name,
+            names: &cell.names,
+        };
+        self.claim_names(cells, ns, weak, number, attached)?;
+        self.claim_names(cells, ns, strong, number, attached)
     }
 
     /// Takes a cell in, in a namespace or anywhere.

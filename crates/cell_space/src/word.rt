@@ -4,7 +4,7 @@ ghost use Rattle.std.specs.Prelude.{◌≡◌};
 ghost use Rattle.cell_space.specs.Index.{has_word, word_hash, is_at};
 
 use crate::cell::SpaceCell;
-use crate::hash::{name_hash, stem_hash};
+use crate::hash::{name_hash, stem_hash, weak_hash};
 use cell_world::Standing;
 
 /// Whether a word is a stem, the name of a symbol or alias, or that of a WEAK symbol.
@@ -24,12 +24,13 @@ pub struct Word<'a> {
     ghost hashed: { hash ≡ word_hash kind text.now },
 }
 
-fn word_hash(kind: WordKind, text: &[u8]) -> u64
+pub fn word_hash(kind: WordKind, text: &[u8]) -> u64
     ensures { result ≡ word_hash kind text.now }
 {
     match kind {
         WordKind::Stem => stem_hash(text),
-        WordKind::Name | WordKind::Weak => name_hash(text),
+        WordKind::Name => name_hash(text),
+        WordKind::Weak => weak_hash(text),
     }
 }
 

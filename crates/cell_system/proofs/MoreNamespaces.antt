@@ -8,12 +8,12 @@ use Rattle.cell_world.specs.declared.state.NewCell.{NewCell}
 use Rattle.cell_world.specs.Answer.{Done, done}
 use Rattle.cell_world.specs.Coherent.{IsCoherent}
 use Rattle.cell_world.specs.Next.{answered_by}
-use Rattle.cell_world.specs.NsCommand.{next_ns, with_namespace}
+use Rattle.cell_world.specs.Commands.NsCommand.{next_ns, with_namespace}
 use Rattle.cell_world.specs.Outcome.{Outcome, ◌>>◌, found}
-use Rattle.cell_world.specs.Place.{page_table}
+use Rattle.cell_world.specs.Placed.Place.{page_table}
 use Rattle.cell_world.specs.World.{World, Cell}
 use Rattle.cell_lemmas.proofs.NextCoherent.{answered}
-use Rattle.cell_lemmas.proofs.NamespaceAdded.{ns_coherent}
+use Rattle.cell_lemmas.proofs.Naming.NamespaceAdded.{ns_coherent}
 use Rattle.cell_lemmas.proofs.Binds.{bind_err, bind_is}
 use Rattle.cell_commit.specs.Seals.{seal_table}
 use Rattle.cell_space.specs.declared.cell.SpaceCell.{SpaceCell}
@@ -21,7 +21,7 @@ use Rattle.cell_space.specs.Joined.{AreJoined, cells_of}
 use Rattle.cell_space.specs.Spaces.{namespace_named}
 use Rattle.cell_machine.specs.declared.machine.Machine.{Machine}
 use Rattle.cell_machine.specs.Does.{Does, HasDone, no_stack}
-use Rattle.cell_machine.specs.Machine.{IsSound, field_bytes, keys_of, world_by, world_of}
+use Rattle.cell_machine.specs.Machine.{IsSound, field_bytes, keys_of, soft_of, world_by, world_of}
 use Rattle.cell_machine.proofs.Counts.{counts_stand}
 use Rattle.cell_world.specs.Following.{FailsAs}
 use Rattle.cell_world.specs.declared.fail.Fail.{Fail}
@@ -93,6 +93,7 @@ module _ (old new : Machine) (sound : IsSound old) (name parent : List ℕ) (up 
           (subst (λ (names : List SpaceCell). AreJoined old.cells.items names) (sym known) sound.joined);
       table = ap (λ (m : Machine). m.space.taken) others ∙ (sound.table ∙ ap page_table (sym world_is));
       base = ap (λ (m : Machine). m.space.base) others ∙ (sound.base ∙ ap (λ (m : Machine). m.memory.base) (sym others));
+      soft = ap (λ (m : Machine). m.soft.items) others ∙ (sound.soft ∙ ap (λ (m : Machine). soft_of m.cells.items) (sym others));
       sections = ap (λ (m : Machine). m.graph.sections) others ∙ (sound.sections ∙ ap (λ (m : Machine). keys_of m.cells.items) (sym others));
       seals =
           ap (λ (m : Machine). m.memory.sealed) others

@@ -14,19 +14,19 @@ use Rattle.cell_world.specs.declared.refusal.Refusal.TheVariants.{Unknown}
 use Rattle.cell_world.specs.declared.reply.Reply.{Reply}
 use Rattle.cell_world.specs.declared.reply.Reply.TheVariants.{Dump as DumpDone}
 use Rattle.cell_world.specs.Answer.{Done, done, present_cell, space_of, fresh_by}
-use Rattle.cell_world.specs.DumpAllCommand.{next_dump_all}
-use Rattle.cell_world.specs.DumpCommand.{next_dump}
-use Rattle.cell_world.specs.FindCommand.{next_find}
+use Rattle.cell_world.specs.Commands.DumpAllCommand.{next_dump_all}
+use Rattle.cell_world.specs.Commands.DumpCommand.{next_dump}
+use Rattle.cell_world.specs.Commands.FindCommand.{next_find}
 use Rattle.cell_world.specs.Following.{Follows}
 use Rattle.cell_world.specs.Gather.{Source, source_of}
-use Rattle.cell_world.specs.LinkCommands.{next_deps, next_users}
-use Rattle.cell_world.specs.MapCommand.{next_map}
+use Rattle.cell_world.specs.Commands.LinkCommands.{next_deps, next_users}
+use Rattle.cell_world.specs.Commands.MapCommand.{next_map}
 use Rattle.cell_world.specs.Next.{outcome_of}
-use Rattle.cell_world.specs.Memory.{read}
+use Rattle.cell_world.specs.Running.Memory.{read}
 use Rattle.cell_world.specs.Outcome.{Outcome, ◌>>=◌, found}
-use Rattle.cell_world.specs.TaskCommands.{next_tasks}
+use Rattle.cell_world.specs.Commands.TaskCommands.{next_tasks}
 use Rattle.cell_object.specs.Parts.{section_of}
-use Rattle.cell_world.specs.Target.{start_of}
+use Rattle.cell_world.specs.Linked.Target.{start_of}
 use Rattle.cell_world.specs.World.{World, Cell, key_of}
 use Rattle.cell_machine.specs.declared.machine.Machine.{Machine}
 use Rattle.cell_machine.specs.Does.{Answers, Counts, Does, Leaves, LeavesParts, Most, State as MachineState, answer_in, no_stack, patched_by, state_of as machine_state}

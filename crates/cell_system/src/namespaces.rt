@@ -5,7 +5,7 @@ ghost use Rattle.cell_world.specs.declared.refusal.Refusal.TheVariants.{NameTake
 ghost use Rattle.cell_world.specs.Following.{Follows};
 ghost use Rattle.cell_machine.specs.Does.{Does, no_stack};
 ghost use Rattle.cell_machine.specs.Machine.{IsSound, world_of};
-ghost use Rattle.cell_world.specs.NsCommand.{next_ns};
+ghost use Rattle.cell_world.specs.Commands.NsCommand.{next_ns};
 ghost use Rattle.cell_system.specs.Namespaces.{may_add};
 
 use cell_machine::{Machine, namespace};

@@ -13,7 +13,7 @@ use Rattle.cell_world.specs.World.{World, Cell, Standing}
 use Rattle.cell_world.specs.declared.state.Target.{Target}
 use Rattle.cell_world.specs.declared.state.Target.TheVariants.{Number}
 use Rattle.cell_world.specs.Names.{provider_for, strong_provider}
-use Rattle.cell_world.specs.Target.{own_target, provided_target, symbol_target}
+use Rattle.cell_world.specs.Linked.Target.{own_target, provided_target, symbol_target}
 use Rattle.cell_target.specs.Asking.{undefined_target, unprovided, yielding_target}
 use Rattle.cell_target.specs.Named.{target_named}
 use Rattle.cell_target.specs.Scene.{in_state}

@@ -6,7 +6,7 @@ use Rattle.std.proofs.lemmas.List.Folds.{find-append}
 use Rattle.cell_world.specs.declared.state.Namespace.{Namespace}
 use Rattle.cell_world.specs.declared.state.NewCell.{NewCell}
 use Rattle.cell_world.specs.declared.state.Target.{Target}
-use Rattle.cell_world.specs.Target.{provided_target}
+use Rattle.cell_world.specs.Linked.Target.{provided_target}
 use Rattle.cell_world.specs.World.{World, cell_of, Standing}
 use Rattle.cell_world.specs.Names.{Provider, chain}
 use Rattle.cell_num.specs.Lists.{In}

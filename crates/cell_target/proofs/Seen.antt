@@ -13,7 +13,7 @@ use Rattle.cell_world.specs.declared.state.Target.TheVariants.{Number}
 use Rattle.cell_world.specs.World.{World, Cell, Standing, cell_of, is_attached, is_of_group}
 use Rattle.cell_world.specs.declared.state.Standing.TheVariants.{Attached, Detached}
 use Rattle.cell_world.specs.Names.{Provider, asked_by, chain, attached_provider, first_provider, nearest_provider, provider_for, provider_of, strong_provider}
-use Rattle.cell_world.specs.Target.{numbered_target, own_target, provided_target, symbol_target, unasked_target, targets_of, naming_entry}
+use Rattle.cell_world.specs.Linked.Target.{numbered_target, own_target, provided_target, symbol_target, unasked_target, targets_of, naming_entry}
 use Rattle.cell_num.specs.Lists.{or_else}
 use Rattle.cell_space.specs.Joined.{cells_of}
 use Rattle.cell_space.specs.declared.cell.SpaceCell.{SpaceCell}

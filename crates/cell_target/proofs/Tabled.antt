@@ -7,7 +7,7 @@ use Rattle.cell_object.specs.declared.object.Symbol.{Symbol}
 use Rattle.cell_world.specs.declared.state.Target.{Target}
 use Rattle.cell_world.specs.declared.state.Target.TheVariants.{Number}
 use Rattle.cell_world.specs.World.{World, Cell}
-use Rattle.cell_world.specs.Target.{numbered_target, symbol_target, target_of, targets_of, naming_entry}
+use Rattle.cell_world.specs.Linked.Target.{numbered_target, symbol_target, target_of, targets_of, naming_entry}
 use Rattle.cell_target.specs.Entries.{symbol_targets, target_numbered, entry_target, entry_targets}
 
 pub map-same : {X Y : Type 0} (f g : X → Y) → ((x : X) → f x ≡ g x) → (xs : List X) → map f xs ≡ map g xs

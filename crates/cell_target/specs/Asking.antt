@@ -7,7 +7,7 @@ use Rattle.cell_object.specs.declared.object.Symbol.{Symbol}
 use Rattle.cell_object.specs.Parts.{is_local, is_weak}
 use Rattle.cell_world.specs.World.{World, Standing}
 use Rattle.cell_world.specs.Names.{provider_for}
-use Rattle.cell_world.specs.Target.{own_target, provided_target}
+use Rattle.cell_world.specs.Linked.Target.{own_target, provided_target}
 use Rattle.cell_world.specs.declared.state.NewCell.{NewCell}
 use Rattle.cell_world.specs.declared.state.Target.{Target}
 use Rattle.cell_world.specs.declared.state.Target.TheVariants.{Number}

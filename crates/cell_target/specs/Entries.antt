@@ -7,7 +7,7 @@ use Rattle.cell_object.specs.declared.object.Object.{Object}
 use Rattle.cell_world.specs.declared.state.Target.{Target}
 use Rattle.cell_world.specs.declared.state.Target.TheVariants.{Number}
 use Rattle.cell_world.specs.World.{World, Cell}
-use Rattle.cell_world.specs.Target.{symbol_target, naming_entry}
+use Rattle.cell_world.specs.Linked.Target.{symbol_target, naming_entry}
 
 abbrev pub symbol_targets : World → Cell → List (Option Target)
 symbol_targets w c = map (λ s. symbol_target w c s s.home) c.object.symbols

@@ -9,7 +9,7 @@ use Rattle.std.specs.Prelude.{◌≡◌, ◌++◌, ℕ, List, Option, Some, None
 use Rattle.cell_world.specs.World.{Standing, World}
 use Rattle.cell_world.specs.declared.state.Standing.TheVariants.{Attached, Detached}
 use Rattle.cell_world.specs.Names.{Provider, provider_for, strong_provider}
-use Rattle.cell_world.specs.Target.{provided_target}
+use Rattle.cell_world.specs.Linked.Target.{provided_target}
 use Rattle.cell_world.specs.declared.state.Target.{Target}
 use Rattle.cell_space.specs.Named as spaces
 use Rattle.cell_space.specs.declared.cell.SpaceCell.{SpaceCell}

@@ -1,7 +1,7 @@
 //! The targets of a cell's entries, by those of its symbols.
 
 ghost use Rattle.std.specs.Prelude.{◌≡◌, OnOk, unwrap_or};
-ghost use Rattle.cell_world.specs.Target.{naming_entry as naming};
+ghost use Rattle.cell_world.specs.Linked.Target.{naming_entry as naming};
 ghost use Rattle.cell_world.specs.declared.state.Target.TheVariants.{Number as SomeNumber};
 ghost use Rattle.cell_target.specs.Entries.{target_numbered, entry_target, entry_targets};
 

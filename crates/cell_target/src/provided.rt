@@ -2,7 +2,7 @@
 
 ghost use Rattle.std.specs.Prelude.{◌≡◌, ◌<◌, ◌++◌, length, option_map};
 ghost use Rattle.cell_world.specs.Names.{chain};
-ghost use Rattle.cell_world.specs.Target.{provided_target as provided_at};
+ghost use Rattle.cell_world.specs.Linked.Target.{provided_target as provided_at};
 ghost use Rattle.cell_space.specs.Named.{provider_as};
 ghost use Rattle.cell_target.specs.Named.{asked_among, target_named, world_of};
 ghost use Rattle.cell_target.specs.Scene.{seen};

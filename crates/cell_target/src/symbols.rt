@@ -3,7 +3,7 @@
 ghost use Rattle.std.specs.Prelude.{◌≡◌, ◌<◌, ◌++◌, OnOk, length};
 ghost use Rattle.cell_object.specs.Parts.{is_local as local, is_undefined as undefined};
 ghost use Rattle.cell_world.specs.Names.{is_weak_definition as weak_definition};
-ghost use Rattle.cell_world.specs.Target.{symbol_target as target_with};
+ghost use Rattle.cell_world.specs.Linked.Target.{symbol_target as target_with};
 ghost use Rattle.cell_target.specs.Asking.{undefined_target as undefined_with, unprovided as unprovided_with, yielding_target as yielding_with};
 ghost use Rattle.cell_target.specs.Entries.{symbol_targets as targets_with};
 ghost use Rattle.cell_num.specs.Lists.{In};

@@ -1,7 +1,7 @@
 //! What the entries of a cell name.
 
 ghost use Rattle.std.specs.Prelude.{◌≡◌, ◌<◌, ◌++◌, [], IfOk, OnOk, length};
-ghost use Rattle.cell_world.specs.Target.{targets_of};
+ghost use Rattle.cell_world.specs.Linked.Target.{targets_of};
 ghost use Rattle.cell_num.specs.Lists.{In};
 ghost use Rattle.cell_target.specs.Named.{IsNamed, world_of};
 ghost use Rattle.cell_target.specs.Scene.{in_state, seen};

@@ -8,7 +8,7 @@ use Rattle.std.proofs.lemmas.List.Sorted.{searched}
 use Rattle.std.specs.List.{find, remove}
 use Rattle.std.proofs.lemmas.Bool.{eq-eqb, ne_eqb, false≢true, cases_eq, cases_lt}
 use Rattle.cell_world.specs.World.{Task}
-use Rattle.cell_world.specs.Turn.{with_task}
+use Rattle.cell_world.specs.Running.Turn.{with_task}
 use Rattle.cell_task.specs.declared.task.Task.{Task as LiveTask}
 use Rattle.cell_task.specs.Inside.{tasks_at, IsOther, HasValues}
 use Rattle.cell_task.specs.Numbers.{IsRising, Lacks}

@@ -1,9 +1,9 @@
 -- A turn that is a call.
 use Rattle.std.proofs.Common.{◌≡◌, refl, sym, ap, ◌∙◌, List, []}
 use Rattle.cell_world.specs.World.{Region}
-use Rattle.cell_world.specs.Execute.{Effect, Goes, Calls, Traps, execute}
-use Rattle.cell_world.specs.Move.{Hart, Row, Ends, Passes, Yields, PutsOut, Answers, Refuses, Move, called, move, moved_by}
-use Rattle.cell_world.specs.Turn.{task_column, task_row}
+use Rattle.cell_world.specs.Running.Execute.{Effect, Goes, Calls, Traps, execute}
+use Rattle.cell_world.specs.Running.Move.{Hart, Row, Ends, Passes, Yields, PutsOut, Answers, Refuses, Move, called, move, moved_by}
+use Rattle.cell_world.specs.Running.Turn.{task_column, task_row}
 use Rattle.cell_hart.specs.declared.hart.Hart.{Hart as LiveHart}
 use Rattle.cell_hart.specs.declared.stop.Stop.TheVariants.{Call}
 use Rattle.cell_hart.specs.Step.{Steps, IsSame, seen_of}

@@ -3,8 +3,8 @@ use Rattle.std.proofs.Common.{◌≡◌, ◌≢◌, refl, sym, ap, subst, ◌∙
 use Rattle.std.specs.Prelude.{option_map}
 use Rattle.slab.specs.Slab.{get, with_value}
 use Rattle.cell_world.specs.World.{Task}
-use Rattle.cell_world.specs.Move.{move}
-use Rattle.cell_world.specs.Turn.{task_column, with_task}
+use Rattle.cell_world.specs.Running.Move.{move}
+use Rattle.cell_world.specs.Running.Turn.{task_column, with_task}
 use Rattle.cell_hart.specs.Step.{seen_of}
 use Rattle.cell_mem.specs.Index.{IsLaid}
 use Rattle.cell_mem.specs.State.{MemoryState, region_from, unmapped}

@@ -8,7 +8,7 @@ use Rattle.std.proofs.lemmas.List.{length-map}
 use Rattle.slab.specs.Slab.{Slab, get, Updates, with_value}
 use Rattle.slab.proofs.SlabLemmas.{Updates-with_value}
 use Rattle.cell_world.specs.World.{Task}
-use Rattle.cell_world.specs.Turn.{with_task}
+use Rattle.cell_world.specs.Running.Turn.{with_task}
 use Rattle.cell_task.specs.declared.task.Task.{Task as LiveTask}
 use Rattle.cell_task.specs.declared.tasks.Tasks.TheInside.{Inside}
 use Rattle.cell_task.specs.Inside.{HasValues, IsSound, state_of, tasks_at}

@@ -5,7 +5,7 @@ use Rattle.std.specs.List.{find}
 use Rattle.cell_world.specs.declared.reply.TaskState.{TaskState}
 use Rattle.cell_world.specs.declared.reply.TaskState.TheVariants.{Ready as IsReady, Done as IsDone, Fault as IsFault}
 use Rattle.cell_world.specs.World.{Region, Task}
-use Rattle.cell_world.specs.Turn.{Turned, standing, with_task}
+use Rattle.cell_world.specs.Running.Turn.{Turned, standing, with_task}
 use Rattle.cell_mem.specs.Index.{IsLaid}
 use Rattle.cell_mem.specs.State.{MemoryState, region_from, unmapped}
 use Rattle.cell_mem.specs.Undo.{with_unmapped}

@@ -6,10 +6,10 @@ use Rattle.std.proofs.lemmas.Bool.{eq-eqb}
 use Rattle.cell_world.specs.declared.reply.TaskState.TheVariants.{Ready as IsReady, Done as IsDone, Fault as IsFault}
 use Rattle.cell_world.specs.declared.reply.TaskState.{TaskState}
 use Rattle.cell_world.specs.World.{World, Region, Task}
-use Rattle.cell_world.specs.Pages.{filled}
-use Rattle.cell_world.specs.Execute.{Seen, Effect, Goes, Calls, Traps, execute}
-use Rattle.cell_world.specs.Move.{Hart, Row, Ends, Passes, Yields, PutsOut, Answers, Refuses, Move, called, moved_by, move}
-use Rattle.cell_world.specs.Turn.{Turned, standing, task_column, task_row, with_task, without_region}
+use Rattle.cell_world.specs.Placed.Pages.{filled}
+use Rattle.cell_world.specs.Running.Execute.{Seen, Effect, Goes, Calls, Traps, execute}
+use Rattle.cell_world.specs.Running.Move.{Hart, Row, Ends, Passes, Yields, PutsOut, Answers, Refuses, Move, called, moved_by, move}
+use Rattle.cell_world.specs.Running.Turn.{Turned, standing, task_column, task_row, with_task, without_region}
 use Rattle.cell_hart.specs.Step.{seen_of}
 use Rattle.cell_hart.proofs.Sizes.{SameSizes, size_from, KeepsSizes, sizes_kept}
 use Rattle.cell_mem.specs.Index.{IsLaid}

@@ -7,8 +7,8 @@ use Rattle.byteorder.specs.Endian.{little_number}
 use Rattle.cell_num.specs.Bits.{little}
 use Rattle.cell_num.specs.Lists.{where_true}
 use Rattle.cell_world.specs.World.{Region}
-use Rattle.cell_world.specs.Memory.{covers, end_of, region_in, part_of, read_in}
-use Rattle.cell_world.specs.Words.{words_in}
+use Rattle.cell_world.specs.Running.Memory.{covers, end_of, region_in, part_of, read_in}
+use Rattle.cell_world.specs.Running.Words.{words_in}
 use Rattle.cell_mem.proofs.Laid.{covers_low, found_passes}
 use Rattle.cell_mem.proofs.Little.{little_number_is}
 

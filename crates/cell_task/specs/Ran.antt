@@ -4,7 +4,7 @@
 use Rattle.std.specs.Prelude.{◌≡◌, ℕ, Bool, List, ◌++◌, Option, Some, if◌then◌else◌}
 use Rattle.cell_world.specs.declared.reply.TaskState.{TaskState}
 use Rattle.cell_world.specs.declared.reply.TaskState.TheVariants.{Ready as IsReady, Done as IsDone, Fault as IsFault}
-use Rattle.cell_world.specs.Move.{Hart, Move}
+use Rattle.cell_world.specs.Running.Move.{Hart, Move}
 use Rattle.cell_hart.specs.declared.hart.Hart.{Hart as LiveHart}
 use Rattle.cell_task.specs.declared.task.Task.{Task as LiveTask}
 use Rattle.cell_task.specs.declared.task.TaskFault.{TaskFault}

@@ -6,8 +6,8 @@ use Rattle.cell_hart.specs.Step.{seen_of}
 use Rattle.cell_mem.specs.State.{MemoryState, unmapped}
 use Rattle.cell_world.specs.declared.reply.TaskState.TheVariants.{Ready as IsReady, Done as IsDone, Fault as IsFault}
 use Rattle.cell_world.specs.World.{World, Region, Task}
-use Rattle.cell_world.specs.Move.{move}
-use Rattle.cell_world.specs.Turn.{Turned, hart_of, task_column, turned}
+use Rattle.cell_world.specs.Running.Move.{move}
+use Rattle.cell_world.specs.Running.Turn.{Turned, hart_of, task_column, turned}
 use Rattle.cell_task.specs.declared.turned.Turned.{Turned as Answer}
 use Rattle.cell_task.specs.Ran.{answered}
 use Rattle.cell_task.specs.State.{TasksState}

@@ -3,8 +3,8 @@
 ghost use Rattle.std.specs.Prelude.{◌≡◌, ◌+◌, ◌-◌, ◌<◌, ◌≤◌, ◌^◌, None, Some, [], true, is_some, length, map, option_map, replicate, slice_set, vec_capacity, vec_len, IfNone, IfOk, IfSome, OnErr, OnOk};
 ghost use Rattle.cell_num.specs.Limits.{stack_size};
 ghost use Rattle.cell_mem.specs.State.{region_from};
-ghost use Rattle.cell_world.specs.SpawnCommand.{new_task};
-ghost use Rattle.cell_world.specs.Words.{words_of as words_in_task};
+ghost use Rattle.cell_world.specs.Commands.SpawnCommand.{new_task};
+ghost use Rattle.cell_world.specs.Running.Words.{words_of as words_in_task};
 ghost use Rattle.cell_world.specs.World.{Task as WorldTask};
 ghost use Rattle.cell_task.specs.State.{IsReady, live_in, no_tasks, seen_as, with_new, without};
 ghost use Rattle.cell_task.specs.Turns.{IsTurn};

@@ -2,8 +2,8 @@
 
 ghost use Rattle.std.specs.Prelude.{◌≡◌, ◌+◌, ◌≤◌, None, Some, [], vec_capacity, vec_len};
 ghost use Rattle.cell_hart.specs.Step.{seen_of};
-ghost use Rattle.cell_world.specs.Move.{called, move, passed, state_at};
-ghost use Rattle.cell_world.specs.Turn.{task_column, task_row};
+ghost use Rattle.cell_world.specs.Running.Move.{called, move, passed, state_at};
+ghost use Rattle.cell_world.specs.Running.Turn.{task_column, task_row};
 
 use crate::output::put_decimal;
 use crate::{Task, TaskFault, Turned};

@@ -2,8 +2,8 @@
 
 ghost use Rattle.std.specs.Prelude.{◌≡◌, ◌≤◌, ◌++◌, slice_index, length, option_map, IfSome, OnOk};
 ghost use Rattle.cell_num.specs.Limits.{stack_size};
-ghost use Rattle.cell_world.specs.Memory.{read_in};
-ghost use Rattle.cell_world.specs.Words.{stack_from, stack_words, words_in, words_of};
+ghost use Rattle.cell_world.specs.Running.Memory.{read_in};
+ghost use Rattle.cell_world.specs.Running.Words.{stack_from, stack_words, words_in, words_of};
 ghost use Rattle.cell_world.specs.World.{Task as LiveTask};
 ghost use Rattle.cell_task.specs.State.{seen_as};
 

@@ -5,16 +5,17 @@ use crate::folder::{ObjectFile, outcome};
 use crate::samples::{POINTER, SEVEN};
 use cell_verdict::AuditStatus;
 use std::alloc::{AllocError, Global};
+use std::process::Abort;
 use std::test::*;
 
 const SCRIPT: &str = "load k a\nload k b\ndumpall\n";
 
 /// The text that stands in place of a line of the transcript, and what is said then.
-struct Damage {
-    line: usize,
-    text: &'static str,
-    status: AuditStatus,
-    said: &'static str,
+pub struct Damage {
+    pub line: usize,
+    pub text: &'static str,
+    pub status: AuditStatus,
+    pub said: &'static str,
 }
 
 const DAMAGES: [Damage; 25] = [
@@ -191,6 +192,26 @@ fn with_line(alloc: Global, text: &str, line: usize, other: &str) -> Result<Stri
     Ok(all)
 }
 
+/// Has the dump that a script ends with audited with each damage, in 16 pages.
+pub fn try_damages(
+    rt: &impl Abort,
+    alloc: Global,
+    files: &[ObjectFile],
+    script: &str,
+    damages: &[Damage],
+) -> Result<(), Fail> {
+    let (_, whole) = outcome(alloc, &["d", "s", "--pages", "16"], script, files)?;
+    let whole = std::str::from_utf8(whole.written()).ok().ok_or("UTF-8")?;
+    for damage in damages {
+        let dump = with_line(alloc, whole, damage.line, damage.text)?;
+        let (status, sink) = audit_of(alloc, &dump, files)?;
+        let said = std::str::from_utf8(sink.written()).ok().ok_or("UTF-8")?;
+        assert!(rt; said == damage.said, "{} gave {said}", damage.text);
+        assert!(rt; status == damage.status, "{} gave {status:?}", damage.text);
+    }
+    Ok(())
+}
+
 #[test]
 fn damaged_dumps(rt: HostRuntime) -> Result<(), Fail> {
     let alloc = rt.alloc();
@@ -204,14 +225,5 @@ fn damaged_dumps(rt: HostRuntime) -> Result<(), Fail> {
             bytes: POINTER.image(alloc)?,
         },
     ];
-    let (_, whole) = outcome(alloc, &["d", "s", "--pages", "16"], SCRIPT, &files)?;
-    let whole = std::str::from_utf8(whole.written()).ok().ok_or("UTF-8")?;
-    for damage in &DAMAGES {
-        let dump = with_line(alloc, whole, damage.line, damage.text)?;
-        let (status, sink) = audit_of(alloc, &dump, &files)?;
-        let said = std::str::from_utf8(sink.written()).ok().ok_or("UTF-8")?;
-        assert!(rt; said == damage.said, "{} gave {said}", damage.text);
-        assert!(rt; status == damage.status, "{} gave {status:?}", damage.text);
-    }
-    Ok(())
+    try_damages(&rt, alloc, &files, SCRIPT, &DAMAGES)
 }

@@ -8,8 +8,8 @@ use std::alloc::{AllocError, Global};
 
 /// An object file of a folder.
 #[derive(Drop)]
-pub struct ObjectFile {
-    pub name: &'static str,
+pub struct ObjectFile<'a> {
+    pub name: &'a str,
     pub bytes: Vec<u8>,
 }
 
@@ -17,7 +17,7 @@ pub struct ObjectFile {
 #[derive(Drop)]
 pub struct Folder<'a> {
     pub script: &'a str,
-    pub files: &'a [ObjectFile],
+    pub files: &'a [ObjectFile<'a>],
 }
 
 impl<'a> Folder<'a> {

@@ -1,7 +1,10 @@
 //! What the generator makes.
 
+use crate::audited::try_audit;
+use crate::folder::ObjectFile;
 use cell_gen::generate;
 use cell_world::File;
+use std::alloc::Global;
 use std::test::*;
 
 // The hashes are those of files that `cellas` wrote of sources that a program in another language made,
@@ -34,4 +37,27 @@ fn many_crates(rt: HostRuntime) -> Result<(), Fail> {
     assert_eq!(rt; made.script.as_slice().len(), 13682);
     assert_eq!(rt; hash_of(0, made.script.as_slice()), 1607308847);
     Ok(())
+}
+
+/// The same files, as a folder of a test has them.
+fn folder_of(alloc: Global, made: &[File]) -> Result<Vec<ObjectFile<'_>>, Fail> {
+    let mut files = Vec::new(alloc);
+    for file in made {
+        files.push(ObjectFile {
+            name: std::str::from_utf8(file.name.bytes()).ok().ok_or("UTF-8")?,
+            bytes: Vec::from_slice(alloc, file.bytes.as_slice())?,
+        })?;
+    }
+    Ok(files)
+}
+
+#[test]
+fn generated_dump(rt: HostRuntime) -> Result<(), Fail> {
+    let made = generate(rt.alloc(), 400, 0)?;
+    let files = folder_of(rt.alloc(), &made.files)?;
+    let script = std::str::from_utf8(made.script.as_slice())
+        .ok()
+        .ok_or("UTF-8")?;
+    let words = ["d", "s", "--pages", "4096"];
+    try_audit(&rt, rt.alloc(), &words, &files, script)
 }

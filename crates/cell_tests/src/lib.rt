@@ -46,6 +46,8 @@ mod repeated;
 #[cfg(test)]
 mod samples;
 #[cfg(test)]
+mod slots;
+#[cfg(test)]
 mod sources;
 #[cfg(test)]
 mod spaces;
@@ -69,3 +71,11 @@ mod torn;
 mod transcripts;
 #[cfg(test)]
 mod traps;
+#[cfg(test)]
+mod weak_dumps;
+#[cfg(test)]
+mod weak_loads;
+#[cfg(test)]
+mod weak_names;
+#[cfg(test)]
+mod weak_swaps;

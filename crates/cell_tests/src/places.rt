@@ -140,7 +140,7 @@ const CASES: [Case; 11] = [
     },
 ];
 
-fn files_of(alloc: Global, sources: &[&str]) -> Result<Vec<ObjectFile>, Fail> {
+fn files_of(alloc: Global, sources: &[&str]) -> Result<Vec<ObjectFile<'static>>, Fail> {
     let mut files = Vec::new(alloc);
     for (name, source) in NAMES.iter().zip(sources) {
         files.push(assembled(alloc, *name, *source)?)?;

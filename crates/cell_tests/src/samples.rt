@@ -31,7 +31,7 @@ pub const POINTER: PlainObject<'static> = PlainObject {
 };
 
 /// The files of the first example.
-pub fn first_example(alloc: Global) -> Result<[ObjectFile; 2], Fail> {
+pub fn first_example(alloc: Global) -> Result<[ObjectFile<'static>; 2], Fail> {
     Ok([
         ObjectFile {
             name: "k#a.o",

@@ -23,7 +23,11 @@ fn assemble_short(alloc: Global, source: &[u8]) -> Result<Object, AsmFail> {
 }
 
 /// The object file of that name, assembled from a source.
-pub fn assembled(alloc: Global, name: &'static str, source: &str) -> Result<ObjectFile, Fail> {
+pub fn assembled(
+    alloc: Global,
+    name: &'static str,
+    source: &str,
+) -> Result<ObjectFile<'static>, Fail> {
     let object = assemble_short(alloc, source.as_bytes())
         .ok()
         .ok_or("the source has a fault")?;
@@ -34,12 +38,15 @@ pub fn assembled(alloc: Global, name: &'static str, source: &str) -> Result<Obje
 }
 
 /// The object file of the source.
-pub fn object_file(alloc: Global, file: &SourceFile) -> Result<ObjectFile, Fail> {
+pub fn object_file(alloc: Global, file: &SourceFile) -> Result<ObjectFile<'static>, Fail> {
     assembled(alloc, file.name, file.source)
 }
 
 /// The object files of the sources.
-pub fn object_files(alloc: Global, sources: &[SourceFile]) -> Result<Vec<ObjectFile>, Fail> {
+pub fn object_files(
+    alloc: Global,
+    sources: &[SourceFile],
+) -> Result<Vec<ObjectFile<'static>>, Fail> {
     let mut files = Vec::new(alloc);
     for source in sources {
         files.push(object_file(alloc, source)?)?;

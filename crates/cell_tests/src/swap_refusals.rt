@@ -330,7 +330,7 @@ const OF_BROKEN: Case = Case {
 };
 
 /// The files, and two that are empty.
-fn with_broken(alloc: Global) -> Result<Vec<ObjectFile>, Fail> {
+fn with_broken(alloc: Global) -> Result<Vec<ObjectFile<'static>>, Fail> {
     let mut files = object_files(alloc, &BROKEN)?;
     for name in &["k#bad.o", "n#bad.o"] {
         files.push(ObjectFile {

@@ -342,7 +342,7 @@ impl Scene {
 }
 
 /// The files of the tests, with a new crate of that routine.
-fn files_with(alloc: Global, code: &str) -> Result<Vec<ObjectFile>, Fail> {
+fn files_with(alloc: Global, code: &str) -> Result<Vec<ObjectFile<'static>>, Fail> {
     let mut files = object_files(alloc, &STANDING)?;
     let source = format!(in alloc; "{BEFORE_ROUTINE}{code}{BEHIND_ROUTINE}")?;
     files.push(assembled(alloc, "n#c-2.o", source.as_str())?)?;

@@ -200,7 +200,10 @@ fn bytes_of(alloc: Global, name: &str) -> Result<Vec<u8>, Fail> {
     }
 }
 
-fn files_of(alloc: Global, names: &'static [&'static str]) -> Result<Vec<ObjectFile>, Fail> {
+fn files_of(
+    alloc: Global,
+    names: &'static [&'static str],
+) -> Result<Vec<ObjectFile<'static>>, Fail> {
     let mut files = Vec::new(alloc);
     for name in names {
         files.push(ObjectFile {

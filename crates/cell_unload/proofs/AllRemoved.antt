@@ -3,10 +3,13 @@ use Rattle.std.proofs.Common.{◌≡◌, refl, sym, ◌∙◌, ap, ap₂, subst,
 use Rattle.std.specs.Prelude.{◌==◌, All, IsTrue, filter, flat_map, is_some, nat_lt, slice_index_or}
 use Rattle.std.proofs.lemmas.Bool.{eqb-true, eq-eqb}
 use Rattle.cell_num.specs.Lists.{In, each_pair, holds}
+use Rattle.cell_object.specs.Parts.{has_no_weak}
+use Rattle.cell_num.proofs.Sublists.{map_filter}
+use Rattle.cell_lemmas.proofs.Naming.Lookups.{filter_swap}
 use Rattle.cell_num.proofs.Elements.{In-All, In-map, any-Has, find_there, map-In, none-In}
 use Rattle.cell_commit.specs.Seals.{seal_table}
 use Rattle.cell_graph.specs.Removal.{is_listed, is_outside_use, is_used_outside, links_without, sections_without}
-use Rattle.cell_machine.specs.Machine.{IsSound, field_bytes, keys_of, section_keys, world_of}
+use Rattle.cell_machine.specs.Machine.{IsSound, field_bytes, keys_of, section_keys, soft_of, world_of}
 use Rattle.cell_machine.specs.Staged.{all_attached}
 use Rattle.cell_machine.specs.declared.machine.Machine.{Machine}
 use Rattle.cell_mem.specs.State.{MemoryState}
@@ -22,7 +25,7 @@ use Rattle.cell_space.specs.Joined.{cells_of, placed_of}
 use Rattle.cell_space.proofs.Joined.{cells_are, joined_by}
 use Rattle.cell_task.specs.State.{TasksState}
 use Rattle.cell_world.specs.Answer.{numbers_of}
-use Rattle.cell_world.specs.UnloadCommand.{starts_of, without_cells}
+use Rattle.cell_world.specs.Commands.UnloadCommand.{starts_of, without_cells}
 use Rattle.cell_world.specs.World.{Cell, Region, World, attached, key_of}
 use Rattle.cell_world.specs.declared.state.LinkRow.{LinkRow}
 use Rattle.cell_world.specs.declared.state.Namespace.{Namespace}
@@ -56,6 +59,12 @@ links_gone cells rows h = filter_equal (λ (r : LinkRow). not (is_listed cells r
 
 abbrev pub stay : List CellId → NewCell → Bool
 stay cells c = not (holds (numbers cells) c.id.0)
+
+-- those of the cells that stay are left
+pub soft_left : (cells : List CellId) (present : List NewCell) → filter (λ (c : CellId). not (holds (numbers cells) c.0)) (soft_of present) ≡ soft_of (filter (stay cells) present)
+soft_left cells present =
+    sym (map_filter (λ (c : NewCell). c.id) (λ (c : CellId). not (holds (numbers cells) c.0)) (filter (λ (c : NewCell). not (has_no_weak c.object)) present))
+    ∙ ap (map (λ (c : NewCell). c.id)) (filter_swap (stay cells) (λ (c : NewCell). not (has_no_weak c.object)) present)
 
 pub keys_left : (cells : List CellId) (present : List NewCell) → sections_without cells (keys_of present) ≡ keys_of (filter (stay cells) present)
 keys_left cells present = filter_flat (λ (k : SecKey). not (is_listed cells k)) (stay cells) section_keys (λ c k i. go c k (In-map (λ (s : ObjectSection). key_of c.id.0 s.number) c.object.sections k i)) present
@@ -204,6 +213,7 @@ module _ (old : Machine) (sound : IsSound old) (cells : List CellId) where
       joined = joined_by cells_after new.cells.items new.spaces.cells items_are known_are;
       table = is.tabled.table;
       base = is.tabled.base;
+      soft = is.soft ∙ (ap (filter (λ (c : CellId). not (holds (numbers cells) c.0))) sound.soft ∙ (soft_left cells old.cells.items ∙ ap soft_of (sym is.left)));
       sections = is.sections ∙ (ap (sections_without cells) sound.sections ∙ (keys_left cells old.cells.items ∙ ap keys_of (sym is.left)));
       seals = seals_is;
       undo = ap (λ (m : MemoryState). m.undo) is.memory ∙ no_undo starts old.memory sound.undo;

@@ -11,16 +11,16 @@ use Rattle.cell_world.specs.declared.state.Placed.{Placed}
 use Rattle.cell_world.specs.Answer.{numbers_of}
 use Rattle.cell_world.specs.Coherent.{IsCoherent}
 use Rattle.cell_world.specs.Kept.{Holding, holding_of, is_claimed_by, kept_in, placed_in}
-use Rattle.cell_world.specs.UnloadCommand.{detach, garbage_of, put_aside}
+use Rattle.cell_world.specs.Commands.UnloadCommand.{detach, garbage_of, put_aside}
 use Rattle.cell_world.specs.World.{World, Cell, is_attached}
 use Rattle.cell_world.specs.declared.state.Standing.TheVariants.{Detached}
 use Rattle.cell_num.proofs.Elements.{In-All, In-none, In-filtered, filter-In, map-In, map_same, pairs-map}
-use Rattle.cell_lemmas.proofs.Relinked.{map_twice}
+use Rattle.cell_lemmas.proofs.Fields.Relinked.{map_twice}
 use Rattle.cell_num.proofs.Sublists.{pairs-filter}
 use Rattle.cell_graph.specs.Removal.{is_listed, is_outside_use}
-use Rattle.cell_lemmas.proofs.Freed.{number_holds}
-use Rattle.cell_lemmas.proofs.KeptPaths.{In-holds, directly_kept, kept_complete}
-use Rattle.cell_lemmas.proofs.PutAside.{closed_aside, put_number}
+use Rattle.cell_lemmas.proofs.Placement.Freed.{number_holds}
+use Rattle.cell_lemmas.proofs.Holding.KeptPaths.{In-holds, directly_kept, kept_complete}
+use Rattle.cell_lemmas.proofs.Naming.PutAside.{closed_aside, put_number}
 
 -- a cell is listed where its number is
 pub listed_numbers : (cells : List CellId) (n : ℕ) → list_any (λ c. c.0 == n) cells ≡ holds (map (λ c. c.0) cells) n

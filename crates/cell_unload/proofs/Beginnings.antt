@@ -9,15 +9,15 @@ use Rattle.cell_num.specs.Lists.{holds, In}
 use Rattle.cell_hold.specs.declared.roots.Root.{Root}
 use Rattle.cell_hold.specs.declared.roots.Root.TheVariants.{Attached as AttachedRoot}
 use Rattle.cell_hold.specs.Roots.{attached_by, claims_by, named_by}
-use Rattle.cell_world.specs.MapCommand.{group_of}
+use Rattle.cell_world.specs.Commands.MapCommand.{group_of}
 use Rattle.cell_world.specs.Answer.{numbers_of}
 use Rattle.cell_world.specs.Coherent.{is_sound_task}
 use Rattle.cell_world.specs.Kept.{Claim, claim_of}
-use Rattle.cell_world.specs.UnloadCommand.{put_aside}
+use Rattle.cell_world.specs.Commands.UnloadCommand.{put_aside}
 use Rattle.cell_world.specs.World.{Cell, Standing, Task, World, cell_of, is_attached}
 use Rattle.cell_world.specs.declared.state.Standing.TheVariants.{Attached, Detached}
 use Rattle.cell_num.proofs.Elements.{all-In, In-all, In-append, In-flat_map, In-map, some_has}
-use Rattle.cell_lemmas.proofs.Freed.{number_holds, present_holds}
+use Rattle.cell_lemmas.proofs.Placement.Freed.{number_holds, present_holds}
 use Rattle.cell_unload.specs.Begun.{is_aside, root_of, root_of_task}
 
 holds-map : (aside : List CellId) (n : ℕ) → holds (map (λ c. c.0) aside) n ≡ list_any (λ c. c.0 == n) aside

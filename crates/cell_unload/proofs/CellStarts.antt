@@ -3,9 +3,9 @@ use Rattle.std.proofs.Common.{◌≡◌, refl, ◌∙◌, ap, subst, ℕ, List, 
 use Rattle.std.specs.Prelude.{None, Option, Some}
 use Rattle.std.specs.List.{cons_option}
 use Rattle.cell_mem.specs.State.{MemoryState}
-use Rattle.cell_world.specs.Relink.{class_start}
+use Rattle.cell_world.specs.Linked.Relink.{class_start}
 use Rattle.cell_world.specs.declared.layout.Class.TheVariants.{ReadOnly, Text, Writable}
-use Rattle.cell_world.specs.UnloadCommand.{starts_of}
+use Rattle.cell_world.specs.Commands.UnloadCommand.{starts_of}
 use Rattle.cell_world.specs.World.{Cell}
 use Rattle.cell_unload.specs.Unmapped.{CanLeave, class_starts, without_regions}
 use Rattle.cell_unload.proofs.Unmapping.{leave_parts, without_both}

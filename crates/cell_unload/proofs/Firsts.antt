@@ -6,7 +6,7 @@ use Rattle.cell_num.specs.declared.ids.CellId.{CellId}
 use Rattle.cell_num.specs.Lists.{or_else}
 use Rattle.cell_world.specs.declared.refusal.Refusal.{Refusal}
 use Rattle.cell_world.specs.Kept.{Holding}
-use Rattle.cell_world.specs.UnloadCommand.{first_held}
+use Rattle.cell_world.specs.Commands.UnloadCommand.{first_held}
 use Rattle.cell_unload.specs.Sweep.{refusal_of}
 
 module _ (h : Holding) where

@@ -6,14 +6,14 @@ use Rattle.std.proofs.lemmas.Bool.{cases_lt, eqb-true, eq-eqb}
 use Rattle.std.proofs.lemmas.List.{ext_get_or}
 use Rattle.cell_num.specs.Lists.{In, from_on}
 use Rattle.cell_num.proofs.Elements.{In-filtered, In-none, any-Has, any-In, filter-In, filter-Passes, found-In, none-In, some_has}
-use Rattle.cell_lemmas.proofs.Places.{table_length, taken_at}
+use Rattle.cell_lemmas.proofs.Placement.Places.{table_length, taken_at}
 use Rattle.cell_mem.specs.Index.{IsLaid}
 use Rattle.cell_mem.specs.State.{MemoryState, region_from, size_of, unmapped}
 use Rattle.cell_mem.proofs.Filling.{filled_above, filled_below, filled_inside, length-filled}
 use Rattle.cell_mem.proofs.Laid.{Lies, covers_from, covers_high, covers_low}
 use Rattle.cell_place.specs.Space.{SpaceState, with_run}
-use Rattle.cell_world.specs.Memory.{covers}
-use Rattle.cell_world.specs.Pages.{filled, is_taken_run}
+use Rattle.cell_world.specs.Running.Memory.{covers}
+use Rattle.cell_world.specs.Placed.Pages.{filled, is_taken_run}
 use Rattle.cell_world.specs.World.{Region, World}
 use Rattle.cell_unload.specs.Unmapped.{IsTabled, table_of}
 use Rattle.cell_mem.proofs.LaidApart.{covers_alone, lies_in}

@@ -4,18 +4,18 @@ use Rattle.std.specs.Prelude.{◌==◌, None, Option, Some, filter, find, flat_m
 use Rattle.std.specs.List.{cons_option, list_all}
 use Rattle.std.proofs.lemmas.Bool.{and_from, and_parts, eq-eqb}
 use Rattle.std.proofs.lemmas.List.{map-append}
-use Rattle.cell_lemmas.proofs.Distinct.{all_apart, cell_shapes, pairs_across, pairs_first, pairs_second, start_apart}
+use Rattle.cell_lemmas.proofs.Placement.Distinct.{all_apart, cell_shapes, pairs_across, pairs_first, pairs_second, start_apart}
 use Rattle.cell_num.specs.Lists.{In, each_pair, holds}
 use Rattle.cell_num.proofs.Elements.{In-all, In-filtered, In-flat_map, filter-Passes, find_there, flat_map-In, pairs-map}
 use Rattle.cell_num.proofs.Sublists.{pairs-append}
-use Rattle.cell_lemmas.proofs.FieldsInside.{classes, region_There}
-use Rattle.cell_lemmas.proofs.Present.{In-filter_map}
+use Rattle.cell_lemmas.proofs.Fields.FieldsInside.{classes, region_There}
+use Rattle.cell_lemmas.proofs.Targeting.Present.{In-filter_map}
 use Rattle.cell_world.specs.Coherent.{IsCoherent, Shape, stack_shape}
-use Rattle.cell_world.specs.Relink.{class_start}
-use Rattle.cell_world.specs.Layout.{image_of, permission_of, sections_in}
+use Rattle.cell_world.specs.Linked.Relink.{class_start}
+use Rattle.cell_world.specs.Placed.Layout.{image_of, permission_of, sections_in}
 use Rattle.cell_world.specs.declared.layout.Class.TheVariants.{ReadOnly, Text, Writable}
 use Rattle.cell_world.specs.declared.layout.Class.{Class}
-use Rattle.cell_world.specs.UnloadCommand.{starts_of}
+use Rattle.cell_world.specs.Commands.UnloadCommand.{starts_of}
 use Rattle.cell_world.specs.World.{Cell, World}
 use Rattle.cell_unload.specs.Unmapped.{differs, lost_starts}
 

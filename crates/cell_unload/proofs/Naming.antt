@@ -9,7 +9,7 @@ use Rattle.cell_world.specs.declared.refusal.Refusal.TheVariants.{Unknown}
 use Rattle.cell_world.specs.Answer.{numbers_of}
 use Rattle.cell_world.specs.Names.{cell_at, namespace_named}
 use Rattle.cell_world.specs.Outcome.{Outcome, ◌>>=◌, each, found}
-use Rattle.cell_world.specs.UnloadCommand.{attached_cell, cell_word, named_cells}
+use Rattle.cell_world.specs.Commands.UnloadCommand.{attached_cell, cell_word, named_cells}
 use Rattle.cell_world.specs.World.{Cell, World}
 use Rattle.cell_world.specs.declared.fail.Fail.{Fail}
 use Rattle.cell_world.specs.declared.fail.Fail.TheVariants.{Refused, OutOfMemory}

@@ -11,7 +11,7 @@ use Rattle.cell_mem.specs.State.{MemoryState}
 use Rattle.cell_num.specs.declared.ids.CellId.{CellId}
 use Rattle.cell_space.specs.Named.{cell_numbered, is_numbered, without}
 use Rattle.cell_space.specs.declared.cell.SpaceCell.{SpaceCell}
-use Rattle.cell_world.specs.UnloadCommand.{starts_of}
+use Rattle.cell_world.specs.Commands.UnloadCommand.{starts_of}
 use Rattle.cell_world.specs.World.{attached}
 use Rattle.cell_world.specs.declared.state.NewCell.{NewCell}
 use Rattle.cell_unload.specs.Unmapped.{CanLeave, lost_starts, without_regions}

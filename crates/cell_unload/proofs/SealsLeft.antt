@@ -4,11 +4,11 @@ use Rattle.std.specs.Prelude.{Some, filter, nat_le, nat_lt}
 use Rattle.std.specs.List.{list_any}
 use Rattle.std.proofs.lemmas.Bool.{and_from, and_parts, leb-true, ltb-true}
 use Rattle.std.proofs.lemmas.List.{ext_get_or, length-map}
-use Rattle.cell_lemmas.proofs.Distinct.{one_class}
+use Rattle.cell_lemmas.proofs.Placement.Distinct.{one_class}
 use Rattle.cell_num.specs.Lists.{In, from_on, holds, upto}
 use Rattle.cell_num.proofs.Elements.{In-filtered, In-flat_map, In-map, In-none, any-Has, any-In, filter-In, filter-Passes, flat_map-In, none-In, pairs-In}
-use Rattle.cell_lemmas.proofs.FieldsInside.{among-In, field_region}
-use Rattle.cell_lemmas.proofs.Places.{length-from}
+use Rattle.cell_lemmas.proofs.Fields.FieldsInside.{among-In, field_region}
+use Rattle.cell_lemmas.proofs.Placement.Places.{length-from}
 use Rattle.cell_commit.specs.Seals.{is_in_span, seal_table}
 use Rattle.cell_machine.specs.Machine.{field_bytes, own_field_bytes}
 use Rattle.cell_space.specs.Joined.{placed_of}
@@ -16,13 +16,13 @@ use Rattle.cell_mem.specs.State.{MemoryState}
 use Rattle.cell_mem.proofs.Laid.{covers_from, covers_high, covers_low}
 use Rattle.cell_num.specs.Kinds.{width_of}
 use Rattle.cell_object.specs.declared.object.Entry.{Entry}
-use Rattle.cell_lemmas.proofs.KeptPaths.{In-holds, holds-In}
-use Rattle.cell_lemmas.proofs.Lookups.{unnot}
-use Rattle.cell_lemmas.proofs.ShapesLeft.{start_lost}
+use Rattle.cell_lemmas.proofs.Holding.KeptPaths.{In-holds, holds-In}
+use Rattle.cell_lemmas.proofs.Naming.Lookups.{unnot}
+use Rattle.cell_lemmas.proofs.Placement.ShapesLeft.{start_lost}
 use Rattle.cell_world.specs.Coherent.{IsCoherent, ends_before}
-use Rattle.cell_world.specs.Field.{fields_of, place_of}
-use Rattle.cell_world.specs.Memory.{covers}
-use Rattle.cell_world.specs.Relink.{class_start}
+use Rattle.cell_world.specs.Linked.Field.{fields_of, place_of}
+use Rattle.cell_world.specs.Running.Memory.{covers}
+use Rattle.cell_world.specs.Linked.Relink.{class_start}
 use Rattle.cell_world.specs.declared.layout.Class.{Class}
 use Rattle.cell_world.specs.World.{Cell, Region, World, attached}
 use Rattle.cell_world.specs.declared.state.NewCell.{NewCell}

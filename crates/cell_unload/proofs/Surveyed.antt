@@ -16,13 +16,13 @@ use Rattle.cell_world.specs.declared.state.Placed.{Placed}
 use Rattle.cell_world.specs.Answer.{numbers_of}
 use Rattle.cell_world.specs.Coherent.{IsCoherent}
 use Rattle.cell_world.specs.Kept.{Claim, Holding, holder_in, kept_in, placed_at, placed_in}
-use Rattle.cell_world.specs.UnloadCommand.{held_refusal}
+use Rattle.cell_world.specs.Commands.UnloadCommand.{held_refusal}
 use Rattle.cell_world.specs.World.{World, Cell, attached}
 use Rattle.cell_lemmas.specs.Present.{HasSection, JoinsPresent}
 use Rattle.cell_num.proofs.Elements.{All-In, In-all, any-In, found-In, In-flat_map, flat_map-In, In-map, map-In, pairs-map}
-use Rattle.cell_lemmas.proofs.Present.{links_present}
+use Rattle.cell_lemmas.proofs.Targeting.Present.{links_present}
 use Rattle.cell_graph.specs.Links.{is_same}
-use Rattle.cell_lemmas.proofs.Freed.{number_holds}
+use Rattle.cell_lemmas.proofs.Placement.Freed.{number_holds}
 use Rattle.cell_hold.specs.declared.roots.Root.{Root}
 use Rattle.cell_hold.specs.Places.{HasTargets, has_section}
 use Rattle.cell_hold.specs.Roots.{AreCells, HasRoom, attached_by, claims_by, holding_by, named_by}

@@ -9,17 +9,17 @@ use Rattle.cell_world.specs.Answer.{Done, done, ids, numbers_of, fresh_by}
 use Rattle.cell_world.specs.Coherent.{IsCoherent}
 use Rattle.cell_world.specs.Kept.{holding_of}
 use Rattle.cell_world.specs.Outcome.{Outcome, ◌>>=◌, ◌>>◌, refused_by}
-use Rattle.cell_world.specs.UnloadCommand.{detach, first_held, garbage_of, named_cells, next_purge, next_unload, purged, put_aside, without_cells}
+use Rattle.cell_world.specs.Commands.UnloadCommand.{detach, first_held, garbage_of, named_cells, next_purge, next_unload, purged, put_aside, without_cells}
 use Rattle.cell_world.specs.World.{World, Cell}
-use Rattle.cell_lemmas.proofs.Appended.{ok_same}
-use Rattle.cell_lemmas.proofs.Relinked.{map_twice}
+use Rattle.cell_lemmas.proofs.Naming.Appended.{ok_same}
+use Rattle.cell_lemmas.proofs.Fields.Relinked.{map_twice}
 use Rattle.cell_machine.proofs.Counts.{counts_stand}
 use Rattle.cell_num.proofs.Sublists.{In-fixed}
 use Rattle.cell_world.specs.Following.{FailsAs}
 use Rattle.cell_world.specs.declared.fail.Fail.{Fail}
 use Rattle.cell_world.specs.declared.fail.Fail.TheVariants.{Refused, OutOfMemory}
-use Rattle.cell_lemmas.proofs.PutAside.{aside_left, closed_aside, roots_aside}
-use Rattle.cell_lemmas.proofs.RemoveCoherent.{remove_coherent}
+use Rattle.cell_lemmas.proofs.Naming.PutAside.{aside_left, closed_aside, roots_aside}
+use Rattle.cell_lemmas.proofs.Holding.RemoveCoherent.{remove_coherent}
 use Rattle.cell_machine.specs.declared.machine.Machine.{Machine}
 use Rattle.cell_machine.specs.Does.{Does, HasDone, patched_by, no_stack}
 use Rattle.cell_machine.specs.Machine.{IsSound, world_of}
@@ -57,6 +57,7 @@ module _ (old : Machine) (sound : IsSound old) (cells removed : List CellId) (ne
       joined = swept.left.joined;
       table = swept.left.table;
       base = swept.left.base;
+      soft = swept.left.soft;
       sections = swept.left.sections;
       seals = swept.left.seals;
       patches = subst (λ (n : ℕ). n ≤ 2 ^ 64 - 1) (sym swept.left.patches) sound.patches;

@@ -4,7 +4,7 @@ use Rattle.std.specs.Prelude.{◌==◌, filter, is_some}
 use Rattle.std.specs.List.{list_all}
 use Rattle.std.proofs.lemmas.Bool.{and_parts, cases_lt, eqb-true, eq-eqb}
 use Rattle.std.proofs.lemmas.List.Sums.{fold-append}
-use Rattle.cell_lemmas.proofs.Distinct.{pairs_first}
+use Rattle.cell_lemmas.proofs.Placement.Distinct.{pairs_first}
 use Rattle.cell_num.specs.Lists.{In, each_pair, holds}
 use Rattle.cell_num.proofs.Elements.{In-filtered, In-left, all-In, filter-In, filter_all, find_there, found-In, some_has}
 use Rattle.cell_mem.specs.Index.{IsLaid}
@@ -12,7 +12,7 @@ use Rattle.cell_mem.specs.State.{MemoryState, region_from, size_of, unmapped}
 use Rattle.cell_mem.specs.Undo.{with_unmapped}
 use Rattle.cell_mem.proofs.Filling.{filled_above, filled_below, filled_inside, length-filled}
 use Rattle.cell_mem.proofs.Laid.{Lies, covers_from, covers_high, covers_low}
-use Rattle.cell_world.specs.Memory.{covers}
+use Rattle.cell_world.specs.Running.Memory.{covers}
 use Rattle.cell_world.specs.World.{Region}
 use Rattle.cell_unload.specs.Unmapped.{CanLeave, differs, without_regions}
 use Rattle.cell_mem.proofs.LaidApart.{covers_alone, laid_some, lies_in}

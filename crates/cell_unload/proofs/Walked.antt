@@ -11,11 +11,11 @@ use Rattle.cell_num.specs.Lists.{each_pair, holds, In}
 use Rattle.cell_world.specs.declared.state.NewCell.{NewCell}
 use Rattle.cell_world.specs.Answer.{numbers_of}
 use Rattle.cell_world.specs.Kept.{Holding}
-use Rattle.cell_world.specs.UnloadCommand.{garbage_of}
+use Rattle.cell_world.specs.Commands.UnloadCommand.{garbage_of}
 use Rattle.cell_world.specs.World.{Cell}
 use Rattle.cell_num.proofs.Elements.{all-In, In-filtered, pairs-map}
 use Rattle.cell_num.proofs.Sublists.{and_left, and_right}
-use Rattle.cell_lemmas.proofs.KeptPaths.{kept_order}
+use Rattle.cell_lemmas.proofs.Holding.KeptPaths.{kept_order}
 use Rattle.cell_space.specs.Joined.{placed_of}
 use Rattle.cell_machine.specs.declared.machine.Machine.{Machine}
 use Rattle.cell_machine.specs.Machine.{IsSound, world_of}

@@ -6,7 +6,7 @@ use Rattle.std.specs.List.{list_any}
 use Rattle.cell_num.specs.declared.ids.CellId.{CellId}
 use Rattle.cell_hold.specs.declared.roots.Root.{Root}
 use Rattle.cell_hold.specs.declared.roots.Root.TheVariants.{Attached, Task}
-use Rattle.cell_world.specs.MapCommand.{group_of}
+use Rattle.cell_world.specs.Commands.MapCommand.{group_of}
 use Rattle.cell_world.specs.World.{Cell, Task as LiveTask}
 
 abbrev pub is_aside : List CellId → CellId → Bool

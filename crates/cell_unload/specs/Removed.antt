@@ -13,10 +13,10 @@ use Rattle.cell_unload.specs.Unmapped.{CanLeave, IsTabled, lost_starts, without_
 use Rattle.cell_num.specs.declared.ids.CellId.{CellId}
 use Rattle.cell_commit.specs.Seals.{seal_table}
 use Rattle.cell_machine.specs.declared.machine.Machine.{Machine}
-use Rattle.cell_machine.specs.Machine.{field_bytes, keys_of, world_of}
+use Rattle.cell_machine.specs.Machine.{field_bytes, keys_of, soft_of, world_of}
 use Rattle.cell_space.specs.Joined.{AreJoined}
-use Rattle.cell_world.specs.Place.{page_table}
-use Rattle.cell_world.specs.UnloadCommand.{without_cells}
+use Rattle.cell_world.specs.Placed.Place.{page_table}
+use Rattle.cell_world.specs.Commands.UnloadCommand.{without_cells}
 
 pub record CanGo (m : Machine) (cells : List CellId) : Type 0 where
   pub places : All (λ c. IsTrue (each_pair (λ a b. nat_lt a.section b.section) c.places)) m.cells.items
@@ -35,6 +35,7 @@ pub record IsTaken (old : Machine) (cells : List CellId) (new : Machine) : Type 
   pub rows : new.graph.rows ≡ links_without cells old.graph.rows
   pub sections : new.graph.sections ≡ sections_without cells old.graph.sections
   pub left : new.cells.items ≡ filter (λ c. not (holds (map (λ d. d.0) cells) c.id.0)) old.cells.items
+  pub soft : new.soft.items ≡ filter (λ c. not (holds (map (λ d. d.0) cells) c.0)) old.soft.items
   pub next : new.next ≡ old.next
   pub swaps : new.swaps ≡ old.swaps
   pub tasks : new.tasks ≡ old.tasks
@@ -44,6 +45,7 @@ pub record IsRemoved (old : Machine) (cells : List CellId) (new : Machine) : Typ
   pub joined : AreJoined new.cells.items new.spaces.cells
   pub table : new.space.taken ≡ page_table (world_of new)
   pub base : new.space.base ≡ new.memory.base
+  pub soft : new.soft.items ≡ soft_of new.cells.items
   pub sections : new.graph.sections ≡ keys_of new.cells.items
   pub seals : new.memory.sealed ≡ seal_table new.memory.base (page_size * new.memory.pages) (field_bytes new.cells.items)
   pub undo : new.memory.undo ≡ None

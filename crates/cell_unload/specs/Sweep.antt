@@ -24,7 +24,7 @@ use Rattle.cell_machine.specs.Same.{IsSame}
 use Rattle.cell_world.specs.Answer.{numbers_of}
 use Rattle.cell_world.specs.Kept.{Holding, holding_of, kept_in, placed_in}
 use Rattle.cell_world.specs.Outcome.{Outcome, ◌>>=◌}
-use Rattle.cell_world.specs.UnloadCommand.{attached_cell, detach, first_held, garbage_of, held_refusal, named_cells}
+use Rattle.cell_world.specs.Commands.UnloadCommand.{attached_cell, detach, first_held, garbage_of, held_refusal, named_cells}
 use Rattle.cell_world.specs.World.{World}
 use Rattle.cell_world.specs.declared.command.CellName.{CellName}
 use Rattle.cell_world.specs.declared.refusal.Refusal.{Refusal}

@@ -10,10 +10,10 @@ use Rattle.cell_num.specs.Limits.{max_pages, page_size}
 use Rattle.cell_num.specs.Lists.{each_pair, holds, upto, In}
 use Rattle.cell_mem.specs.State.{MemoryState, region_from, unmapped}
 use Rattle.cell_place.specs.Space.{SpaceState}
-use Rattle.cell_world.specs.Memory.{covers}
-use Rattle.cell_world.specs.Relink.{class_start}
+use Rattle.cell_world.specs.Running.Memory.{covers}
+use Rattle.cell_world.specs.Linked.Relink.{class_start}
 use Rattle.cell_world.specs.declared.layout.Class.{Class}
-use Rattle.cell_world.specs.UnloadCommand.{starts_of}
+use Rattle.cell_world.specs.Commands.UnloadCommand.{starts_of}
 use Rattle.cell_world.specs.World.{Cell}
 
 abbrev pub table_of : MemoryState → List Bool

@@ -7,7 +7,7 @@ ghost use Rattle.cell_space.specs.Named.{cell_at, number_as};
 ghost use Rattle.cell_space.specs.Spaces.{namespace_named};
 ghost use Rattle.cell_machine.specs.Unknown.{IsUnknown};
 ghost use Rattle.cell_unload.specs.Sweep.{cell_numbered, cells_numbered};
-ghost use Rattle.cell_world.specs.UnloadCommand.{cell_word};
+ghost use Rattle.cell_world.specs.Commands.UnloadCommand.{cell_word};
 
 use cell_machine::{Machine, unknown};
 use cell_num::CellId;

@@ -3,8 +3,8 @@
 ghost use Rattle.std.specs.Prelude.{◌≡◌, IsTrue, is_some, nat_lt, true};
 ghost use Rattle.cell_mem.specs.State.{region_from, unmapped};
 ghost use Rattle.cell_num.specs.Lists.{each_pair};
-ghost use Rattle.cell_world.specs.Relink.{class_start};
-ghost use Rattle.cell_world.specs.UnloadCommand.{starts_of};
+ghost use Rattle.cell_world.specs.Linked.Relink.{class_start};
+ghost use Rattle.cell_world.specs.Commands.UnloadCommand.{starts_of};
 ghost use Rattle.cell_world.specs.World.{attached};
 ghost use Rattle.cell_unload.specs.Unmapped.{CanLeave, IsTabled, class_starts, without_regions};
 

@@ -73,6 +73,13 @@ fn leave_others(present: &mut Vec<NewCell>, cells: &[CellId])
     present.retain(|cell| !is_listed(cells, cell.id));
 }
 
+/// Takes the cells out of a list.
+fn leave_numbers(numbers: &mut Vec<CellId>, cells: &[CellId])
+    ensures { numbers.new.items ≡ filter (λ c. not (holds (map (λ d. d.0) cells.now) c.0)) numbers.old.items }
+{
+    numbers.retain(|cell| !is_listed(cells, *cell));
+}
+
 /// Takes the cells with their names, links, sections, regions and pages away.
 pub fn take_away(machine: &mut Machine, cells: &[CellId])
     requires { CanGo machine.old cells.now }
@@ -89,6 +96,7 @@ pub fn take_away(machine: &mut Machine, cells: &[CellId])
     drop_cells(&mut machine.spaces, cells);
     remove_links(&mut machine.graph, cells);
     leave_others(&mut machine.cells, cells);
+    leave_numbers(&mut machine.soft, cells);
 }
 
 /// Removes the cells from a machine that is coherent and is so without them.

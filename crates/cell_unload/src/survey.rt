@@ -4,7 +4,7 @@ ghost use Rattle.std.specs.Prelude.{◌≡◌, ◌≤◌, ◌<◌, ◌+◌, ◌+
 ghost use Rattle.cell_machine.specs.Machine.{IsSound, IsWhole};
 ghost use Rattle.cell_num.specs.Lists.{holds};
 ghost use Rattle.cell_num.specs.declared.ids.CellId.{CellId as IdOfCell};
-ghost use Rattle.cell_world.specs.UnloadCommand.{first_held, garbage_of};
+ghost use Rattle.cell_world.specs.Commands.UnloadCommand.{first_held, garbage_of};
 ghost use Rattle.cell_world.specs.declared.refusal.Refusal.TheVariants.{Held};
 ghost use Rattle.cell_unload.specs.Sweep.{IsOutlook, IsSurvey, SomeOutlook, SomeSurvey, after_next, aside_in, holding_in, refusal_of, unless_next};
 

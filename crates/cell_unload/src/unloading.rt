@@ -2,7 +2,7 @@
 
 ghost use Rattle.cell_machine.specs.Does.{Does, no_stack};
 ghost use Rattle.cell_machine.specs.Machine.{IsSound, world_of};
-ghost use Rattle.cell_world.specs.UnloadCommand.{next_purge, next_unload};
+ghost use Rattle.cell_world.specs.Commands.UnloadCommand.{next_purge, next_unload};
 
 use crate::named::named_cells;
 use crate::sweep::sweep;

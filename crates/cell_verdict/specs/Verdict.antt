@@ -4,7 +4,7 @@
 --     Writes said status old new       how an answer and what was written stand to them
 use Rattle.std.specs.Prelude.{◌≡◌, ◌⊎◌, ℕ, List, [], ◌∷◌, map, Option, Some, None, Result, Ok, Err}
 use Rattle.std.specs.Io.KnownBytes.{Appends}
-use Rattle.cell_num.specs.Limits.{max_names, max_files, max_file_bytes, max_all_bytes}
+use Rattle.cell_num.specs.Limits.{max_names, max_files, max_file_bytes, max_all_bytes, max_dump_bytes}
 use Rattle.cell_io.specs.Files.{File, folder}
 use Rattle.cell_io.specs.Written.{AppendsPartOf}
 use Rattle.cell_io.specs.Within.{◌>>=◌}
@@ -20,10 +20,6 @@ use Rattle.cell_verdict.specs.declared.status.AuditWhat.TheVariants.{Names, File
 use Rattle.cell_verdict.specs.declared.status.Reason.{Reason}
 use Rattle.cell_verdict.specs.declared.status.Reason.TheVariants.{NoDump, TooLarge}
 use Rattle.cell_verdict.specs.Lines.{clean_line, fault_lines, reason_line, usage_line}
-
--- 64 MiB
-abbrev pub max_dump_bytes : ℕ
-max_dump_bytes = 67108864
 
 -- what refuses an audit, each for its cause
 abbrev pub refusals : Refusals Reason

@@ -5,14 +5,16 @@ ghost use Rattle.cell_io.specs.Causes.{HasCause};
 ghost use Rattle.cell_io.specs.Files.{folder};
 ghost use Rattle.cell_io.specs.Within.{IfTold, Gives};
 ghost use Rattle.cell_input.specs.Objects.{AreObjectFiles};
-ghost use Rattle.cell_verdict.specs.Verdict.{max_dump_bytes, verdict_in, verdict_of};
+ghost use Rattle.cell_num.specs.Limits.{max_dump_bytes};
+ghost use Rattle.cell_verdict.specs.Verdict.{verdict_in, verdict_of};
 
-use crate::status::{MAX_DUMP_BYTES, REFUSALS, Reason};
+use crate::status::{REFUSALS, Reason};
 use cell_audit::AuditFail;
 use cell_compared::audit;
 use cell_depot::Depot;
 use cell_input::{Beside, Folder, take_folder};
 use cell_io::{Host, Stop};
+use cell_num::MAX_DUMP_BYTES;
 use std::alloc::Global;
 
 /// Reads the folder, and audits the dump of that name in it: nothing where it is clean, or its first fault.

@@ -4,10 +4,7 @@ ghost use Rattle.std.specs.Prelude.{◌≡◌, ◌≢◌};
 ghost use Rattle.cell_verdict.specs.Verdict.{status_of};
 
 use cell_input::Refusals;
-use cell_num::{MAX_ALL_BYTES, MAX_FILE_BYTES, MAX_FILES, MAX_NAMES};
-
-/// The bytes that the file of a dump may have: 64 MiB.
-pub const MAX_DUMP_BYTES: u32 = 67_108_864;
+use cell_num::{MAX_ALL_BYTES, MAX_DUMP_BYTES, MAX_FILE_BYTES, MAX_FILES, MAX_NAMES};
 
 /// What there is too much of.
 #[derive(Clone, Copy, Debug, PartialEq, Eq)]

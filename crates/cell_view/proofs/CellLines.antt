@@ -5,7 +5,7 @@ use Rattle.std.proofs.lemmas.List.{length-map, take_all}
 use Rattle.cell_num.specs.Lists.{numbered_from, In}
 use Rattle.cell_object.specs.declared.object.Symbol.{Symbol}
 use Rattle.cell_world.specs.declared.state.NewCell.{NewCell}
-use Rattle.cell_world.specs.MapCommand.{group_of}
+use Rattle.cell_world.specs.Commands.MapCommand.{group_of}
 use Rattle.cell_world.specs.Names.{definitions_of, is_definition, names_of}
 use Rattle.cell_world.specs.World.{World, Cell, Alias, is_attached}
 use Rattle.cell_world.specs.declared.state.Standing.{Standing}

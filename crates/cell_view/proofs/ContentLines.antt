@@ -6,8 +6,8 @@ use Rattle.std.proofs.lemmas.List.{take_min, drop_all}
 use Rattle.cell_num.specs.Lists.{where_true}
 use Rattle.cell_object.specs.declared.object.Section.{Section as ObjectSection}
 use Rattle.cell_world.specs.declared.state.NewCell.{NewCell}
-use Rattle.cell_world.specs.Memory.{end_of, part_of, read_in, region_in}
-use Rattle.cell_world.specs.Target.{start_of}
+use Rattle.cell_world.specs.Running.Memory.{end_of, part_of, read_in, region_in}
+use Rattle.cell_world.specs.Linked.Target.{start_of}
 use Rattle.cell_world.specs.World.{Region}
 use Rattle.cell_world.specs.declared.line.DumpLine.{DumpLine}
 use Rattle.cell_world.specs.declared.line.DumpLine.TheVariants.{Content}

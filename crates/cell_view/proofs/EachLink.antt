@@ -11,11 +11,11 @@ use Rattle.cell_world.specs.declared.state.LinkRow.{LinkRow}
 use Rattle.cell_world.specs.declared.state.Target.{Target}
 use Rattle.cell_world.specs.declared.state.Target.TheVariants.{Section, Number}
 use Rattle.cell_world.specs.Coherent.{IsCoherent}
-use Rattle.cell_world.specs.Relink.{link_of, link_to}
-use Rattle.cell_world.specs.Target.{target_of}
+use Rattle.cell_world.specs.Linked.Relink.{link_of, link_to}
+use Rattle.cell_world.specs.Linked.Target.{target_of}
 use Rattle.cell_world.specs.World.{World, Cell}
 use Rattle.cell_num.proofs.Elements.{all-In, filter_all, filter_none, flat_same}
-use Rattle.cell_lemmas.proofs.Present.{In-filter_map}
+use Rattle.cell_lemmas.proofs.Targeting.Present.{In-filter_map}
 use Rattle.cell_world.specs.DumpLines.{link_line}
 use Rattle.cell_space.specs.Joined.{placed_of}
 use Rattle.cell_machine.specs.declared.machine.Machine.{Machine}

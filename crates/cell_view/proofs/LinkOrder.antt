@@ -17,8 +17,8 @@ use Rattle.cell_world.specs.World.{World, Cell, cell_of, key_of}
 use Rattle.cell_world.specs.Coherent.{IsCoherent}
 use Rattle.cell_lemmas.specs.Present.{HasSection, JoinsPresent}
 use Rattle.cell_num.proofs.Elements.{All-In, found-In, any-In, any-Has, map-In, In-map, pairs-map, pairs_same}
-use Rattle.cell_lemmas.proofs.Known.{object_sound}
-use Rattle.cell_lemmas.proofs.Present.{links_present, some_same}
+use Rattle.cell_lemmas.proofs.Naming.Known.{object_sound}
+use Rattle.cell_lemmas.proofs.Targeting.Present.{links_present, some_same}
 use Rattle.cell_num.proofs.Sublists.{pairs-filter}
 use Rattle.cell_graph.specs.Links.{is_same}
 use Rattle.cell_machine.specs.Machine.{section_keys}

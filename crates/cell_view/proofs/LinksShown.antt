@@ -9,7 +9,7 @@ use Rattle.cell_world.specs.declared.state.LinkRow.{LinkRow}
 use Rattle.cell_object.specs.declared.object.Entry.{Entry}
 use Rattle.cell_world.specs.declared.state.NewCell.{NewCell}
 use Rattle.cell_world.specs.Answer.{done, present_cell}
-use Rattle.cell_world.specs.LinkCommands.{link_line, next_deps, next_users}
+use Rattle.cell_world.specs.Commands.LinkCommands.{link_line, next_deps, next_users}
 use Rattle.cell_world.specs.World.{World, Cell, cell_of}
 use Rattle.cell_num.specs.Lists.{In}
 use Rattle.cell_num.proofs.Elements.{flat_map-In}

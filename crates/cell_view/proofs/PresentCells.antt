@@ -6,7 +6,7 @@ use Rattle.cell_world.specs.World.{Cell}
 use Rattle.cell_world.specs.Coherent.{is_known_cell}
 use Rattle.cell_num.specs.Lists.{In}
 use Rattle.cell_num.proofs.Elements.{all-In}
-use Rattle.cell_lemmas.proofs.Known.{known_parts}
+use Rattle.cell_lemmas.proofs.Naming.Known.{known_parts}
 use Rattle.cell_machine.specs.declared.machine.Machine.{Machine}
 use Rattle.cell_machine.specs.Machine.{IsSound, world_of}
 use Rattle.cell_machine.proofs.Joined.{cell_in}

@@ -12,11 +12,11 @@ use Rattle.cell_world.specs.declared.state.Namespace.{Namespace}
 use Rattle.cell_world.specs.declared.state.NewCell.{NewCell}
 use Rattle.cell_world.specs.World.{World, Cell, cell_of, key_of}
 use Rattle.cell_world.specs.Answer.{done, present_cell}
-use Rattle.cell_world.specs.DumpCommand.{next_dump}
+use Rattle.cell_world.specs.Commands.DumpCommand.{next_dump}
 use Rattle.cell_world.specs.Gather.{name_of_ns}
-use Rattle.cell_world.specs.MapCommand.{group_of, map_cell}
+use Rattle.cell_world.specs.Commands.MapCommand.{group_of, map_cell}
 use Rattle.cell_world.specs.Outcome.{found}
-use Rattle.cell_world.specs.Target.{start_of}
+use Rattle.cell_world.specs.Linked.Target.{start_of}
 use Rattle.cell_num.specs.Lists.{In}
 use Rattle.cell_num.proofs.Elements.{found-In}
 use Rattle.cell_lemmas.proofs.Binds.{bind_is}
@@ -24,7 +24,7 @@ use Rattle.cell_machine.specs.declared.machine.Machine.{Machine}
 use Rattle.cell_space.specs.Joined.{placed_of}
 use Rattle.cell_machine.specs.Machine.{world_of}
 use Rattle.cell_view.specs.Shows.{section_shown}
-use Rattle.cell_world.specs.Memory.{read_in}
+use Rattle.cell_world.specs.Running.Memory.{read_in}
 
 named : (o : Option Namespace) (name : List ℕ) → option_map (λ (s : Namespace). s.name) o ≡ Some name → elim o as (λ _. List ℕ) [ None ↦ [] | Some space ↦ space.name ] ≡ name
 named None name e = absurd cc

@@ -5,7 +5,7 @@ use Rattle.std.specs.Prelude.{◌<◌, nat_lt, IsTrue, length}
 use Rattle.cell_num.specs.Lists.{each_pair}
 use Rattle.cell_object.specs.declared.object.Section.{Section as ObjectSection}
 use Rattle.cell_world.specs.declared.state.NewCell.{NewCell}
-use Rattle.cell_world.specs.Target.{start_of}
+use Rattle.cell_world.specs.Linked.Target.{start_of}
 use Rattle.cell_world.specs.declared.reply.MapSection.{MapSection}
 use Rattle.cell_machine.specs.declared.machine.Machine.{Machine}
 

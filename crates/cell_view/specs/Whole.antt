@@ -11,8 +11,8 @@ use Rattle.cell_num.specs.Lists.{numbered, In}
 use Rattle.cell_object.specs.declared.object.Section.{Section as ObjectSection}
 use Rattle.cell_world.specs.declared.state.LinkRow.{LinkRow}
 use Rattle.cell_world.specs.declared.state.NewCell.{NewCell}
-use Rattle.cell_world.specs.Memory.{read_in}
-use Rattle.cell_world.specs.Target.{start_of}
+use Rattle.cell_world.specs.Running.Memory.{read_in}
+use Rattle.cell_world.specs.Linked.Target.{start_of}
 use Rattle.cell_world.specs.World.{World, Cell, Alias, Region, is_attached}
 use Rattle.cell_world.specs.declared.line.DumpLine.{DumpLine}
 use Rattle.cell_world.specs.declared.line.DumpLine.TheVariants.{Space, Place, Alias as AliasLine}

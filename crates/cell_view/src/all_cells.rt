@@ -2,7 +2,7 @@
 
 ghost use Rattle.std.specs.Prelude.{◌≡◌, ◌++◌, IfOk, IsTrue, OnOk, drop, filter, flat_map, length, map, nat_lt};
 ghost use Rattle.cell_num.specs.Lists.{each_pair, In};
-ghost use Rattle.cell_world.specs.MapCommand.{group_of};
+ghost use Rattle.cell_world.specs.Commands.MapCommand.{group_of};
 ghost use Rattle.cell_world.specs.Names.{is_definition as definition, names_of as names_in};
 ghost use Rattle.cell_world.specs.World.{Cell};
 ghost use Rattle.cell_world.specs.declared.line.DumpLine.TheVariants.{Cell as CellLine};
@@ -12,7 +12,7 @@ ghost use Rattle.cell_view.specs.Whole.{Adds, alias_shown, place_shown};
 
 use cell_machine::Machine;
 use cell_num::Name;
-use cell_object::{Bind, Home, Section, Symbol};
+use cell_object::{Section, Symbol, is_definition};
 use cell_placed::start_of;
 use cell_space::NameRows;
 use cell_world::{DumpLine, NewCell};
@@ -66,14 +66,7 @@ fn add_places(cell: &NewCell, lines: &mut Vec<DumpLine>) -> Result<(), AllocErro
     Ok(())
 }
 
-/// Whether the symbol is a GLOBAL that its object defines.
-fn is_definition(symbol: &Symbol) -> bool
-    ensures { result ≡ definition symbol.now }
-{
-    symbol.bind == Bind::Global && matches!(symbol.home, Home::Inside(_))
-}
-
-/// How many of the symbols are.
+/// How many of the symbols are definitions.
 fn definition_count(symbols: &[Symbol]) -> usize
     ensures { result ≡ length (filter definition symbols.now) }
 {

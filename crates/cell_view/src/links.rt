@@ -2,7 +2,7 @@
 
 ghost use Rattle.std.specs.Prelude.{◌≡◌, ◌==◌, ◌++◌, ◌∷◌, [], Contains, IfOk, OnOk, filter, filter_map, option_map};
 ghost use Rattle.std.specs.List.Sorted.{IsPermutation};
-ghost use Rattle.cell_world.specs.LinkCommands.{link_line as line_of, next_deps, next_users};
+ghost use Rattle.cell_world.specs.Commands.LinkCommands.{link_line as line_of, next_deps, next_users};
 ghost use Rattle.cell_graph.specs.Links.{links_to};
 ghost use Rattle.cell_machine.specs.Machine.{IsSound, section_keys, world_of};
 ghost use Rattle.cell_view.specs.Links.{AreInOrder, HasSections, links_in};

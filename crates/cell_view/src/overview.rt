@@ -2,7 +2,7 @@
 
 ghost use Rattle.std.specs.Prelude.{◌≡◌, IfOk, IsTrue, map, nat_lt};
 ghost use Rattle.cell_num.specs.Lists.{each_pair, In};
-ghost use Rattle.cell_world.specs.MapCommand.{map_cell as shown_cell, next_map};
+ghost use Rattle.cell_world.specs.Commands.MapCommand.{map_cell as shown_cell, next_map};
 ghost use Rattle.cell_world.specs.World.{Cell};
 ghost use Rattle.cell_machine.specs.Machine.{IsSound, world_of};
 ghost use Rattle.cell_world.specs.Following.{Follows};

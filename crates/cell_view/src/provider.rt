@@ -1,7 +1,7 @@
 //! Who provides a name.
 
 ghost use Rattle.std.specs.Prelude.{◌≡◌, ◌<◌, length};
-ghost use Rattle.cell_world.specs.FindCommand.{found_at as place_at, found_in as place_in, next_find};
+ghost use Rattle.cell_world.specs.Commands.FindCommand.{found_at as place_at, found_in as place_in, next_find};
 ghost use Rattle.cell_machine.specs.Machine.{IsSound, world_of};
 ghost use Rattle.cell_world.specs.Following.{Follows};
 ghost use Rattle.cell_machine.specs.Does.{answer_in};

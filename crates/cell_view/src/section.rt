@@ -1,9 +1,9 @@
 //! The bytes of a section as they are now.
 
 ghost use Rattle.std.specs.Prelude.{◌≡◌, IfOk, unwrap_or, []};
-ghost use Rattle.cell_world.specs.DumpCommand.{next_dump};
+ghost use Rattle.cell_world.specs.Commands.DumpCommand.{next_dump};
 ghost use Rattle.cell_machine.specs.Machine.{IsSound, world_of};
-ghost use Rattle.cell_world.specs.Memory.{read_in};
+ghost use Rattle.cell_world.specs.Running.Memory.{read_in};
 ghost use Rattle.cell_world.specs.Following.{Follows};
 ghost use Rattle.cell_machine.specs.Does.{answer_in};
 

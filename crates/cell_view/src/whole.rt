@@ -1,7 +1,7 @@
 //! The whole machine, line by line.
 
 ghost use Rattle.std.specs.Prelude.{◌≡◌, IfOk};
-ghost use Rattle.cell_world.specs.DumpAllCommand.{next_dump_all};
+ghost use Rattle.cell_world.specs.Commands.DumpAllCommand.{next_dump_all};
 ghost use Rattle.cell_world.specs.DumpLines.{dump_lines};
 ghost use Rattle.cell_world.specs.Following.{Follows};
 ghost use Rattle.cell_machine.specs.Does.{answer_in};

@@ -12,18 +12,17 @@ use Rattle.std.specs.Prelude.{ℕ, suc, ◌+◌, nat_lt, Bool, false, not, ◌&&
 use Rattle.cell_num.specs.Lists.{holds}
 use Rattle.cell_world.specs.declared.refusal.Refusal.{Refusal}
 use Rattle.cell_world.specs.World.{World, Cell}
-use Rattle.cell_world.specs.Relink.{relink}
-use Rattle.cell_world.specs.Place.{place_all}
+use Rattle.cell_world.specs.Linked.Relink.{field_count, relink}
+use Rattle.cell_world.specs.Placed.Place.{place_all}
 use Rattle.cell_world.specs.Gather.{Source, Need, append_cell, bring, fresh_cells, first_lack, missing}
-use Rattle.cell_world.specs.LoadCommand.{field_count}
-use Rattle.cell_world.specs.UnloadCommand.{detach, garbage_of, without_cells, first_held}
+use Rattle.cell_world.specs.Commands.UnloadCommand.{detach, garbage_of, without_cells, first_held}
 use Rattle.cell_world.specs.Kept.{holding_of}
 use Rattle.cell_world.specs.Reexport.{Exchange, with_reexports}
 use Rattle.cell_world.specs.Changed.{FieldAt, changed_fields}
-use Rattle.cell_world.specs.Linking.{link_refusal}
+use Rattle.cell_world.specs.Linked.Linking.{link_refusal}
 use Rattle.cell_world.specs.declared.transfer.Routine.{Routine}
-use Rattle.cell_world.specs.Transfer.{Addresses, transfer}
-use Rattle.cell_world.specs.SwapTransfer.{begins_of, stack_for, routines_in, addresses_in, transferred_by}
+use Rattle.cell_world.specs.Running.Transfer.{Addresses, transfer}
+use Rattle.cell_world.specs.Commands.SwapTransfer.{begins_of, stack_for, routines_in, addresses_in, transferred_by}
 use Rattle.cell_world.specs.Outcome.{Outcome, ◌>>=◌, ◌>>◌, refused_by, each}
 use Rattle.cell_world.specs.Answer.{numbers_of}
 

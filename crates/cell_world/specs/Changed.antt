@@ -13,10 +13,10 @@ use Rattle.cell_world.specs.declared.refusal.Refusal.{Refusal}
 use Rattle.cell_world.specs.declared.state.Target.{Target}
 use Rattle.cell_world.specs.declared.state.Target.TheVariants.{Section, Number}
 use Rattle.cell_world.specs.World.{World, Cell, cell_of}
-use Rattle.cell_world.specs.Target.{target_of}
-use Rattle.cell_world.specs.Field.{fields_of, is_at, fits}
-use Rattle.cell_world.specs.Relink.{bound_entries}
-use Rattle.cell_world.specs.Fit.{overflow_at}
+use Rattle.cell_world.specs.Linked.Target.{target_of}
+use Rattle.cell_world.specs.Linked.Field.{fields_of, is_at, fits}
+use Rattle.cell_world.specs.Linked.Relink.{bound_entries}
+use Rattle.cell_world.specs.Linked.Fit.{overflow_at}
 
 abbrev pub is_same_key : SecKey → SecKey → Bool
 is_same_key a b = a.cell.0 == b.cell.0 && a.section == b.section

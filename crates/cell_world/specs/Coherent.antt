@@ -2,33 +2,25 @@
 --     IsCoherent w         all of it
 --     IsReady w            all of it, but that memory and links are those of the objects
 --     AreSound sources     each file's object is one that a coherent machine may hold
-use Rattle.std.specs.Prelude.{slice_index, ℕ, suc, ◌+◌, ◌-◌, ◌*◌, ◌%◌, ◌^◌, ◌≡◌, ◌<◌, ◌≤◌, ◌==◌, nat_lt, nat_le, Bool, true, false, not, ◌&&◌, ◌||◌, IsTrue, List, [], ◌∷◌, ◌++◌, Result, Ok, Err, Some, None, All, is_some, is_none, map, flat_map, fold, length, codes, unwrap_or, if◌then◌else◌}
+pub use Rattle.cell_object.specs.Sound.{IsLoadable}
+use Rattle.std.specs.Prelude.{slice_index, ℕ, suc, ◌+◌, ◌-◌, ◌*◌, ◌%◌, ◌≡◌, ◌<◌, ◌≤◌, ◌==◌, nat_lt, nat_le, Bool, true, false, not, ◌&&◌, ◌||◌, IsTrue, List, [], ◌∷◌, ◌++◌, Result, Ok, Err, Some, None, All, is_some, is_none, map, flat_map, fold, length, codes, unwrap_or, if◌then◌else◌}
 use Rattle.std.specs.List.{list_any, list_all}
 use Rattle.cell_object.specs.declared.object.Object.{Object}
 use Rattle.cell_object.specs.Bytes.{Broken}
-use Rattle.cell_object.specs.Parts.{has_no_weak}
-use Rattle.cell_object.specs.Sound.{IsSoundObject}
 use Rattle.cell_world.specs.declared.state.Namespace.{Namespace}
 use Rattle.cell_num.specs.Limits.{max_cell_number, max_cells, max_namespaces, max_task_number, max_tasks, page_size, stack_size}
 use Rattle.cell_world.specs.World.{World, Cell, Region, Permission, Task, Standing, is_attached, cell_of}
 use Rattle.cell_world.specs.declared.state.Standing.TheVariants.{Attached, Detached}
 use Rattle.cell_num.specs.Lists.{equals, holds_name, numbered, each_pair}
-use Rattle.cell_world.specs.Pages.{IsSpace}
+use Rattle.cell_world.specs.Placed.Pages.{IsSpace}
 use Rattle.cell_world.specs.Names.{are_on_one_path, names_of, needs_of, provider_of, definitions_of, weak_definitions_of}
-use Rattle.cell_world.specs.Target.{start_of}
-use Rattle.cell_world.specs.Field.{misfit_of}
-use Rattle.cell_world.specs.Relink.{class_start, bound_entries, relink}
-use Rattle.cell_world.specs.Layout.{sections_in, image_of, permission_of, offset_in}
+use Rattle.cell_world.specs.Linked.Target.{start_of}
+use Rattle.cell_world.specs.Linked.Field.{misfit_of}
+use Rattle.cell_world.specs.Linked.Relink.{class_start, bound_entries, relink}
+use Rattle.cell_world.specs.Placed.Layout.{sections_in, image_of, permission_of, offset_in}
 use Rattle.cell_world.specs.declared.layout.Class.TheVariants.{Text, ReadOnly, Writable}
 use Rattle.cell_world.specs.declared.layout.Class.{Class}
 use Rattle.cell_world.specs.Gather.{Source}
-
--- an object that a present cell may have. None is read that has a WEAK symbol, so none has one
-pub record IsLoadable (object : Object) : Type 0 where
-  pub sound : IsSoundObject object
-  pub symbols : length object.symbols < 2 ^ 32
-  pub entries : length object.entries < 2 ^ 32
-  pub plain : IsTrue (has_no_weak object)
 
 abbrev pub IsLoadableReading : Result Object Broken → Type 0
 IsLoadableReading (Ok object) = IsLoadable object

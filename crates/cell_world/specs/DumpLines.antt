@@ -9,11 +9,11 @@ use Rattle.cell_object.specs.declared.object.Section.{Section as ObjectSection}
 use Rattle.cell_world.specs.declared.reply.Found.{Found}
 use Rattle.cell_world.specs.declared.state.LinkRow.{LinkRow}
 use Rattle.cell_world.specs.declared.state.Namespace.{Namespace}
-use Rattle.cell_world.specs.FindCommand.{found_at}
-use Rattle.cell_world.specs.MapCommand.{group_of}
-use Rattle.cell_world.specs.Memory.{read}
+use Rattle.cell_world.specs.Commands.FindCommand.{found_at}
+use Rattle.cell_world.specs.Commands.MapCommand.{group_of}
+use Rattle.cell_world.specs.Running.Memory.{read}
 use Rattle.cell_world.specs.Names.{names_of, provider_for}
-use Rattle.cell_world.specs.Target.{provided_target, start_of}
+use Rattle.cell_world.specs.Linked.Target.{provided_target, start_of}
 use Rattle.cell_world.specs.World.{World, Cell, Alias, is_attached}
 use Rattle.cell_world.specs.declared.state.Standing.TheVariants.{Attached}
 use Rattle.cell_world.specs.declared.line.DumpLine.{DumpLine}

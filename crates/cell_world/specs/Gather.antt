@@ -1,5 +1,5 @@
 -- Which cells a load brings. Until they are placed they have no starts.
---     Source, source_of file      a file of the folder: its name, and what its bytes are read as
+--     Source, source_of file      a file of the folder: its name, and what its bytes are read as, lowered
 --     depot_files, file_named     the files of a namespace and a stem; the file of a name
 --     append_cell w f ns          w with a cell from the file, attached, or the first refusal
 --     grown w cells               w with these cells behind its own
@@ -10,6 +10,7 @@ use Rattle.std.specs.List.{before_first, after_first}
 use Rattle.cell_object.specs.declared.object.Object.{Object}
 use Rattle.cell_object.specs.Bytes.{Broken}
 use Rattle.cell_object.specs.Reads.{reads}
+use Rattle.cell_got.specs.Lower.{lowered}
 use Rattle.cell_world.specs.declared.file.File.{File}
 use Rattle.cell_world.specs.declared.refusal.Refusal.{Refusal}
 use Rattle.cell_world.specs.declared.refusal.Refusal.TheVariants.{TooMany, Ambiguous, BadObject, Duplicate, Missing}
@@ -21,13 +22,13 @@ use Rattle.cell_world.specs.Names.{chain, of_cell, has_stem_by, needs_of, defini
 use Rattle.cell_num.specs.Lists.{equals, is_before, first, or_else}
 use Rattle.cell_world.specs.Outcome.{Outcome, ◌>>=◌, ◌>>◌, need, found, refused_by}
 
--- a file: its name, and what its bytes are read as
+-- a file: its name, and what its bytes are read as, with slots for the entries that ask for them
 pub record Source : Type 0 where
   pub name : List ℕ
   pub reading : Result Object Broken
 
 abbrev pub source_of : File → Source
-source_of file = record { name = file.name; reading = reads file.bytes }
+source_of file = record { name = file.name; reading = lowered (reads file.bytes) }
 
 -- NS of NS#STEM.o and NS#STEM-HASH.o
 abbrev pub ns_of_file : List ℕ → List ℕ

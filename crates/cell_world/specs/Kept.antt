@@ -17,10 +17,10 @@ use Rattle.cell_world.specs.declared.state.LinkRow.{LinkRow}
 use Rattle.cell_world.specs.declared.state.Placed.{Placed}
 use Rattle.cell_world.specs.World.{World, Cell, Region, Task, is_attached, key_of}
 use Rattle.cell_world.specs.Closure.{closure}
-use Rattle.cell_world.specs.Layout.{gap}
-use Rattle.cell_world.specs.Target.{start_of}
-use Rattle.cell_world.specs.Memory.{read_in}
-use Rattle.cell_world.specs.Words.{words_in, words_of}
+use Rattle.cell_world.specs.Placed.Layout.{gap}
+use Rattle.cell_world.specs.Linked.Target.{start_of}
+use Rattle.cell_world.specs.Running.Memory.{read_in}
+use Rattle.cell_world.specs.Running.Words.{words_in, words_of}
 use Rattle.cell_world.specs.Answer.{numbers_of}
 
 -- what a task holds: the cell that it began in, and the cells that its words lie in

@@ -9,27 +9,27 @@ use Rattle.cell_world.specs.World.{World}
 use Rattle.cell_world.specs.Gather.{Source}
 use Rattle.cell_world.specs.Outcome.{Outcome}
 use Rattle.cell_world.specs.Answer.{Done}
-use Rattle.cell_world.specs.NsCommand.{next_ns}
-use Rattle.cell_world.specs.Asked.{load_by_change, swap_by_change}
-use Rattle.cell_world.specs.FindCommand.{next_find}
-use Rattle.cell_world.specs.MapCommand.{next_map}
-use Rattle.cell_world.specs.DumpCommand.{next_dump}
-use Rattle.cell_world.specs.DumpAllCommand.{next_dump_all}
-use Rattle.cell_world.specs.SpawnCommand.{next_spawn}
-use Rattle.cell_world.specs.LinkCommands.{next_deps, next_users}
-use Rattle.cell_world.specs.UnloadCommand.{next_unload, next_purge}
-use Rattle.cell_world.specs.TaskCommands.{next_step, next_run, next_kill, next_tasks}
+use Rattle.cell_world.specs.Commands.NsCommand.{next_ns}
+use Rattle.cell_world.specs.Commands.Asked.{next_load, next_swap}
+use Rattle.cell_world.specs.Commands.FindCommand.{next_find}
+use Rattle.cell_world.specs.Commands.MapCommand.{next_map}
+use Rattle.cell_world.specs.Commands.DumpCommand.{next_dump}
+use Rattle.cell_world.specs.Commands.DumpAllCommand.{next_dump_all}
+use Rattle.cell_world.specs.Commands.SpawnCommand.{next_spawn}
+use Rattle.cell_world.specs.Commands.LinkCommands.{next_deps, next_users}
+use Rattle.cell_world.specs.Commands.UnloadCommand.{next_unload, next_purge}
+use Rattle.cell_world.specs.Commands.TaskCommands.{next_step, next_run, next_kill, next_tasks}
 
 -- the command's reply and the world after it, or its first refusal
 abbrev pub outcome_of : List Source → World → Command → Outcome Done
 outcome_of sources w (Ns name parent) = next_ns w name parent
-outcome_of sources w (Load ns stem) = load_by_change sources w ns stem
+outcome_of sources w (Load ns stem) = next_load sources w ns stem
 outcome_of sources w (Find ns symbol) = next_find w ns symbol
 outcome_of sources w (Spawn ns symbol arg) = next_spawn w ns symbol arg
 outcome_of sources w (Step task turns) = next_step w task turns
 outcome_of sources w (Run turns) = next_run w turns
 outcome_of sources w (Kill task) = next_kill w task
-outcome_of sources w (Swap items reexport strict routines budget) = swap_by_change sources w items reexport strict routines budget
+outcome_of sources w (Swap items reexport strict routines budget) = next_swap sources w items reexport strict routines budget
 outcome_of sources w (Unload cells) = next_unload w cells
 outcome_of sources w Purge = next_purge w
 outcome_of sources w Tasks = next_tasks w

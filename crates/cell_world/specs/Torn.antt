@@ -16,7 +16,7 @@ use Rattle.cell_world.specs.declared.refusal.Refusal.{Refusal}
 use Rattle.cell_world.specs.declared.refusal.Refusal.TheVariants.{Torn}
 use Rattle.cell_world.specs.declared.state.NewCell.{NewCell}
 use Rattle.cell_world.specs.World.{Task}
-use Rattle.cell_world.specs.Field.{place_of, is_at}
+use Rattle.cell_world.specs.Linked.Field.{place_of, is_at}
 use Rattle.cell_world.specs.Changed.{FieldAt}
 
 abbrev pub is_low : RelKind → Bool

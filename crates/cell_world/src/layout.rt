@@ -1,7 +1,7 @@
 //! The classes of sections, each of which has pages of its own, and where they start.
 
 ghost use Rattle.std.specs.Prelude.{◌≡◌};
-ghost use Rattle.cell_world.specs.Layout.{class_of as class, is_in_class, permission_of, start_in};
+ghost use Rattle.cell_world.specs.Placed.Layout.{class_of as class, is_in_class, permission_of, start_in};
 
 use crate::Permission;
 use cell_object::Section;

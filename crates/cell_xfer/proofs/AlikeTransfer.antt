@@ -5,10 +5,10 @@ use Rattle.cell_world.specs.declared.reply.TaskState.{TaskState}
 use Rattle.cell_world.specs.declared.reply.TaskState.TheVariants.{Ready, Done, Fault as Faulted}
 use Rattle.cell_world.specs.declared.transfer.Routine.{Routine}
 use Rattle.cell_world.specs.World.{Region}
-use Rattle.cell_world.specs.Execute.{Effect, Goes, Calls, Traps, allows, execute}
-use Rattle.cell_world.specs.Move.{Hart, Move, move, moved_by}
-use Rattle.cell_world.specs.SpawnCommand.{first_registers}
-use Rattle.cell_world.specs.Transfer.{Addresses, Ending, is_success, routine_column, routine_from, transferred}
+use Rattle.cell_world.specs.Running.Execute.{Effect, Goes, Calls, Traps, allows, execute}
+use Rattle.cell_world.specs.Running.Move.{Hart, Move, move, moved_by}
+use Rattle.cell_world.specs.Commands.SpawnCommand.{first_registers}
+use Rattle.cell_world.specs.Running.Transfer.{Addresses, Ending, is_success, routine_column, routine_from, transferred}
 use Rattle.cell_hart.proofs.Alike.{execute_alike, seen}
 use Rattle.cell_xfer.proofs.Unrolled.{after_turn, after_routine}
 

@@ -5,10 +5,10 @@ use Rattle.cell_world.specs.declared.reply.TaskState.{TaskState}
 use Rattle.cell_world.specs.declared.reply.TaskState.TheVariants.{Ready, Done, Fault as Faulted}
 use Rattle.cell_world.specs.declared.transfer.NameAddr.{NameAddr}
 use Rattle.cell_world.specs.declared.transfer.Routine.{Routine}
-use Rattle.cell_world.specs.Execute.{Seen, Effect, Goes, Calls, Traps, execute}
-use Rattle.cell_world.specs.Move.{Hart, Ends, Passes, Answers, Refuses, Move, called, move, moved_by}
-use Rattle.cell_world.specs.SpawnCommand.{first_registers}
-use Rattle.cell_world.specs.Transfer.{Addresses, Ending, Transferred, address_named, asked, asked_name, is_success, routine_column, routine_from, transferred}
+use Rattle.cell_world.specs.Running.Execute.{Seen, Effect, Goes, Calls, Traps, execute}
+use Rattle.cell_world.specs.Running.Move.{Hart, Ends, Passes, Answers, Refuses, Move, called, move, moved_by}
+use Rattle.cell_world.specs.Commands.SpawnCommand.{first_registers}
+use Rattle.cell_world.specs.Running.Transfer.{Addresses, Ending, Transferred, address_named, asked, asked_name, is_success, routine_column, routine_from, transferred}
 use Rattle.cell_xfer.specs.Named.{AnswersAs, addresses_as}
 use Rattle.cell_xfer.specs.declared.firsts.Addresses.{Addresses as Tables}
 use Rattle.cell_xfer.specs.Ran.{tables_of}

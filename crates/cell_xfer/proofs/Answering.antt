@@ -2,7 +2,7 @@
 use Rattle.std.proofs.Common.{◌≡◌, refl, sym, ap, ◌∙◌, ℕ, Bool, true, false, cond, List, [], ◌∷◌, ◌++◌, Some}
 use Rattle.std.specs.Prelude.{find, option_map}
 use Rattle.cell_num.specs.Lists.{equals, or_else}
-use Rattle.cell_world.specs.Transfer.{address_named}
+use Rattle.cell_world.specs.Running.Transfer.{address_named}
 use Rattle.std.specs.Prelude.{unwrap_or}
 use Rattle.cell_xfer.specs.Named.{AnswersAs, addresses_as, first_named}
 

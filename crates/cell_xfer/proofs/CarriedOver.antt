@@ -10,19 +10,19 @@ use Rattle.cell_world.specs.declared.transfer.Routine.{Routine}
 use Rattle.cell_num.specs.Limits.{stack_size}
 use Rattle.cell_world.specs.World.{Permission, Region}
 use Rattle.cell_world.specs.Coherent.{Shape, ends_before, shape_of}
-use Rattle.cell_world.specs.Execute.{Seen}
-use Rattle.cell_world.specs.Layout.{permission_of}
+use Rattle.cell_world.specs.Running.Execute.{Seen}
+use Rattle.cell_world.specs.Placed.Layout.{permission_of}
 use Rattle.cell_world.specs.declared.layout.Class.TheVariants.{Writable}
-use Rattle.cell_world.specs.Memory.{end_of}
-use Rattle.cell_world.specs.Pages.{filled}
-use Rattle.cell_world.specs.Place.{with_region}
-use Rattle.cell_world.specs.SpawnCommand.{first_registers}
-use Rattle.cell_world.specs.Transfer.{Addresses, Transferred, is_success, routine_from, transferred}
-use Rattle.cell_world.specs.Turn.{without_region}
-use Rattle.cell_world.specs.Undo.{AreBytes, Write, journal_of, puts, record_of, undone}
+use Rattle.cell_world.specs.Running.Memory.{end_of}
+use Rattle.cell_world.specs.Placed.Pages.{filled}
+use Rattle.cell_world.specs.Placed.Place.{with_region}
+use Rattle.cell_world.specs.Commands.SpawnCommand.{first_registers}
+use Rattle.cell_world.specs.Running.Transfer.{Addresses, Transferred, is_success, routine_from, transferred}
+use Rattle.cell_world.specs.Running.Turn.{without_region}
+use Rattle.cell_world.specs.Running.Undo.{AreBytes, Write, journal_of, puts, record_of, undone}
 use Rattle.cell_num.proofs.Elements.{All-In, In-map, all-In, filter_all, map-In}
-use Rattle.cell_lemmas.proofs.Turns.{without_new}
-use Rattle.cell_lemmas.proofs.Undone.{In-with_region, undo_all, undo_shapes, undone_start}
+use Rattle.cell_lemmas.proofs.Tasks.Turns.{without_new}
+use Rattle.cell_lemmas.proofs.Tasks.Undone.{In-with_region, undo_all, undo_shapes, undone_start}
 use Rattle.cell_lemmas.specs.Undo.{undone_in}
 use Rattle.cell_hart.specs.Step.{seen_of}
 use Rattle.cell_mem.specs.Index.{IsLaid}

@@ -8,11 +8,11 @@ use Rattle.std.proofs.Math.Seq.{take-length}
 use Rattle.cell_num.specs.Bits.{little}
 use Rattle.cell_num.specs.Lists.{from_on, where_true}
 use Rattle.cell_world.specs.World.{Region}
-use Rattle.cell_world.specs.Memory.{covers, end_of, part_of, region_in}
-use Rattle.cell_world.specs.Execute.{allows, number_read}
-use Rattle.cell_world.specs.Execute.{Seen}
-use Rattle.cell_world.specs.Transfer.{asked_name, bytes_loaded}
-use Rattle.cell_world.specs.Pages.{IsSpace}
+use Rattle.cell_world.specs.Running.Memory.{covers, end_of, part_of, region_in}
+use Rattle.cell_world.specs.Running.Execute.{allows, number_read}
+use Rattle.cell_world.specs.Running.Execute.{Seen}
+use Rattle.cell_world.specs.Running.Transfer.{asked_name, bytes_loaded}
+use Rattle.cell_world.specs.Placed.Pages.{IsSpace}
 use Rattle.cell_mem.specs.Index.{IsLaid}
 use Rattle.cell_mem.specs.State.{MemoryState}
 use Rattle.cell_mem.proofs.Laid.{covers_low, find_lies, found_passes}

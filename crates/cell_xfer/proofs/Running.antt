@@ -6,10 +6,10 @@ use Rattle.cell_num.specs.declared.ids.Why.TheVariants.{Budget}
 use Rattle.cell_world.specs.declared.reply.TaskState.{TaskState}
 use Rattle.cell_world.specs.declared.reply.TaskState.TheVariants.{Ready, Done, Fault as Faulted}
 use Rattle.cell_world.specs.declared.transfer.Routine.{Routine}
-use Rattle.cell_world.specs.Execute.{Seen}
-use Rattle.cell_world.specs.Move.{Hart, Move, move}
-use Rattle.cell_world.specs.SpawnCommand.{first_registers}
-use Rattle.cell_world.specs.Transfer.{Addresses, Ending, is_success, routine_column, routine_from, transferred}
+use Rattle.cell_world.specs.Running.Execute.{Seen}
+use Rattle.cell_world.specs.Running.Move.{Hart, Move, move}
+use Rattle.cell_world.specs.Commands.SpawnCommand.{first_registers}
+use Rattle.cell_world.specs.Running.Transfer.{Addresses, Ending, is_success, routine_column, routine_from, transferred}
 use Rattle.cell_hart.specs.declared.hart.Hart.{Hart as LiveHart}
 use Rattle.cell_hart.specs.Step.{seen_of}
 use Rattle.cell_mem.specs.State.{MemoryState}

@@ -5,11 +5,11 @@ use Rattle.std.proofs.lemmas.Bool.{ne_eqb, le-leb}
 use Rattle.cell_num.specs.declared.ids.Cause.{Cause}
 use Rattle.cell_world.specs.declared.reply.TaskState.TheVariants.{Fault as Faulted}
 use Rattle.cell_world.specs.World.{Region}
-use Rattle.cell_world.specs.Memory.{Write, put_by}
+use Rattle.cell_world.specs.Running.Memory.{Write, put_by}
 use Rattle.cell_world.specs.declared.transfer.NameAddr.{NameAddr}
-use Rattle.cell_world.specs.Execute.{Seen, Effect, Goes, Calls, Traps, execute}
-use Rattle.cell_world.specs.Transfer.{Addresses, address_named, asked, asked_name, routine_column}
-use Rattle.cell_world.specs.Move.{Column, Hart, Row, Ends, Passes, Refuses, called, passed, gone_on, move, moved_by, state_at, stopped}
+use Rattle.cell_world.specs.Running.Execute.{Seen, Effect, Goes, Calls, Traps, execute}
+use Rattle.cell_world.specs.Running.Transfer.{Addresses, address_named, asked, asked_name, routine_column}
+use Rattle.cell_world.specs.Running.Move.{Column, Hart, Row, Ends, Passes, Refuses, called, passed, gone_on, move, moved_by, state_at, stopped}
 use Rattle.cell_hart.specs.declared.hart.Hart.{Hart as LiveHart}
 use Rattle.cell_hart.specs.declared.stop.Stop.TheVariants.{Next, Call, Trap}
 use Rattle.cell_hart.specs.Step.{Steps, seen_of, written_by}

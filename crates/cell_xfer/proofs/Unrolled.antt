@@ -4,8 +4,8 @@ use Rattle.cell_num.specs.declared.ids.Why.TheVariants.{Returned, Trap}
 use Rattle.cell_world.specs.declared.reply.TaskState.{TaskState}
 use Rattle.cell_world.specs.declared.reply.TaskState.TheVariants.{Ready, Done, Fault as Faulted}
 use Rattle.cell_world.specs.declared.transfer.Routine.{Routine}
-use Rattle.cell_world.specs.Move.{Move}
-use Rattle.cell_world.specs.Transfer.{Addresses, Ending, Transferred, routine_from, transferred}
+use Rattle.cell_world.specs.Running.Move.{Move}
+use Rattle.cell_world.specs.Running.Transfer.{Addresses, Ending, Transferred, routine_from, transferred}
 
 -- how the routine ends with n turns more
 abbrev pub after_turn : Addresses → (ℕ → ℕ → Bool) → ℕ → Move → TaskState → Ending

@@ -4,8 +4,8 @@ use Rattle.cell_world.specs.declared.transfer.Record.{Record}
 use Rattle.std.specs.Prelude.{IfSome}
 use Rattle.std.proofs.lemmas.List.{length-append}
 use Rattle.cell_world.specs.World.{Region}
-use Rattle.cell_world.specs.Execute.{Effect, Goes, Calls, Traps, Seen, execute}
-use Rattle.cell_world.specs.Undo.{Write, ArePuts, IsPut, put_in, puts, record_of}
+use Rattle.cell_world.specs.Running.Execute.{Effect, Goes, Calls, Traps, Seen, execute}
+use Rattle.cell_world.specs.Running.Undo.{Write, ArePuts, IsPut, put_in, puts, record_of}
 use Rattle.cell_hart.specs.declared.hart.Hart.{Hart as LiveHart}
 use Rattle.cell_hart.specs.declared.stop.Stop.{Stop}
 use Rattle.cell_hart.specs.Step.{Steps, seen_of, written_by}

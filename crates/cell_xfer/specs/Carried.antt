@@ -7,11 +7,11 @@ use Rattle.std.specs.Prelude.{◌≡◌, ◌-◌, ◌<◌, ℕ, All, List, Optio
 use Rattle.cell_world.specs.declared.refusal.Refusal.{Refusal}
 use Rattle.cell_world.specs.declared.refusal.Refusal.TheVariants.{Transfer as TransferRefused}
 use Rattle.cell_world.specs.declared.transfer.Failure.{Failure}
-use Rattle.cell_world.specs.Layout.{permission_of}
+use Rattle.cell_world.specs.Placed.Layout.{permission_of}
 use Rattle.cell_world.specs.declared.layout.Class.TheVariants.{Writable}
-use Rattle.cell_world.specs.Pages.{filled}
-use Rattle.cell_world.specs.Transfer.{Transferred, transferred}
-use Rattle.cell_world.specs.Turn.{without_region}
+use Rattle.cell_world.specs.Placed.Pages.{filled}
+use Rattle.cell_world.specs.Running.Transfer.{Transferred, transferred}
+use Rattle.cell_world.specs.Running.Turn.{without_region}
 use Rattle.cell_num.specs.Limits.{stack_size}
 use Rattle.cell_hart.specs.Step.{seen_of}
 use Rattle.cell_mem.specs.State.{HasWrites, IsRoom, MemoryState, before_in, mapped, one_more}

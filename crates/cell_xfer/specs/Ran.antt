@@ -10,8 +10,8 @@ use Rattle.cell_num.specs.declared.ids.Why.TheVariants.{Returned, Trap}
 use Rattle.cell_world.specs.declared.reply.TaskState.{TaskState}
 use Rattle.cell_world.specs.declared.reply.TaskState.TheVariants.{Ready, Done, Fault}
 use Rattle.cell_world.specs.World.{Region}
-use Rattle.cell_world.specs.Move.{Hart, Move}
-use Rattle.cell_world.specs.Transfer.{Addresses, Ending}
+use Rattle.cell_world.specs.Running.Move.{Hart, Move}
+use Rattle.cell_world.specs.Running.Transfer.{Addresses, Ending}
 use Rattle.cell_hart.specs.declared.hart.Hart.{Hart as LiveHart}
 use Rattle.cell_xfer.specs.Named.{addresses_as}
 use Rattle.cell_xfer.specs.declared.firsts.Addresses.{Addresses as Tables}

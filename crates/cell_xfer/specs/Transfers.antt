@@ -3,7 +3,7 @@
 use Rattle.std.specs.Prelude.{◌≡◌, ℕ, List, Option, None, Some, Result, Ok, Err}
 use Rattle.cell_world.specs.declared.transfer.Failure.{Failure}
 use Rattle.cell_world.specs.declared.transfer.Routine.{Routine}
-use Rattle.cell_world.specs.Transfer.{Addresses, transferred}
+use Rattle.cell_world.specs.Running.Transfer.{Addresses, transferred}
 use Rattle.cell_hart.specs.Step.{seen_of}
 use Rattle.cell_mem.specs.State.{MemoryState}
 

@@ -2,7 +2,7 @@
 --     all_written m writes        the memory after the writes, the first first
 --     HasWritten m n most         the memory was m and is n, after at most so many writes
 use Rattle.std.specs.Prelude.{◌≡◌, ◌≤◌, ℕ, List, [], ◌∷◌, length}
-use Rattle.cell_world.specs.Undo.{Write, ArePuts}
+use Rattle.cell_world.specs.Running.Undo.{Write, ArePuts}
 use Rattle.cell_mem.specs.State.{MemoryState, written_at}
 
 abbrev pub all_written : MemoryState → List Write → MemoryState

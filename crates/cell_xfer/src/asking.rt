@@ -3,8 +3,8 @@
 ghost use Rattle.std.specs.Prelude.{◌≡◌, ◌+◌, length, option_map};
 ghost use Rattle.cell_hart.specs.Step.{seen_of};
 ghost use Rattle.cell_num.specs.Lists.{where_true};
-ghost use Rattle.cell_world.specs.Execute.{allows, number_read};
-ghost use Rattle.cell_world.specs.Transfer.{asked_name as name_asked, bytes_loaded};
+ghost use Rattle.cell_world.specs.Running.Execute.{allows, number_read};
+ghost use Rattle.cell_world.specs.Running.Transfer.{asked_name as name_asked, bytes_loaded};
 
 use cell_mem::Memory;
 

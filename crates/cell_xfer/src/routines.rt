@@ -3,7 +3,7 @@
 ghost use Rattle.std.specs.Prelude.{◌≡◌, ◌+◌, ◌-◌, ◌<◌, ◌≤◌, ◌^◌, List, ℕ};
 ghost use Rattle.cell_hart.specs.Step.{seen_of};
 ghost use Rattle.cell_mem.specs.State.{HasWrites};
-ghost use Rattle.cell_world.specs.Transfer.{is_success as succeeds, routine_from};
+ghost use Rattle.cell_world.specs.Running.Transfer.{is_success as succeeds, routine_from};
 ghost use Rattle.cell_num.specs.Limits.{stack_size};
 ghost use Rattle.cell_xfer.specs.Named.{AnswersAs, addresses_as};
 ghost use Rattle.cell_xfer.specs.Ran.{ending_of, hart_as, tables_of, why_of as why_in};

@@ -1,7 +1,7 @@
 use Rattle.std.proofs.Common.{[], ◌∙◌, ap, sym, subst, Bool, List, None, map}
 use Rattle.std.specs.Prelude.{if◌then◌else◌}
 use Rattle.cell_num.specs.declared.ids.CellId.{CellId}
-use Rattle.cell_world.specs.UnloadCommand.{first_held}
+use Rattle.cell_world.specs.Commands.UnloadCommand.{first_held}
 use Rattle.cell_unload.specs.Sweep.{holding_in}
 use Rattle.cell_change.specs.Entering.{Reads}
 use Rattle.cell_change.proofs.entering.first_held.Goals as goal

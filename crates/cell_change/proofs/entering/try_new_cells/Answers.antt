@@ -2,9 +2,9 @@ use Rattle.std.proofs.Common.{List, None, Some, subst}
 use Rattle.cell_num.specs.declared.ids.CellId.{CellId}
 use Rattle.cell_change.specs.Entering.{Reads}
 use Rattle.std.proofs.lemmas.Result.{err_from_is_err_and}
-use Rattle.cell_change.proofs.ChangeEnded.{failed_so}
-use Rattle.cell_change.proofs.ChangeLeft.{ended_so}
-use Rattle.cell_change.proofs.Tried.{all_there, tried}
+use Rattle.cell_change.proofs.Arrival.ChangeEnded.{failed_so}
+use Rattle.cell_change.proofs.Arrival.ChangeLeft.{ended_so}
+use Rattle.cell_change.proofs.Arrival.Tried.{all_there, tried}
 use Rattle.cell_change.proofs.entering.try_new_cells.Goals as goal
 
 pub enter-requires : goal.enter-requires

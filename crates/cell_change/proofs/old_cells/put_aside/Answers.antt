@@ -5,7 +5,7 @@ use Rattle.cell_machine.specs.declared.machine.Machine.{Machine}
 use Rattle.cell_change.specs.OldCells.{IsPut, among}
 use Rattle.cell_change.proofs.Empty.{empty_if, some_if}
 use Rattle.cell_change.proofs.NoneAside.{none_aside, some_swap}
-use Rattle.cell_change.proofs.Returning.{among_next, has_state, put_first, put_same, told}
+use Rattle.cell_change.proofs.Return.Returning.{among_next, has_state, put_first, put_same, told}
 use Rattle.cell_change.proofs.old_cells.put_aside.Goals as goal
 
 pub returns-then-is_empty : goal.returns-then-is_empty
@@ -46,6 +46,7 @@ returns c =
     let same = c.loop-cell.invariant.others in
     record {
       cells = ap (λ (x : Machine). x.cells.items) same;
+      soft = ap (λ (x : Machine). x.soft.items) same;
       next = ap (λ (x : Machine). x.next) same;
       swaps = ap (λ (x : Machine). x.swaps) same ∙ ap (λ n. before.swaps + n) (sym (some_swap old (some_if old (sym c.is_empty.ensures ∙ c.if-is_empty.false))));
       namespaces = c.loop-cell.invariant.namespaces;

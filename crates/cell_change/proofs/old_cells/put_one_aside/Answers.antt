@@ -3,7 +3,7 @@ use Rattle.std.specs.Prelude.{Some}
 use Rattle.cell_world.specs.World.{Standing}
 use Rattle.cell_world.specs.declared.state.Standing.TheVariants.{Attached}
 use Rattle.cell_space.specs.Named.{is_state}
-use Rattle.cell_change.proofs.Returning.{aside_again, found_in, is_put, more_aside}
+use Rattle.cell_change.proofs.Return.Returning.{aside_again, found_in, is_put, more_aside}
 use Rattle.cell_change.proofs.old_cells.put_one_aside.Goals as goal
 
 pub detach-requires : goal.detach-requires

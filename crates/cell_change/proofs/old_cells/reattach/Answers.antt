@@ -2,10 +2,10 @@ use Rattle.std.proofs.Common.{sym, ◌∙◌, ap, arith, ◌+◌, ◌-◌, ◌<�
 use Rattle.cell_num.specs.declared.ids.CellId.{CellId}
 use Rattle.cell_machine.specs.declared.machine.Machine.{Machine}
 use Rattle.cell_machine.specs.Same.{without_counts}
-use Rattle.cell_change.proofs.OldRivals.{are_attached, no_rival}
+use Rattle.cell_change.proofs.Decision.OldRivals.{are_attached, no_rival}
 use Rattle.cell_change.proofs.Empty.{empty_if, some_if}
 use Rattle.cell_change.proofs.NoneAside.{none_back, some_swap}
-use Rattle.cell_change.proofs.Returning.{has_state, left_next, none_left, put_none, put_same, still_aside, told}
+use Rattle.cell_change.proofs.Return.Returning.{has_state, left_next, none_left, put_none, put_same, still_aside, told}
 use Rattle.cell_change.proofs.old_cells.reattach.Goals as goal
 
 pub returns-then-is_empty-clause-same : goal.returns-then-is_empty-clause-same
@@ -54,6 +54,7 @@ returns-clause-same c r =
     let same = c.loop-cell.invariant.others in
     record {
       cells = ap (λ (x : Machine). x.cells.items) same ∙ r.aside.cells;
+      soft = ap (λ (x : Machine). x.soft.items) same ∙ r.aside.soft;
       next = ap (λ (x : Machine). x.next) same ∙ r.aside.next;
       swaps = ap (λ (x : Machine). x.swaps - 1) same ∙ (ap (λ n. n - 1) (r.aside.swaps ∙ ap (λ n. r.before.swaps + n) (some_swap old (some_if old (sym c.is_empty.ensures ∙ c.if-is_empty.false)))) ∙ omega arith);
       namespaces = c.loop-cell.invariant.namespaces ∙ r.aside.namespaces;

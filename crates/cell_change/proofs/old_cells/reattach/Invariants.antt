@@ -1,6 +1,6 @@
 use Rattle.std.proofs.Common.{◌≡◌, ◌+◌}
 use Rattle.cell_change.specs.OldCells.{CanReturn, IsPut}
-use Rattle.cell_change.proofs.Returning.{still_aside}
+use Rattle.cell_change.proofs.Return.Returning.{still_aside}
 use Rattle.cell_change.proofs.old_cells.reattach.Given as goal
 
 -- the cells so far are attached again, and nothing else changes

@@ -3,7 +3,7 @@ use Rattle.std.specs.Prelude.{Some, not}
 use Rattle.cell_world.specs.World.{Standing}
 use Rattle.cell_world.specs.declared.state.Standing.TheVariants.{Attached, Detached}
 use Rattle.cell_space.specs.Named.{is_state}
-use Rattle.cell_change.proofs.Returning.{attached_again, found_in, less_aside}
+use Rattle.cell_change.proofs.Return.Returning.{attached_again, found_in, less_aside}
 use Rattle.cell_change.proofs.old_cells.reattach_one.Goals as goal
 
 pub reattach-requires-clause-detached : goal.reattach-requires-clause-detached

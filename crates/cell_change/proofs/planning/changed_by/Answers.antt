@@ -10,4 +10,4 @@ pub changed-requires-clause-there : goal.changed-requires-clause-there
 changed-requires-clause-there c =
     subst (λ (us : List (Bor NewCell)). All (λ (d : Bor NewCell). In d.now (c.deref.result.now ++ c.deref-2.result.now)) us) (sym c.deref-3.ensures.value)
     (All-weaker (λ (d : Bor NewCell). In d.now c.args.machine.now.cells.items) (λ (d : Bor NewCell). In d.now (c.deref.result.now ++ c.deref-2.result.now))
-    (λ d i. In-left c.deref.result.now c.deref-2.result.now d.now (subst (λ (cs : List NewCell). In d.now cs) (sym c.deref.ensures.value) i)) c.args.affected.now.users.items c.requires.there)
+    (λ d i. In-left c.deref.result.now c.deref-2.result.now d.now (subst (λ (cs : List NewCell). In d.now cs) (sym c.deref.ensures.value) i)) c.args.affected.now.cells.items c.requires.there)

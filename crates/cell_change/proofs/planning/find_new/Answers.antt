@@ -4,8 +4,8 @@ use Rattle.std.specs.Prelude.{Err}
 use Rattle.cell_world.specs.declared.state.NewCell.{NewCell}
 use Rattle.cell_plan.specs.Coverage.{Covers, first_lost, others_in}
 use Rattle.cell_change.specs.Planning.{numbers_in}
-use Rattle.cell_change.proofs.Covered.{G, is_ahead, covered_there}
-use Rattle.cell_change.proofs.PlanSteps.{all_covered, coverage_failed, gather_failed, users_known, users_spaces}
+use Rattle.cell_change.proofs.Decision.Covered.{G, is_ahead, covered_there}
+use Rattle.cell_change.proofs.Decision.PlanSteps.{all_covered, coverage_failed, gather_failed, users_known, users_spaces}
 use Rattle.cell_change.proofs.planning.find_new.Goals as goal
 
 pub returns-in_err-gathered : goal.returns-in_err-gathered

@@ -1,8 +1,8 @@
 use Rattle.std.proofs.Common.{List, subst}
 use Rattle.cell_gather.specs.declared.want.Want.{Want}
 use Rattle.cell_gather.specs.Gathering.{Gathers}
-use Rattle.cell_change.proofs.GatheredFor.{gathered_for}
-use Rattle.cell_change.proofs.Began.{numbers_given, olds_aside, spaces_there}
+use Rattle.cell_change.proofs.Decision.GatheredFor.{gathered_for}
+use Rattle.cell_change.proofs.Decision.Began.{numbers_given, olds_aside, spaces_there}
 use Rattle.cell_change.proofs.planning.gather_new.Goals as goal
 
 pub gather-requires-clause-given : goal.gather-requires-clause-given

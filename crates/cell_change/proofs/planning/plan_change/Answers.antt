@@ -5,14 +5,14 @@ use Rattle.cell_load.specs.Stages.{Lands}
 use Rattle.cell_world.specs.declared.state.NewCell.{NewCell}
 use Rattle.cell_world.specs.Coherent.{IsLoadable}
 use Rattle.cell_world.specs.Following.{FailsAs}
-use Rattle.cell_world.specs.SwapTransfer.{begins_of}
+use Rattle.cell_world.specs.Commands.SwapTransfer.{begins_of}
 use Rattle.cell_world.specs.World.{attached}
 use Rattle.cell_hold.specs.declared.roots.Root.{Root}
 use Rattle.cell_change.specs.Planning.{Looks}
-use Rattle.cell_change.proofs.Covered.{covered_here}
+use Rattle.cell_change.proofs.Decision.Covered.{covered_here}
 use Rattle.cell_routines.specs.Begins.{begin_as}
-use Rattle.cell_change.proofs.Planned.{can_stage}
-use Rattle.cell_change.proofs.PlanSteps.{begins_failed, begun_as, cells_are, changing_failed, is_plan, landing_failed, may_change, not_found, sections_ordered, spans_so, stack_as, standing_failed, tasks_ordered, users_there}
+use Rattle.cell_change.proofs.Decision.Planned.{can_stage}
+use Rattle.cell_change.proofs.Decision.PlanSteps.{begins_failed, begun_as, cells_are, changing_failed, is_plan, landing_failed, may_change, not_found, sections_ordered, spans_so, stack_as, standing_failed, tasks_ordered, users_there}
 use Rattle.cell_change.proofs.planning.plan_change.Goals as goal
 
 pub returns-in_err-gathered : goal.returns-in_err-gathered

@@ -5,7 +5,7 @@ use Rattle.cell_world.specs.World.{Task}
 use Rattle.cell_task.specs.State.{seen_as}
 use Rattle.cell_change.specs.Planning.{place_if_ready}
 use Rattle.cell_unload.proofs.LiveTasks.{left_more, never_missing, parts_more}
-use Rattle.cell_change.proofs.ReadyPlaces.{all_ready}
+use Rattle.cell_change.proofs.Decision.ReadyPlaces.{all_ready}
 use Rattle.cell_change.proofs.standing.ready_places.Goals as goal
 
 pub loop-number-preserved : goal.loop-number-preserved

@@ -3,7 +3,7 @@ use Rattle.std.specs.Prelude.{◌==◌, OnOk, find}
 use Rattle.cell_num.proofs.Elements.{found-In}
 use Rattle.cell_world.specs.declared.state.NewCell.{NewCell}
 use Rattle.cell_xfer.specs.Named.{AnswersAs}
-use Rattle.cell_change.proofs.Rows.{rows_found}
+use Rattle.cell_change.proofs.Decision.Rows.{rows_found}
 use Rattle.cell_change.proofs.transferring.add_old.Goals as goal
 
 pub add_addresses-requires : goal.add_addresses-requires

@@ -5,7 +5,7 @@ use Rattle.cell_routines.specs.Placed.{addresses_by}
 use Rattle.cell_xfer.specs.Named.{AnswersAs}
 use Rattle.cell_xfer.proofs.Answering.{answers_added}
 use Rattle.cell_change.specs.Transferring.{new_rows}
-use Rattle.cell_change.proofs.Rows.{new_more}
+use Rattle.cell_change.proofs.Decision.Rows.{new_more}
 use Rattle.cell_change.proofs.transferring.new_addresses.Goals as goal
 
 pub loop-place-preserved : goal.loop-place-preserved

@@ -2,7 +2,7 @@ use Rattle.std.proofs.Common.{◌≡◌, ◌∙◌, ◌+◌, ◌<◌, ap, arith,
 use Rattle.cell_xfer.specs.Named.{AnswersAs}
 use Rattle.cell_xfer.proofs.Answering.{answers_added}
 use Rattle.cell_change.specs.Transferring.{old_rows}
-use Rattle.cell_change.proofs.Rows.{old_more}
+use Rattle.cell_change.proofs.Decision.Rows.{old_more}
 use Rattle.cell_change.proofs.transferring.old_addresses.Goals as goal
 
 pub loop-cell-preserved : goal.loop-cell-preserved

@@ -4,7 +4,7 @@ use Rattle.cell_num.specs.Lists.{holds}
 use Rattle.cell_object.specs.declared.object.Entry.{Entry}
 use Rattle.cell_world.specs.declared.state.Target.{Target}
 use Rattle.cell_world.specs.Changed.{differs}
-use Rattle.cell_world.specs.Target.{target_of}
+use Rattle.cell_world.specs.Linked.Target.{target_of}
 use Rattle.cell_world.specs.World.{Cell}
 use Rattle.cell_num.proofs.Elements.{In-All}
 use Rattle.cell_lemmas.specs.Firm.{firm_target}

@@ -1,6 +1,6 @@
 use Rattle.std.specs.Prelude.{suc, ◌≡◌}
 use Rattle.cell_world.specs.Changed.{now_in}
-use Rattle.cell_world.specs.UnloadCommand.{put_aside}
+use Rattle.cell_world.specs.Commands.UnloadCommand.{put_aside}
 use Rattle.cell_world.specs.World.{Cell}
 use Rattle.cell_num.proofs.Elements.{In-All}
 use Rattle.cell_world.specs.Change.{old_of}

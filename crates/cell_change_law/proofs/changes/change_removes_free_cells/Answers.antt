@@ -1,6 +1,6 @@
 use Rattle.std.proofs.Common.{sym}
 use Rattle.cell_world.specs.Change.{made_by, old_of}
-use Rattle.cell_lemmas.proofs.Purged.{purged_fields, purged_kept, purged_left, purged_targets, purged_unreached}
+use Rattle.cell_lemmas.proofs.Holding.Purged.{purged_fields, purged_kept, purged_left, purged_targets, purged_unreached}
 use Rattle.cell_change_law.proofs.Ending.{second_coherent, swept_is}
 use Rattle.cell_change_law.proofs.changes.change_removes_free_cells.Goals as goal
 

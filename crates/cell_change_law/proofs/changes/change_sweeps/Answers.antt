@@ -1,6 +1,6 @@
 use Rattle.std.proofs.Common.{ap, ◌∙◌, ℕ, List}
 use Rattle.cell_world.specs.Change.{old_of, garbage_after}
-use Rattle.cell_world.specs.UnloadCommand.{without_cells}
+use Rattle.cell_world.specs.Commands.UnloadCommand.{without_cells}
 use Rattle.cell_change_law.proofs.Ending.{swept_is, without_none}
 use Rattle.cell_change_law.proofs.changes.change_sweeps.Goals as goal
 

@@ -2,8 +2,8 @@ use Rattle.std.proofs.Common.{◌≡◌, refl, subst}
 use Rattle.cell_world.specs.Changed.{changed_fields}
 use Rattle.cell_world.specs.Gather.{fresh_cells}
 use Rattle.cell_lemmas.specs.Targets.{FollowsTargets}
-use Rattle.cell_lemmas.proofs.Growths.{targets_follow}
-use Rattle.cell_lemmas.proofs.Regrown.{relinked_writes}
+use Rattle.cell_lemmas.proofs.Links.Growths.{targets_follow}
+use Rattle.cell_lemmas.proofs.Fields.Regrown.{relinked_writes}
 use Rattle.cell_world.specs.Change.{Plan}
 use Rattle.cell_change_law.proofs.Placing.{change_ready, change_regrown}
 use Rattle.cell_change_law.proofs.Steps.{Planned, planned, plan_ready, plan_regrown}

@@ -2,8 +2,8 @@ use Rattle.std.proofs.Common.{◌∙◌, ap, Option, Ok}
 use Rattle.cell_world.specs.Change.{new_since}
 use Rattle.cell_world.specs.Changed.{changed_fields}
 use Rattle.cell_world.specs.Outcome.{◌>>◌, refused_by}
-use Rattle.cell_world.specs.Relink.{relink}
-use Rattle.cell_world.specs.SwapTransfer.{routines_in}
+use Rattle.cell_world.specs.Linked.Relink.{relink}
+use Rattle.cell_world.specs.Commands.SwapTransfer.{routines_in}
 use Rattle.cell_world.specs.declared.refusal.Refusal.{Refusal}
 use Rattle.cell_change_law.proofs.Answered.{has_answered}
 use Rattle.cell_change_law.proofs.Planning.{plan_is, uncovered_refused}

@@ -1,6 +1,6 @@
 use Rattle.cell_world.specs.Change.{old_of, new_since}
 use Rattle.cell_lemmas.specs.Touched.{swap_comers}
-use Rattle.cell_lemmas.proofs.Affected.{enough_fields, enough_misfits}
+use Rattle.cell_lemmas.proofs.Targeting.Affected.{enough_fields, enough_misfits}
 use Rattle.cell_change_law.proofs.Untouched.{change_stays}
 use Rattle.cell_change_law.proofs.finding.affected_cells_of_change_are_enough.Goals as goal
 

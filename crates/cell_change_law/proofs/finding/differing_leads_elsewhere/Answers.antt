@@ -6,8 +6,8 @@ use Rattle.cell_world.specs.Gather.{fresh_cells}
 use Rattle.cell_world.specs.World.{Cell}
 use Rattle.cell_num.proofs.Elements.{In-All}
 use Rattle.cell_lemmas.specs.Leads.{leads_elsewhere}
-use Rattle.cell_lemmas.proofs.Detached.{put_same}
-use Rattle.cell_lemmas.proofs.SameSection.{differ_elsewhere}
+use Rattle.cell_lemmas.proofs.Targeting.Detached.{put_same}
+use Rattle.cell_lemmas.proofs.Targeting.SameSection.{differ_elsewhere}
 use Rattle.cell_change_law.proofs.Placing.{now_is}
 use Rattle.cell_change_law.proofs.Steps.{Planned, planned, plan_ready, plan_regrown}
 use Rattle.cell_change_law.proofs.finding.differing_leads_elsewhere.Goals as goal

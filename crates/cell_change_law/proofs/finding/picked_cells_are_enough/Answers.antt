@@ -5,7 +5,7 @@ use Rattle.cell_world.specs.Changed.{differs}
 use Rattle.cell_world.specs.World.{World, Cell}
 use Rattle.cell_num.specs.Lists.{In}
 use Rattle.cell_num.proofs.Elements.{All-In}
-use Rattle.cell_lemmas.proofs.Affected.{changed_among, misfit_among, nothing_changed, nothing_misfits}
+use Rattle.cell_lemmas.proofs.Targeting.Affected.{changed_among, misfit_among, nothing_changed, nothing_misfits}
 use Rattle.cell_change_law.proofs.finding.picked_cells_are_enough.Goals as goal
 
 same : (v w : World) (p : Cell → Bool) → All (λ c. p c ≡ false → All (λ e. differs v w c e ≡ false) c.object.entries) v.cells → (c : Cell) → In c v.cells → p c ≡ false → (e : Entry) → In e c.object.entries → differs v w c e ≡ false

@@ -4,7 +4,7 @@ use Rattle.cell_num.specs.Lists.{holds}
 use Rattle.cell_object.specs.declared.object.Entry.{Entry}
 use Rattle.cell_world.specs.Change.{old_of}
 use Rattle.cell_world.specs.Changed.{differs}
-use Rattle.cell_world.specs.Target.{target_of}
+use Rattle.cell_world.specs.Linked.Target.{target_of}
 use Rattle.cell_world.specs.World.{Cell}
 use Rattle.cell_lemmas.specs.Targets.{is_target_in}
 use Rattle.cell_object.specs.Parts.{has_no_weak}

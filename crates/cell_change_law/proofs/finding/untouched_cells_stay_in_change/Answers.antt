@@ -3,7 +3,7 @@ use Rattle.std.specs.Prelude.{All, IsTrue}
 use Rattle.cell_object.specs.declared.object.Entry.{Entry}
 use Rattle.cell_world.specs.Change.{old_of, new_since}
 use Rattle.cell_world.specs.Changed.{differs}
-use Rattle.cell_world.specs.Target.{target_of}
+use Rattle.cell_world.specs.Linked.Target.{target_of}
 use Rattle.cell_world.specs.World.{Cell}
 use Rattle.cell_num.proofs.Elements.{In-All}
 use Rattle.cell_lemmas.specs.Targets.{is_target_in}

@@ -3,7 +3,7 @@ use Rattle.std.specs.Prelude.{None, Some, Ok}
 use Rattle.cell_world.specs.declared.command.CellName.{CellName}
 use Rattle.cell_world.specs.declared.state.NewCell.{NewCell}
 use Rattle.cell_world.specs.Outcome.{Outcome, ◌>>=◌}
-use Rattle.cell_world.specs.UnloadCommand.{attached_cell}
+use Rattle.cell_world.specs.Commands.UnloadCommand.{attached_cell}
 use Rattle.cell_machine.specs.Machine.{world_of}
 use Rattle.cell_commands.proofs.ItemLemmas.{some_cell, the_cell}
 use Rattle.cell_commands.proofs.swapping.old_cell.Goals as goal

@@ -17,6 +17,7 @@ loop-row-preserved c =
       rows = bound_more c.args.rows.now c.loop-row.row-index c.loop-row-test.true _ _ c.loop-row.invariant.rows c.requires.rising _ c.bind.ensures.added;
       sections = c.bind.ensures.same_sections ∙ c.loop-row.invariant.sections;
       room = omega (arith, c.bind.ensures.room, c.loop-row.invariant.room);
+      left = omega (arith, c.bind.ensures.room, c.loop-row.invariant.left);
     }
 
 pub returns-clause-rows : goal.returns-clause-rows

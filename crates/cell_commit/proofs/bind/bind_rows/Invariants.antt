@@ -7,4 +7,5 @@ invariant-loop-row l = record {
   rows : l.graph.rows ++ drop l.row-index l.rows ≡ l.fn.graph.rows ++ l.rows;
   sections : l.graph.sections ≡ l.fn.graph.sections;
   room : length l.rows ≤ l.graph.spare_rows + l.row-index;
+  left : l.fn.graph.spare_rows ≤ l.graph.spare_rows + l.row-index;
 }

@@ -8,8 +8,8 @@ use Rattle.cell_object.specs.declared.object.Entry.{Entry}
 use Rattle.cell_object.specs.declared.object.Object.{Object}
 use Rattle.cell_relinked.specs.Scene.{seen_in, world_of}
 use Rattle.cell_world.specs.DumpLines.{link_line}
-use Rattle.cell_world.specs.Relink.{link_of}
-use Rattle.cell_world.specs.Target.{target_of}
+use Rattle.cell_world.specs.Linked.Relink.{link_of}
+use Rattle.cell_world.specs.Linked.Target.{target_of}
 use Rattle.cell_world.specs.declared.state.Target.{Target}
 use Rattle.cell_world.specs.declared.state.Target.TheVariants.{Number}
 use Rattle.cell_compared.specs.Left.{left}

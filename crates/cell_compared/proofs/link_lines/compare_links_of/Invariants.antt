@@ -3,7 +3,7 @@ use Rattle.std.specs.Prelude.{filter_map}
 use Rattle.cell_num.specs.Lists.{numbered_from}
 use Rattle.cell_described.specs.Faults.{object_at}
 use Rattle.cell_world.specs.DumpLines.{link_line}
-use Rattle.cell_world.specs.Relink.{link_of}
+use Rattle.cell_world.specs.Linked.Relink.{link_of}
 use Rattle.cell_compared.specs.Left.{left}
 use Rattle.cell_relinked.specs.Scene.{seen_in, world_of}
 use Rattle.cell_compared.specs.Shown.{links_shown}

@@ -1,7 +1,7 @@
 use Rattle.std.proofs.Common.{ap, map, [], ◌∙◌}
 use Rattle.std.specs.List.{cons_option}
 use Rattle.cell_world.specs.DumpLines.{link_line}
-use Rattle.cell_world.specs.Relink.{link_to}
+use Rattle.cell_world.specs.Linked.Relink.{link_to}
 use Rattle.cell_world.specs.declared.state.Target.{Target}
 use Rattle.cell_compared.specs.Left.{left}
 use Rattle.cell_compared.specs.Walk.{walk}

@@ -4,7 +4,7 @@ use Rattle.cell_compared.specs.Left.{left}
 use Rattle.cell_relinked.specs.Scene.{world_of}
 use Rattle.cell_compared.specs.Shown.{name_lines}
 use Rattle.cell_compared.specs.Walk.{walk}
-use Rattle.cell_bearers.proofs.Naming.{definitions_from}
+use Rattle.cell_bearers.proofs.NamingLemmas.{definitions_from}
 use Rattle.cell_compared.proofs.name_lines.compare_definitions.Given as goal
 
 -- what is left of the dump, against what is left of the lines

@@ -1,11 +1,17 @@
 use Rattle.std.proofs.Common.{ap, cond, sym, Bool, [], ◌∙◌}
 use Rattle.std.specs.List.{cons_option}
+use Rattle.cell_bearers.specs.Bearers.{bearers_of}
 use Rattle.cell_world.specs.DumpLines.{provider_line}
 use Rattle.cell_relinked.specs.Scene.{world_of}
 use Rattle.cell_compared.specs.Left.{left}
 use Rattle.cell_compared.specs.Walk.{walk}
 use Rattle.cell_compared.proofs.Walking.{walk_none, walks_same}
 use Rattle.cell_compared.proofs.name_lines.expect_definition.Goals as goal
+
+pub expect_name-requires-clause-bearers : goal.expect_name-requires-clause-bearers
+expect_name-requires-clause-bearers c =
+    let scene = c.args.asked.now.scene.now in
+    c.requires.bearers (sym c.if-not-is_definition.ensures) ∙ ap (bearers_of scene.file.now scene.objects.now scene.cells.now) (sym c.as_slice.ensures)
 
 pub returns-then-not-is_definition : goal.returns-then-not-is_definition
 returns-then-not-is_definition c =

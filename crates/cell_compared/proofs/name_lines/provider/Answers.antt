@@ -8,6 +8,5 @@ use Rattle.cell_compared.proofs.name_lines.provider.Goals as goal
 pub returns-clause-provider : goal.returns-clause-provider
 returns-clause-provider c =
     let asked = c.args.asked.now in
-    let name = c.args._name.now in
-    c.provider.ensures.provider asked.ns name c.requires.asked.spaces c.requires.bearers
-    ∙ ap (λ (g : Option ℕ). provider_for (world_of asked.scene.now) (standing_of g) asked.ns name) c.requires.asked.group
+    c.provider.ensures.provider asked.ns c.requires.asked.spaces
+    ∙ ap (λ (g : Option ℕ). provider_for (world_of asked.scene.now) (standing_of g) asked.ns c.args.name.now) c.requires.asked.group

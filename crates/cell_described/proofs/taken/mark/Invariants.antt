@@ -1,5 +1,5 @@
 use Rattle.std.proofs.Common.{◌≡◌, true}
-use Rattle.cell_world.specs.Pages.{filled}
+use Rattle.cell_world.specs.Placed.Pages.{filled}
 use Rattle.cell_described.proofs.taken.mark.Given as goal
 
 -- so many bytes are taken

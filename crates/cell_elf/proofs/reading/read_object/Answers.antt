@@ -1,7 +1,8 @@
 use Rattle.std.proofs.Common.{[], ◌∙◌, Ok}
 use Rattle.cell_object.specs.Reads.{broken, object_of}
 use Rattle.cell_file.proofs.Passing.{gives_object}
-use Rattle.cell_elf.proofs.Soundness.{parts_same, result_sound, result_few}
+use Rattle.cell_elf.proofs.Soundness.{parts_same, result_readable}
+use Rattle.cell_elf.proofs.LoadableCounts.{result_from_file}
 use Rattle.cell_elf.proofs.reading.read_object.Goals as goal
 
 pub returns : goal.returns
@@ -14,6 +15,6 @@ returns c =
     (c.from_vec-3.ensures ∙ passed.entries [] [] c.new-entries.ensures.items) in
     record {
       object = gives_object (Ok _) (broken file) (object_of file) passed.rules same;
-      sound = result_sound file (Ok _) passed.rules same;
-      few = result_few file (Ok _) passed.rules same;
+      readable = result_readable file (Ok _) passed.rules same;
+      from_file = result_from_file file (Ok _) passed.rules same;
     }

@@ -1,5 +1,5 @@
 use Rattle.std.proofs.Common.{refl, take, drop}
-use Rattle.cell_world.specs.Words.{words_in}
+use Rattle.cell_world.specs.Running.Words.{words_in}
 use Rattle.cell_hold.proofs.Rooting.{task_added}
 use Rattle.cell_hold.proofs.direct.add_task.Goals as goal
 

@@ -1,5 +1,5 @@
 use Rattle.std.proofs.Common.{◌≡◌, length}
-use Rattle.cell_world.specs.Words.{words_in}
+use Rattle.cell_world.specs.Running.Words.{words_in}
 use Rattle.cell_hold.specs.Reached.{touches}
 use Rattle.cell_hold.proofs.words.words_lead.Given as goal
 

@@ -1,7 +1,7 @@
-use Rattle.cell_lemmas.proofs.NamespaceAdded.{ns_coherent}
-use Rattle.cell_lemmas.proofs.Spawned.{spawn_keeps}
-use Rattle.cell_lemmas.proofs.Commands.{step_keeps, run_keeps, kill_keeps}
-use Rattle.cell_lemmas.proofs.Removals.{purge_removed, removed_coherent, unload_removed}
+use Rattle.cell_lemmas.proofs.Naming.NamespaceAdded.{ns_coherent}
+use Rattle.cell_lemmas.proofs.Tasks.Spawned.{spawn_keeps}
+use Rattle.cell_lemmas.proofs.Tasks.Commands.{step_keeps, run_keeps, kill_keeps}
+use Rattle.cell_lemmas.proofs.Holding.Removals.{purge_removed, removed_coherent, unload_removed}
 use Rattle.cell_change_law.proofs.Asking.{load_made, swap_made}
 use Rattle.cell_laws.proofs.NextCoherent.{made_coherent_by}
 use Rattle.cell_laws.proofs.coherence.commands_keep_coherent.Goals as goal

@@ -1,4 +1,4 @@
-use Rattle.cell_lemmas.proofs.Turned.{turn_keeps}
+use Rattle.cell_lemmas.proofs.Tasks.Turned.{turn_keeps}
 use Rattle.cell_laws.proofs.coherence.turn_keeps_coherent.Goals as goal
 
 pub returns : goal.returns

@@ -1,4 +1,4 @@
-use Rattle.cell_lemmas.proofs.Inside.{fields_lie, sections_lie, places_lie}
+use Rattle.cell_lemmas.proofs.Placement.Inside.{fields_lie, sections_lie, places_lie}
 use Rattle.cell_laws.proofs.presence.cells_lie_in_regions.Goals as goal
 
 pub returns-clause-sections : goal.returns-clause-sections

@@ -1,4 +1,4 @@
-use Rattle.cell_lemmas.proofs.Present.{targets_present}
+use Rattle.cell_lemmas.proofs.Targeting.Present.{targets_present}
 use Rattle.cell_laws.proofs.presence.entries_name_present.Goals as goal
 
 pub returns : goal.returns

@@ -1,4 +1,4 @@
-use Rattle.cell_lemmas.proofs.LinkSteps.{links_before, links_after, one_entry}
+use Rattle.cell_lemmas.proofs.Links.LinkSteps.{links_before, links_after, one_entry}
 use Rattle.cell_laws.proofs.relinking.links_change_by_entries.Goals as goal
 
 pub returns-clause-before : goal.returns-clause-before

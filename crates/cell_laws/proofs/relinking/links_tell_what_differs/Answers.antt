@@ -1,4 +1,4 @@
-use Rattle.cell_lemmas.proofs.SameSection.{differ_by_links}
+use Rattle.cell_lemmas.proofs.Targeting.SameSection.{differ_by_links}
 use Rattle.cell_laws.proofs.relinking.links_tell_what_differs.Goals as goal
 
 pub returns : goal.returns

@@ -1,4 +1,4 @@
-use Rattle.cell_lemmas.proofs.Relinks.{coherent_relinked}
+use Rattle.cell_lemmas.proofs.Fields.Relinks.{coherent_relinked}
 use Rattle.cell_laws.proofs.relinking.relinked_is_coherent.Goals as goal
 
 pub returns : goal.returns

@@ -1,5 +1,5 @@
-use Rattle.cell_lemmas.proofs.Regrown.{relinked_writes}
-use Rattle.cell_lemmas.proofs.Growths.{targets_follow, links_follow}
+use Rattle.cell_lemmas.proofs.Fields.Regrown.{relinked_writes}
+use Rattle.cell_lemmas.proofs.Links.Growths.{targets_follow, links_follow}
 use Rattle.cell_laws.proofs.relinking.relinked_writes_changes.Goals as goal
 
 pub returns-clause-writes : goal.returns-clause-writes

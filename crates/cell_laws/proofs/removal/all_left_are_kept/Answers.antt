@@ -1,4 +1,4 @@
-use Rattle.cell_lemmas.proofs.AllKept.{purge_keeps, unload_keeps}
+use Rattle.cell_lemmas.proofs.Holding.AllKept.{purge_keeps, unload_keeps}
 use Rattle.cell_laws.proofs.removal.all_left_are_kept.Goals as goal
 
 pub returns-clause-purge : goal.returns-clause-purge

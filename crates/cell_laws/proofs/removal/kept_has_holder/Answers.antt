@@ -1,4 +1,4 @@
-use Rattle.cell_lemmas.proofs.Holders.{has_holder, first_held_exact}
+use Rattle.cell_lemmas.proofs.Holding.Holders.{has_holder, first_held_exact}
 use Rattle.cell_laws.proofs.removal.kept_has_holder.Goals as goal
 
 pub returns-clause-holder : goal.returns-clause-holder

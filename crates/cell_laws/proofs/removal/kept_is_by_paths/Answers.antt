@@ -1,4 +1,4 @@
-use Rattle.cell_lemmas.proofs.KeptPaths.{kept_by_paths, kept_order, kept_rises}
+use Rattle.cell_lemmas.proofs.Holding.KeptPaths.{kept_by_paths, kept_order, kept_rises}
 use Rattle.cell_laws.proofs.removal.kept_is_by_paths.Goals as goal
 
 pub returns-clause-paths : goal.returns-clause-paths

@@ -1,4 +1,4 @@
-use Rattle.cell_lemmas.proofs.AllKept.{purge_unreached, unload_unreached}
+use Rattle.cell_lemmas.proofs.Holding.AllKept.{purge_unreached, unload_unreached}
 use Rattle.cell_laws.proofs.removal.nothing_leads_to_removed.Goals as goal
 
 pub returns-clause-purge : goal.returns-clause-purge

@@ -1,4 +1,4 @@
-use Rattle.cell_lemmas.proofs.Removals.{garbage_all, purge_leaves, unload_leaves, unloaded_by}
+use Rattle.cell_lemmas.proofs.Holding.Removals.{garbage_all, purge_leaves, unload_leaves, unloaded_by}
 use Rattle.cell_laws.proofs.removal.removed_are_free.Goals as goal
 
 pub returns-clause-garbage : goal.returns-clause-garbage

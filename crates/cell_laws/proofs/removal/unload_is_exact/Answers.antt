@@ -1,4 +1,4 @@
-use Rattle.cell_lemmas.proofs.Removals.{unload_accepted}
+use Rattle.cell_lemmas.proofs.Holding.Removals.{unload_accepted}
 use Rattle.cell_laws.proofs.removal.unload_is_exact.Goals as goal
 
 pub returns : goal.returns

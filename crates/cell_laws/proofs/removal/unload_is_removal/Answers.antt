@@ -1,5 +1,5 @@
 use Rattle.std.proofs.Common.{sym}
-use Rattle.cell_lemmas.proofs.Removals.{cells_left, unloaded_by}
+use Rattle.cell_lemmas.proofs.Holding.Removals.{cells_left, unloaded_by}
 use Rattle.cell_laws.proofs.removal.unload_is_removal.Goals as goal
 
 pub returns : goal.returns

@@ -1,4 +1,4 @@
-use Rattle.cell_lemmas.proofs.Tables.{class_spaced}
+use Rattle.cell_lemmas.proofs.Placement.Tables.{class_spaced}
 use Rattle.cell_laws.proofs.room.placed_class_is_apart.Goals as goal
 
 pub returns-clause-in_space : goal.returns-clause-in_space

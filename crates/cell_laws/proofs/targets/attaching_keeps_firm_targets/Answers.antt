@@ -1,5 +1,5 @@
-use Rattle.cell_lemmas.proofs.Attach.{firm_is}
-use Rattle.cell_lemmas.proofs.Attaching.{attached_firm}
+use Rattle.cell_lemmas.proofs.Naming.Attach.{firm_is}
+use Rattle.cell_lemmas.proofs.Naming.Attaching.{attached_firm}
 use Rattle.cell_laws.proofs.targets.attaching_keeps_firm_targets.Goals as goal
 
 pub returns-clause-firm : goal.returns-clause-firm

@@ -1,4 +1,4 @@
-use Rattle.cell_lemmas.proofs.Steps.{detached_own, detached_others, detached_lost}
+use Rattle.cell_lemmas.proofs.Targeting.Steps.{detached_own, detached_others, detached_lost}
 use Rattle.cell_laws.proofs.targets.detaching_loses_targets.Goals as goal
 
 pub returns-clause-own : goal.returns-clause-own

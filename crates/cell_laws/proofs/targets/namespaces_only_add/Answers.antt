@@ -1,4 +1,4 @@
-use Rattle.cell_lemmas.proofs.NamespaceAdded.{chains_stay, providers_stay}
+use Rattle.cell_lemmas.proofs.Naming.NamespaceAdded.{chains_stay, providers_stay}
 use Rattle.cell_laws.proofs.targets.namespaces_only_add.Goals as goal
 
 pub returns-clause-chains : goal.returns-clause-chains

@@ -1,4 +1,4 @@
-use Rattle.cell_lemmas.proofs.Removals.{purge_removed, removed_targets, unload_removed}
+use Rattle.cell_lemmas.proofs.Holding.Removals.{purge_removed, removed_targets, unload_removed}
 use Rattle.cell_laws.proofs.targets.removing_keeps_targets.Goals as goal
 
 pub returns-clause-unload : goal.returns-clause-unload

@@ -1,5 +1,5 @@
 use Rattle.std.proofs.Common.{refl}
-use Rattle.cell_lemmas.proofs.Turns.{turns_shapes, turns_read_only, turns_sealed, turns_fields, transfer_end}
+use Rattle.cell_lemmas.proofs.Tasks.Turns.{turns_shapes, turns_read_only, turns_sealed, turns_fields, transfer_end}
 use Rattle.cell_laws.proofs.transfer.transfer_changes_no_cell.Goals as goal
 
 pub returns-clause-parts : goal.returns-clause-parts

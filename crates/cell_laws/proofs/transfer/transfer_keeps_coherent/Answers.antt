@@ -1,6 +1,6 @@
 use Rattle.std.proofs.Common.{sym, subst}
 use Rattle.cell_world.specs.Coherent.{IsCoherent}
-use Rattle.cell_lemmas.proofs.Turns.{turns_coherent, transfer_end}
+use Rattle.cell_lemmas.proofs.Tasks.Turns.{turns_coherent, transfer_end}
 use Rattle.cell_laws.proofs.transfer.transfer_keeps_coherent.Goals as goal
 
 pub returns-clause-turns : goal.returns-clause-turns

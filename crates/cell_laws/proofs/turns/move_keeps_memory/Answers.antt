@@ -1,4 +1,4 @@
-use Rattle.cell_lemmas.proofs.Memory.{move_shapes, move_read_only, move_sealed, move_memory, seen_memory}
+use Rattle.cell_lemmas.proofs.Tasks.Memory.{move_shapes, move_read_only, move_sealed, move_memory, seen_memory}
 use Rattle.cell_laws.proofs.turns.move_keeps_memory.Goals as goal
 
 pub returns-clause-shapes : goal.returns-clause-shapes

@@ -1,4 +1,4 @@
-use Rattle.cell_lemmas.proofs.Commands.{step_cells, run_cells, kill_cells}
+use Rattle.cell_lemmas.proofs.Tasks.Commands.{step_cells, run_cells, kill_cells}
 use Rattle.cell_laws.proofs.turns.tasks_change_no_cell.Goals as goal
 
 pub returns-clause-step : goal.returns-clause-step

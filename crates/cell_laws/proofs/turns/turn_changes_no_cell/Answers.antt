@@ -1,5 +1,5 @@
-use Rattle.cell_lemmas.proofs.TurnKept.{turn_cells, turn_shapes, turn_read_only, turn_fields}
-use Rattle.cell_lemmas.proofs.OtherTasks.{turn_others}
+use Rattle.cell_lemmas.proofs.Tasks.TurnKept.{turn_cells, turn_shapes, turn_read_only, turn_fields}
+use Rattle.cell_lemmas.proofs.Tasks.OtherTasks.{turn_others}
 use Rattle.cell_laws.proofs.turns.turn_changes_no_cell.Goals as goal
 
 pub returns-clause-cells : goal.returns-clause-cells

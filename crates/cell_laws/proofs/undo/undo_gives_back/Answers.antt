@@ -1,4 +1,4 @@
-use Rattle.cell_lemmas.proofs.Undone.{undo_one, undo_all, undo_shapes}
+use Rattle.cell_lemmas.proofs.Tasks.Undone.{undo_one, undo_all, undo_shapes}
 use Rattle.cell_laws.proofs.undo.undo_gives_back.Goals as goal
 
 pub returns-clause-one : goal.returns-clause-one

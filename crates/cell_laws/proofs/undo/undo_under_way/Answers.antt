@@ -1,4 +1,4 @@
-use Rattle.cell_lemmas.proofs.Undone.{undo_begun, undo_written, undo_with, undo_without, undo_ended}
+use Rattle.cell_lemmas.proofs.Tasks.Undone.{undo_begun, undo_written, undo_with, undo_without, undo_ended}
 use Rattle.cell_laws.proofs.undo.undo_under_way.Goals as goal
 
 pub returns-clause-begun : goal.returns-clause-begun

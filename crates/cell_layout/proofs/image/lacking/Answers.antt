@@ -1,6 +1,6 @@
 use Rattle.std.proofs.Common.{◌≡◌, ℕ, ◌<◌, List, [], ◌∷◌, ◌++◌, replicate, length, refl, sym, ap, arith}
 use Rattle.cell_num.specs.Limits.{page_size}
-use Rattle.cell_world.specs.Layout.{to_pages}
+use Rattle.cell_world.specs.Placed.Layout.{to_pages}
 use Rattle.cell_layout.proofs.image.lacking.Goals as goal
 
 no_bytes : (bytes : List ℕ) (n : ℕ) → length bytes < 1 → n ≡ page_size → to_pages bytes ≡ bytes ++ replicate n 0

@@ -1,5 +1,5 @@
 use Rattle.std.proofs.Common.{◌≡◌, [], drop}
-use Rattle.cell_world.specs.Layout.{laid_out}
+use Rattle.cell_world.specs.Placed.Layout.{laid_out}
 use Rattle.cell_layout.specs.Layout.{in_class}
 use Rattle.cell_layout.proofs.image.lay_out.Given as goal
 

@@ -16,7 +16,10 @@ loop-section-preserved c =
     let within = c.loop-section-test.true in
     record {
       offsets = c.in_ok-push.ensures.items
-          ∙ offsets_here c.args.sections.now at s within c.section-item.is c.loop-section.ends c.loop-section.offsets.items _ c.requires.rising (ap (λ n. let q : SecPlace = record { section = n; start = c.add-start.result } in q) c.number_of.ensures ∙ ap (λ n. let q : SecPlace = record { section = s.number; start = n } in q) c.add-start.ensures.at) c.loop-section.invariant.ends c.loop-section.invariant.offsets;
+          ∙ offsets_here c.args.sections.now at s within c.section-item.is c.loop-section.ends c.loop-section.offsets.items _ c.requires.rising
+          (ap (λ n. let q : SecPlace = record { section = n; start = c.add-start.result } in q) c.number_of.ensures
+          ∙ ap (λ n. let q : SecPlace = record { section = s.number; start = n } in q) c.add-start.ensures.at)
+          c.loop-section.invariant.ends c.loop-section.invariant.offsets;
       ends = subst (λ ends. AreEnds ends (take (at + 1) c.args.sections.now)) (sym c.add-start.ensures.end)
           (ends_here c.args.sections.now at s within c.section-item.is c.loop-section.ends _ c.add-start.ensures.at c.loop-section.invariant.ends);
       few = omega (arith, ranked c.args.sections.now at s within c.section-item.is c.requires.rising, c.number_of.ensures, c.number_of.type_inv);

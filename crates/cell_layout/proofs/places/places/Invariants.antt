@@ -1,5 +1,5 @@
 use Rattle.std.proofs.Common.{◌≡◌, map, take}
-use Rattle.cell_world.specs.Layout.{place_in}
+use Rattle.cell_world.specs.Placed.Layout.{place_in}
 use Rattle.cell_layout.proofs.places.places.Given as goal
 
 -- the places of the sections so far

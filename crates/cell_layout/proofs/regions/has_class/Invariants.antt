@@ -1,6 +1,6 @@
 use Rattle.std.proofs.Common.{◌≡◌, drop}
 use Rattle.std.specs.List.{list_any}
-use Rattle.cell_world.specs.Layout.{is_in_class}
+use Rattle.cell_world.specs.Placed.Layout.{is_in_class}
 use Rattle.cell_layout.proofs.regions.has_class.Given as goal
 
 -- no section so far is of the class

@@ -1,6 +1,6 @@
 use Rattle.std.proofs.Common.{◌≡◌, [], false, not, take}
 use Rattle.std.specs.List.{list_any}
-use Rattle.cell_world.specs.Field.{fields_among, fits}
+use Rattle.cell_world.specs.Linked.Field.{fields_among, fits}
 use Rattle.cell_link.specs.Linked.{bound_in}
 use Rattle.cell_link.specs.Applied.{IsHeld}
 use Rattle.cell_link.proofs.fields.apply_entries.Given as goal

@@ -6,10 +6,12 @@ use Rattle.cell_commit.specs.Commit.{fields_patched, fields_written}
 use Rattle.cell_commit.proofs.Mapping.{mapped_writes}
 use Rattle.cell_commit.proofs.Writing.{patched_leaves}
 use Rattle.cell_mem.proofs.Noting.{fewer_writes}
-use Rattle.cell_graph.specs.Moves.{moved}
+use Rattle.cell_num.specs.declared.ids.CellId.{CellId}
+use Rattle.cell_graph.specs.Order.{Rises, below_link}
+use Rattle.cell_machine.specs.Machine.{keys_of}
 use Rattle.cell_link.specs.declared.value.FieldValue.{FieldValue}
 use Rattle.cell_mem.specs.State.{HasWrites, MemoryState}
-use Rattle.cell_load.proofs.Committed.{sections_are}
+use Rattle.cell_load.proofs.Committed.{can_rewire, sections_are}
 use Rattle.cell_load.proofs.adding.commit.Goals as goal
 
 pub patch_fields-requires-clause-undo : goal.patch_fields-requires-clause-undo
@@ -25,25 +27,49 @@ write_fields-requires-clause-undo c =
     subst (λ (m : MemoryState). HasWrites m (length c.deref.result.now)) (sym c.patch_fields.ensures.patched)
     (subst (λ (xs : List FieldValue). HasWrites (fields_patched c.map_regions.new.memory patches) (length xs)) (sym c.deref.ensures.value) (patched_leaves c.map_regions.new.memory patches (length fields) before))
 
-pub move_rows-requires-clause-present : goal.move_rows-requires-clause-present
-move_rows-requires-clause-present c =
-    subst (λ (ks : List SecKey). All (λ (r : LinkRow). Contains ks r.target) c.args.moves.now)
-    (sym (sections_are c.args.machine.now.graph.sections c.args.prepared c.args.staged.cells.items _ _ c.requires.sections c.deref-2.ensures.value c.add_sections.ensures.sections)) c.requires.change.present
+pub rewire-requires : goal.rewire-requires
+rewire-requires c =
+    can_rewire c.args.machine.now.graph c.add_sections.new.graph (keys_of c.args.staged.cells.items) c.args.links.now c.requires.change.steps c.requires.change.rewires c.requires.change.present
+    (let room = c.requires.room.rows in omega (arith, room, c.add_sections.ensures.room_for_rows))
+    c.add_sections.ensures.rows
+    (sections_are c.args.machine.now.graph.sections c.args.prepared c.args.staged.cells.items _ _ c.requires.sections c.deref-2.ensures.value c.add_sections.ensures.sections)
+    _ _ _ c.deref-3.ensures.value c.deref-4.ensures.value c.deref-5.ensures.value
+
+pub bind_rows-requires-clause-rising : goal.bind_rows-requires-clause-rising
+bind_rows-requires-clause-rising c =
+    let change = c.requires.change in
+    subst (λ (rows : List LinkRow). Rises below_link (c.rewire.new.graph.rows ++ rows)) (sym c.deref-6.ensures.value)
+    (subst (λ (rows : List LinkRow). Rises below_link (rows ++ c.args.staged.rows.items))
+    (sym (c.rewire.ensures.rows (can_rewire c.args.machine.now.graph c.add_sections.new.graph (keys_of c.args.staged.cells.items) c.args.links.now change.steps change.rewires change.present
+    (let room = c.requires.room.rows in omega (arith, room, c.add_sections.ensures.room_for_rows))
+    c.add_sections.ensures.rows
+    (sections_are c.args.machine.now.graph.sections c.args.prepared c.args.staged.cells.items _ _ c.requires.sections c.deref-2.ensures.value c.add_sections.ensures.sections)
+    _ _ _ c.deref-3.ensures.value c.deref-4.ensures.value c.deref-5.ensures.value)))
+    c.requires.rise)
+
+pub bind_rows-requires-clause-room : goal.bind_rows-requires-clause-room
+bind_rows-requires-clause-room c =
+    let room = c.requires.room.rows in
+    let gone = ap (length {A = LinkRow}) c.deref-3.ensures.value in
+    let come = ap (length {A = LinkRow}) c.deref-4.ensures.value in
+    let rows = ap (length {A = LinkRow}) c.deref-6.ensures.value in
+    omega (arith, room, gone, come, rows, c.add_sections.ensures.room_for_rows, c.rewire.ensures.room_for_rows)
 
 pub bind_rows-requires-clause-present : goal.bind_rows-requires-clause-present
 bind_rows-requires-clause-present c =
-    subst (λ (rows : List LinkRow). All (λ (r : LinkRow). Contains c.move_rows.new.graph.sections r.user × Contains c.move_rows.new.graph.sections r.target) rows) (sym c.deref-3.ensures.value)
+    subst (λ (rows : List LinkRow). All (λ (r : LinkRow). Contains c.rewire.new.graph.sections r.user × Contains c.rewire.new.graph.sections r.target) rows) (sym c.deref-6.ensures.value)
     (subst (λ (ks : List SecKey). All (λ (r : LinkRow). Contains ks r.user × Contains ks r.target) c.args.staged.rows.items)
-    (sym (c.move_rows.ensures.sections ∙ sections_are c.args.machine.now.graph.sections c.args.prepared c.args.staged.cells.items _ _ c.requires.sections c.deref-2.ensures.value c.add_sections.ensures.sections)) c.requires.present)
+    (sym (c.rewire.ensures.sections ∙ sections_are c.args.machine.now.graph.sections c.args.prepared c.args.staged.cells.items _ _ c.requires.sections c.deref-2.ensures.value c.add_sections.ensures.sections)) c.requires.present)
 
 pub returns-clause-committed : goal.returns-clause-committed
-returns-clause-committed c =
+returns-clause-committed c x =
     let cells = c.args.staged.cells in
     let long = cells.ok.0 in
     let len = c.len.ensures in
     let count : c.len.result ≡ length cells.items = omega (arith, len, long) in
     record {
       cells = c.append.ensures;
+      soft = c.append_numbers.ensures ∙ ap (λ (ids : List CellId). c.args.machine.now.soft.items ++ ids) c.requires.soft;
       next = ap (λ (n : ℕ). c.args.machine.now.next + n) count;
       swaps = refl;
       namespaces = c.attach_cells.ensures.namespaces;
@@ -55,10 +81,23 @@ returns-clause-committed c =
           ∙ ap (λ (m : MemoryState). fields_written m c.args.staged.fields.items) (c.patch_fields.ensures.patched ∙ ap (λ (m : MemoryState). fields_patched m c.args.patches.now) c.map_regions.ensures));
       sections =
           c.bind_rows.ensures.sections
-          ∙ (c.move_rows.ensures.sections ∙ sections_are c.args.machine.now.graph.sections c.args.prepared c.args.staged.cells.items _ _ c.requires.sections c.deref-2.ensures.value c.add_sections.ensures.sections);
+          ∙ (c.rewire.ensures.sections ∙ sections_are c.args.machine.now.graph.sections c.args.prepared c.args.staged.cells.items _ _ c.requires.sections c.deref-2.ensures.value c.add_sections.ensures.sections);
       rows =
           c.bind_rows.ensures.rows
-          ∙ (ap (λ (rows : List LinkRow). c.move_rows.new.graph.rows ++ rows) c.deref-3.ensures.value
-          ∙ ap (λ (rows : List LinkRow). rows ++ c.args.staged.rows.items) (c.move_rows.ensures.rows ∙ ap (λ (rows : List LinkRow). moved rows c.args.moves.now) c.add_sections.ensures.rows));
+          ∙ (ap (λ (rows : List LinkRow). c.rewire.new.graph.rows ++ rows) c.deref-6.ensures.value
+          ∙ ap (λ (rows : List LinkRow). rows ++ c.args.staged.rows.items)
+          (c.rewire.ensures.rows (can_rewire c.args.machine.now.graph c.add_sections.new.graph (keys_of c.args.staged.cells.items) c.args.links.now x.change.steps x.change.rewires x.change.present
+          (let room = c.requires.room.rows in omega (arith, room, c.add_sections.ensures.room_for_rows))
+          c.add_sections.ensures.rows
+          (sections_are c.args.machine.now.graph.sections c.args.prepared c.args.staged.cells.items _ _ c.requires.sections c.deref-2.ensures.value c.add_sections.ensures.sections)
+          _ _ _ c.deref-3.ensures.value c.deref-4.ensures.value c.deref-5.ensures.value)));
       tasks = refl;
     }
+
+pub returns-clause-room : goal.returns-clause-room
+returns-clause-room c =
+    let room = c.requires.room.rows in
+    let gone = ap (length {A = LinkRow}) c.deref-3.ensures.value in
+    let come = ap (length {A = LinkRow}) c.deref-4.ensures.value in
+    let rows = ap (length {A = LinkRow}) c.deref-6.ensures.value in
+    omega (arith, room, gone, come, rows, c.add_sections.ensures.room_for_rows, c.rewire.ensures.room_for_rows, c.bind_rows.ensures.room_for_rows)

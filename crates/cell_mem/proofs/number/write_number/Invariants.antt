@@ -1,6 +1,6 @@
 use Rattle.std.proofs.Common.{◌≡◌, ◌+◌, ◌-◌, length}
 use Rattle.cell_num.specs.Bits.{bytes_of}
-use Rattle.cell_world.specs.Memory.{pasted}
+use Rattle.cell_world.specs.Running.Memory.{pasted}
 use Rattle.cell_mem.proofs.number.write_number.Given as goal
 
 -- the bytes so far, with those that are left written, are as they are to be

@@ -1,5 +1,5 @@
 use Rattle.std.proofs.Common.{◌≡◌, [], take}
-use Rattle.cell_world.specs.Field.{fields_among}
+use Rattle.cell_world.specs.Linked.Field.{fields_among}
 use Rattle.cell_plan.specs.Firsts.{AreSeen}
 use Rattle.cell_plan.proofs.firsts.first_entries.Given as goal
 

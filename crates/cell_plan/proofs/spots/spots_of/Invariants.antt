@@ -1,7 +1,7 @@
-use Rattle.std.proofs.Common.{map, take}
-use Rattle.cell_plan.specs.Lost.{IsSpots}
+use Rattle.std.proofs.Common.{take}
+use Rattle.cell_plan.specs.Changes.{IsSpots}
 use Rattle.cell_plan.proofs.spots.spots_of.Given as goal
 
--- those of the links so far
+-- those of the entries so far
 abbrev pub invariant-loop-index : goal.invariant-loop-index
-invariant-loop-index l = IsSpots (map (λ c. c.0) l.old.cells.now) l.entries l.targets (take l.index l.links) l.spots
+invariant-loop-index l = IsSpots (take l.index l.entries) (take l.index l.marks) l.spots

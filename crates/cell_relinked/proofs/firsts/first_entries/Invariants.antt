@@ -1,5 +1,5 @@
 use Rattle.std.proofs.Common.{◌≡◌, [], take}
-use Rattle.cell_world.specs.Field.{fields_among}
+use Rattle.cell_world.specs.Linked.Field.{fields_among}
 use Rattle.cell_relinked.specs.Contents.{AreSeen}
 use Rattle.cell_relinked.proofs.firsts.first_entries.Given as goal
 

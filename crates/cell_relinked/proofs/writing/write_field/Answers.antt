@@ -3,7 +3,7 @@ use Rattle.std.specs.Prelude.{slice_set}
 use Rattle.cell_num.specs.Bits.{bytes_of}
 use Rattle.cell_num.specs.Kinds.{width_of}
 use Rattle.cell_num.proofs.Elements.{get-In}
-use Rattle.cell_world.specs.Memory.{pasted}
+use Rattle.cell_world.specs.Running.Memory.{pasted}
 use Rattle.cell_relinked.proofs.Gotten.{got}
 use Rattle.cell_relinked.proofs.OneField.{none_there, pasted_size, place_below, set_in, size_there, sizes_kept}
 use Rattle.cell_relinked.proofs.writing.write_field.Goals as goal

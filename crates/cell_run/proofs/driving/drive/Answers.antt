@@ -1,7 +1,7 @@
 use Rattle.std.proofs.Common.{rules, List, refl, sym, subst}
 use Rattle.cell_lemmas.proofs.NextCoherent.{empty_coherent}
 use Rattle.cell_script.specs.declared.line.Line.{Line}
-use Rattle.cell_world.specs.Pages.{IsSpace}
+use Rattle.cell_world.specs.Placed.Pages.{IsSpace}
 use Rattle.cell_run.specs.declared.job.Shows.{Shows}
 use Rattle.cell_run.specs.Machine.{first_state}
 use Rattle.cell_run.specs.Driven.{Sums, Writes}

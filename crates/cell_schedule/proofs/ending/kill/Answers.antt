@@ -1,7 +1,7 @@
 use Rattle.std.proofs.Common.{◌≡◌, refl, sym, ◌∙◌, ap, subst, ℕ, ◌<◌, ◌≤◌, true, false}
 use Rattle.std.specs.Prelude.{is_some}
 use Rattle.std.proofs.lemmas.Result.{err_from_is_err_and}
-use Rattle.cell_world.specs.Pages.{is_taken_run}
+use Rattle.cell_world.specs.Placed.Pages.{is_taken_run}
 use Rattle.cell_world.specs.World.{Task}
 use Rattle.cell_mem.specs.State.{region_from, unmapped}
 use Rattle.cell_place.specs.Space.{with_run}
@@ -53,6 +53,7 @@ returns c =
     let new : Machine = record m { space = c.give_back.new.space; memory = c.unmap.new.self; tasks = c.kill-stack.new.self } in
     killed m c.requires c.args.task t c.in_ok-live.ensures refl new (record {
       cells = refl;
+      soft = refl;
       next = refl;
       swaps = refl;
       namespaces = refl;

@@ -1,7 +1,7 @@
 use Rattle.std.proofs.Common.{◌≡◌, sym, ◌∙◌, ap, ℕ, List, [], ◌∷◌, ◌++◌, length, map, take, drop}
 use Rattle.std.proofs.lemmas.List.{length_push}
 use Rattle.cell_world.specs.World.{Task}
-use Rattle.cell_world.specs.TaskCommands.{task_line as line_of}
+use Rattle.cell_world.specs.Commands.TaskCommands.{task_line as line_of}
 use Rattle.cell_world.specs.declared.reply.TaskLine.{TaskLine}
 use Rattle.cell_task.specs.State.{seen_as}
 use Rattle.cell_schedule.proofs.Lines.{left_more, lines_more, never_missing}

@@ -1,5 +1,5 @@
 use Rattle.std.proofs.Common.{◌≡◌, map, take, drop, length}
-use Rattle.cell_world.specs.TaskCommands.{task_line as line_of}
+use Rattle.cell_world.specs.Commands.TaskCommands.{task_line as line_of}
 use Rattle.cell_schedule.proofs.overview.task_lines.Given as goal
 
 -- the lines so far, and the numbers that are left

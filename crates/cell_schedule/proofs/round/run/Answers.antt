@@ -2,7 +2,7 @@ use Rattle.std.proofs.Common.{sym, subst, List}
 use Rattle.std.proofs.lemmas.Result.{err_from_is_err_and}
 use Rattle.cell_world.specs.declared.reply.Reply.TheVariants.{Run as RunDone}
 use Rattle.cell_world.specs.declared.reply.TaskRun.{TaskRun}
-use Rattle.cell_world.specs.TaskCommands.{next_run}
+use Rattle.cell_world.specs.Commands.TaskCommands.{next_run}
 use Rattle.cell_machine.specs.Machine.{world_of}
 use Rattle.cell_machine.specs.Does.{HasDone}
 use Rattle.cell_schedule.proofs.OneStep.{lacking}

@@ -1,7 +1,7 @@
 use Rattle.std.proofs.Common.{sym, subst, arith, ◌+◌, [], List, ℕ}
 use Rattle.cell_machine.specs.Machine.{world_of}
 use Rattle.cell_world.specs.declared.reply.TaskState.TheVariants.{Ready}
-use Rattle.cell_world.specs.Turn.{turns_from}
+use Rattle.cell_world.specs.Running.Turn.{turns_from}
 use Rattle.cell_schedule.specs.Turns.{HasRun}
 use Rattle.cell_schedule.proofs.Slices.{IsUnderWay, all_had, goes_so, stops_so}
 use Rattle.cell_schedule.proofs.slice.slice.Goals as goal

@@ -1,7 +1,7 @@
 use Rattle.std.proofs.lemmas.Result.{err_from_is_err_and}
 use Rattle.cell_lemmas.proofs.Outcomes.{found_ok}
 use Rattle.cell_world.specs.declared.refusal.Refusal.TheVariants.{NoEntry}
-use Rattle.cell_world.specs.SpawnCommand.{entry_named}
+use Rattle.cell_world.specs.Commands.SpawnCommand.{entry_named}
 use Rattle.cell_machine.specs.Machine.{world_of}
 use Rattle.cell_schedule.specs.Starts.{entry_as}
 use Rattle.cell_schedule.proofs.Entries.{entry_present}

@@ -2,7 +2,7 @@ use Rattle.std.proofs.Common.{◌≡◌, refl, sym, ◌∙◌, ap, subst, ◌+�
 use Rattle.std.proofs.lemmas.Result.{err_from_is_err_and}
 use Rattle.cell_place.specs.Space.{SpaceState, with_run}
 use Rattle.cell_mem.specs.State.{mapped}
-use Rattle.cell_world.specs.Pages.{is_taken_run}
+use Rattle.cell_world.specs.Placed.Pages.{is_taken_run}
 use Rattle.cell_machine.proofs.Unchanged.{same_itself}
 use Rattle.cell_schedule.specs.Starts.{entry_as}
 use Rattle.cell_schedule.proofs.Begun.{begun_by, full, given, room_for, stack_at, there}
@@ -18,6 +18,7 @@ returns-in_err-reserve c =
     let p = err_from_is_err_and c.from_residual-in_err-reserve.result c.from_residual-in_err-reserve.ensures.1 in
     rw (p.1, p.2) (record {
       cells = refl;
+      soft = refl;
       next = refl;
       swaps = refl;
       namespaces = refl;
@@ -36,6 +37,7 @@ returns-in-Err c =
       full m c.requires.sound (entry_as c.args.entry) c.args.arg c.in-Err.none c.in-Err.ensures.answer ∙ ap (λ r. Err r) (sym c.exhausted.ensures),
       record {
         cells = refl;
+        soft = refl;
         next = refl;
         swaps = refl;
         namespaces = refl;
@@ -59,6 +61,7 @@ returns-in-Err-spawn c =
     let m = c.args.machine.now in
     record {
       cells = refl;
+      soft = refl;
       next = refl;
       swaps = refl;
       namespaces = refl;

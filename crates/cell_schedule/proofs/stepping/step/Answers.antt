@@ -1,6 +1,6 @@
 use Rattle.std.proofs.lemmas.Result.{err_from_is_err_and}
 use Rattle.cell_task.specs.State.{seen_as}
-use Rattle.cell_world.specs.TaskCommands.{next_step}
+use Rattle.cell_world.specs.Commands.TaskCommands.{next_step}
 use Rattle.cell_machine.specs.Machine.{world_of}
 use Rattle.cell_schedule.proofs.OneStep.{is_ready, lacking, not_live, not_ready, stepped}
 use Rattle.cell_schedule.proofs.stepping.step.Goals as goal

@@ -3,7 +3,7 @@ use Rattle.std.proofs.lemmas.Result.{err_from_is_err_and}
 use Rattle.cell_world.specs.declared.reply.Reply.TheVariants.{Ns}
 use Rattle.cell_world.specs.declared.state.Namespace.{Namespace}
 use Rattle.cell_machine.specs.declared.machine.Machine.{Machine}
-use Rattle.cell_world.specs.NsCommand.{next_ns}
+use Rattle.cell_world.specs.Commands.NsCommand.{next_ns}
 use Rattle.cell_machine.specs.Does.{HasDone}
 use Rattle.cell_machine.specs.Machine.{world_of}
 use Rattle.cell_system.proofs.MoreNamespaces.{check_failed, comes_to, has_namespace, memory_lacked, parent_failed}
@@ -35,6 +35,7 @@ returns-in_err-add_ns c =
     rw (p.1, p.2)
     (record {
       cells = refl;
+      soft = refl;
       next = refl;
       swaps = refl;
       namespaces = (c.in_err-add_ns.ensures {u = tt}).unchanged;

@@ -1,5 +1,5 @@
 use Rattle.std.proofs.Common.{◌≡◌, ◌*◌, ◌++◌, drop}
-use Rattle.cell_world.specs.Words.{words_in}
+use Rattle.cell_world.specs.Running.Words.{words_in}
 use Rattle.cell_task.proofs.words.put_whole_words.Given as goal
 
 -- the words so far stand before those that are left

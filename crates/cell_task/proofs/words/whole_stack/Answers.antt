@@ -1,7 +1,7 @@
 use Rattle.std.proofs.Common.{◌≡◌, ℕ, List, Option, Some, None, Bor, length}
 use Rattle.std.specs.Prelude.{option_map, IfSome}
 use Rattle.cell_world.specs.World.{Region}
-use Rattle.cell_world.specs.Memory.{read_in}
+use Rattle.cell_world.specs.Running.Memory.{read_in}
 use Rattle.cell_task.proofs.Wording.{length-read}
 use Rattle.cell_task.proofs.words.whole_stack.Goals as goal
 

@@ -2,7 +2,7 @@ use Rattle.std.proofs.Common.{sym, ◌∙◌, ap, ℕ}
 use Rattle.std.specs.Prelude.{Option}
 use Rattle.cell_world.specs.declared.refusal.Refusal.TheVariants.{Unknown}
 use Rattle.cell_world.specs.Outcome.{found}
-use Rattle.cell_world.specs.UnloadCommand.{cell_word}
+use Rattle.cell_world.specs.Commands.UnloadCommand.{cell_word}
 use Rattle.cell_machine.specs.Machine.{world_of}
 use Rattle.cell_unload.proofs.Naming.{by_spaces, unknown_is}
 use Rattle.cell_unload.proofs.named.named_cell.Goals as goal

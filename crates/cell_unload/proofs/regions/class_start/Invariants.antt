@@ -1,9 +1,9 @@
 use Rattle.std.proofs.Common.{◌≡◌, drop}
 use Rattle.std.specs.Prelude.{filter, option_map}
 use Rattle.cell_num.specs.Lists.{first}
-use Rattle.cell_world.specs.Relink.{class_start}
-use Rattle.cell_world.specs.Layout.{is_in_class}
-use Rattle.cell_world.specs.Target.{start_of}
+use Rattle.cell_world.specs.Linked.Relink.{class_start}
+use Rattle.cell_world.specs.Placed.Layout.{is_in_class}
+use Rattle.cell_world.specs.Linked.Target.{start_of}
 use Rattle.cell_world.specs.World.{attached}
 use Rattle.cell_unload.proofs.regions.class_start.Given as goal
 

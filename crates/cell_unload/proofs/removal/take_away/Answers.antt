@@ -26,6 +26,7 @@ returns c = record {
   rows = c.remove_links.ensures.rows;
   sections = c.remove_links.ensures.sections;
   left = c.leave_others.ensures;
+  soft = c.leave_numbers.ensures;
   next = refl;
   swaps = refl;
   tasks = refl;

@@ -1,6 +1,6 @@
 use Rattle.std.proofs.Common.{◌≡◌, ap, suc, ◌∙◌, subst, List, map}
 use Rattle.cell_num.specs.declared.ids.CellId.{CellId}
-use Rattle.cell_world.specs.UnloadCommand.{garbage_of}
+use Rattle.cell_world.specs.Commands.UnloadCommand.{garbage_of}
 use Rattle.cell_machine.specs.Machine.{world_of}
 use Rattle.cell_unload.specs.Removed.{IsRemoved}
 use Rattle.cell_unload.specs.Sweep.{aside_in}

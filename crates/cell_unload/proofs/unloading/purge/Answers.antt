@@ -1,7 +1,7 @@
 use Rattle.std.proofs.Common.{sym, subst, List}
 use Rattle.cell_num.specs.declared.ids.CellId.{CellId}
 use Rattle.cell_world.specs.declared.reply.Reply.TheVariants.{Purge as PurgeDone}
-use Rattle.cell_world.specs.UnloadCommand.{next_purge}
+use Rattle.cell_world.specs.Commands.UnloadCommand.{next_purge}
 use Rattle.cell_machine.specs.Does.{HasDone}
 use Rattle.cell_machine.specs.Machine.{world_of}
 use Rattle.cell_unload.proofs.Swept.{purge_done}

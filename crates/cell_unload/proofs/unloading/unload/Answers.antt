@@ -2,7 +2,7 @@ use Rattle.std.proofs.Common.{◌≡◌, sym, ◌∙◌, ap, subst, List, map, O
 use Rattle.std.proofs.lemmas.Result.{err_from_is_err_and}
 use Rattle.cell_num.specs.declared.ids.CellId.{CellId}
 use Rattle.cell_world.specs.declared.reply.Reply.TheVariants.{Unload as UnloadDone}
-use Rattle.cell_world.specs.UnloadCommand.{next_unload}
+use Rattle.cell_world.specs.Commands.UnloadCommand.{next_unload}
 use Rattle.cell_machine.specs.Does.{HasDone}
 use Rattle.cell_machine.specs.Machine.{world_of}
 use Rattle.cell_unload.specs.Sweep.{cells_numbered}

@@ -1,7 +1,7 @@
 use Rattle.std.proofs.Common.{rules, ◌≡◌, ◌∙◌, ◌==◌, ◌++◌, List, Option, ap, filter, filter_map, sym}
 use Rattle.cell_world.specs.declared.reply.LinkLine.{LinkLine}
 use Rattle.cell_world.specs.declared.state.LinkRow.{LinkRow}
-use Rattle.cell_world.specs.LinkCommands.{link_line}
+use Rattle.cell_world.specs.Commands.LinkCommands.{link_line}
 use Rattle.cell_machine.specs.Machine.{world_of}
 use Rattle.cell_view.proofs.Gathering.{line_over, lines_end}
 use Rattle.cell_view.proofs.links.deps_lines.Goals as goal

@@ -1,5 +1,5 @@
 use Rattle.std.proofs.Common.{◌≡◌, ◌++◌, ◌==◌, filter, filter_map}
-use Rattle.cell_world.specs.LinkCommands.{link_line}
+use Rattle.cell_world.specs.Commands.LinkCommands.{link_line}
 use Rattle.cell_machine.specs.Machine.{world_of}
 use Rattle.cell_view.proofs.links.deps_lines.Given as goal
 

@@ -1,4 +1,4 @@
-use Rattle.cell_world.specs.LinkCommands.{link_line}
+use Rattle.cell_world.specs.Commands.LinkCommands.{link_line}
 use Rattle.cell_machine.specs.Machine.{world_of}
 use Rattle.cell_view.proofs.Gathering.{lines_more}
 use Rattle.cell_view.proofs.links.link_lines.Goals as goal

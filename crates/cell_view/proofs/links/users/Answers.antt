@@ -1,6 +1,6 @@
 use Rattle.std.proofs.Common.{◌∙◌, ap, filter_map, subst, sym}
 use Rattle.cell_world.specs.declared.state.NewCell.{NewCell}
-use Rattle.cell_world.specs.LinkCommands.{link_line}
+use Rattle.cell_world.specs.Commands.LinkCommands.{link_line}
 use Rattle.cell_machine.specs.Machine.{section_keys, world_of}
 use Rattle.cell_view.specs.Links.{HasSections, links_in}
 use Rattle.std.specs.List.Sorted.{IsPermutation}

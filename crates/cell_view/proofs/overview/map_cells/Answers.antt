@@ -2,7 +2,7 @@ use Rattle.std.proofs.Common.{◌∙◌, ◌<◌, ap, ap₂, sym, subst, arith, 
 use Rattle.std.proofs.lemmas.List.{map-append}
 use Rattle.cell_world.specs.declared.reply.MapCell.{MapCell}
 use Rattle.cell_world.specs.declared.state.NewCell.{NewCell}
-use Rattle.cell_world.specs.MapCommand.{map_cell}
+use Rattle.cell_world.specs.Commands.MapCommand.{map_cell}
 use Rattle.cell_world.specs.World.{World}
 use Rattle.cell_num.specs.Lists.{In}
 use Rattle.cell_machine.specs.Machine.{world_of}

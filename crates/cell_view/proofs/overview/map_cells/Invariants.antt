@@ -1,5 +1,5 @@
 use Rattle.std.proofs.Common.{◌≡◌, map, take}
-use Rattle.cell_world.specs.MapCommand.{map_cell}
+use Rattle.cell_world.specs.Commands.MapCommand.{map_cell}
 use Rattle.cell_machine.specs.Machine.{world_of}
 use Rattle.cell_view.proofs.overview.map_cells.Given as goal
 

@@ -1,7 +1,7 @@
 use Rattle.std.proofs.Common.{◌∙◌, ap, sym, Some}
 use Rattle.std.specs.Prelude.{option_map}
 use Rattle.cell_num.specs.Lists.{where_true}
-use Rattle.cell_world.specs.Execute.{number_read}
+use Rattle.cell_world.specs.Running.Execute.{number_read}
 use Rattle.cell_xfer.proofs.Reading.{byte_there}
 use Rattle.cell_xfer.proofs.asking.byte_at.Goals as goal
 

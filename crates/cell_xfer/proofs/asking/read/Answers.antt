@@ -1,5 +1,5 @@
 use Rattle.std.proofs.Common.{◌≡◌, ◌∙◌, ◌<◌, ap, arith, length}
-use Rattle.cell_world.specs.Transfer.{bytes_loaded}
+use Rattle.cell_world.specs.Running.Transfer.{bytes_loaded}
 use Rattle.cell_xfer.proofs.Reading.{read_all, read_fails, read_more}
 use Rattle.cell_xfer.proofs.asking.read.Goals as goal
 

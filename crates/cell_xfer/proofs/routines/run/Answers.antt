@@ -1,5 +1,5 @@
 use Rattle.std.proofs.Common.{◌≡◌, ◌∙◌, ◌+◌, ◌-◌, ◌<◌, ◌≤◌, ap, arith, ℕ, sym}
-use Rattle.cell_world.specs.Transfer.{Ending}
+use Rattle.cell_world.specs.Running.Transfer.{Ending}
 use Rattle.cell_xfer.specs.Ran.{tables_of}
 use Rattle.cell_xfer.proofs.Running.{ends, goes_on}
 use Rattle.cell_xfer.proofs.Writing.{more_written, writes_left}

@@ -1,6 +1,6 @@
 use Rattle.std.proofs.Common.{◌≡◌, ◌-◌}
 use Rattle.cell_hart.specs.Step.{seen_of}
-use Rattle.cell_world.specs.Transfer.{routine_from}
+use Rattle.cell_world.specs.Running.Transfer.{routine_from}
 use Rattle.cell_xfer.specs.Ran.{hart_as, tables_of}
 use Rattle.cell_xfer.specs.Written.{HasWritten}
 use Rattle.cell_xfer.proofs.routines.run.Given as goal

@@ -1,7 +1,7 @@
 use Rattle.std.proofs.Common.{◌∙◌, ◌+◌, ◌-◌, ◌<◌, ◌≤◌, ap, arith, sym, length, drop, get_or, None, Some}
 use Rattle.cell_hart.specs.Step.{seen_of}
 use Rattle.cell_world.specs.declared.transfer.Routine.{Routine}
-use Rattle.cell_world.specs.Transfer.{transferred}
+use Rattle.cell_world.specs.Running.Transfer.{transferred}
 use Rattle.cell_xfer.specs.Ran.{tables_of}
 use Rattle.cell_xfer.proofs.Answered.{answered_as}
 use Rattle.cell_xfer.proofs.Running.{failed, from_next, no_routines, none_left, succeeded}

@@ -1,6 +1,6 @@
 use Rattle.std.proofs.Common.{◌≡◌, ◌-◌, ◌≤◌, drop}
 use Rattle.cell_hart.specs.Step.{seen_of}
-use Rattle.cell_world.specs.Transfer.{transferred}
+use Rattle.cell_world.specs.Running.Transfer.{transferred}
 use Rattle.cell_xfer.specs.Ran.{tables_of}
 use Rattle.cell_xfer.specs.Written.{HasWritten}
 use Rattle.cell_xfer.proofs.routines.transfer.Given as goal

@@ -1,6 +1,6 @@
 use Rattle.std.proofs.Common.{◌∙◌, ap}
 use Rattle.cell_hart.specs.Step.{seen_of}
-use Rattle.cell_world.specs.Transfer.{asked_name}
+use Rattle.cell_world.specs.Running.Transfer.{asked_name}
 use Rattle.std.specs.Prelude.{slice_index, unwrap_or}
 use Rattle.cell_xfer.specs.Named.{addresses_as}
 use Rattle.cell_xfer.specs.Ran.{hart_as}

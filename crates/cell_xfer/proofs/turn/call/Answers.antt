@@ -1,7 +1,7 @@
 use Rattle.std.proofs.Common.{◌∙◌, ◌≤◌, ap, arith, sym}
 use Rattle.std.specs.Prelude.{slice_index}
 use Rattle.cell_hart.specs.Step.{seen_of}
-use Rattle.cell_world.specs.Move.{called}
+use Rattle.cell_world.specs.Running.Move.{called}
 use Rattle.cell_xfer.specs.Ran.{hart_as, tables_of}
 use Rattle.cell_xfer.proofs.Turning.{nothing}
 use Rattle.cell_xfer.proofs.turn.call.Goals as goal

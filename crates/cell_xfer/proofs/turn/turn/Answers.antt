@@ -1,5 +1,5 @@
 use Rattle.std.proofs.Common.{◌∙◌}
-use Rattle.cell_world.specs.Transfer.{routine_column}
+use Rattle.cell_world.specs.Running.Transfer.{routine_column}
 use Rattle.cell_xfer.specs.Ran.{tables_of}
 use Rattle.cell_xfer.proofs.Turning.{call_moved}
 use Rattle.cell_xfer.proofs.Writing.{step_written}

@@ -1,13 +1,9 @@
-use Rattle.std.proofs.Common.{sym, ◌∙◌}
-use Rattle.cell_bearers.specs.Sight.{sees_by}
-use Rattle.cell_bearers.proofs.Sooner.{first_so_far, nobody}
+use Rattle.std.proofs.Common.{◌∙◌}
+use Rattle.cell_bearers.proofs.Stopping.{parts_found}
 use Rattle.cell_bearers.proofs.sight.Sight.first.Goals as goal
 
-pub loop-index-init : goal.loop-index-init
-loop-index-init c = sym (nobody (sees_by c.args.self.now) 0 c.args.self.now.cells.now)
-
-pub loop-index-preserved : goal.loop-index-preserved
-loop-index-preserved c =
-    let s = c.args.self.now in
-    c.sooner-first.ensures
-    ∙ first_so_far (sees_by s) s.cells.now c.args.bearers.now c.loop-index.index _ c.loop-index-test.true c.loop-index.first c.cell_of.result c.loop-index.invariant c.cell_of.ensures
+pub returns-clause-first : goal.returns-clause-first
+returns-clause-first c = λ ordered.
+    c.sooner.ensures
+    ∙ parts_found c.args.self.now c.args.bearers.now ordered c.object_count.result c.first_among.result c.first_among-2.result c.split_at.result.0.now c.split_at.result.1.now
+    c.object_count.ensures.within c.object_count.ensures.count c.split_at.ensures.front c.split_at.ensures.back c.first_among.ensures.first c.first_among-2.ensures.first

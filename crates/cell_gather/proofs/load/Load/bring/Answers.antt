@@ -49,7 +49,8 @@ pub returns-clause-ends : goal.returns-clause-ends
 returns-clause-ends c =
     done c.args.self.now.depot.now c.args.self.now.spaces.now c.args.self.now.next (new_of c.args.gathered.now) (new_of c.loop-place.gathered) 1025 c.loop-place.invariant.led c.loop-place.invariant.growing.few (omega arith)
     (λ w is.
-    no_lack c.args.self.now.spaces.now c.args.self.now.next c.args.self.now.given (new_of c.loop-place.gathered) c.loop-place.invariant.growing.above c.loop-place.invariant.growing.attached w is c.loop-place.place (let many = as_many c.args.self.now.spaces.now c.args.self.now.next c.loop-place.gathered c.loop-place.invariant.growing in omega (arith, c.loop-place.gathered.cells.ok.0)) c.loop-place.invariant.supplied)
+    no_lack c.args.self.now.spaces.now c.args.self.now.next c.args.self.now.given (new_of c.loop-place.gathered) c.loop-place.invariant.growing.above c.loop-place.invariant.growing.attached w is c.loop-place.place (let many = as_many c.args.self.now.spaces.now c.args.self.now.next
+    c.loop-place.gathered c.loop-place.invariant.growing in omega (arith, c.loop-place.gathered.cells.ok.0)) c.loop-place.invariant.supplied)
 
 pub returns-clause-plain : goal.returns-clause-plain
 returns-clause-plain c = λ plain.

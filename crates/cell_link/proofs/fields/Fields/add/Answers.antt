@@ -1,5 +1,5 @@
 use Rattle.std.specs.BTreeMap.{get}
-use Rattle.cell_world.specs.Field.{Bound}
+use Rattle.cell_world.specs.Linked.Field.{Bound}
 use Rattle.cell_link.specs.Linked.{bound_in}
 use Rattle.cell_link.specs.Tables.{spot_cmp}
 use Rattle.cell_link.proofs.AppliedLemmas.{held_step}

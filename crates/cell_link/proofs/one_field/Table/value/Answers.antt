@@ -1,5 +1,5 @@
 use Rattle.std.proofs.lemmas.Result.{err_from_is_err_and}
-use Rattle.cell_world.specs.Field.{is_at, own_number}
+use Rattle.cell_world.specs.Linked.Field.{is_at, own_number}
 use Rattle.cell_link.specs.Linked.{bound_in}
 use Rattle.cell_link.specs.Applied.{applied, is_unfit_at}
 use Rattle.cell_link.proofs.TableLemmas.{fold_all, fold_more, misfit_at, pass_not, pass_nowhere}

@@ -1,7 +1,7 @@
 use Rattle.std.proofs.Common.{◌≡◌, false, take}
 use Rattle.std.specs.Prelude.{filter, fold}
 use Rattle.std.specs.List.{list_any}
-use Rattle.cell_world.specs.Field.{is_at, own_number}
+use Rattle.cell_world.specs.Linked.Field.{is_at, own_number}
 use Rattle.cell_link.specs.Linked.{bound_in}
 use Rattle.cell_link.specs.Applied.{applied, is_unfit_at}
 use Rattle.cell_link.proofs.one_field.Table.value.Given as goal

@@ -1,5 +1,5 @@
 use Rattle.std.proofs.Common.{sym}
-use Rattle.cell_world.specs.Memory.{covers}
+use Rattle.cell_world.specs.Running.Memory.{covers}
 use Rattle.cell_mem.proofs.Laid.{found_passes}
 use Rattle.cell_mem.proofs.memory.Memory.bytes.Goals as goal
 

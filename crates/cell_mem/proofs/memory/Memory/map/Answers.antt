@@ -2,9 +2,9 @@ use Rattle.std.proofs.Common.{◌≡◌, ◌/◌, ℕ, List, Option, Some, lengt
 use Rattle.std.specs.Vec.{with_items}
 use Rattle.std.specs.Prelude.{slice_set}
 use Rattle.std.proofs.lemmas.List.{with_items_is, length-set}
-use Rattle.cell_world.specs.Pages.{filled}
+use Rattle.cell_world.specs.Placed.Pages.{filled}
 use Rattle.cell_mem.specs.Perm.{permission_of}
-use Rattle.cell_world.specs.Undo.{AreBytes}
+use Rattle.cell_world.specs.Running.Undo.{AreBytes}
 use Rattle.cell_mem.specs.Index.{held}
 use Rattle.cell_mem.proofs.Small.{small_with}
 use Rattle.cell_mem.proofs.Soundness.{Mapped, mapped_by, state_mapped}

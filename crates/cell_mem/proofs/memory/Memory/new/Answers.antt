@@ -1,7 +1,7 @@
 use Rattle.std.proofs.Common.{◌≡◌, ℕ, ◌+◌, ◌*◌, List, Option, Bool, None, [], false, length, replicate, subst, sym, ap, ◌∙◌, arith}
 use Rattle.std.proofs.lemmas.List.{length-replicate, get_or-replicate}
 use Rattle.cell_world.specs.World.{Region}
-use Rattle.cell_world.specs.Undo.{AreBytes}
+use Rattle.cell_world.specs.Running.Undo.{AreBytes}
 use Rattle.cell_mem.specs.Index.{AreInPlace, IsLaid, IsIndex, held}
 use Rattle.cell_mem.specs.State.{MemoryState, empty_memory}
 use Rattle.cell_mem.proofs.Held.{none_held, none_in_place}

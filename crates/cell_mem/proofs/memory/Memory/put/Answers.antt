@@ -4,7 +4,7 @@ use Rattle.std.specs.Prelude.{IsSomeAnd, slice_set, option_map}
 use Rattle.std.proofs.lemmas.List.{with_items_is}
 use Rattle.cell_num.specs.Bits.{bytes_of}
 use Rattle.cell_world.specs.World.{Region}
-use Rattle.cell_world.specs.Undo.{put_in}
+use Rattle.cell_world.specs.Running.Undo.{put_in}
 use Rattle.cell_mem.specs.State.{MemoryState, write_at}
 use Rattle.cell_mem.specs.Writing.{HasBytes, put}
 use Rattle.cell_mem.proofs.Soundness.{holds, holds_none, has_at, Written, written_is, few_written, state_written}

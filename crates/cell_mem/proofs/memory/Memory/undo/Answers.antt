@@ -1,6 +1,6 @@
 use Rattle.std.proofs.Common.{ap, ◌∙◌, ◌-◌, map, length, drop}
 use Rattle.cell_world.specs.Coherent.{shape_of}
-use Rattle.cell_lemmas.proofs.Undone.{undo_shapes}
+use Rattle.cell_lemmas.proofs.Tasks.Undone.{undo_shapes}
 use Rattle.cell_mem.specs.State.{MemoryState}
 use Rattle.cell_mem.proofs.memory.Memory.undo.Goals as goal
 

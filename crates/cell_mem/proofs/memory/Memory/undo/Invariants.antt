@@ -1,5 +1,5 @@
 use Rattle.std.proofs.Common.{◌≡◌, ◌-◌, length, drop}
-use Rattle.cell_world.specs.Undo.{undone}
+use Rattle.cell_world.specs.Running.Undo.{undone}
 use Rattle.cell_mem.proofs.memory.Memory.undo.Given as goal
 
 -- the last records are gone back by

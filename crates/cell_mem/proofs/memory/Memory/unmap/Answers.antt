@@ -3,10 +3,10 @@ use Rattle.std.specs.Prelude.{slice_set}
 use Rattle.std.specs.Vec.{with_items}
 use Rattle.std.proofs.lemmas.List.{with_items_is, length-set, get_or_default}
 use Rattle.cell_world.specs.World.{Region}
-use Rattle.cell_world.specs.Pages.{filled}
+use Rattle.cell_world.specs.Placed.Pages.{filled}
 use Rattle.std.specs.Prelude.{not}
 use Rattle.std.proofs.lemmas.List.Elements.{All-filter}
-use Rattle.cell_world.specs.Undo.{AreBytes}
+use Rattle.cell_world.specs.Running.Undo.{AreBytes}
 use Rattle.cell_mem.specs.Index.{held}
 use Rattle.cell_mem.proofs.Removing.{starts_at}
 use Rattle.cell_mem.proofs.Small.{HasBytesAlone}

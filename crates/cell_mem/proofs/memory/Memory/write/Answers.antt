@@ -1,7 +1,7 @@
 use Rattle.std.proofs.Common.{◌≡◌, ◌+◌, ◌-◌, ◌*◌, refl, subst, sym, ap, ◌∙◌, [], ◌∷◌, ◌++◌, Option, None}
 use Rattle.std.specs.Prelude.{option_map}
 use Rattle.cell_world.specs.declared.transfer.Record.{Record}
-use Rattle.cell_world.specs.Undo.{AreBytes, record_of}
+use Rattle.cell_world.specs.Running.Undo.{AreBytes, record_of}
 use Rattle.cell_mem.specs.Index.{held}
 use Rattle.cell_mem.specs.Inside.{state_of, undo_over}
 use Rattle.cell_mem.specs.State.{MemoryState, write_at}

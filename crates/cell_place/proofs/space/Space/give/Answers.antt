@@ -1,5 +1,5 @@
 use Rattle.std.proofs.Common.{ap, ◌∙◌}
-use Rattle.cell_world.specs.Pages.{is_taken_run}
+use Rattle.cell_world.specs.Placed.Pages.{is_taken_run}
 use Rattle.cell_place.proofs.Table.{taken_inside}
 use Rattle.cell_place.proofs.space.Space.give.Goals as goal
 

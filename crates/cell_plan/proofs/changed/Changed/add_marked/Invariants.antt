@@ -10,5 +10,5 @@ abbrev pub invariant-loop-index : goal.invariant-loop-index
 invariant-loop-index l = record {
   patches : (value : Entry → FieldValue) (kept : Entry → Bool) → l.values ≡ map value l.entries → l.marks ≡ map kept l.entries → l.self.patches.items ≡ l.initial.self.patches.items ++ map value (filter kept (take l.index l.entries));
   spans : (kept : Entry → Bool) → l.marks ≡ map kept l.entries → l.self.spans.items ≡ l.initial.self.spans.items ++ map (span_in l.lasts.cell.now) (filter kept (take l.index l.entries));
-  moves : l.self.moves.items ≡ l.initial.self.moves.items;
+  links : l.self.links ≡ l.initial.self.links;
 }

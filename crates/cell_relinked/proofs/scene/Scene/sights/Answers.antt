@@ -1,1 +1,0 @@
-use Rattle.cell_relinked.proofs.scene.Scene.sights.Goals as goal

@@ -3,7 +3,7 @@ use Rattle.std.specs.Prelude.{option_and_then}
 use Rattle.cell_described.specs.Faults.{object_at}
 use Rattle.cell_object.specs.declared.object.Object.{Object}
 use Rattle.cell_object.specs.declared.object.Symbol.{Symbol}
-use Rattle.cell_world.specs.Target.{own_target}
+use Rattle.cell_world.specs.Linked.Target.{own_target}
 use Rattle.cell_relinked.specs.Fit.{placed_in}
 use Rattle.cell_relinked.proofs.Gotten.{got_by_test, in_by_test}
 use Rattle.cell_relinked.proofs.scene.Scene.target_in.Goals as goal

@@ -1,5 +1,5 @@
 use Rattle.std.proofs.Common.{◌≡◌, ◌++◌, map, take}
-use Rattle.cell_world.specs.Target.{symbol_target}
+use Rattle.cell_world.specs.Linked.Target.{symbol_target}
 use Rattle.cell_target.specs.Scene.{in_state, seen}
 use Rattle.cell_target.specs.Named.{IsNamed, world_of}
 use Rattle.cell_target.proofs.scene.Scene.find_symbols.Given as goal

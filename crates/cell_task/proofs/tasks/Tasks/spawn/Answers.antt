@@ -3,7 +3,7 @@ use Rattle.slab.specs.Slab.{Slab}
 use Rattle.cell_task.specs.declared.task.Task.{Task as LiveTask}
 use Rattle.cell_task.specs.declared.tasks.Tasks.TheInside.{Inside}
 use Rattle.cell_world.specs.World.{Task}
-use Rattle.cell_world.specs.SpawnCommand.{new_task}
+use Rattle.cell_world.specs.Commands.SpawnCommand.{new_task}
 use Rattle.cell_task.specs.Inside.{state_of}
 use Rattle.cell_task.specs.State.{TasksState, with_new}
 use Rattle.cell_task.proofs.Places.{sound_room, sound_pushed, state_pushed}

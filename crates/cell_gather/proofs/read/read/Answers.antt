@@ -1,5 +1,0 @@
-use Rattle.cell_gather.proofs.Loadables.{loadable}
-use Rattle.cell_gather.proofs.read.read.Goals as goal
-
-pub returns-in-Ok-clause-loadable : goal.returns-in-Ok-clause-loadable
-returns-in-Ok-clause-loadable c = loadable c.args.file.now.bytes c.in-Ok.object c.requires c.in-Ok.ensures.object

@@ -1,0 +1,3 @@
+mod Single
+mod Sites
+mod Names

@@ -1,0 +1,24 @@
+-- Who provides a name, and what that leaves of what cells name.
+pub mod Agreeing
+pub mod Appended
+pub mod Asked
+pub mod Attach
+pub mod Attaching
+pub mod Brought
+pub mod Chains
+pub mod Comers
+pub mod Coverage
+pub mod Gathered
+pub mod Known
+pub mod NamespaceAdded
+pub mod NeedsLeft
+pub mod NotIn
+pub mod Paths
+pub mod Reexported
+pub mod Renamed
+pub mod SetAside
+pub mod Spaces
+pub mod Supplied
+pub mod Unique
+pub mod PutAside
+pub mod Lookups

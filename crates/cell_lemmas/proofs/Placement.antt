@@ -1,0 +1,25 @@
+-- Where sections stand: classes, runs of pages, regions.
+pub mod Distinct
+pub mod Freed
+pub mod InSpace
+pub mod Inside
+pub mod ImagesInside
+pub mod LoadOffsets
+pub mod LoadTables
+pub mod NewPlaced
+pub mod NewRegions
+pub mod Offsets
+pub mod OwnPlaces
+pub mod PlacedAll
+pub mod Places
+pub mod Placing
+pub mod Regions
+pub mod Shapes
+pub mod ShapesLeft
+pub mod Tables
+pub mod TextPlaces
+pub mod Bare
+pub mod FreeRuns
+pub mod PlacedGrown
+pub mod PlacedReady
+pub mod Ready

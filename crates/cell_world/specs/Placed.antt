@@ -1,0 +1,4 @@
+-- Where sections stand.
+pub mod Layout
+pub mod Pages
+pub mod Place

@@ -1,0 +1,8 @@
+-- Turns, and what routines and undos do.
+pub mod Execute
+pub mod Memory
+pub mod Move
+pub mod Transfer
+pub mod Turn
+pub mod Undo
+pub mod Words
