@@ -16,7 +16,7 @@ import sys
 import tempfile
 
 TOP = pathlib.Path(__file__).resolve().parent.parent
-EXAMPLES = [(name, ["examples/" + name, "script"]) for name in ("first", "swap", "tasks", "transfer", "unload", "plugins", "weak")]
+EXAMPLES = [(name, ["examples/" + name, "script"]) for name in ("first", "swap", "tasks", "transfer", "unload", "plugins", "weak", "recover")]
 RUNS = EXAMPLES + [("stored run", ["crates/cells/data/d", "s"]), ("generated", ["--generate", "3", "--seed", "0"])]
 NO_MEMORY = 5
 DONE = (0, 1)

@@ -35,8 +35,8 @@ import subprocess
 import transcript
 from transcript import Wrong
 
-CHANGE_CELLS = {"load", "swap", "unload", "purge"}
-CHANGE_TASKS = {"spawn", "step", "run", "kill"}
+CHANGE_CELLS = {"load", "swap", "recover", "rebuild", "unload", "purge"}
+CHANGE_TASKS = {"spawn", "step", "run", "kill", "recover", "rebuild"}
 PERMISSIONS = {"rx": "code", "ro": "constants", "rw": "data"}
 NAMESPACE = re.compile(r"[ \t]*ns[ \t]+(\w+)[ \t]+under[ \t]+(\w+)[ \t]*$")
 ATTACHED, ASIDE, READY, FAULT = ("#cfe8cf", "#3c763d"), ("#e4e4e4", "#777777"), ("#d9e8f6", "#31708f"), ("#f6d5d5", "#a94442")
@@ -188,9 +188,9 @@ def drawings(answers, told):
     for at, answer in enumerate(answers):
         if answer.command == "ns":
             parents[answer.rest.strip()] = told.get(answer.rest.strip())
-        elif answer.command == "swap":
+        elif answer.command in transcript.SWAPS:
             row = transcript.parsed(transcript.SWAP, answer.at, answer.rest)
-            swaps[int(row[1])] = transcript.numbers(row[2])
+            swaps[int(row[2])] = transcript.numbers(row[3])
         elif answer.command == "map":
             yield answer.line, drawing(answers, at, dict(parents), dict(swaps))
 

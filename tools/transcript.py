@@ -7,13 +7,15 @@ import sys
 from dataclasses import dataclass, field
 
 TOP = os.path.dirname(os.path.dirname(os.path.abspath(__file__)))
-COMMANDS = "ns|load|spawn|step|run|kill|swap|unload|purge|find|map|tasks|deps|users|dump|dumpall"
+COMMANDS = "ns|load|spawn|step|run|kill|swap|recover|rebuild|unload|purge|find|map|tasks|deps|users|dump|dumpall"
 ANSWER = re.compile(rf"(\d+) (?:ok ({COMMANDS})\b|E(\d+) )(.*)")
 CELL = re.compile(r"  #(\d+) (\w+)/(\w+) (attached|detached (\d+)) (\S+)$")
 SECTION = re.compile(r"    (\d+) (rx|rw|ro) ([0-9a-f]+) (\d+)$")
 LINK = re.compile(r"  #(\d+)\.(\d+)\+([0-9a-f]+) (\w+) -> #(\d+)\.(\d+)$")
 TASK = re.compile(r"  t(\d+) (?:(ready) pc|(fault) (\S+) at) ([0-9a-f]+) root #(\d+)$")
-SWAP = re.compile(r" (\d+) new (.*) patched (\d+) removed (.*) kept (.*)$")
+# A `recover` and a `rebuild` name their task before.
+SWAP = re.compile(r"(?: t(\d+) swap)? (\d+) new (.*) patched (\d+) removed (.*) kept (.*)$")
+SWAPS = ("swap", "recover", "rebuild")
 TURNS = re.compile(r" *t(\d+) turns (\d+) (?:(ready)|(done) (\d+)|(fault) (\S+) at ([0-9a-f]+))$")
 OUT = re.compile(r"  out t(\d+) (.*)$")
 
@@ -165,13 +167,13 @@ def came(answer):
     """The cells that came with a command."""
     if answer.command == "load":
         return numbers(answer.rest.partition(" patched ")[0])
-    return numbers(parsed(SWAP, answer.at, answer.rest)[2]) if answer.command == "swap" else []
+    return numbers(parsed(SWAP, answer.at, answer.rest)[3]) if answer.command in SWAPS else []
 
 
 def went(answer):
     """The cells that went with a command."""
-    if answer.command == "swap":
-        return numbers(parsed(SWAP, answer.at, answer.rest)[4])
+    if answer.command in SWAPS:
+        return numbers(parsed(SWAP, answer.at, answer.rest)[5])
     return numbers(answer.rest) if answer.command in ("unload", "purge") else []
 
 

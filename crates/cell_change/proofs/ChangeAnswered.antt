@@ -9,7 +9,7 @@ use Rattle.cell_world.specs.declared.fail.Fail.{Fail}
 use Rattle.cell_world.specs.declared.fail.Fail.TheVariants.{Refused, OutOfMemory}
 use Rattle.cell_world.specs.declared.file.File.{File}
 use Rattle.cell_world.specs.declared.refusal.Refusal.{Refusal}
-use Rattle.cell_world.specs.Change.{Change as ChangeSaid, Made as MadeSaid, Plan as PlanSaid, first_held_old, made_by, make_change, plan_of, replaced, with_routines}
+use Rattle.cell_world.specs.Change.{Change as ChangeSaid, Made as MadeSaid, Plan as PlanSaid, first_held_old, made_by, make_change, plan_of, replaced, with_sequel}
 use Rattle.cell_world.specs.Gather.{Source, source_of}
 use Rattle.cell_world.specs.Outcome.{Outcome, ◌>>=◌, ◌>>◌, refused_by}
 use Rattle.cell_world.specs.World.{Cell, Standing, World, is_attached}
@@ -88,11 +88,11 @@ module _ (files : List File) (before : Machine) (sound : IsSound before) (asked 
   abbrev said : Outcome MadeSaid
   said = make_change sources w c
 
-  abbrev after_routines : PlanSaid → World → Outcome MadeSaid
-  after_routines plan second = refused_by (first_held_old c second) >> Ok (made_by c plan second)
+  abbrev after_sequel : PlanSaid → World → Outcome MadeSaid
+  after_sequel plan second = refused_by (first_held_old c second) >> Ok (made_by c plan second)
 
   abbrev after_plan : PlanSaid → Outcome MadeSaid
-  after_plan plan = with_routines c plan >>= after_routines plan
+  after_plan plan = with_sequel c plan >>= after_sequel plan
 
   by_plan : said ≡ (plan_of sources w c >>= after_plan)
   by_plan = refl
@@ -113,12 +113,12 @@ module _ (files : List File) (before : Machine) (sound : IsSound before) (asked 
       held plan second (Some r) = refl
 
       moved : (plan : PlanSaid) (x : Outcome World)
-          → (x >>= after_routines plan) ≡ (((x >>= (λ z. refused_by (first_held_old c z) >> (let y : Outcome World = Ok z in y))) >>= (λ z. let y : Outcome (PlanSaid × World) = Ok (plan, z) in y)) >>= answer)
+          → (x >>= after_sequel plan) ≡ (((x >>= (λ z. refused_by (first_held_old c z) >> (let y : Outcome World = Ok z in y))) >>= (λ z. let y : Outcome (PlanSaid × World) = Ok (plan, z) in y)) >>= answer)
       moved plan (Ok second) = held plan second (first_held_old c second)
       moved plan (Err r) = refl
 
       go : (x : Outcome PlanSaid) → (x >>= after_plan) ≡ ((x >>= both_then) >>= answer)
-      go (Ok plan) = moved plan (with_routines c plan)
+      go (Ok plan) = moved plan (with_sequel c plan)
       go (Err r) = refl
 
   abbrev most : Most

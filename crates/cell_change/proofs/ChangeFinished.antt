@@ -39,6 +39,7 @@ use Rattle.cell_change.specs.Exchanged.{AreRoots, IsPlanned, IsReadyFor}
 use Rattle.cell_change.specs.declared.request.Change.{Change}
 use Rattle.cell_unload.specs.declared.outlook.Outlook.{Outlook}
 use Rattle.cell_hold.specs.declared.roots.Root.{Root}
+use Rattle.cell_unload.specs.Begun.{root_of, root_of_task}
 use Rattle.cell_change.specs.Entering.{LooksBy}
 use Rattle.cell_change.specs.Planning.{Looks}
 use Rattle.cell_change.proofs.Arrival.ChangeOutlook.{new_root, outlook_after}
@@ -141,6 +142,9 @@ module _ (m : Machine) {asked : Change} (p : Plan) (x : IsPlanned m asked p) (k 
         go (Some roots) some None looks = absurd looks
         go (Some roots) some (Some o) looks = (
           some.0,
-          outlook_after x.begun.before asked.replaced.items m (record n { memory = memory }) x.begun.sound x.begun.aside sound new cells_are stand added.is.tasks p.staged.cells.items x.ready.staged.cells added.is.cells o
-              looks.places (looks.rooted ∙ ap (λ (rs : List Root). rs ++ map new_root p.staged.cells.items) some.1),
+          outlook_after x.begun.before asked.replaced.items m (record n { memory = memory }) x.begun.sound x.begun.aside sound new cells_are stand p.staged.cells.items x.ready.staged.cells added.is.cells o
+              looks.places
+              (looks.rooted
+              ∙ (ap (λ (rs : List Root). rs ++ map new_root p.staged.cells.items) some.1
+              ∙ ap (λ (ts : TasksState). (flat_map (root_of asked.replaced.items) (world_of x.begun.before).cells ++ map root_of_task ts.tasks) ++ map new_root p.staged.cells.items) (sym (added.is.tasks ∙ x.begun.aside.tasks)))),
         )

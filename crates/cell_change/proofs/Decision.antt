@@ -1,14 +1,17 @@
 -- What a change decides before anything changes: its cells, who uses the old ones, what changes in them.
 pub mod AddressesSaid
 pub mod Began
+mod BeginsBy
 mod BeginsPlain
 pub mod Bystanders
 pub mod Came
 pub mod ChangeLanded
 pub mod Covered
 pub mod GatheredFor
+pub mod HasEntry
 pub mod LeftAlone
 pub mod LinksLead
+mod Naming
 pub mod OldRivals
 pub mod OldStates
 pub mod PlanSteps

@@ -10,6 +10,7 @@ use Rattle.cell_world.specs.Kept.{Holding, holder_in, holding_of, kept_in}
 use Rattle.cell_world.specs.Outcome.{Outcome, ◌>>=◌, ◌>>◌, refused_by}
 use Rattle.cell_world.specs.Change.{Change as ChangeSaid, Plan as PlanSaid, addresses_of, first_held_old, old_of}
 use Rattle.cell_world.specs.Commands.SwapTransfer.{transferred_by}
+use Rattle.cell_world.specs.Running.Restart.{restart_by}
 use Rattle.cell_world.specs.Running.Transfer.{transfer}
 use Rattle.cell_world.specs.Commands.UnloadCommand.{first_held}
 use Rattle.cell_world.specs.World.{World}
@@ -65,9 +66,18 @@ module _ (most : Most) where
     after (Ok w) f k = held_after w (first_held_old c w) refl k
     after (Err q) f k = f (ap (λ (x : Outcome World). elim x as (λ _. Outcome World) [ Ok v ↦ Err q | Err p ↦ Err p ]) k)
 
-    ran : (stack : Option ℕ) → (on stack >>= unless_held) ≡ Err r → counted_before r most ≡ most
-    ran None k = after (Ok plan.linked) (λ f. absurd cc) k
-    ran (Some start) k = after (on (Some start)) (failed_late c.routines (transfer plan.linked start (addresses_of c plan) plan.routines c.budget) r) k
+    -- once the task has begun again
+    abbrev begun : Outcome World → Outcome World
+    begun x = x >>= (λ second. let y : Outcome World = Ok (restart_by plan.restarted second) in y)
+
+    -- a restart refuses nothing
+    begun_late : (x : Outcome World) → (x ≡ Err r → counted_before r most ≡ most) → begun x ≡ Err r → counted_before r most ≡ most
+    begun_late (Ok second) f k = absurd cc
+    begun_late (Err q) f k = f (ap (λ (x : Outcome World). elim x as (λ _. Outcome World) [ Ok v ↦ Err q | Err p ↦ Err p ]) k)
+
+    ran : (stack : Option ℕ) → (begun (on stack) >>= unless_held) ≡ Err r → counted_before r most ≡ most
+    ran None k = after (begun (Ok plan.linked)) (begun_late (Ok plan.linked) (λ f. absurd cc)) k
+    ran (Some start) k = after (begun (on (Some start))) (begun_late (on (Some start)) (failed_late c.routines (transfer plan.linked start (addresses_of c plan) plan.routines c.budget) r)) k
 
     pub ended_late : ended c plan ≡ Err r → counted_before r most ≡ most
     ended_late e = ran plan.stack e

@@ -1,9 +1,10 @@
 -- What a change asks for.
+--     is_strict ending, restart_by ending   whether a replaced cell that is kept is a refusal, and the task that begins again
 --     as_said change wants               what the definition is asked for
 --     IsWantOf sources v wanted want     the file, the namespace and the replaced cell of a want, by their names and numbers
 --     AreWantsOf sources v all wants     the same of all wants
 --     IsAsked sources v change           all that the change names is there
-use Rattle.std.specs.Prelude.{◌≡◌, ◌<◌, IsTrue, List, [], ◌∷◌, Some, filter_map, length, map, option_map}
+use Rattle.std.specs.Prelude.{◌≡◌, ◌<◌, ℕ, Bool, true, false, IsTrue, List, [], ◌∷◌, Option, None, Some, filter_map, length, map, option_map}
 use Rattle.std.specs.Option.{ForSome}
 use Rattle.cell_world.specs.Answer.{numbers_of}
 use Rattle.cell_world.specs.Change.{Change as ChangeSaid, Want as Wanted}
@@ -12,10 +13,20 @@ use Rattle.cell_world.specs.World.{World, is_attached}
 use Rattle.cell_num.specs.Lists.{In}
 use Rattle.cell_gather.specs.declared.want.Want.{Want}
 use Rattle.cell_change.specs.declared.request.Change.{Change}
+use Rattle.cell_change.specs.declared.request.Ending.{Ending}
+use Rattle.cell_change.specs.declared.request.Ending.TheVariants.{Strict, Restart}
 use Rattle.cell_change.specs.declared.request.Options.{Options}
 
+abbrev pub is_strict : Ending → Bool
+is_strict Strict = true
+is_strict _ = false
+
+abbrev pub restart_by : Ending → Option ℕ
+restart_by (Restart task) = Some task
+restart_by _ = None
+
 abbrev pub as_said : Options → List Wanted → ChangeSaid
-as_said o wants = record { wants = wants; reexport = o.reexport; strict = o.strict; routines = o.routines.now; budget = o.budget }
+as_said o wants = record { wants = wants; reexport = o.reexport; strict = is_strict o.ending; routines = o.routines.now; budget = o.budget; restarts = restart_by o.ending }
 
 pub record IsWantOf (sources : List Source) (v : World) (wanted : Wanted) (want : Want) : Type 0 where
   pub file : file_named sources want.file ≡ Some wanted.file

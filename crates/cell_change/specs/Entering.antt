@@ -1,12 +1,13 @@
 -- The steps of a change after which it may still be refused, and what the machine is then.
 --     CanEnter n plan prepared transfer   they are what is ready for n, in which an undo is begun
 --     IsOpen c n                          the way back is open in n, to the machine before the undo was begun
---     HasEntered c n                      n is what the plan comes to in the definition, once its routines have run
+--     HasEntered c n                      n has the new cells of the plan in their places, and has counted them
 --     LooksBy n old o                     holding is read from there, where cells were replaced
 --     Enters c result n                   the same while the undo goes on, or the refusal of the routines
 --     CanTry n asked .. room              the same with the change, and room for all cells in a list, where it is needed
+--     CanSettle, CanRenew                 the machine is entered, and no task begins again, or that one does
 --     Reads n old survey                  what is read of it there
---     Tries c result n                    the machine after the routines, and which cells are kept in it, or the refusal
+--     Tries c result n                    the machine after the routines, once the task has begun again, if one does, and which cells are kept in it, or the refusal
 use Rattle.std.specs.Prelude.{ℕ, ◌≡◌, ◌≤◌, ◌<◌, ◌+◌, ◌++◌, List, [], Option, Some, None, Result, Ok, Err, length}
 use Rattle.cell_num.specs.declared.ids.CellId.{CellId}
 use Rattle.cell_world.specs.Change.{with_routines}
@@ -22,7 +23,7 @@ use Rattle.cell_change.specs.declared.planning.Plan.{Plan}
 use Rattle.cell_change.specs.declared.ready.Ready.{Ready}
 use Rattle.cell_change.specs.Back.{CanUndo}
 use Rattle.cell_change.specs.Exchanged.{CanFinish, HasCounted, ended, room_for}
-use Rattle.cell_change.specs.Planning.{wish}
+use Rattle.cell_change.specs.Planning.{IsBegunBy, wish}
 use Rattle.cell_change.specs.declared.request.Change.{Change}
 
 -- `rest` has the other parts
@@ -38,7 +39,6 @@ pub record IsOpen {first : Machine} {asked : Change} {r : Ready} (c : CanFinish 
 
 pub record HasEntered {first : Machine} {asked : Change} {r : Ready} (c : CanFinish first asked r) (n : Machine) : Type 0 where
   pub whole : IsWhole n
-  pub is : with_routines (wish c.is.begun) c.is.plan ≡ Ok (world_of n)
   pub cells : (world_of n).cells ≡ (world_of c.before).cells ++ c.is.plan.fresh
   pub placed : n.cells.items ≡ c.before.cells.items ++ c.plan_before.staged.cells.items
   pub counted : HasCounted c n
@@ -48,10 +48,14 @@ abbrev pub LooksBy : Machine → List CellId → Option Outlook → Type 0
 LooksBy n old None = old ≡ []
 LooksBy n old (Some outlook) = (0 < length old) × IsOutlook n [] outlook
 
--- holding is read from the outlook then
+-- n is what the plan comes to in the definition, once its routines have run, with the tasks that were there, and holding is read from
+-- the plan's outlook
 pub record IsEntered {first : Machine} {asked : Change} {r : Ready} (c : CanFinish first asked r) (outlook : Option Outlook) (n : Machine) : Type 0 where
   pub way_back : IsOpen c n
   pub entered : HasEntered c n
+  pub is : with_routines (wish c.is.begun) c.is.plan ≡ Ok (world_of n)
+  pub tasks : n.tasks ≡ c.before.tasks
+  pub outlook_is : outlook ≡ c.plan_before.outlook
   pub looked : LooksBy n asked.replaced.items outlook
 
 abbrev pub Enters : {first : Machine} {asked : Change} {r : Ready} → CanFinish first asked r → Result (Option Outlook) Refusal → Machine → Type 0
@@ -62,6 +66,24 @@ pub record CanTry (n : Machine) (asked : Change) (plan : Plan) (prepared : Prepa
   pub rest : Ready
   pub can : CanFinish n asked (record rest { plan = plan; prepared = prepared; transfer = transfer })
   pub fits : room_for asked.replaced.items (length can.before.cells.items + length can.plan_before.staged.cells.items) ≤ room
+
+-- no task begins again
+pub record CanSettle (n : Machine) (asked : Change) (outlook : Option Outlook) (room : ℕ) : Type 0 where
+  pub first : Machine
+  pub ready : Ready
+  pub can : CanFinish first asked ready
+  pub entered : IsEntered can outlook n
+  pub fits : room_for asked.replaced.items (length can.before.cells.items + length can.plan_before.staged.cells.items) ≤ room
+  pub none : can.is.plan.restarted ≡ None
+
+-- the task of that number does
+pub record CanRenew (n : Machine) (asked : Change) (task : ℕ) (outlook : Option Outlook) (room : ℕ) : Type 0 where
+  pub first : Machine
+  pub ready : Ready
+  pub can : CanFinish first asked ready
+  pub entered : IsEntered can outlook n
+  pub fits : room_for asked.replaced.items (length can.before.cells.items + length can.plan_before.staged.cells.items) ≤ room
+  pub begun : IsBegunBy can.before asked can.is.plan task
 
 abbrev pub Reads : Machine → List CellId → Option Survey → Type 0
 Reads n old None = old ≡ []

@@ -12,7 +12,7 @@
 --     are_aside old w                   the cells that are put aside, where cells were replaced
 --     named_in ids w                    the cells of these numbers
 --     HasChanged said old stacks m made n   what the definition has made was made of m, and is told so
---     ended c plan                      the machine after the routines, unless one fails or a strict change is refused
+--     ended c plan                      the machine after the routines, and once the task has begun again, if one does, unless a routine fails or a strict change is refused
 --     Finishes c result l               the same without the cells that go, or the refusal, and but for counts the machine before the undo was begun
 --     exchanged .. b                    the plan and the machine after its routines, unless that is refused
 --     Exchanges .. result n             the exchange was done, or the refusal, and but for counts the same machine
@@ -27,7 +27,7 @@ use Rattle.cell_world.specs.declared.file.File.{File}
 use Rattle.cell_world.specs.declared.refusal.Refusal.{Refusal}
 use Rattle.cell_world.specs.Answer.{ids, numbers_of}
 use Rattle.cell_world.specs.Coherent.{IsLoadable}
-use Rattle.cell_world.specs.Change.{Change as ChangeSaid, Made as MadeSaid, Plan as PlanSaid, first_held_old, made_by, make_change, plan_of, with_routines}
+use Rattle.cell_world.specs.Change.{Change as ChangeSaid, Made as MadeSaid, Plan as PlanSaid, first_held_old, made_by, make_change, plan_of, with_sequel}
 use Rattle.cell_world.specs.Gather.{source_of}
 use Rattle.cell_world.specs.Outcome.{Outcome, ◌>>=◌, ◌>>◌, refused_by}
 use Rattle.cell_world.specs.Commands.UnloadCommand.{detached_of}
@@ -143,7 +143,7 @@ pub record HasChanged (said : MadeSaid) (old : List CellId) (stacks : ℕ) (m : 
   pub maps : n.memory.maps ≡ raised m.memory.maps (length (flat_map cell_shapes (named_in made.fresh (world_of n))) + stacks)
 
 abbrev pub ended : ChangeSaid → PlanSaid → Outcome World
-ended c plan = with_routines c plan >>= (λ second. refused_by (first_held_old c second) >> Ok second)
+ended c plan = with_sequel c plan >>= (λ last. refused_by (first_held_old c last) >> Ok last)
 
 pub record HasFinished {n : Machine} {asked : Change} {r : Ready} (c : CanFinish n asked r) (made : Made) (l : Machine) : Type 0 where
   pub second : World

@@ -1,5 +1,6 @@
 pub mod Asking
 pub mod OldCells
+pub mod Restarting
 pub mod Transferring
 pub mod Planning
 pub mod Exchanged

@@ -9,6 +9,7 @@
 --     view_with m landed                what changes is read from there
 --     place_if_ready t                  where the task stands, unless it has faulted
 --     Looks m cells roots outlook       holding is read from there with the new cells, where it is read
+--     BeginsBy m asked plan again       the task of that number begins again by the plan, or none does
 --     IsPlan .. roots p, Plans .. roots result   the plan by what is added and changed, or the refusal
 use Rattle.std.specs.Prelude.{◌≡◌, ◌≤◌, ◌<◌, ◌^◌, ℕ, List, [], ◌∷◌, ◌++◌, All, Option, Some, None, Result, Ok, Err, filter, flat_map, length, map, if◌then◌else◌}
 use Rattle.cell_world.specs.declared.fail.Fail.{Fail}
@@ -20,7 +21,9 @@ use Rattle.cell_num.specs.Limits.{max_file_bytes}
 use Rattle.cell_world.specs.Outcome.{Outcome}
 use Rattle.cell_world.specs.Linked.Relink.{Patch}
 use Rattle.cell_world.specs.Change.{Change as ChangeSaid, Plan as PlanSaid, first_uncovered, gather, plan_of, set_aside}
+use Rattle.cell_world.specs.Running.Restart.{entry_again, restarted}
 use Rattle.cell_world.specs.World.{Task, attached, is_ready}
+use Rattle.cell_task.specs.State.{live_in}
 use Rattle.cell_lemmas.specs.Loads.{placed_cells}
 use Rattle.cell_world.specs.declared.state.NewCell.{NewCell}
 use Rattle.cell_unload.specs.declared.outlook.Outlook.{Outlook}
@@ -42,7 +45,7 @@ use Rattle.cell_plan.specs.Users.{may_change}
 use Rattle.cell_change.specs.declared.affected.Affected.{Affected}
 use Rattle.cell_change.specs.declared.request.Change.{Change}
 use Rattle.cell_change.specs.declared.planning.Plan.{Plan}
-use Rattle.cell_change.specs.Asking.{IsAsked, as_said}
+use Rattle.cell_change.specs.Asking.{IsAsked, as_said, restart_by}
 use Rattle.cell_layout.specs.Placing.{extra_start}
 use Rattle.cell_routines.specs.Begins.{begin_as}
 use Rattle.cell_routines.specs.Placed.{routines_among}
@@ -109,6 +112,19 @@ Looks m cells None (Some o) = ⊥
 Looks m cells (Some roots) None = ⊥
 Looks m cells (Some roots) (Some o) = LooksOver m cells roots o
 
+-- the task that begins again is live, and may begin in the machine with the new cells
+pub record IsBegunBy (m : Machine) (asked : Change) (plan : PlanSaid) (task : ℕ) : Type 0 where
+  pub named : restart_by asked.options.ending ≡ Some task
+  pub t : Task
+  pub live : live_in m.tasks task ≡ Some t
+  pub entry : ℕ × ℕ
+  pub there : entry_again plan.linked t ≡ Some entry
+  pub is : plan.restarted ≡ Some (restarted t entry)
+
+abbrev pub BeginsBy : Machine → Change → PlanSaid → Option ℕ → Type 0
+BeginsBy m asked plan None = plan.restarted ≡ None
+BeginsBy m asked plan (Some task) = IsBegunBy m asked plan task
+
 pub record IsPlan (files : List File) (asked : Change) (m : Machine) (b : IsBegun files asked m) (roots : Option (List Root)) (p : Plan) : Type 0 where
   pub plan : PlanSaid
   pub is : planned files asked m b ≡ Ok plan
@@ -125,6 +141,7 @@ pub record IsPlan (files : List File) (asked : Change) (m : Machine) (b : IsBegu
   pub stack_is : plan.stack ≡ p.stack
   pub begins : All (λ x. x.offset < 2 ^ 32) p.begins.items
   pub routines : plan.routines ≡ routines_among p.staged.cells.items (map begin_as p.begins.items)
+  pub again : BeginsBy m asked plan p.again
 
 abbrev pub Plans : (files : List File) (asked : Change) (m : Machine) → IsBegun files asked m → Option (List Root) → Result Plan Fail → Type 0
 Plans files asked m b roots (Ok p) = IsPlan files asked m b roots p

@@ -56,13 +56,14 @@ fn exchange(
 }
 
 /// Brings new cells, beside the others or in the place of attached ones, which keep all that tasks and data
-/// still need of them, runs the routines, and, where cells were replaced, removes every cell that nobody
-/// keeps then.
+/// still need of them, runs the routines, has the task begin again, if one does, and, where cells were
+/// replaced, removes every cell that nobody keeps then.
 ///
 /// Refusals, of which the first that holds is answered: those of gathering, a need of another cell that
-/// nobody provides any more, a routine that no new cell has, a run of pages that is too long, an entry of
-/// a new cell and then one of another cell that doesn't fit, a task that stands inside what changes, a
-/// routine that doesn't end with 0, and, of a strict change, a replaced cell that is still kept.
+/// nobody provides any more, a routine that no new cell has, a task that can't begin again where it began,
+/// a run of pages that is too long, an entry of a new cell and then one of another cell that doesn't fit, a
+/// task that stands inside what changes, a routine that doesn't end with 0, and, of a strict change, a
+/// replaced cell that is still kept.
 pub fn make_change(
     alloc: Global,
     depot: &Depot,

@@ -4,11 +4,13 @@ ghost use Rattle.std.specs.Prelude.{◌≡◌, ◌≤◌, [], None, length, map,
 ghost use Rattle.cell_machine.specs.Machine.{IsWhole};
 ghost use Rattle.cell_world.specs.Commands.UnloadCommand.{first_held as held_among};
 ghost use Rattle.cell_unload.specs.Sweep.{holding_in};
-ghost use Rattle.cell_change.specs.Entering.{CanEnter, CanTry, Enters, LooksBy, Reads, Tries};
+ghost use Rattle.cell_change.specs.Asking.{is_strict};
+ghost use Rattle.cell_change.specs.Entering.{CanEnter, CanRenew, CanSettle, CanTry, Enters, HasTried, LooksBy, Reads, Tries};
 ghost use Rattle.cell_change.specs.Exchanged.{room_for};
 
 use crate::planning::Plan;
 use crate::request::Change;
+use crate::restarting::restart;
 use crate::transferring::run_routines;
 use cell_load::{Prepared, commit};
 use cell_machine::Machine;
@@ -35,6 +37,7 @@ fn enter(
         outlook,
         begins: _,
         stack: _,
+        again: _,
     } = plan;
     commit(machine, staged, prepared, &patches, &links);
     machine.memory.laid_out();
@@ -66,9 +69,9 @@ fn read(
 /// The refusal of a strict change: the first of the old cells that is kept.
 fn first_held(machine: &Machine, survey: &Option<Survey>, asked: &Change) -> Option<Refusal>
     requires { Reads machine.now asked.now.replaced.items survey.now }
-    ensures { result ≡ (if asked.now.options.strict then held_among (holding_in machine.now []) (map (λ c. c.0) asked.now.replaced.items) else None) }
+    ensures { result ≡ (if is_strict asked.now.options.ending then held_among (holding_in machine.now []) (map (λ c. c.0) asked.now.replaced.items) else None) }
 {
-    if !asked.options.strict {
+    if !asked.options.ending.is_strict() {
         return None;
     }
     match survey {
@@ -77,9 +80,49 @@ fn first_held(machine: &Machine, survey: &Option<Survey>, asked: &Change) -> Opt
     }
 }
 
-/// Enters the new cells, and reads which cells are kept then, where cells were replaced, into a list that is
-/// empty and has room for all. Where a routine fails, or the change is strict and one of the old cells is
-/// kept, that is the refusal, and the way back is open still.
+/// Reads which cells are kept, where cells were replaced, into a list that is empty and has room for all.
+/// Where the change is strict and one of the old cells is kept, that is the refusal, and the way back is
+/// open still.
+fn settle(
+    machine: &mut Machine,
+    outlook: Option<Outlook>,
+    kept: Vec<CellId>,
+    asked: &Change,
+) -> Result<Option<Survey>, Refusal>
+    requires can { CanSettle machine.old asked.now outlook (vec_capacity kept) }
+    requires empty { kept.items ≡ [] }
+    ensures { (e : CanSettle machine.old asked.now outlook (vec_capacity kept)) → Tries e.can result machine.new }
+{
+    let survey = read(machine, outlook, kept, &asked.replaced);
+    if let Some(refusal) = first_held(machine, &survey, asked) {
+        return Err(refusal);
+    }
+    // What was written stays.
+    machine.memory.forget();
+    Ok(survey)
+}
+
+/// Has the task begin again, and reads which cells are kept then, where cells were replaced, into a list
+/// that is empty and has room for all. There is no way back from here.
+fn renew(
+    machine: &mut Machine,
+    again: u32,
+    mut outlook: Option<Outlook>,
+    kept: Vec<CellId>,
+    asked: &Change,
+) -> Option<Survey>
+    requires can { CanRenew machine.old asked.now again outlook (vec_capacity kept) }
+    requires empty { kept.items ≡ [] }
+    ensures { (e : CanRenew machine.old asked.now again outlook (vec_capacity kept)) → HasTried e.can result machine.new }
+{
+    machine.memory.forget();
+    restart(machine, again, &mut outlook);
+    read(machine, outlook, kept, &asked.replaced)
+}
+
+/// Enters the new cells, has the task begin again, if one does, and reads which cells are kept then, where
+/// cells were replaced, into a list that is empty and has room for all. Where a routine fails, or the change
+/// is strict and one of the old cells is kept, that is the refusal, and the way back is open still.
 pub fn try_new_cells(
     machine: &mut Machine,
     plan: Plan,
@@ -92,12 +135,10 @@ pub fn try_new_cells(
     requires empty { kept.items ≡ [] }
     ensures { (t : CanTry machine.old asked.now plan prepared transfer (vec_capacity kept)) → Tries t.can result machine.new }
 {
+    let again = plan.again;
     let outlook = enter(machine, plan, prepared, transfer)?;
-    let survey = read(machine, outlook, kept, &asked.replaced);
-    if let Some(refusal) = first_held(machine, &survey, asked) {
-        return Err(refusal);
+    match again {
+        Some(again) => Ok(renew(machine, again, outlook, kept, asked)),
+        None => settle(machine, outlook, kept, asked),
     }
-    // What was written stays.
-    machine.memory.forget();
-    Ok(survey)
 }

@@ -11,10 +11,11 @@ mod old_cells;
 mod planning;
 mod ready;
 mod request;
+mod restarting;
 mod standing;
 mod sweep;
 mod transferring;
 
 pub use change::make_change;
 pub use made::Made;
-pub use request::{Change, Options};
+pub use request::{Change, Ending, Options};

@@ -9,6 +9,7 @@ ghost use Rattle.cell_target.specs.Scene.{AreCells};
 
 use crate::affected::Affected;
 use crate::request::Change;
+use crate::restarting::begin_again;
 use crate::standing::check_torn;
 use crate::transferring::stack_pages;
 use cell_commit::Rewiring;
@@ -39,6 +40,8 @@ pub struct Plan {
     pub begins: Vec<Begin>,
     /// Where their stack starts, which is free still, if there are any.
     pub stack: Option<u64>,
+    /// The number of the task that begins again after them, if one does.
+    pub again: Option<u32>,
 }
 
 /// The new cells, which have no places yet.
@@ -133,9 +136,10 @@ fn look(
 /// but for the new cells, where it is read.
 ///
 /// Refusals, of which the first that holds is answered: those of gathering, a need of another cell that
-/// nobody provides any more, a routine that no new cell has, or that is no entry, those of staging, of
-/// which the stack of the routines comes last among the pages, an entry of another cell whose number is
-/// outside its kind's range by then, and a task that stands inside what changes.
+/// nobody provides any more, a routine that no new cell has, or that is no entry, a task that can't begin
+/// again where it began, those of staging, of which the stack of the routines comes last among the pages,
+/// an entry of another cell whose number is outside its kind's range by then, and a task that stands
+/// inside what changes.
 pub fn plan_change(
     alloc: Global,
     depot: &Depot,
@@ -150,6 +154,7 @@ pub fn plan_change(
     let gathered = find_new(alloc, depot, machine, asked, &affected)?;
     let routines = asked.options.routines;
     let begins = begins_of(alloc, &gathered.cells, routines)?;
+    let again = begin_again(alloc, machine, &gathered, &asked.options)?;
     let landed = land(alloc, machine, gathered, stack_pages(routines))?;
     let Changed {
         patches,
@@ -167,5 +172,6 @@ pub fn plan_change(
         outlook,
         begins,
         stack,
+        again,
     })
 }

@@ -1,6 +1,6 @@
 -- A plan, an entry that doesn't fit and a task inside what changes are answered of a machine in which a change's new cells have their places.
-use Rattle.std.proofs.Common.{◌≡◌, refl, sym, ap, subst, ℕ, zero, suc, ◌+◌, Bool, true, false, not, List, [], ◌∷◌, length, Option, Some, None, Ok, Err}
-use Rattle.std.specs.Prelude.{◌*◌, ◌/◌, nat_le, nat_lt, option_map, Result}
+use Rattle.std.proofs.Common.{◌≡◌, refl, sym, ap, subst, ℕ, zero, suc, ◌+◌, Bool, true, false, cond, not, List, [], ◌∷◌, length, Option, Some, None, Ok, Err}
+use Rattle.std.specs.Prelude.{◌*◌, ◌/◌, is_some, nat_le, nat_lt, option_and_then, option_map, Result}
 use Rattle.cell_num.specs.Lists.{or_else}
 use Rattle.cell_object.specs.declared.object.Object.{Object}
 use Rattle.cell_object.specs.declared.object.Section.{Section as ObjectSection}
@@ -10,7 +10,7 @@ use Rattle.cell_world.specs.declared.layout.Class.TheVariants.{Text, ReadOnly, W
 use Rattle.cell_world.specs.declared.refusal.Many.TheVariants.{Cells, CellNumbers}
 use Rattle.cell_world.specs.declared.refusal.Refusal.{Refusal}
 use Rattle.cell_world.specs.declared.refusal.Refusal.TheVariants.{Ambiguous, BadObject, Exhausted, NoEntry, Overflow, TooMany, Torn}
-use Rattle.cell_world.specs.Change.{Change, Plan, append_want, first_uncovered, gather, new_since, plan_of, set_aside, with_names}
+use Rattle.cell_world.specs.Change.{Change, Plan, append_want, first_uncovered, gather, new_since, plan_of, restart_refusal, restarting, set_aside, with_names}
 use Rattle.cell_world.specs.Gather.{Source, Need, append_cell, bring_one, bring_within, clash_among, depot_files, duplicate, first_lack, fresh_cells, has_stem_in, missing, name_of_ns, nearest_file, object_in, one_file, stem_of_file}
 use Rattle.cell_world.specs.Placed.Layout.{image_of, sections_in}
 use Rattle.cell_num.specs.Limits.{max_cells, max_cell_number}
@@ -19,7 +19,8 @@ use Rattle.cell_world.specs.Outcome.{Outcome, ◌>>=◌, ◌>>◌, need, found, 
 use Rattle.cell_world.specs.Placed.Pages.{longest_run, lowest_run}
 use Rattle.cell_world.specs.Placed.Place.{page_table, place_all, place_cell, place_class, place_sections, start_of_run}
 use Rattle.cell_world.specs.Commands.SwapTransfer.{Begin, begin_of, begins_of, stack_for}
-use Rattle.cell_world.specs.World.{World, Cell, Alias}
+use Rattle.cell_world.specs.Running.Restart.{entry_again, no_entry_again}
+use Rattle.cell_world.specs.World.{World, Cell, Alias, Task}
 use Rattle.cell_lemmas.proofs.Naming.Appended.{unmapped}
 use Rattle.cell_lemmas.proofs.Outcomes.{refused_ok}
 use Rattle.cell_change_law.specs.Answered.{IsOfPlaced, HasAnswered}
@@ -156,6 +157,17 @@ cell_early w c =
     (λ read_only. bind_early (place_class read_only.world Writable c.object) _ (sections_early read_only.world Writable (sections_in Writable c.object))
     (λ writable. passes _)))
 
+restart_early : (w : World) (c : Change) (g : World) → RefusesEarly (refused_by (restart_refusal w c g))
+restart_early w c g = go (restarting w c)
+  where
+    one : (t : Task) (b : Bool) → RefusesEarly (refused_by (cond b None (Some (NoEntry t.origin.name))))
+    one t true = passes tt
+    one t false = refuses (NoEntry t.origin.name) tt
+
+    go : (o : Option Task) → RefusesEarly (refused_by (option_and_then (no_entry_again g) o))
+    go None = passes tt
+    go (Some t) = one t (is_some (entry_again g t))
+
 stack_early : (w : World) (words : List (List ℕ)) → RefusesEarly (stack_for w words)
 stack_early w [] = passes None
 stack_early w (word ∷ words) = bind_early (start_of_run w 4) _ (run_early w 4) (λ stack. passes (Some stack))
@@ -171,19 +183,21 @@ module _ {X : Type 0} where
   passed_by (Err r) b answer early e of = absurd (apart r (subst IsOfPlaced (sym e) of) (early r refl))
 
 module _ (sources : List Source) (v : World) (c : Change) where
-  with_answer : (placed : World) (come : HasCome sources v c placed) (begins : List Begin) (stack : Option ℕ) → begins_of (new_since v come.gathered) c.routines ≡ Ok begins → stack_for placed c.routines ≡ Ok stack
+  with_answer : (placed : World) (come : HasCome sources v c placed) (begins : List Begin) (stack : Option ℕ) → begins_of (new_since v come.gathered) c.routines ≡ Ok begins → restart_refusal v c come.gathered ≡ None
+      → stack_for placed c.routines ≡ Ok stack
       → HasAnswered sources v c
-  with_answer placed come begins stack b s =
-      record { placed = placed; come = come; begins = begins; stack = stack; begin_all = b; stack_free = s; answer = plan_is sources v c placed come begins stack b s }
+  with_answer placed come begins stack b r s =
+      record { placed = placed; come = come; begins = begins; stack = stack; begin_all = b; begins_again = r; stack_free = s; answer = plan_is sources v c placed come begins stack b r s }
 
   answered_by : (answer : Outcome Plan) → plan_of sources v c ≡ answer → IsOfPlaced answer → HasAnswered sources v c
   answered_by answer e of =
       let b = passed (gather sources v c) _ answer (gather_early sources v c) e of in
       let d = passed_by (refused_by (option_map missing (first_uncovered v c b.0))) _ answer (mapped_early missing (λ lack. tt) (first_uncovered v c b.0)) b.2 of in
       let m = passed (begins_of (new_since v b.0) c.routines) _ answer (begins_early (new_since v b.0) c.routines) d.2 of in
-      let p = passed (place_all b.0 (new_since v b.0)) _ answer (each_early place_cell cell_early (new_since v b.0) b.0) m.2 of in
+      let n = passed_by (refused_by (restart_refusal v c b.0)) _ answer (restart_early v c b.0) m.2 of in
+      let p = passed (place_all b.0 (new_since v b.0)) _ answer (each_early place_cell cell_early (new_since v b.0) b.0) n.2 of in
       let s = passed (stack_for p.0 c.routines) _ answer (stack_early p.0 c.routines) p.2 of in
-      with_answer p.0 (record { gathered = b.0; gathering = b.1; covered = unmapped missing (first_uncovered v c b.0) (refused_ok (option_map missing (first_uncovered v c b.0)) d.0 d.1); placing = p.1 }) m.0 s.0 m.1 s.1
+      with_answer p.0 (record { gathered = b.0; gathering = b.1; covered = unmapped missing (first_uncovered v c b.0) (refused_ok (option_map missing (first_uncovered v c b.0)) d.0 d.1); placing = p.1 }) m.0 s.0 m.1 (refused_ok (restart_refusal v c b.0) n.0 n.1) s.1
 
   pub has_answered : IsOfPlaced (plan_of sources v c) → HasAnswered sources v c
   has_answered of = answered_by (plan_of sources v c) refl of

@@ -1,23 +1,27 @@
--- What an accepted load or swap leaves, a sound change makes that it asks for.
-use Rattle.std.proofs.Common.{◌≡◌, ◌<◌, ◌⊎◌, sym, ap, subst, inl, inr, ℕ, Bool, true, ◌&&◌, List, [], ◌∷◌, ◌++◌, length, Some, Ok}
-use Rattle.std.specs.Prelude.{◌==◌, None}
+-- What an accepted load, swap or recovery leaves, a sound change makes that it asks for.
+use Rattle.std.proofs.Common.{◌≡◌, ◌<◌, ◌⊎◌, refl, sym, ap, subst, inl, inr, ℕ, Bool, true, not, ◌&&◌, List, [], ◌∷◌, ◌++◌, length, Some, Ok}
+use Rattle.std.specs.Prelude.{◌==◌, None, filter, take}
 use Rattle.std.proofs.lemmas.Bool.{and_parts, ltb-true}
 use Rattle.cell_num.specs.Lists.{equals, In}
+use Rattle.cell_num.specs.declared.ids.CellId.{CellId}
 use Rattle.cell_world.specs.declared.command.SwapItem.{SwapItem}
-use Rattle.cell_world.specs.declared.refusal.Refusal.TheVariants.{Unknown, NoObject}
-use Rattle.cell_world.specs.World.{World, Cell, is_attached}
+use Rattle.cell_world.specs.declared.refusal.Refusal.TheVariants.{Unknown, NoCrate, NoObject}
+use Rattle.cell_world.specs.declared.reply.Reply.{Reply}
+use Rattle.cell_world.specs.declared.reply.Reply.TheVariants.{Recover as RecoverDone, Rebuild as RebuildDone}
+use Rattle.cell_world.specs.World.{World, Cell, Task, is_attached}
 use Rattle.cell_world.specs.Names.{cell_at, namespace_named}
 use Rattle.cell_world.specs.Gather.{Source, depot_files, file_named, one_file}
 use Rattle.cell_world.specs.Commands.UnloadCommand.{attached_cell, cell_word}
-use Rattle.cell_world.specs.Outcome.{◌>>=◌, each, found}
+use Rattle.cell_world.specs.Outcome.{Outcome, ◌>>=◌, each, found, need}
 use Rattle.cell_world.specs.Answer.{Done, space_of}
-use Rattle.cell_world.specs.Commands.Asked.{next_load, next_swap, want_of, wants_of}
+use Rattle.cell_world.specs.Commands.Asked.{next_load, next_swap, next_recover, next_rebuild, next_renewed, renewal, renewals, renewing, want_of, wants_of}
+use Rattle.cell_world.specs.Commands.Recovery.{faulted_task, is_rebuilt, rebuild_of, recovery_of, runs_at}
 use Rattle.cell_world.specs.Change.{Change, Want, make_change, replaced, adding}
 use Rattle.cell_world.specs.Coherent.{AreSound, IsCoherent, is_known_cell}
-use Rattle.cell_num.proofs.Elements.{all-In, found-In, In-All, In-append, position_below}
+use Rattle.cell_num.proofs.Elements.{all-In, filter-Passes, found-In, In-All, In-append, In-filtered, position_below}
 use Rattle.cell_lemmas.proofs.Naming.Appended.{ok_same}
 use Rattle.cell_lemmas.proofs.Naming.Known.{known_parts}
-use Rattle.cell_lemmas.proofs.Outcomes.{bind_ok, found_ok}
+use Rattle.cell_lemmas.proofs.Outcomes.{bind_ok, found_ok, then_ok}
 use Rattle.cell_lemmas.proofs.Targeting.Present.{In-filter_map}
 use Rattle.cell_change_law.specs.Sound.{HasMade, IsSound}
 use Rattle.cell_lemmas.proofs.Naming.Brought.{In-depot, one_file-In}
@@ -57,6 +61,23 @@ load_made sources sound w h name stem d e =
       world = ap (λ (x : Done). x.world) (ok_same _ d m.2);
     }
 
+-- a recovery takes attached cells alone
+abbrev pub AreAttached : World → List Cell → Type 0
+AreAttached w cells = (c : Cell) → In c cells → In c w.cells × (is_attached c.standing ≡ true)
+
+one_taken : (cells : List Cell) (c : Cell) → In c (take 1 cells) → In c cells
+one_taken [] c i = absurd i
+one_taken (d ∷ cells) c (inl e) = inl e
+one_taken (d ∷ cells) c (inr i) = absurd i
+
+pub recovery_taken : (w : World) (t : Task) → AreAttached w (recovery_of w t)
+recovery_taken w t c i =
+    let j = one_taken (filter (runs_at t.pc) w.cells) c i in
+    (In-filtered (runs_at t.pc) w.cells c j, (and_parts (is_attached c.standing) _ (filter-Passes (runs_at t.pc) w.cells c j)).0)
+
+pub rebuild_taken : (w : World) (t : Task) → AreAttached w (rebuild_of w t)
+rebuild_taken w t c i = (In-filtered (is_rebuilt w t) w.cells c i, (and_parts (is_attached c.standing) _ (filter-Passes (is_rebuilt w t) w.cells c i)).0)
+
 module _ (sources : List Source) (w : World) (h : IsCoherent w) where
   record IsWanted (want : Want) : Type 0 where
     file : In want.file sources
@@ -83,18 +104,33 @@ module _ (sources : List Source) (w : World) (h : IsCoherent w) where
   abbrev AllWanted : List Want → Type 0
   AllWanted wants = (want : Want) → In want wants → IsWanted want
 
-  push_all : (items : List SwapItem) (before wants : List Want) → AllWanted before → each (λ wants item. want_of sources w item >>= (λ want. Ok (wants ++ want ∷ []))) before items ≡ Ok wants → AllWanted wants
-  push_all [] before wants k e = let s : before ≡ wants = ok_same _ _ e in subst AllWanted s k
-  push_all (item ∷ items) before wants k e =
-      let a = bind_ok (want_of sources w item >>= (λ want. Ok (before ++ want ∷ []))) _ wants e in
-      let b = bind_ok (want_of sources w item) _ a.0 a.1 in
-      let s : before ++ b.0 ∷ [] ≡ a.0 = ok_same _ _ b.2 in
-      push_all items a.0 wants (subst AllWanted s (λ want i. pick b.0 b.1 want (In-append before (b.0 ∷ []) want i))) a.2
-    where
-      pick : (x : Want) → want_of sources w item ≡ Ok x → (want : Want) → In want before ⊎ In want (x ∷ []) → IsWanted want
-      pick x o want (inl i) = k want i
-      pick x o want (inr (inl i)) = subst IsWanted (sym i) (wanted item x o)
-      pick x o want (inr (inr i)) = absurd i
+  -- a fresh instance of an attached cell's own file
+  renewed : (c : Cell) → In c w.cells → is_attached c.standing ≡ true → (want : Want) → renewal sources c ≡ Ok want → IsWanted want
+  renewed c i t want e =
+      let b = bind_ok (found (file_named sources c.file) (Unknown c.file)) _ want e in
+      let g = found-In (λ (x : Source). equals x.name c.file) sources b.0 (found_ok (file_named sources c.file) (Unknown c.file) b.0 b.1) in
+      subst IsWanted (ok_same _ want b.2)
+      (record {
+        file = g.0;
+        space = ltb-true c.ns (length w.namespaces) (known_parts w c (all-In (is_known_cell w) w.cells h.ready.cells c i)).ns;
+        present = λ old e. let q : c ≡ old = cc in subst (λ (x : Cell). In x w.cells) q i;
+        attached = λ old e. let q : c ≡ old = cc in subst (λ (x : Cell). is_attached x.standing ≡ true) q t;
+      })
+
+  module _ {A : Type 0} (one : A → Outcome Want) where
+    push_all : (items : List A) → ((a : A) → In a items → (want : Want) → one a ≡ Ok want → IsWanted want) → (before wants : List Want) → AllWanted before
+        → each (λ wants item. one item >>= (λ want. Ok (wants ++ want ∷ []))) before items ≡ Ok wants → AllWanted wants
+    push_all [] good before wants k e = let s : before ≡ wants = ok_same _ _ e in subst AllWanted s k
+    push_all (item ∷ items) good before wants k e =
+        let a = bind_ok (one item >>= (λ want. Ok (before ++ want ∷ []))) _ wants e in
+        let b = bind_ok (one item) _ a.0 a.1 in
+        let s : before ++ b.0 ∷ [] ≡ a.0 = ok_same _ _ b.2 in
+        push_all items (λ x i. good x (inr i)) a.0 wants (subst AllWanted s (λ want i. pick b.0 b.1 want (In-append before (b.0 ∷ []) want i))) a.2
+      where
+        pick : (x : Want) → one item ≡ Ok x → (want : Want) → In want before ⊎ In want (x ∷ []) → IsWanted want
+        pick x o want (inl i) = k want i
+        pick x o want (inr (inl i)) = subst IsWanted (sym i) (good item (inl refl) x o)
+        pick x o want (inr (inr i)) = absurd i
 
   all_sound : (c : Change) → AllWanted c.wants → IsSound sources w c
   all_sound c all = record {
@@ -107,12 +143,34 @@ module _ (sources : List Source) (w : World) (h : IsCoherent w) where
   pub swap_made : (items : List SwapItem) (reexport strict : Bool) (words : List (List ℕ)) (budget : ℕ) (d : Done) → next_swap sources w items reexport strict words budget ≡ Ok d → HasMade sources w d
   swap_made items reexport strict words budget d e =
       let a = bind_ok (wants_of sources w items) _ d e in
-      let asked : Change = record { wants = a.0; reexport = reexport; strict = strict; routines = words; budget = budget } in
+      let asked : Change = record { wants = a.0; reexport = reexport; strict = strict; routines = words; budget = budget; restarts = None } in
       let m = bind_ok (make_change sources w asked) _ d a.2 in
       record {
         change = asked;
-        sound = all_sound asked (push_all items [] a.0 (λ want i. absurd i) a.1);
+        sound = all_sound asked (push_all (want_of sources w) items (λ item i. wanted item) [] a.0 (λ want i. absurd i) a.1);
         made = m.0;
         making = m.1;
         world = ap (λ (x : Done). x.world) (ok_same _ d m.2);
       }
+
+  pub renewed_sound : (t : Task) (cells : List Cell) → AreAttached w cells → (wants : List Want) → renewals sources cells ≡ Ok wants → IsSound sources w (renewing wants t.number)
+  renewed_sound t cells all wants e = all_sound (renewing wants t.number) (push_all (renewal sources) cells (λ c i. renewed c (all c i).0 (all c i).1) [] wants (λ want i. absurd i) e)
+
+  renewed_made : (t : Task) (cells : List Cell) (said : ℕ → List CellId → ℕ → List CellId → List CellId → Reply) → AreAttached w cells → (d : Done) → next_renewed sources w t cells said ≡ Ok d → HasMade sources w d
+  renewed_made t cells said all d e =
+      let n = then_ok (need (not (length cells == 0)) (NoCrate t.number t.pc)) _ d e in
+      let a = bind_ok (renewals sources cells) _ d n.2 in
+      let m = bind_ok (make_change sources w (renewing a.0 t.number)) _ d a.2 in
+      record {
+        change = renewing a.0 t.number;
+        sound = renewed_sound t cells all a.0 a.1;
+        made = m.0;
+        making = m.1;
+        world = ap (λ (x : Done). x.world) (ok_same _ d m.2);
+      }
+
+  pub recover_made : (number : ℕ) (d : Done) → next_recover sources w number ≡ Ok d → HasMade sources w d
+  recover_made number d e = let t = bind_ok (faulted_task w number) _ d e in renewed_made t.0 (recovery_of w t.0) (RecoverDone number) (recovery_taken w t.0) d t.2
+
+  pub rebuild_made : (number : ℕ) (d : Done) → next_rebuild sources w number ≡ Ok d → HasMade sources w d
+  rebuild_made number d e = let t = bind_ok (faulted_task w number) _ d e in renewed_made t.0 (rebuild_of w t.0) (RebuildDone number) (rebuild_taken w t.0) d t.2

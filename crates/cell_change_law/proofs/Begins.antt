@@ -34,7 +34,7 @@ then_some : {X Y : Type 0} (f : X → Option Y) (o : Option X) (y : Y) → optio
 then_some f None y e = cc
 then_some f (Some x) y e = (x, refl, e)
 
-map_some : {X Y : Type 0} (f : X → Y) (o : Option X) (y : Y) → option_map f o ≡ Some y → (x : X) × (o ≡ Some x) × (f x ≡ y)
+pub map_some : {X Y : Type 0} (f : X → Y) (o : Option X) (y : Y) → option_map f o ≡ Some y → (x : X) × (o ≡ Some x) × (f x ≡ y)
 map_some f None y e = cc
 map_some f (Some x) y e = (x, refl, some_same (f x) y e)
 

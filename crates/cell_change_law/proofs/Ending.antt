@@ -1,10 +1,10 @@
 -- The machine after a change: its routines change bytes that they may write, and what nobody keeps goes.
 use Rattle.std.proofs.Common.{◌≡◌, refl, sym, ◌∙◌, ◌<◌, arith, length, ap, subst, ℕ, Bool, false, not, ◌||◌, List, [], ◌∷◌, Result, Option, Some, None, Ok, Err}
-use Rattle.std.specs.Prelude.{filter, flat_map}
+use Rattle.std.specs.Prelude.{filter, flat_map, option_and_then}
 use Rattle.cell_num.specs.Lists.{holds, In}
 use Rattle.cell_world.specs.declared.reply.Reply.TheVariants.{Purge as PurgeDone}
 use Rattle.cell_world.specs.declared.state.LinkRow.{LinkRow}
-use Rattle.cell_world.specs.World.{World, Cell, Region}
+use Rattle.cell_world.specs.World.{World, Cell, Region, Task, task_of}
 use Rattle.cell_world.specs.Placed.Place.{start_of_run}
 use Rattle.cell_world.specs.Gather.{Source}
 use Rattle.cell_world.specs.Outcome.{Outcome}
@@ -24,9 +24,11 @@ use Rattle.cell_lemmas.specs.Kept.{KeepsFields, KeepsReadOnly, KeepsSealed, Keep
 use Rattle.cell_lemmas.proofs.Tasks.Kept.{kept_same}
 use Rattle.cell_lemmas.proofs.Tasks.TurnKept.{kept_fields}
 use Rattle.cell_lemmas.proofs.Tasks.Turns.{transfer_end, turns_coherent, turns_shapes, turns_read_only, turns_sealed, turns_fields}
-use Rattle.cell_world.specs.Change.{Change, Plan, Made, old_of, addresses_of, plan_of, with_routines, garbage_after, make_change}
+use Rattle.cell_world.specs.Running.Restart.{restart_by, restarted_in}
+use Rattle.cell_world.specs.Change.{Change, Plan, Made, old_of, addresses_of, plan_of, with_routines, with_sequel, garbage_after, make_change}
 use Rattle.cell_change_law.specs.Sound.{IsSound}
-use Rattle.cell_change_law.proofs.Steps.{Planned, planned, plan_ready, plan_coherent, Changed, changed}
+use Rattle.cell_change_law.proofs.Again.{begun_coherent}
+use Rattle.cell_change_law.proofs.Steps.{Planned, planned, plan_ready, plan_coherent, Followed, followed, follows, Changed, changed}
 
 stack_ok : (w : World) (words : List (List ℕ)) (stack : ℕ) → stack_for w words ≡ Ok (Some stack) → start_of_run w 4 ≡ Ok stack
 stack_ok w [] stack e = cc
@@ -46,6 +48,21 @@ second_is asked plan second e P none some = go plan.stack refl e
     go (Some stack) f k =
         subst P (sym (transfer_end asked.budget plan.linked second stack (addresses_of asked plan) plan.routines
         (transferred_ok asked.routines (transfer plan.linked stack (addresses_of asked plan) plan.routines asked.budget) second k))) (some stack f)
+
+-- the parts that no routine changes
+pub second_parts : (asked : Change) (plan : Plan) (second : World) → with_routines asked plan ≡ Ok second → record second { regions = plan.linked.regions } ≡ plan.linked
+second_parts asked plan second e = second_is asked plan second e (λ (w : World). record w { regions = plan.linked.regions } ≡ plan.linked) refl (λ stack f. refl)
+
+-- a task that begins again changes tasks and bytes alone
+begun_parts : (o : Option Task) (w p : World) → record (restart_by o w) { regions = p.regions; tasks = p.tasks } ≡ record w { regions = p.regions; tasks = p.tasks }
+begun_parts None w p = refl
+begun_parts (Some t) w p = refl
+
+pub last_parts : (asked : Change) (plan : Plan) (last : World) → with_sequel asked plan ≡ Ok last → record last { regions = plan.linked.regions; tasks = plan.linked.tasks } ≡ plan.linked
+last_parts asked plan last e =
+    let f : Followed asked plan last = followed asked plan last e in
+    subst (λ (u : World). record u { regions = plan.linked.regions; tasks = plan.linked.tasks } ≡ plan.linked) f.begun
+    (begun_parts plan.restarted f.second plan.linked ∙ ap (λ (u : World). record u { tasks = plan.linked.tasks }) (second_parts asked plan f.second f.run))
 
 -- where no cell goes, the machine is as it was
 pub without_none : (w : World) → without_cells w [] ≡ w
@@ -125,10 +142,18 @@ module _ (sources : List Source) (sound : AreSound sources) (v : World) (h : IsC
         second_is asked plan second t IsCoherent linked
         (λ stack f. turns_coherent plan.linked linked stack (stack_lowest stack f) asked.budget (addresses_of asked plan) plan.routines)
 
+    -- and after all of the sequel
+    pub last_coherent : (last : World) → with_sequel asked plan ≡ Ok last → IsCoherent last
+    last_coherent last t =
+        let f : Followed asked plan last = followed asked plan last t in
+        let parts = second_parts asked plan f.second f.run in
+        subst IsCoherent f.begun
+        (begun_coherent sources sound v h asked good plan e f.second (second_coherent f.second f.run) (ap (λ (w : World). w.cells) parts) (ap (λ (w : World). w.tasks) parts) plan.restarted refl)
+
   pub made_coherent : (made : Made) → make_change sources v asked ≡ Ok made → IsCoherent made.world
   made_coherent made e =
       let x : Changed sources v asked made = changed sources v asked made e in
-      subst (λ (m : Made). IsCoherent m.world) x.is (swept_coherent x.second (second_coherent x.plan x.planned x.second x.run) (old_of asked))
+      subst (λ (m : Made). IsCoherent m.world) x.is (swept_coherent x.last (last_coherent x.plan x.planned x.last x.run) (old_of asked))
 
 -- without routines there is no stack
 pub no_routines : (sources : List Source) (v : World) (asked : Change) (plan : Plan) → asked.routines ≡ [] → plan_of sources v asked ≡ Ok plan → with_routines asked plan ≡ Ok plan.linked
@@ -145,3 +170,11 @@ no_routines sources v asked plan none e = go plan.stack empty
     go : (o : Option ℕ) → o ≡ None → (elim o as (λ _. Outcome World) [ None ↦ Ok plan.linked | Some stack ↦ transferred_by asked.routines (transfer plan.linked stack (addresses_of asked plan) plan.routines asked.budget) ]) ≡ Ok plan.linked
     go None f = refl
     go (Some stack) f = absurd cc
+
+-- where no task begins again, nothing is done after the routines
+pub no_restart : (sources : List Source) (v : World) (asked : Change) (plan : Plan) (second : World) → asked.restarts ≡ None → plan_of sources v asked ≡ Ok plan → with_routines asked plan ≡ Ok second → with_sequel asked plan ≡ Ok second
+no_restart sources v asked plan second none e t =
+    follows asked plan second t ∙ ap (λ (o : Option Task). let y : Outcome World = Ok (restart_by o second) in y) (nobody (planned sources v asked plan e))
+  where
+    nobody : Planned sources v asked plan → plan.restarted ≡ None
+    nobody x = ap (λ (y : Plan). y.restarted) (sym x.is) ∙ ap (λ (o : Option ℕ). option_and_then (restarted_in x.world) (option_and_then (task_of v) o)) none

@@ -1,6 +1,6 @@
 pub mod Gathering
 pub mod Placing
-mod Planning
+pub mod Planning
 mod Answered
 mod Torn
 pub mod Steps
@@ -11,6 +11,8 @@ pub mod Lost
 pub mod Plain
 pub mod Settled
 mod Begins
+pub mod Again
+pub mod EntryStays
 mod Strict
 mod Uncovered
 pub mod Untouched

@@ -96,6 +96,10 @@ module _ (sources : List Source) (sound : AreSound sources) (v : World) (h : IsC
   pub placed : Placed g w
   placed = all_placed g (fresh_cells v.next_cell g) w (subst Spaced extends.is (record { in_space = b.in_space; apart = b.apart })) placing
 
+  -- no task comes or goes
+  pub same_tasks : w.tasks ≡ v.tasks
+  same_tasks = ap (λ (u : World). u.tasks) placed.rest ∙ sym (ap (λ (u : World). u.tasks) extends.is)
+
   same_provider : (s : Standing) (m : ℕ) (name : List ℕ) → provider_for w s m name ≡ provider_for g s m name
   same_provider s m name = provider_bare g w (ap (λ (u : World). u.namespaces) placed.rest) placed.cells s m name
 

@@ -19,14 +19,10 @@ use Rattle.cell_lemmas.specs.Left.{LeavesTargets}
 use Rattle.cell_lemmas.proofs.Holding.KeptPaths.{holds-In}
 use Rattle.cell_lemmas.proofs.Holding.Removals.{purge_removed, removed_targets}
 use Rattle.cell_lemmas.proofs.Holding.Settled.{found_now, mapped_same}
-use Rattle.cell_world.specs.Change.{Change, Plan, Made, old_of, plan_of, with_routines, garbage_after, make_change}
+use Rattle.cell_world.specs.Change.{Change, Plan, Made, old_of, plan_of, garbage_after, make_change}
 use Rattle.cell_change_law.specs.Sound.{IsSound}
 use Rattle.cell_change_law.proofs.Steps.{Planned, planned, plan_regrown, Changed, changed}
-use Rattle.cell_change_law.proofs.Ending.{second_is, second_coherent, made_coherent, without_none}
-
--- the parts that no routine changes
-pub second_parts : (asked : Change) (plan : Plan) (second : World) → with_routines asked plan ≡ Ok second → record second { regions = plan.linked.regions } ≡ plan.linked
-second_parts asked plan second e = second_is asked plan second e (λ (w : World). record w { regions = plan.linked.regions } ≡ plan.linked) refl (λ stack f. refl)
+use Rattle.cell_change_law.proofs.Ending.{last_coherent, last_parts, made_coherent, without_none}
 
 targets_same : (w : World) → LeavesTargets w w
 targets_same w = In-All (λ (c : Cell). map (target_of w c) c.object.entries ≡ map (target_of w c) c.object.entries) w.cells (λ c i. refl)
@@ -39,20 +35,20 @@ module _ (sources : List Source) (sound : AreSound sources) (v : World) (h : IsC
   x : Changed sources v asked made
   x = changed sources v asked made e
 
-  last : IsCoherent x.second
-  last = second_coherent sources sound v h asked good x.plan x.planned x.second x.run
+  last : IsCoherent x.last
+  last = last_coherent sources sound v h asked good x.plan x.planned x.last x.run
 
   end : IsCoherent made.world
   end = made_coherent sources sound v h asked good made e
 
-  targets_left : LeavesTargets x.second made.world
-  targets_left = subst (λ (m : Made). LeavesTargets x.second m.world) x.is (swept_targets x.second last (old_of asked))
+  targets_left : LeavesTargets x.last made.world
+  targets_left = subst (λ (m : Made). LeavesTargets x.last m.world) x.is (swept_targets x.last last (old_of asked))
 
-  present_before : (c : Cell) → In c made.world.cells → In c x.second.cells
-  present_before c i = In-filtered _ x.second.cells c (subst (λ (m : Made). In c m.world.cells) (sym x.is) i)
+  present_before : (c : Cell) → In c made.world.cells → In c x.last.cells
+  present_before c i = In-filtered _ x.last.cells c (subst (λ (m : Made). In c m.world.cells) (sym x.is) i)
 
-  linked_now : (c y : Cell) → In y x.second.cells → c.id.0 ≡ y.id.0 → now_in x.plan.linked c ≡ y
-  linked_now c y i n = ap (λ (w : World). now_in w c) (sym (second_parts asked x.plan x.second x.run)) ∙ found_now x.second last c y i n
+  linked_now : (c y : Cell) → In y x.last.cells → c.id.0 ≡ y.id.0 → now_in x.plan.linked c ≡ y
+  linked_now c y i n = ap (λ (w : World). now_in w c) (sym (last_parts asked x.plan x.last x.run)) ∙ found_now x.last last c y i n
 
   same_object : (c : Cell) → In c v.cells → (now_in x.plan.linked c).object ≡ c.object
   same_object c i =
@@ -63,14 +59,14 @@ module _ (sources : List Source) (sound : AreSound sources) (v : World) (h : IsC
   settled : (c : Cell) → In c v.cells → IsTrue (holds (numbers_of made.world.cells) c.id.0) → (f : Entry) → In f c.object.entries → target_of made.world (now_in made.world c) f ≡ target_of x.plan.linked (now_in x.plan.linked c) f
   settled c i there f j =
       let y = In-map (λ (y : Cell). y.id.0) made.world.cells c.id.0 (holds-In (numbers_of made.world.cells) c.id.0 there) in
-      let before : In y.0 x.second.cells = present_before y.0 y.1 in
+      let before : In y.0 x.last.cells = present_before y.0 y.1 in
       let now : now_in made.world c ≡ y.0 = found_now made.world end c y.0 y.1 y.2 in
       let then : now_in x.plan.linked c ≡ y.0 = linked_now c y.0 before y.2 in
       let object : y.0.object ≡ c.object = ap (λ (z : Cell). z.object) (sym then) ∙ same_object c i in
-      let left = All-In (λ (z : Cell). map (target_of made.world z) z.object.entries ≡ map (target_of x.second z) z.object.entries) made.world.cells targets_left y.0 y.1 in
+      let left = All-In (λ (z : Cell). map (target_of made.world z) z.object.entries ≡ map (target_of x.last z) z.object.entries) made.world.cells targets_left y.0 y.1 in
       ap (λ (z : Cell). target_of made.world z f) now
-      ∙ (mapped_same (target_of made.world y.0) (target_of x.second y.0) y.0.object.entries left f (subst (λ (o : Object). In f o.entries) (sym object) j)
-      ∙ (ap (λ (w : World). target_of w y.0 f) (second_parts asked x.plan x.second x.run)
+      ∙ (mapped_same (target_of made.world y.0) (target_of x.last y.0) y.0.object.entries left f (subst (λ (o : Object). In f o.entries) (sym object) j)
+      ∙ (ap (λ (w : World). target_of w y.0 f) (last_parts asked x.plan x.last x.run)
       ∙ ap (λ (z : Cell). target_of x.plan.linked z f) (sym then)))
 
   pub change_settles : (plan : Plan) → plan_of sources v asked ≡ Ok plan

@@ -1,5 +1,5 @@
 -- What an accepted change went through.
-use Rattle.std.proofs.Common.{◌≡◌, subst, ℕ, List, Option, None, Ok}
+use Rattle.std.proofs.Common.{◌≡◌, ap, subst, ℕ, List, Option, None, Ok}
 use Rattle.std.specs.Prelude.{filter, option_map}
 use Rattle.cell_world.specs.World.{World, is_ready}
 use Rattle.cell_world.specs.Linked.Relink.{relink}
@@ -11,13 +11,14 @@ use Rattle.cell_world.specs.Torn.{first_torn}
 use Rattle.cell_world.specs.Linked.Linking.{link_refusal}
 use Rattle.cell_num.proofs.Elements.{or_else_parts}
 use Rattle.cell_world.specs.Commands.SwapTransfer.{Begin, begins_of, stack_for, routines_in}
-use Rattle.cell_world.specs.Outcome.{refused_by}
+use Rattle.cell_world.specs.Running.Restart.{restart_by}
+use Rattle.cell_world.specs.Outcome.{Outcome, ◌>>=◌, refused_by}
 use Rattle.cell_world.specs.Coherent.{AreSound, IsReady, IsCoherent}
 use Rattle.cell_lemmas.proofs.Outcomes.{bind_ok, then_ok, refused_ok}
 use Rattle.cell_lemmas.proofs.Naming.Appended.{ok_same, unmapped}
 use Rattle.cell_lemmas.proofs.Fields.Relinks.{coherent_relinked}
 use Rattle.cell_lemmas.specs.Grown.{IsRegrown}
-use Rattle.cell_world.specs.Change.{Change, Plan, Made, gather, first_uncovered, plan_of, with_routines, first_held_old, made_by, make_change}
+use Rattle.cell_world.specs.Change.{Change, Plan, Made, gather, first_uncovered, restart_refusal, restarted_task, plan_of, with_routines, with_sequel, first_held_old, made_by, make_change}
 use Rattle.cell_change_law.specs.Sound.{IsSound}
 use Rattle.cell_change_law.proofs.Placing.{change_ready, change_regrown}
 
@@ -29,6 +30,7 @@ pub record Planned (sources : List Source) (v : World) (asked : Change) (plan : 
   pub gathering : gather sources v asked ≡ Ok gathered
   pub covered : first_uncovered v asked gathered ≡ None
   pub begin_all : begins_of (fresh_cells v.next_cell gathered) asked.routines ≡ Ok begins
+  pub begins_again : restart_refusal v asked gathered ≡ None
   pub placing : place_all gathered (fresh_cells v.next_cell gathered) ≡ Ok world
   pub stack_free : stack_for world asked.routines ≡ Ok stack
   pub new_fit : first_misfit world (fresh_cells v.next_cell world) ≡ None
@@ -40,6 +42,7 @@ pub record Planned (sources : List Source) (v : World) (asked : Change) (plan : 
     linked = relink world;
     stack = stack;
     routines = routines_in world begins;
+    restarted = restarted_task v asked world;
   } ≡ plan
 
 pub planned : (sources : List Source) (v : World) (asked : Change) (plan : Plan) → plan_of sources v asked ≡ Ok plan → Planned sources v asked plan
@@ -47,7 +50,8 @@ planned sources v asked plan e =
     let b = bind_ok (gather sources v asked) _ plan e in
     let c = then_ok (refused_by (option_map missing (first_uncovered v asked b.0))) _ plan b.2 in
     let m = bind_ok (begins_of (fresh_cells v.next_cell b.0) asked.routines) _ plan c.2 in
-    let d = bind_ok (place_all b.0 (fresh_cells v.next_cell b.0)) _ plan m.2 in
+    let n = then_ok (refused_by (restart_refusal v asked b.0)) _ plan m.2 in
+    let d = bind_ok (place_all b.0 (fresh_cells v.next_cell b.0)) _ plan n.2 in
     let s = bind_ok (stack_for d.0 asked.routines) _ plan d.2 in
     let i = then_ok (refused_by (link_refusal v d.0)) _ plan s.2 in
     let f = or_else_parts (first_misfit d.0 (fresh_cells v.next_cell d.0)) _ (refused_ok _ i.0 i.1) in
@@ -60,6 +64,7 @@ planned sources v asked plan e =
       gathering = b.1;
       covered = unmapped missing _ (refused_ok _ c.0 c.1);
       begin_all = m.1;
+      begins_again = refused_ok _ n.0 n.1;
       placing = d.1;
       stack_free = s.1;
       new_fit = f.0;
@@ -82,18 +87,32 @@ module _ (sources : List Source) (sound : AreSound sources) (v : World) (h : IsC
       let x : Planned sources v asked plan = planned sources v asked plan e in
       subst (λ (y : Plan). IsCoherent y.linked) x.is (coherent_relinked x.world (plan_ready plan x))
 
--- the plan of an accepted change, and the machine after its routines
+-- the machine after the sequel is the one after the routines, in which the task has begun again
+pub record Followed (asked : Change) (plan : Plan) (last : World) : Type 0 where
+  pub second : World
+  pub run : with_routines asked plan ≡ Ok second
+  pub begun : restart_by plan.restarted second ≡ last
+
+pub followed : (asked : Change) (plan : Plan) (last : World) → with_sequel asked plan ≡ Ok last → Followed asked plan last
+followed asked plan last e =
+    let b = bind_ok (with_routines asked plan) _ last e in
+    record { second = b.0; run = b.1; begun = ok_same _ last b.2 }
+
+pub follows : (asked : Change) (plan : Plan) (second : World) → with_routines asked plan ≡ Ok second → with_sequel asked plan ≡ Ok (restart_by plan.restarted second)
+follows asked plan second e = ap (λ (x : Outcome World). x >>= (λ w. let y : Outcome World = Ok (restart_by plan.restarted w) in y)) e
+
+-- the plan of an accepted change, and the machine after its sequel
 pub record Changed (sources : List Source) (v : World) (asked : Change) (made : Made) : Type 0 where
   pub plan : Plan
-  pub second : World
+  pub last : World
   pub planned : plan_of sources v asked ≡ Ok plan
-  pub run : with_routines asked plan ≡ Ok second
-  pub unheld : first_held_old asked second ≡ None
-  pub is : made_by asked plan second ≡ made
+  pub run : with_sequel asked plan ≡ Ok last
+  pub unheld : first_held_old asked last ≡ None
+  pub is : made_by asked plan last ≡ made
 
 pub changed : (sources : List Source) (v : World) (asked : Change) (made : Made) → make_change sources v asked ≡ Ok made → Changed sources v asked made
 changed sources v asked made e =
     let a = bind_ok (plan_of sources v asked) _ made e in
-    let b = bind_ok (with_routines asked a.0) _ made a.2 in
+    let b = bind_ok (with_sequel asked a.0) _ made a.2 in
     let c = then_ok (refused_by (first_held_old asked b.0)) _ made b.2 in
-    record { plan = a.0; second = b.0; planned = a.1; run = b.1; unheld = refused_ok _ c.0 c.1; is = ok_same _ made c.2 }
+    record { plan = a.0; last = b.0; planned = a.1; run = b.1; unheld = refused_ok _ c.0 c.1; is = ok_same _ made c.2 }

@@ -18,11 +18,11 @@ use Rattle.cell_lemmas.proofs.Naming.Appended.{ok_same}
 use Rattle.cell_lemmas.proofs.Holding.KeptPaths.{In-holds, holds-In}
 use Rattle.cell_lemmas.proofs.Holding.Holders.{first_held_exact}
 use Rattle.cell_lemmas.proofs.Naming.PutAside.{put_number, put_detached}
-use Rattle.cell_world.specs.Change.{Change, Made, Plan, replaced, old_of, gather, plan_of, with_routines, first_held_old, made_by, make_change}
+use Rattle.cell_world.specs.Change.{Change, Made, Plan, replaced, old_of, gather, plan_of, with_sequel, first_held_old, made_by, make_change}
 use Rattle.cell_change_law.specs.Sound.{IsSound}
 use Rattle.cell_change_law.proofs.Placing.{behind}
 use Rattle.cell_change_law.proofs.Steps.{Planned, planned, Changed, changed}
-use Rattle.cell_change_law.proofs.Settled.{second_parts}
+use Rattle.cell_change_law.proofs.Ending.{last_parts}
 
 -- the cells of these numbers that are attached
 abbrev attached_in : List Cell → List ℕ
@@ -61,48 +61,48 @@ module _ (sources : List Source) (sound : AreSound sources) (v : World) (h : IsC
         go false e = refl
         go true e = absurd (clash (In-map (λ (x : Cell). x.id.0) (filter (λ (c : Cell). is_attached c.standing) w.cells) n (holds-In (attached_in w.cells) n e)))
 
-  module _ (plan : Plan) (second : World) (e : plan_of sources v asked ≡ Ok plan) (t : with_routines asked plan ≡ Ok second) where
+  module _ (plan : Plan) (last : World) (e : plan_of sources v asked ≡ Ok plan) (t : with_sequel asked plan ≡ Ok last) where
     x : Planned sources v asked plan
     x = planned sources v asked plan e
 
-    detached : (n : ℕ) → In n (old_of asked) → holds (holding_of second).attached n ≡ false
+    detached : (n : ℕ) → In n (old_of asked) → holds (holding_of last).attached n ≡ false
     detached =
-        subst (λ (cs : List Cell). (n : ℕ) → In n (old_of asked) → holds (attached_in cs) n ≡ false) (sym (ap (λ (w : World). w.cells) (second_parts asked plan second t)))
+        subst (λ (cs : List Cell). (n : ℕ) → In n (old_of asked) → holds (attached_in cs) n ≡ false) (sym (ap (λ (w : World). w.cells) (last_parts asked plan last t)))
         (subst (λ (y : Plan). (n : ℕ) → In n (old_of asked) → holds (attached_in y.linked.cells) n ≡ false) x.is (old_detached x.gathered x.gathering x.world x.placing))
 
-    none_held : (first_held (holding_of second) (old_of asked) ≡ None) ↔ All (λ n. IsKept (holding_of second) n → ⊥) (old_of asked)
-    none_held = first_held_exact (holding_of second) (old_of asked) (In-All (λ (n : ℕ). holds (holding_of second).attached n ≡ false) (old_of asked) detached)
+    none_held : (first_held (holding_of last) (old_of asked) ≡ None) ↔ All (λ n. IsKept (holding_of last) n → ⊥) (old_of asked)
+    none_held = first_held_exact (holding_of last) (old_of asked) (In-All (λ (n : ℕ). holds (holding_of last).attached n ≡ false) (old_of asked) detached)
 
-    goes_through : first_held_old asked second ≡ None → make_change sources v asked ≡ Ok (made_by asked plan second)
+    goes_through : first_held_old asked last ≡ None → make_change sources v asked ≡ Ok (made_by asked plan last)
     goes_through none =
         ap (λ (o : Outcome Plan). o >>= after_plan) e
-        ∙ (ap (λ (o : Outcome World). o >>= after_routines plan) t
-        ∙ ap (λ (o : Option Refusal). refused_by o >> Ok (made_by asked plan second)) none)
+        ∙ (ap (λ (o : Outcome World). o >>= after_sequel plan) t
+        ∙ ap (λ (o : Option Refusal). refused_by o >> Ok (made_by asked plan last)) none)
       where
-        after_routines : Plan → World → Outcome Made
-        after_routines plan second = refused_by (first_held_old asked second) >> Ok (made_by asked plan second)
+        after_sequel : Plan → World → Outcome Made
+        after_sequel plan last = refused_by (first_held_old asked last) >> Ok (made_by asked plan last)
 
         after_plan : Plan → Outcome Made
-        after_plan plan = with_routines asked plan >>= after_routines plan
+        after_plan plan = with_sequel asked plan >>= after_sequel plan
 
-    held_is : first_held_old asked second ≡ cond asked.strict (first_held (holding_of second) (old_of asked)) None
+    held_is : first_held_old asked last ≡ cond asked.strict (first_held (holding_of last) (old_of asked)) None
     held_is = refl
 
-    unheld : (made : Made) → make_change sources v asked ≡ Ok made → first_held_old asked second ≡ None
+    unheld : (made : Made) → make_change sources v asked ≡ Ok made → first_held_old asked last ≡ None
     unheld made f =
         let s : Changed sources v asked made = changed sources v asked made f in
         let plans : s.plan ≡ plan = ok_same s.plan plan (sym s.planned ∙ e) in
-        let seconds : s.second ≡ second = ok_same s.second second (sym s.run ∙ (ap (with_routines asked) plans ∙ t)) in
-        ap (first_held_old asked) (sym seconds) ∙ s.unheld
+        let lasts : s.last ≡ last = ok_same s.last last (sym s.run ∙ (ap (with_sequel asked) plans ∙ t)) in
+        ap (first_held_old asked) (sym lasts) ∙ s.unheld
 
-    pub made_is : (made : Made) → make_change sources v asked ≡ Ok made → made ≡ made_by asked plan second
-    made_is made f = ok_same made (made_by asked plan second) (sym f ∙ goes_through (unheld made f))
+    pub made_is : (made : Made) → make_change sources v asked ≡ Ok made → made ≡ made_by asked plan last
+    made_is made f = ok_same made (made_by asked plan last) (sym f ∙ goes_through (unheld made f))
 
     -- strict, it is accepted exactly where nobody keeps a replaced cell
-    pub strict_made : asked.strict ≡ true → ((made : Made) × (make_change sources v asked ≡ Ok made)) ↔ All (λ n. IsKept (holding_of second) n → ⊥) (old_of asked)
+    pub strict_made : asked.strict ≡ true → ((made : Made) × (make_change sources v asked ≡ Ok made)) ↔ All (λ n. IsKept (holding_of last) n → ⊥) (old_of asked)
     strict_made strict =
-        let is : first_held_old asked second ≡ first_held (holding_of second) (old_of asked) = held_is ∙ ap (λ b. cond b (first_held (holding_of second) (old_of asked)) None) strict in
-        (λ a. none_held.0 (sym is ∙ unheld a.0 a.1), λ none. (made_by asked plan second, goes_through (is ∙ none_held.1 none)))
+        let is : first_held_old asked last ≡ first_held (holding_of last) (old_of asked) = held_is ∙ ap (λ b. cond b (first_held (holding_of last) (old_of asked)) None) strict in
+        (λ a. none_held.0 (sym is ∙ unheld a.0 a.1), λ none. (made_by asked plan last, goes_through (is ∙ none_held.1 none)))
 
-    pub lenient_made : asked.strict ≡ false → make_change sources v asked ≡ Ok (made_by asked plan second)
-    lenient_made lenient = goes_through (held_is ∙ ap (λ b. cond b (first_held (holding_of second) (old_of asked)) None) lenient)
+    pub lenient_made : asked.strict ≡ false → make_change sources v asked ≡ Ok (made_by asked plan last)
+    lenient_made lenient = goes_through (held_is ∙ ap (λ b. cond b (first_held (holding_of last) (old_of asked)) None) lenient)

@@ -1,4 +1,4 @@
-//! What a load and a swap ask for is a sound change of cells.
+//! What a load, a swap and a recovery ask for is a sound change of cells.
 
 ghost use Rattle.std.specs.Prelude.{ℕ, ◌≡◌, List, Bool, Ok};
 ghost use Rattle.cell_world.specs.Answer.{Done};
@@ -6,12 +6,14 @@ ghost use Rattle.cell_world.specs.Coherent.{AreSound, IsCoherent};
 ghost use Rattle.cell_world.specs.Gather.{Source};
 ghost use Rattle.cell_world.specs.World.{World};
 ghost use Rattle.cell_world.specs.declared.command.SwapItem.{SwapItem};
-ghost use Rattle.cell_world.specs.Commands.Asked.{next_load, next_swap};
+ghost use Rattle.cell_world.specs.Commands.Asked.{next_load, next_rebuild, next_recover, next_swap};
 ghost use Rattle.cell_change_law.specs.Sound.{HasMade};
 
-/// An accepted load and an accepted swap leave what a sound change makes, so what every change leaves both leave.
+/// An accepted load, swap, recovery and rebuilding leave what a sound change makes, so what every change leaves they leave.
 pub fn askings_make_sound_changes()
     ensures load { (sources : List Source) (w : World) (ns : List ℕ) (stem : List ℕ) (d : Done) → AreSound sources → IsCoherent w → next_load sources w ns stem ≡ Ok d → HasMade sources w d }
     ensures swap { (sources : List Source) (w : World) (items : List SwapItem) (reexport strict : Bool) (words : List (List ℕ)) (budget : ℕ) (d : Done) → IsCoherent w →
         next_swap sources w items reexport strict words budget ≡ Ok d → HasMade sources w d }
+    ensures recover { (sources : List Source) (w : World) (task : ℕ) (d : Done) → IsCoherent w → next_recover sources w task ≡ Ok d → HasMade sources w d }
+    ensures rebuild { (sources : List Source) (w : World) (task : ℕ) (d : Done) → IsCoherent w → next_rebuild sources w task ≡ Ok d → HasMade sources w d }
 {}

@@ -20,7 +20,8 @@ ghost use Rattle.cell_world.specs.Linked.Target.{target_of};
 ghost use Rattle.cell_world.specs.Torn.{first_torn};
 ghost use Rattle.cell_world.specs.Running.Transfer.{after_turns};
 ghost use Rattle.cell_world.specs.Commands.UnloadCommand.{garbage_of, purged, put_aside};
-ghost use Rattle.cell_world.specs.World.{Cell, World, is_attached, is_ready};
+ghost use Rattle.cell_world.specs.Running.Restart.{restart_by};
+ghost use Rattle.cell_world.specs.World.{Cell, Task, World, is_attached, is_ready};
 ghost use Rattle.cell_world.specs.declared.refusal.Refusal.{Refusal};
 ghost use Rattle.cell_world.specs.declared.refusal.Refusal.TheVariants.{Torn};
 ghost use Rattle.cell_world.specs.declared.state.Target.{Target};
@@ -32,20 +33,23 @@ ghost use Rattle.cell_lemmas.specs.Linkable.{IsLinkable};
 ghost use Rattle.cell_lemmas.specs.Lost.{IsLost};
 ghost use Rattle.cell_lemmas.specs.Firm.{firm_target};
 ghost use Rattle.cell_lemmas.specs.Targets.{FollowsTargets, is_target_in};
-ghost use Rattle.cell_world.specs.Change.{Change, Made, Plan, addresses_of, first_uncovered, gather, made_by, make_change, new_since, old_of, plan_of, set_aside, with_routines};
+ghost use Rattle.cell_world.specs.Change.{Change, Made, Plan, addresses_of, first_uncovered, gather, made_by, make_change, new_since, old_of, plan_of, restart_refusal, restarted_task, restarting, set_aside, with_routines, with_sequel};
+ghost use Rattle.cell_change_law.specs.Again.{BeginsAgain};
 ghost use Rattle.cell_change_law.specs.Answered.{HasAnswered, IsOfPlaced};
 ghost use Rattle.cell_change_law.specs.Sound.{HasCome, IsSound};
 
-/// A need of another cell that has lost its provider refuses the change. Once the new cells have their places, and the routines a stack, what stands
-/// in the way of linking decides; and a plan, an entry that doesn't fit and a task that stands inside what changes are answered then alone. Such a
-/// task is the first one inside a field that changes.
+/// A need of another cell that has lost its provider refuses the change, and so does a task that has no place to begin again. Once the new cells have
+/// their places, and the routines a stack, what stands in the way of linking decides; and a plan, an entry that doesn't fit and a task that stands
+/// inside what changes are answered then alone. Such a task is the first one inside a field that changes.
 pub fn refusals_decide()
     ensures uncovered { (sources : List Source) (v : World) (c : Change) (g : World) (need : Need) → gather sources v c ≡ Ok g → first_uncovered v c g ≡ Some need → plan_of sources v c ≡ Err (missing need) }
+    ensures restart { (sources : List Source) (v : World) (c : Change) (g : World) (begins : List Begin) (refusal : Refusal) → gather sources v c ≡ Ok g → first_uncovered v c g ≡ None →
+        begins_of (new_since v g) c.routines ≡ Ok begins → restart_refusal v c g ≡ Some refusal → plan_of sources v c ≡ Err refusal }
     ensures refused { (sources : List Source) (v : World) (c : Change) (w : World) (p : HasCome sources v c w) (begins : List Begin) (stack : Option ℕ) (refusal : Refusal) →
-        begins_of (new_since v p.gathered) c.routines ≡ Ok begins → stack_for w c.routines ≡ Ok stack → link_refusal v w ≡ Some refusal → plan_of sources v c ≡ Err refusal }
+        begins_of (new_since v p.gathered) c.routines ≡ Ok begins → restart_refusal v c p.gathered ≡ None → stack_for w c.routines ≡ Ok stack → link_refusal v w ≡ Some refusal → plan_of sources v c ≡ Err refusal }
     ensures planned { (sources : List Source) (v : World) (c : Change) (w : World) (p : HasCome sources v c w) (begins : List Begin) (stack : Option ℕ) →
-        begins_of (new_since v p.gathered) c.routines ≡ Ok begins → stack_for w c.routines ≡ Ok stack → link_refusal v w ≡ None →
-        plan_of sources v c ≡ Ok (record { fresh = new_since v w; changed = changed_fields v w; linked = relink w; stack = stack; routines = routines_in w begins }) }
+        begins_of (new_since v p.gathered) c.routines ≡ Ok begins → restart_refusal v c p.gathered ≡ None → stack_for w c.routines ≡ Ok stack → link_refusal v w ≡ None →
+        plan_of sources v c ≡ Ok (record { fresh = new_since v w; changed = changed_fields v w; linked = relink w; stack = stack; routines = routines_in w begins; restarted = restarted_task v c w }) }
     ensures answered { (sources : List Source) (v : World) (c : Change) → IsOfPlaced (plan_of sources v c) → HasAnswered sources v c }
     ensures torn { (sources : List Source) (v : World) (c : Change) (task : ℕ) (cell : CellId) (section offset : ℕ) → plan_of sources v c ≡ Err (Torn task cell section offset) →
         (w : World) × HasCome sources v c w × (first_torn (changed_fields v w) (filter is_ready v.tasks) ≡ Some (Torn task cell section offset)) }
@@ -116,28 +120,42 @@ pub fn routines_of_change_change_no_cell()
         with_routines c plan ≡ Ok second → KeepsSealed (seen_in plan.linked) second.regions }
 {}
 
-/// With a plan and routines that end well, a strict change is accepted exactly where then nobody keeps a replaced cell, and one that isn't strict always. Either makes the same.
+/// A task that begins again is live, and begins where its spawn's name is by then, as it began at its spawn. That there is such a place is decided
+/// before the new cells have theirs. But for that task and bytes, the machine is that with all linked, and where no task begins again, it is that
+/// after the routines.
+pub fn change_begins_a_task_again()
+    ensures begins { (sources : List Source) (v : World) (c : Change) (plan : Plan) (t : Task) → plan_of sources v c ≡ Ok plan → plan.restarted ≡ Some t → BeginsAgain v c plan t }
+    ensures surely { (sources : List Source) (v : World) (c : Change) (plan : Plan) (t : Task) → AreSound sources → IsCoherent v → IsSound sources v c → plan_of sources v c ≡ Ok plan → restarting v c ≡ Some t →
+        (u : Task) × (plan.restarted ≡ Some u) }
+    ensures parts { (c : Change) (plan : Plan) (last : World) → with_sequel c plan ≡ Ok last → record last { regions = plan.linked.regions; tasks = plan.linked.tasks } ≡ plan.linked }
+    ensures follows { (c : Change) (plan : Plan) (second : World) → with_routines c plan ≡ Ok second → with_sequel c plan ≡ Ok (restart_by plan.restarted second) }
+    ensures none { (sources : List Source) (v : World) (c : Change) (plan : Plan) (second : World) → c.restarts ≡ None → plan_of sources v c ≡ Ok plan → with_routines c plan ≡ Ok second → with_sequel c plan ≡ Ok second }
+{}
+
+/// With a plan and a sequel that ends well, a strict change is accepted exactly where then nobody keeps a replaced cell, and one that isn't strict always. Either makes the same.
 pub fn strict_change_is_exact()
-    ensures strict { (sources : List Source) (v : World) (c : Change) (plan : Plan) (second : World) → AreSound sources → IsCoherent v → IsSound sources v c → plan_of sources v c ≡ Ok plan → with_routines c plan ≡ Ok second →
-        c.strict ≡ true → ((made : Made) × (make_change sources v c ≡ Ok made)) ↔ All (λ n. IsKept (holding_of second) n → ⊥) (old_of c) }
-    ensures other { (sources : List Source) (v : World) (c : Change) (plan : Plan) (second : World) → AreSound sources → IsCoherent v → IsSound sources v c → plan_of sources v c ≡ Ok plan → with_routines c plan ≡ Ok second →
-        c.strict ≡ false → make_change sources v c ≡ Ok (made_by c plan second) }
-    ensures is { (sources : List Source) (v : World) (c : Change) (plan : Plan) (second : World) (made : Made) → AreSound sources → IsCoherent v → IsSound sources v c → plan_of sources v c ≡ Ok plan → with_routines c plan ≡ Ok second →
-        make_change sources v c ≡ Ok made → made ≡ made_by c plan second }
+    ensures strict { (sources : List Source) (v : World) (c : Change) (plan : Plan) (last : World) → AreSound sources → IsCoherent v → IsSound sources v c → plan_of sources v c ≡ Ok plan → with_sequel c plan ≡ Ok last →
+        c.strict ≡ true → ((made : Made) × (make_change sources v c ≡ Ok made)) ↔ All (λ n. IsKept (holding_of last) n → ⊥) (old_of c) }
+    ensures other { (sources : List Source) (v : World) (c : Change) (plan : Plan) (last : World) → AreSound sources → IsCoherent v → IsSound sources v c → plan_of sources v c ≡ Ok plan → with_sequel c plan ≡ Ok last →
+        c.strict ≡ false → make_change sources v c ≡ Ok (made_by c plan last) }
+    ensures is { (sources : List Source) (v : World) (c : Change) (plan : Plan) (last : World) (made : Made) → AreSound sources → IsCoherent v → IsSound sources v c → plan_of sources v c ≡ Ok plan → with_sequel c plan ≡ Ok last →
+        make_change sources v c ≡ Ok made → made ≡ made_by c plan last }
 {}
 
-/// The last step is a purge of the machine after the routines, where cells were replaced, and else there is none.
+/// The last step is a purge of the machine after the sequel, where cells were replaced, and else there is none.
 pub fn change_sweeps()
-    ensures purges { (c : Change) (plan : Plan) (second : World) → 0 < length (old_of c) → (made_by c plan second).world ≡ purged second }
-    ensures removed { (c : Change) (plan : Plan) (second : World) → 0 < length (old_of c) → (made_by c plan second).removed ≡ garbage_of second }
-    ensures none { (c : Change) (plan : Plan) (second : World) → old_of c ≡ [] → (made_by c plan second).world ≡ second }
+    ensures purges { (c : Change) (plan : Plan) (last : World) → 0 < length (old_of c) → (made_by c plan last).world ≡ purged last }
+    ensures removed { (c : Change) (plan : Plan) (last : World) → 0 < length (old_of c) → (made_by c plan last).removed ≡ garbage_of last }
+    ensures none { (c : Change) (plan : Plan) (last : World) → old_of c ≡ [] → (made_by c plan last).world ≡ last }
 {}
 
-/// The machine is coherent when all is linked, after the routines, and when the cells have gone that nobody keeps.
+/// The machine is coherent when all is linked, after the routines, once a task has begun again, and when the cells have gone that nobody keeps.
 pub fn change_keeps_coherent()
     ensures linked { (sources : List Source) (v : World) (c : Change) (plan : Plan) → AreSound sources → IsCoherent v → IsSound sources v c → plan_of sources v c ≡ Ok plan → IsCoherent plan.linked }
     ensures run { (sources : List Source) (v : World) (c : Change) (plan : Plan) (second : World) → AreSound sources → IsCoherent v → IsSound sources v c → plan_of sources v c ≡ Ok plan →
         with_routines c plan ≡ Ok second → IsCoherent second }
+    ensures begun { (sources : List Source) (v : World) (c : Change) (plan : Plan) (last : World) → AreSound sources → IsCoherent v → IsSound sources v c → plan_of sources v c ≡ Ok plan →
+        with_sequel c plan ≡ Ok last → IsCoherent last }
     ensures made { (sources : List Source) (v : World) (c : Change) (made : Made) → AreSound sources → IsCoherent v → IsSound sources v c → make_change sources v c ≡ Ok made → IsCoherent made.world }
 {}
 
@@ -147,17 +165,17 @@ pub fn change_settles_targets()
         All (λ d. IsTrue (holds (numbers_of made.world.cells) d.id.0) → All (λ e. target_of made.world (now_in made.world d) e ≡ target_of plan.linked (now_in plan.linked d) e) d.object.entries) v.cells }
 {}
 
-/// The cells that go at the end of a change that replaces cells are exactly the detached ones that nobody keeps once its routines have run. Then
+/// The cells that go at the end of a change that replaces cells are exactly the detached ones that nobody keeps once its routines have run and a task has begun again. Then
 /// every cell that is left is kept, nothing leads into one that went, and what is left names and holds what it did.
 pub fn change_removes_free_cells()
-    ensures left { (sources : List Source) (v : World) (c : Change) (plan : Plan) (second : World) → AreSound sources → IsCoherent v → IsSound sources v c → plan_of sources v c ≡ Ok plan → with_routines c plan ≡ Ok second →
-        0 < length (old_of c) → (d : Cell) → In d (made_by c plan second).world.cells ↔ (In d second.cells × (IsFree second d → ⊥)) }
-    ensures kept { (sources : List Source) (v : World) (c : Change) (plan : Plan) (second : World) → AreSound sources → IsCoherent v → IsSound sources v c → plan_of sources v c ≡ Ok plan → with_routines c plan ≡ Ok second →
-        0 < length (old_of c) → All (λ d. IsKept (holding_of (made_by c plan second).world) d.id.0) (made_by c plan second).world.cells }
-    ensures unreached { (sources : List Source) (v : World) (c : Change) (plan : Plan) (second : World) → AreSound sources → IsCoherent v → IsSound sources v c → plan_of sources v c ≡ Ok plan → with_routines c plan ≡ Ok second →
-        0 < length (old_of c) → All (λ d. holds (numbers_of (made_by c plan second).world.cells) d.id.0 ≡ false → IsUnreached second (made_by c plan second).world d) second.cells }
-    ensures targets { (sources : List Source) (v : World) (c : Change) (plan : Plan) (second : World) → AreSound sources → IsCoherent v → IsSound sources v c → plan_of sources v c ≡ Ok plan → with_routines c plan ≡ Ok second →
-        0 < length (old_of c) → LeavesTargets second (made_by c plan second).world }
-    ensures fields { (sources : List Source) (v : World) (c : Change) (plan : Plan) (second : World) → AreSound sources → IsCoherent v → IsSound sources v c → plan_of sources v c ≡ Ok plan → with_routines c plan ≡ Ok second →
-        0 < length (old_of c) → LeavesFields second (made_by c plan second).world }
+    ensures left { (sources : List Source) (v : World) (c : Change) (plan : Plan) (last : World) → AreSound sources → IsCoherent v → IsSound sources v c → plan_of sources v c ≡ Ok plan → with_sequel c plan ≡ Ok last →
+        0 < length (old_of c) → (d : Cell) → In d (made_by c plan last).world.cells ↔ (In d last.cells × (IsFree last d → ⊥)) }
+    ensures kept { (sources : List Source) (v : World) (c : Change) (plan : Plan) (last : World) → AreSound sources → IsCoherent v → IsSound sources v c → plan_of sources v c ≡ Ok plan → with_sequel c plan ≡ Ok last →
+        0 < length (old_of c) → All (λ d. IsKept (holding_of (made_by c plan last).world) d.id.0) (made_by c plan last).world.cells }
+    ensures unreached { (sources : List Source) (v : World) (c : Change) (plan : Plan) (last : World) → AreSound sources → IsCoherent v → IsSound sources v c → plan_of sources v c ≡ Ok plan → with_sequel c plan ≡ Ok last →
+        0 < length (old_of c) → All (λ d. holds (numbers_of (made_by c plan last).world.cells) d.id.0 ≡ false → IsUnreached last (made_by c plan last).world d) last.cells }
+    ensures targets { (sources : List Source) (v : World) (c : Change) (plan : Plan) (last : World) → AreSound sources → IsCoherent v → IsSound sources v c → plan_of sources v c ≡ Ok plan → with_sequel c plan ≡ Ok last →
+        0 < length (old_of c) → LeavesTargets last (made_by c plan last).world }
+    ensures fields { (sources : List Source) (v : World) (c : Change) (plan : Plan) (last : World) → AreSound sources → IsCoherent v → IsSound sources v c → plan_of sources v c ≡ Ok plan → with_sequel c plan ≡ Ok last →
+        0 < length (old_of c) → LeavesFields last (made_by c plan last).world }
 {}

@@ -1,5 +1,5 @@
 //! How the fields that change are found: an entry differs exactly where it leads into another cell, and cells of which none does needn't be looked
-//! at, as are those without a WEAK symbol and without a link into a cell that is replaced or yields.
+//! at, as are those that await no name which comes and have no link into a cell that is replaced or yields.
 
 ghost use Rattle.std.specs.Prelude.{◌≡◌, Bool, false, not, ◌&&◌, IsTrue, List, [], All, Ok, filter, flat_map};
 ghost use Rattle.cell_num.specs.Lists.{holds};
@@ -13,7 +13,7 @@ ghost use Rattle.cell_world.specs.Linked.Target.{target_of};
 ghost use Rattle.cell_world.specs.World.{Cell, World};
 ghost use Rattle.cell_lemmas.specs.Targets.{is_target_in};
 ghost use Rattle.cell_object.specs.Parts.{has_no_weak};
-ghost use Rattle.cell_lemmas.specs.Touched.{is_affected, swap_comers, touched};
+ghost use Rattle.cell_lemmas.specs.Touched.{awaits, is_affected, swap_comers, touched};
 ghost use Rattle.cell_lemmas.specs.Leads.{leads_elsewhere};
 ghost use Rattle.cell_change_law.specs.Sound.{HasCome, IsSound};
 
@@ -31,14 +31,14 @@ pub fn picked_cells_are_enough()
         first_changed_misfit v w v.cells ≡ first_changed_misfit v w (filter p v.cells) }
 {}
 
-/// What a cell without a WEAK symbol names in cells that stay, and that hold no name weakly which a cell that comes holds, it goes on naming.
+/// What a cell with no WEAK symbol of a name that comes names in cells that stay, and that hold no name weakly which a cell that comes holds, it goes on naming.
 /// The replaced cells leave, and count among those that come as well, since by then they ask each other first.
 pub fn untouched_cells_stay_in_change()
     ensures { (sources : List Source) (v : World) (c : Change) (w : World) → AreSound sources → IsCoherent v → IsSound sources v c → HasCome sources v c w →
-        All (λ d. IsTrue (has_no_weak d.object) → All (λ e. is_target_in (touched v (old_of c) (swap_comers v (old_of c) (new_since v w))) (target_of v d e) ≡ false → differs v w d e ≡ false) d.object.entries) v.cells }
+        All (λ d. awaits (swap_comers v (old_of c) (new_since v w)) d ≡ false → All (λ e. is_target_in (touched v (old_of c) (swap_comers v (old_of c) (new_since v w))) (target_of v d e) ≡ false → differs v w d e ≡ false) d.object.entries) v.cells }
 {}
 
-/// So the cells with a WEAK symbol and those with a link into a cell that is replaced or yields are such cells, once the new ones have their places.
+/// So the cells that await a name which comes and those with a link into a cell that is replaced or yields are such cells, once the new ones have their places.
 pub fn affected_cells_of_change_are_enough()
     ensures fields { (sources : List Source) (v : World) (c : Change) (w : World) → AreSound sources → IsCoherent v → IsSound sources v c → HasCome sources v c w →
         changed_fields v w ≡ flat_map (changed_in v w) (filter (is_affected v (old_of c) (swap_comers v (old_of c) (new_since v w))) v.cells) }

@@ -18,7 +18,7 @@ use Rattle.cell_world.specs.declared.state.NewCell.{NewCell}
 use Rattle.cell_world.specs.Gather.{Source, file_named, source_of}
 use Rattle.cell_world.specs.Outcome.{Outcome, ◌>>=◌, each, found}
 use Rattle.cell_world.specs.Answer.{numbers_of}
-use Rattle.cell_world.specs.Commands.Asked.{want_of, wants_of}
+use Rattle.cell_world.specs.Commands.Asked.{want_of}
 use Rattle.cell_world.specs.Change.{Want as Wanted}
 use Rattle.cell_world.specs.Coherent.{IsCoherent, is_known_cell}
 use Rattle.cell_lemmas.proofs.Naming.Known.{known_parts}
@@ -55,7 +55,7 @@ module _ (files : List File) (name bytes : List ℕ) (same : bytes ≡ name) (o 
       ∙ (ap (λ (n : List ℕ). found (option_map source_of (find (has_name n) files)) (Unknown name)) (sym same)
       ∙ ap (λ (x : Option File). found (option_map source_of x) (Unknown name)) (sym is))
 
-found_ok : {A : Type 0} (o : Option A) (r : Refusal) (a : A) → found o r ≡ Ok a → o ≡ Some a
+pub found_ok : {A : Type 0} (o : Option A) (r : Refusal) (a : A) → found o r ≡ Ok a → o ≡ Some a
 found_ok None r a e = cc
 found_ok (Some x) r a e = cc
 
@@ -161,7 +161,7 @@ module _ (sources : List Source) (w : World) (h : IsCoherent w) (item : SwapItem
           same : (a b : Cell) → Some a ≡ Some b → a ≡ b
           same a b e = cc
 
-      pub has_want : (want : Want) → want ≡ record { ns = old.ns; file = item.file; replaces = Some old.id } → (asked new : Change) → new.wants.items ≡ asked.wants.items ++ want ∷ [] → new.replaced.items ≡ asked.replaced.items ++ old.id ∷ [] → new.options ≡ asked.options → HasWant sources w item asked new
+      pub has_want : (want : Want) → want ≡ record { ns = old.ns; file = item.file; replaces = Some old.id } → (asked new : Change) → new.wants.items ≡ asked.wants.items ++ want ∷ [] → new.replaced.items ≡ asked.replaced.items ++ old.id ∷ [] → new.options ≡ asked.options → HasWant sources w (want_of sources w item) asked new
       has_want want e asked new wants numbers options = record {
         wanted = wanted;
         cell = that.cell;
@@ -195,18 +195,22 @@ old_more all wanted c e =
     ∙ (map-append (λ (x : Cell). x.id.0) (filter_map (λ (want : Wanted). want.replaces) all) (filter_map (λ (want : Wanted). want.replaces) (wanted ∷ []))
     ∙ ap (λ (o : Option Cell). numbers_of (filter_map (λ (want : Wanted). want.replaces) all) ++ numbers_of (cons_option o [])) e)
 
-module _ (sources : List Source) (v : World) (o : Options) where
-  abbrev more : List Wanted → SwapItem → Outcome (List Wanted)
-  more wants item = want_of sources v item >>= (λ want. Ok (wants ++ want ∷ []))
+-- what is asked for one after the other, each by `one`
+module _ (sources : List Source) (v : World) (o : Options) {X : Type 0} (one : X → Outcome Wanted) where
+  abbrev more : List Wanted → X → Outcome (List Wanted)
+  more wants x = one x >>= (λ want. Ok (wants ++ want ∷ []))
+
+  abbrev all_of : List X → Outcome (List Wanted)
+  all_of items = each more [] items
 
   -- what was asked by so many items, and what the others ask
-  pub record IsAskedTo (items : List SwapItem) (place : ℕ) (asked : Change) : Type 0 where
+  pub record IsAskedTo (items : List X) (place : ℕ) (asked : Change) : Type 0 where
     pub asked_so : IsAsked sources v asked
-    pub rest : wants_of sources v items ≡ each more asked_so.wants (drop place items)
+    pub rest : all_of items ≡ each more asked_so.wants (drop place items)
     pub count : length asked.replaced.items ≡ place
     pub options : asked.options ≡ o
 
-  pub nothing_asked : (items : List SwapItem) (asked : Change) → asked.wants.items ≡ [] → asked.replaced.items ≡ [] → asked.options ≡ o → IsAskedTo items 0 asked
+  pub nothing_asked : (items : List X) (asked : Change) → asked.wants.items ≡ [] → asked.replaced.items ≡ [] → asked.options ≡ o → IsAskedTo items 0 asked
   nothing_asked items asked wants old options = record {
     asked_so = record {
       wants = [];
@@ -218,27 +222,27 @@ module _ (sources : List Source) (v : World) (o : Options) where
     options = options;
   }
 
-  module _ (items : List SwapItem) (place : ℕ) (asked : Change) (to : IsAskedTo items place asked) where
+  module _ (items : List X) (place : ℕ) (asked : Change) (to : IsAskedTo items place asked) where
     abbrev wants : List Wanted
     wants = to.asked_so.wants
 
-    pub all_asked : length items ≤ place → AreAsked sources v items o asked
+    pub all_asked : length items ≤ place → AreAsked sources v (all_of items) (length items) o asked
     all_asked past = record {
       asked = to.asked_so;
-      all = to.rest ∙ ap (each more wants) (drop_of_length-le items {i = place} past);
-      count = let count = to.count in omega (arith, past, count);
+      all_are = to.rest ∙ ap (each more wants) (drop_of_length-le items {i = place} past);
+      enough = let count = to.count in omega (arith, past, count);
       options = to.options;
     }
 
-    module _ (here : place < length items) (item : SwapItem) (at : item ≡ get_or items place item) where
-      next : wants_of sources v items ≡ (more wants item >>= (λ wants. each more wants (drop (place + 1) items)))
-      next = to.rest ∙ ap (each more wants) (drop_more items place item here ∙ ap (λ (x : SwapItem). x ∷ drop (place + 1) items) (sym at))
+    module _ (here : place < length items) (item : X) (at : item ≡ get_or items place item) where
+      next : all_of items ≡ (more wants item >>= (λ wants. each more wants (drop (place + 1) items)))
+      next = to.rest ∙ ap (each more wants) (drop_more items place item here ∙ ap (λ (x : X). x ∷ drop (place + 1) items) (sym at))
 
-      pub item_failed : (fail : Fail) (new : Change) → AddsWant sources v item asked (Err fail) new → Asks sources v items o (Err fail)
+      pub item_failed : (fail : Fail) (new : Change) → AddsWant sources v (one item) asked (Err fail) new → Asks sources v (all_of items) (length items) o (Err fail)
       item_failed (Refused refusal) new e = next ∙ ap (λ (x : Outcome Wanted). (x >>= (λ want. Ok (wants ++ want ∷ []))) >>= (λ wants. each more wants (drop (place + 1) items))) e
       item_failed OutOfMemory new e = tt
 
-      pub item_asked : (new : Change) → HasWant sources v item asked new → IsAskedTo items (place + 1) new
+      pub item_asked : (new : Change) → HasWant sources v (one item) asked new → IsAskedTo items (place + 1) new
       item_asked new has = record {
         asked_so = record {
           wants = wants ++ has.wanted ∷ [];

@@ -1,4 +1,12 @@
 mod Files
 mod ItemLemmas
+mod ExchangeSaid
 mod SwapSaid
 mod LoadSaid
+mod Faulted
+mod RenewSaid
+mod Renewing
+mod Anew
+mod Found
+mod HeldCells
+mod Holds

@@ -8,12 +8,12 @@ use Rattle.cell_world.specs.declared.fail.Fail.{Fail}
 use Rattle.cell_world.specs.declared.fail.Fail.TheVariants.{Refused, OutOfMemory}
 use Rattle.cell_world.specs.declared.file.File.{File}
 use Rattle.cell_world.specs.declared.refusal.Refusal.{Refusal}
-use Rattle.cell_world.specs.declared.refusal.Refusal.TheVariants.{Unknown, NameTaken, NotRunnable, TooMany, NoObject, Ambiguous, BadObject, Duplicate, Missing, NoEntry, Exhausted, Overflow, Torn, Transfer, Held}
+use Rattle.cell_world.specs.declared.refusal.Refusal.TheVariants.{Unknown, NameTaken, NotRunnable, TooMany, NoObject, Ambiguous, BadObject, Duplicate, Missing, NoEntry, Exhausted, Overflow, Torn, Transfer, Held, NotFaulted, NoCrate}
 use Rattle.cell_world.specs.declared.reply.Reply.{Reply}
 use Rattle.cell_world.specs.declared.reply.Reply.TheVariants.{Load as LoadDone}
 use Rattle.cell_world.specs.Answer.{Done, done, ids, numbers_of, space_of}
 use Rattle.cell_world.specs.Commands.Asked.{next_load}
-use Rattle.cell_world.specs.Change.{Change as ChangeSaid, Made as MadeSaid, Plan as PlanSaid, Want as Wanted, adding, first_held_old, made_by, make_change, plan_of, with_routines}
+use Rattle.cell_world.specs.Change.{Change as ChangeSaid, Made as MadeSaid, Plan as PlanSaid, Want as Wanted, adding, first_held_old, made_by, make_change, plan_of, with_sequel}
 use Rattle.cell_world.specs.Following.{FailsAs}
 use Rattle.cell_world.specs.Gather.{Source, depot_files, one_file, source_of}
 use Rattle.cell_world.specs.Outcome.{Outcome, ◌>>=◌, ◌>>◌, refused_by}
@@ -25,10 +25,12 @@ use Rattle.cell_machine.specs.Same.{IsSame, raised}
 use Rattle.cell_machine.proofs.Same.{same_counted}
 use Rattle.cell_machine.proofs.Unchanged.{same_itself}
 use Rattle.cell_gather.specs.declared.want.Want.{Want}
-use Rattle.cell_change_law.proofs.Ending.{no_routines}
+use Rattle.cell_change_law.proofs.Ending.{no_restart, no_routines}
 use Rattle.cell_change.specs.declared.request.Change.{Change}
 use Rattle.cell_change.specs.declared.made.Made.{Made}
-use Rattle.cell_change.specs.Asking.{AreWantsOf, IsAsked, IsWantOf, as_said}
+use Rattle.cell_change.specs.declared.request.Ending.{Ending}
+use Rattle.cell_change.specs.declared.request.Ending.TheVariants.{Lenient}
+use Rattle.cell_change.specs.Asking.{AreWantsOf, IsAsked, IsWantOf, as_said, is_strict, restart_by}
 use Rattle.cell_change.specs.Counted.{most_by}
 use Rattle.cell_change.specs.Exchanged.{Changes, HasMade}
 use Rattle.cell_change.specs.Transferring.{stacks_for}
@@ -55,6 +57,8 @@ none_counted (Overflow cell section offset kind) = refl
 none_counted (Torn task cell section offset) = refl
 none_counted (Transfer name why) = refl
 none_counted (Held cell holder) = refl
+none_counted (NotFaulted task) = refl
+none_counted (NoCrate task pc) = refl
 
 unraised : (old new : ℕ) → old ≤ new → new ≤ raised old 0 → new ≡ old
 unraised old new low high = omega (arith, low, high)
@@ -137,15 +141,15 @@ module _ (files : List File) (before : Machine) (name stem : List ℕ) where
       abbrev c : ChangeSaid
       c = as_said change.options asked.wants
 
-      with_flags : (a b : Bool) → (words : List (List ℕ)) → (turns : ℕ) → a ≡ false → b ≡ false → words ≡ [] → turns ≡ 0
-          → (let x : ChangeSaid = record { wants = wanted ∷ []; reexport = a; strict = b; routines = words; budget = turns } in x) ≡ adding (wanted ∷ [])
-      with_flags a b words turns p q r s =
-          ap (λ (t : Bool). let x : ChangeSaid = record { wants = wanted ∷ []; reexport = t; strict = b; routines = words; budget = turns } in x) p
-          ∙ (ap (λ (t : Bool). let x : ChangeSaid = record { wants = wanted ∷ []; reexport = false; strict = t; routines = words; budget = turns } in x) q
-          ∙ ap₂ (λ (ws : List (List ℕ)) (n : ℕ). let x : ChangeSaid = record { wants = wanted ∷ []; reexport = false; strict = false; routines = ws; budget = n } in x) r s)
+      with_flags : (a : Bool) → (ending : Ending) → (words : List (List ℕ)) → (turns : ℕ) → a ≡ false → ending ≡ Lenient → words ≡ [] → turns ≡ 0
+          → (let x : ChangeSaid = record { wants = wanted ∷ []; reexport = a; strict = is_strict ending; routines = words; budget = turns; restarts = restart_by ending } in x) ≡ adding (wanted ∷ [])
+      with_flags a ending words turns p q r s =
+          ap (λ (t : Bool). let x : ChangeSaid = record { wants = wanted ∷ []; reexport = t; strict = is_strict ending; routines = words; budget = turns; restarts = restart_by ending } in x) p
+          ∙ (ap (λ (t : Ending). let x : ChangeSaid = record { wants = wanted ∷ []; reexport = false; strict = is_strict t; routines = words; budget = turns; restarts = restart_by t } in x) q
+          ∙ ap₂ (λ (ws : List (List ℕ)) (k : ℕ). let x : ChangeSaid = record { wants = wanted ∷ []; reexport = false; strict = false; routines = ws; budget = k; restarts = None } in x) r s)
 
       change_is : c ≡ adding (wanted ∷ [])
-      change_is = with_flags change.options.reexport change.options.strict change.options.routines.now change.options.budget adds.reexport adds.strict adds.routines adds.budget
+      change_is = with_flags change.options.reexport change.options.ending change.options.routines.now change.options.budget adds.reexport adds.ending adds.routines adds.budget
 
       by_change : said ≡ made_of c
       by_change =
@@ -153,11 +157,11 @@ module _ (files : List File) (before : Machine) (name stem : List ℕ) where
           ∙ (ap (λ (x : Outcome Source). x >>= (λ file. made_of (adding (wanted_of number file ∷ [])))) (one_found files chosen (NoObject stem) f is)
           ∙ ap made_of (sym change_is))
 
-      abbrev after_routines : PlanSaid → World → Outcome MadeSaid
-      after_routines plan second = refused_by (first_held_old c second) >> Ok (made_by c plan second)
+      abbrev after_sequel : PlanSaid → World → Outcome MadeSaid
+      after_sequel plan second = refused_by (first_held_old c second) >> Ok (made_by c plan second)
 
       abbrev after_plan : PlanSaid → Outcome MadeSaid
-      after_plan plan = with_routines c plan >>= after_routines plan
+      after_plan plan = with_sequel c plan >>= after_sequel plan
 
       not_strict : (second : World) → first_held_old c second ≡ None
       not_strict second = ap (λ (x : ChangeSaid). first_held_old x second) change_is
@@ -166,7 +170,7 @@ module _ (files : List File) (before : Machine) (name stem : List ℕ) where
       carried_out : (plan : PlanSaid) → plan_of sources w c ≡ Ok plan → make_change sources w c ≡ Ok (made_by c plan plan.linked)
       carried_out plan e =
           ap (λ (x : Outcome PlanSaid). x >>= after_plan) e
-          ∙ (ap (λ (x : Outcome World). x >>= after_routines plan) (no_routines sources w c plan adds.routines e)
+          ∙ (ap (λ (x : Outcome World). x >>= after_sequel plan) (no_restart sources w c plan plan.linked (ap restart_by adds.ending) e (no_routines sources w c plan adds.routines e))
           ∙ ap (λ (x : Option Refusal). refused_by x >> (let y : Outcome MadeSaid = Ok (made_by c plan plan.linked) in y)) (not_strict plan.linked))
 
       -- so it is refused where there is no plan, and has counted nothing then

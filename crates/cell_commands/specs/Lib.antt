@@ -1,3 +1,4 @@
 pub mod Adding
 pub mod Items
+pub mod Renewals
 pub mod Counted

@@ -3,8 +3,10 @@
 #![tactic(auto)]
 
 mod loading;
+mod recovering;
 mod swapping;
+mod wants;
 
-pub use cell_change::Options;
 pub use loading::load;
-pub use swapping::swap;
+pub use recovering::{rebuild, recover};
+pub use swapping::{SwapWords, swap};

@@ -12,7 +12,7 @@ ghost use Rattle.cell_world.specs.declared.refusal.Refusal.TheVariants.{Ambiguou
 ghost use Rattle.cell_world.specs.Gather.{depot_files, one_file as only, source_of};
 ghost use Rattle.cell_commands.specs.Adding.{Adds};
 
-use cell_change::{Change, Made, Options, make_change};
+use cell_change::{Change, Ending, Made, Options, make_change};
 use cell_depot::{Depot, DepotFault};
 use cell_gather::Want;
 use cell_machine::{Machine, namespace};
@@ -75,9 +75,9 @@ fn adding<'a>(alloc: Global, ns: u16, file: &File) -> Result<Change<'a>, AllocEr
         replaced: Vec::new(alloc),
         options: Options {
             reexport: false,
-            strict: false,
             routines: &[],
             budget: 0,
+            ending: Ending::Lenient,
         },
     })
 }

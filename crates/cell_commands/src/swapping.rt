@@ -1,25 +1,61 @@
 //! `swap`
 
-ghost use Rattle.std.specs.Prelude.{◌≡◌, ◌++◌, ◌∷◌, ◌<◌, ◌≤◌, [], All, IfOk, OnOk, Some, length, map};
+ghost use Rattle.std.specs.Prelude.{◌≡◌, ◌<◌, ◌≤◌, All, IfOk, length, map};
 ghost use Rattle.cell_machine.specs.Does.{Does};
 ghost use Rattle.cell_machine.specs.Machine.{IsSound, world_of};
 ghost use Rattle.cell_num.specs.Limits.{max_file_bytes};
-ghost use Rattle.cell_world.specs.Commands.Asked.{next_swap};
+ghost use Rattle.cell_world.specs.Commands.Asked.{next_swap, want_of, wants_of};
 ghost use Rattle.cell_world.specs.Following.{Follows};
-ghost use Rattle.cell_world.specs.Gather.{file_named, source_of};
-ghost use Rattle.cell_world.specs.Outcome.{found};
-ghost use Rattle.cell_world.specs.declared.refusal.Refusal.TheVariants.{Unknown};
+ghost use Rattle.cell_world.specs.Gather.{source_of};
 ghost use Rattle.cell_commands.specs.Counted.{swap_counts};
-ghost use Rattle.cell_commands.specs.Items.{AddsWant, Asks, old_placed};
+ghost use Rattle.cell_commands.specs.Items.{AddsWant, Asks, ending_for as ending_said, old_placed, options_of};
 
-use cell_change::{Change, Made, Options, make_change};
+use crate::wants::{file_named, push, want};
+use cell_change::{Change, Ending, Made, Options, make_change};
 use cell_depot::Depot;
-use cell_gather::Want;
-use cell_machine::{Machine, unknown};
-use cell_num::{CellId, Name};
+use cell_machine::Machine;
+use cell_num::Name;
 use cell_unload::named_cell;
-use cell_world::{CellName, Fail, File, NewCell, Reply, SwapItem};
+use cell_world::{CellName, Fail, NewCell, Reply, SwapItem};
 use std::alloc::{AllocError, Global};
+
+/// What the words of a swap say beside its items.
+#[derive(Clone, Copy)]
+pub struct SwapWords<'a> {
+    /// The new cells take on the names of the old ones that they don't define.
+    pub reexport: bool,
+    /// The swap is refused where an old cell is still kept.
+    pub strict: bool,
+    /// The names of the routines that run once the new cells are there.
+    pub routines: &'a [Name],
+    /// How many turns all routines have together.
+    pub budget: u32,
+}
+
+/// How a swap ends: no task begins again.
+fn ending_for(strict: bool) -> Ending
+    ensures { result ≡ ending_said strict }
+{
+    if strict {
+        Ending::Strict
+    } else {
+        Ending::Lenient
+    }
+}
+
+impl<'a> SwapWords<'a> {
+    /// What the change does that they ask for.
+    fn options(&self) -> Options<'a>
+        ensures { result ≡ options_of self.now }
+    {
+        Options {
+            reexport: self.reexport,
+            routines: self.routines,
+            budget: self.budget,
+            ending: ending_for(self.strict),
+        }
+    }
+}
 
 /// The name of the cell that an item replaces.
 fn old_name(alloc: Global, item: &SwapItem) -> Result<CellName, AllocError>
@@ -44,37 +80,6 @@ fn old_cell<'a>(alloc: Global, machine: &'a Machine, item: &SwapItem) -> Result<
     }
 }
 
-/// The file of a name.
-fn file_named<'a>(alloc: Global, depot: &'a Depot, name: &Name) -> Result<&'a File, Fail>
-    ensures { Follows (λ f. source_of f.now) result (found (file_named (map source_of depot.now) name.now) (Unknown name.now)) }
-{
-    match depot.named(name.bytes()) {
-        Some(file) => Ok(file),
-        None => Err(unknown(alloc, name.bytes())),
-    }
-}
-
-/// The wanted cell of a file in the place of an old one.
-fn want(alloc: Global, old: &NewCell, file: &Name) -> Result<Want, AllocError>
-    ensures { IfOk result (λ want. want ≡ record { ns = old.now.ns; file = file.now; replaces = Some old.now.id }) }
-{
-    Ok(Want {
-        ns: old.ns,
-        file: file.copy(alloc)?,
-        replaces: Some(old.id),
-    })
-}
-
-fn push(change: &mut Change, want: Want, old: CellId) -> Result<(), AllocError>
-    ensures wants { OnOk result (change.new.wants.items ≡ change.old.wants.items ++ want ∷ []) }
-    ensures replaced { OnOk result (change.new.replaced.items ≡ change.old.replaced.items ++ old ∷ []) }
-    ensures options { OnOk result (change.new.options ≡ change.old.options) }
-{
-    change.wants.push(want)?;
-    change.replaced.push(old)?;
-    Ok(())
-}
-
 /// Looks an item up: its cell, and then its file.
 fn add_item(
     alloc: Global,
@@ -84,7 +89,7 @@ fn add_item(
     change: &mut Change,
 ) -> Result<(), Fail>
     requires { IsSound machine.now }
-    ensures { AddsWant (map source_of depot.now) (world_of machine.now) item.now change.old result change.new }
+    ensures { AddsWant (map source_of depot.now) (world_of machine.now) (want_of (map source_of depot.now) (world_of machine.now) item.now) change.old result change.new }
 {
     let old = old_cell(alloc, machine, item)?;
     file_named(alloc, depot, &item.file)?;
@@ -99,15 +104,15 @@ fn change_for<'a>(
     depot: &Depot,
     machine: &Machine,
     items: &[SwapItem],
-    options: &Options<'a>,
+    words: &SwapWords<'a>,
 ) -> Result<Change<'a>, Fail>
     requires { IsSound machine.now }
-    ensures { Asks (map source_of depot.now) (world_of machine.now) items.now options.now result }
+    ensures { Asks (map source_of depot.now) (world_of machine.now) (wants_of (map source_of depot.now) (world_of machine.now) items.now) (length items.now) (options_of words.now) result }
 {
     let mut change = Change {
         wants: Vec::new(alloc),
         replaced: Vec::new(alloc),
-        options: *options,
+        options: words.options(),
     };
     for item in items {
         add_item(alloc, depot, machine, item, &mut change)?;
@@ -125,14 +130,14 @@ pub fn swap(
     depot: &Depot,
     machine: &mut Machine,
     items: &[SwapItem],
-    options: &Options,
+    words: &SwapWords,
 ) -> Result<Reply, Fail>
     requires sound { IsSound machine.old }
     requires small { All (λ f. length f.bytes ≤ max_file_bytes) depot.now }
     requires some { 0 < length items.now }
-    ensures { Does (next_swap (map source_of depot.now) (world_of machine.old) items.now options.now.reexport options.now.strict options.now.routines.now options.now.budget) (swap_counts (map source_of depot.now) (world_of machine.old) items.now options.now.reexport options.now.strict options.now.routines.now options.now.budget) machine.old result machine.new }
+    ensures { Does (next_swap (map source_of depot.now) (world_of machine.old) items.now words.now.reexport words.now.strict words.now.routines.now words.now.budget) (swap_counts (map source_of depot.now) (world_of machine.old) items.now words.now.reexport words.now.strict words.now.routines.now words.now.budget) machine.old result machine.new }
 {
-    let change = change_for(alloc, depot, machine, items, options)?;
+    let change = change_for(alloc, depot, machine, items, words)?;
     let Made {
         fresh,
         patched,

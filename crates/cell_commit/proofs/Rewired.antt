@@ -18,7 +18,8 @@ use Rattle.cell_graph.specs.Moves.{AreApart, is_link_of, moved, moved_row}
 use Rattle.cell_graph.specs.Order.{Rises, below_link, with_link}
 use Rattle.cell_graph.proofs.Apart.{link_entry, link_swapped, link_user}
 use Rattle.cell_graph.proofs.Moving.{none_found}
-use Rattle.cell_commit.specs.Rewiring.{AreNew, AreThere, IsRewiring, all_linked, all_unlinked, is_below_step, rows_of, unlinked}
+use Rattle.cell_graph.specs.Several.{AreNew, AreThere, all_linked, all_unlinked, unlinked}
+use Rattle.cell_commit.specs.Rewiring.{IsRewiring, is_below_step, rows_of}
 
 pub in_contains : {X : Type 0} (xs : List X) (x : X) → In x xs → Contains xs x
 in_contains [] x i = absurd i

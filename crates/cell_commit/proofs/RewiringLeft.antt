@@ -1,10 +1,10 @@
--- The links that are left to go or to come, while those before them have gone or come.
+-- The links that are left to come, while those before them have come.
 use Rattle.std.proofs.Common.{◌≡◌, sym, ap, ◌∙◌, subst, ℕ, ◌+◌, ◌<◌, ◌≤◌, false, List, [], length, drop, get_or}
-use Rattle.std.specs.Prelude.{Contains, fold}
+use Rattle.std.specs.Prelude.{fold}
 use Rattle.std.proofs.lemmas.List.{drop_all, drop_more}
 use Rattle.cell_world.specs.declared.state.LinkRow.{LinkRow}
 use Rattle.cell_graph.specs.Links.{is_bound}
-use Rattle.cell_commit.specs.Rewiring.{AreNew, AreThere, linked, unlinked}
+use Rattle.cell_graph.specs.Several.{AreNew, linked}
 use Rattle.cell_commit.proofs.LinksLeft.{no_link}
 
 -- one after another
@@ -14,16 +14,6 @@ module _ (f : List LinkRow → LinkRow → List LinkRow) (items : List LinkRow) 
 
   pub fold_done : (now all : List LinkRow) → length items ≤ i → fold f now (drop i items) ≡ all → now ≡ all
   fold_done now all le e = sym (ap (fold f now) (drop_all i items le)) ∙ e
-
-module _ (gone : List LinkRow) (i : ℕ) (lt : i < length gone) (now : List LinkRow) (there : AreThere now (drop i gone)) where
-  both : Contains now (get_or gone i no_link) × AreThere (unlinked now (get_or gone i no_link)) (drop (i + 1) gone)
-  both = subst (AreThere now) (drop_more gone i no_link lt) there
-
-  pub there_here : Contains now (get_or gone i no_link)
-  there_here = both.0
-
-  pub there_more : (new : List LinkRow) → new ≡ unlinked now (get_or gone i no_link) → AreThere new (drop (i + 1) gone)
-  there_more new e = subst (λ (rs : List LinkRow). AreThere rs (drop (i + 1) gone)) (sym e) both.1
 
 module _ (new : List LinkRow) (i : ℕ) (lt : i < length new) (now : List LinkRow) (free : AreNew now (drop i new)) where
   both_new : (is_bound now (get_or new i no_link).user (get_or new i no_link).entry ≡ false) × AreNew (linked now (get_or new i no_link)) (drop (i + 1) new)

@@ -6,17 +6,14 @@
 --     IsRewiring .. steps           such steps take these links away, add these, and have these lead so
 --     IsTurned r back               these lists take back what those do
 --     CanRewire g .. moves          there are such steps, their sections are there, and there is room
---     AreThere rows gone            each link is there, once those before it are gone
---     AreNew rows new               each is new, once those before it are there
-use Rattle.std.specs.Prelude.{◌≡◌, ◌≤◌, ◌+◌, true, false, Bool, List, [], ◌∷◌, All, Contains, filter_map, fold, length}
+use Rattle.std.specs.Prelude.{◌≡◌, ◌≤◌, ◌+◌, true, Bool, List, [], All, Contains, filter_map, length}
 use Rattle.std.specs.List.{cons_option, list_all}
-use Rattle.cell_num.specs.declared.ids.SecKey.{SecKey}
 use Rattle.cell_num.specs.Lists.{each_pair, In}
 use Rattle.cell_world.specs.declared.state.LinkRow.{LinkRow}
 use Rattle.cell_lemmas.specs.LinkSteps.{LinkStep, IsOneEntry, afters, befores, binds, moved_row, moves, unbinds}
-use Rattle.cell_graph.specs.Links.{Links, is_bound}
+use Rattle.cell_graph.specs.Links.{Links}
 use Rattle.cell_commit.specs.declared.wiring.Rewiring.{Rewiring}
-use Rattle.cell_graph.specs.Order.{below_link, with_link, without_link}
+use Rattle.cell_graph.specs.Order.{below_link}
 
 abbrev pub backs : List LinkStep → List LinkRow
 backs steps = filter_map (λ s. moved_row s.after s.before) steps
@@ -51,23 +48,3 @@ pub record CanRewire (g : Links) (gone new led : List LinkRow) : Type 0 where
   pub is : IsRewiring g.rows gone new led steps
   pub present : All (λ r. Contains g.sections r.user × Contains g.sections r.target) (afters steps)
   pub room : length new ≤ g.spare_rows + length gone
-
-abbrev pub unlinked : List LinkRow → LinkRow → List LinkRow
-unlinked rows r = without_link r.user r.entry rows
-
-abbrev pub linked : List LinkRow → LinkRow → List LinkRow
-linked rows r = with_link r rows
-
-abbrev pub all_unlinked : List LinkRow → List LinkRow → List LinkRow
-all_unlinked rows gone = fold unlinked rows gone
-
-abbrev pub all_linked : List LinkRow → List LinkRow → List LinkRow
-all_linked rows new = fold linked rows new
-
-abbrev pub AreThere : List LinkRow → List LinkRow → Type 0
-AreThere rows [] = Unit {0}
-AreThere rows (r ∷ gone) = Contains rows r × AreThere (unlinked rows r) gone
-
-abbrev pub AreNew : List LinkRow → List LinkRow → Type 0
-AreNew rows [] = Unit {0}
-AreNew rows (r ∷ new) = (is_bound rows r.user r.entry ≡ false) × AreNew (linked rows r) new

@@ -4,6 +4,7 @@ ghost use Rattle.std.specs.Prelude.{◌≡◌, ◌<◌, ◌≤◌, ◌+◌, ◌+
 ghost use Rattle.cell_graph.specs.Links.{is_bound};
 ghost use Rattle.cell_graph.specs.Moves.{AreApart, moved};
 ghost use Rattle.cell_graph.specs.Order.{below_link, Rises};
+ghost use Rattle.cell_graph.specs.Several.{AreThere, all_unlinked};
 
 use cell_graph::{Graph, LinkRow, Steps};
 use std::marker::Brand;
@@ -21,6 +22,32 @@ pub fn bind_rows(graph: &mut Graph, rows: &[LinkRow])
     for row in rows {
         graph.bind(*row);
     }
+}
+
+/// Takes links away that are there, with a counter that nobody reads.
+fn unbind_with<L: Ledger>(graph: &mut Graph, gone: &[LinkRow], blank: Blank)
+    requires name { blank.name ≡ L.name }
+    requires parts { blank.parts ≡ L.parts }
+    requires countable { 0 < blank.parts }
+    requires there { AreThere graph.old.rows gone.now }
+    ensures rows { graph.new.rows ≡ all_unlinked graph.old.rows gone.now }
+    ensures sections { graph.new.sections ≡ graph.old.sections }
+    ensures room_for_rows { graph.old.spare_rows + length gone.now ≤ graph.new.spare_rows }
+    ensures room_for_sections { graph.old.spare_sections ≤ graph.new.spare_sections }
+{
+    let mut steps = Steps::<L>::new(blank);
+    graph.unbind_all(gone, &mut steps);
+}
+
+/// Takes links away that are there. Their room is in reserve again.
+pub fn unbind_rows(graph: &mut Graph, gone: &[LinkRow])
+    requires { AreThere graph.old.rows gone.now }
+    ensures rows { graph.new.rows ≡ all_unlinked graph.old.rows gone.now }
+    ensures sections { graph.new.sections ≡ graph.old.sections }
+    ensures room_for_rows { graph.old.spare_rows + length gone.now ≤ graph.new.spare_rows }
+    ensures room_for_sections { graph.old.spare_sections ≤ graph.new.spare_sections }
+{
+    unbind_with::<Brand>(graph, gone, Blank::new(1));
 }
 
 /// Gives links their new targets, with a counter that nobody reads.

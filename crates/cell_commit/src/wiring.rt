@@ -2,9 +2,10 @@
 
 ghost use Rattle.std.specs.Prelude.{◌≡◌, ◌≤◌, ◌+◌, All, Contains, IfOk, length};
 ghost use Rattle.cell_lemmas.specs.LinkSteps.{afters};
-ghost use Rattle.cell_commit.specs.Rewiring.{AreNew, AreThere, CanRewire, IsTurned, all_linked, all_unlinked};
+ghost use Rattle.cell_graph.specs.Several.{AreNew, all_linked};
+ghost use Rattle.cell_commit.specs.Rewiring.{CanRewire, IsTurned};
 
-use crate::bind::move_rows;
+use crate::bind::{move_rows, unbind_rows};
 use cell_graph::{Graph, LinkRow};
 use std::alloc::{AllocError, Global};
 
@@ -42,19 +43,6 @@ fn copied(alloc: Global, rows: &[LinkRow]) -> Result<Vec<LinkRow>, AllocError>
     let mut copy = Vec::new(alloc);
     copy.extend_from_slice(rows)?;
     Ok(copy)
-}
-
-/// Takes links away that are there. Their room is in reserve again.
-fn unbind_rows(graph: &mut Graph, gone: &[LinkRow])
-    requires { AreThere graph.old.rows gone.now }
-    ensures rows { graph.new.rows ≡ all_unlinked graph.old.rows gone.now }
-    ensures sections { graph.new.sections ≡ graph.old.sections }
-    ensures room_for_rows { graph.old.spare_rows + length gone.now ≤ graph.new.spare_rows }
-    ensures room_for_sections { graph.old.spare_sections ≤ graph.new.spare_sections }
-{
-    for row in gone {
-        graph.unbind(*row);
-    }
 }
 
 /// Adds links, each in its place.

@@ -8,6 +8,7 @@ pub mod Listing
 pub mod Moving
 pub mod Rebinding
 pub mod Rising
+pub mod Unbinding
 pub mod Wholes
 pub mod Sights
 pub mod Ranges

@@ -10,6 +10,8 @@ pub mod Moves
 pub mod Order
 pub mod Places
 pub mod SectionPlaces
+pub mod Several
+pub mod Standing
 pub mod Removal
 pub mod RowPlaces
 pub mod Skips

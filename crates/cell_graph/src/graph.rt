@@ -1,7 +1,6 @@
 //! The graph.
 
 ghost use Rattle.std.specs.Prelude.{◌≡◌, ◌↔◌, ◌*◌, ◌<◌, ◌≤◌, ◌+◌, ◌++◌, ◌∷◌, [], ◌==◌, ◌||◌, ℕ, false, true, filter, All, Contains, IfErr, IfNone, IfSome, IsOk, IsSome, IsTrue, OnErr, OnOk, length, map};
-ghost use Rattle.std.specs.List.{remove};
 ghost use Rattle.std.specs.List.Sorted.{IsPermutation, IsStrictlyIncreasing};
 ghost use Rattle.slab.specs.Slab.{get};
 ghost use Rattle.cell_world.specs.World.{key_of};
@@ -10,13 +9,14 @@ ghost use Rattle.cell_graph.specs.Lists.{IsCellRange, RowsRise};
 ghost use Rattle.cell_graph.specs.Moves.{AreApart, moved};
 ghost use Rattle.cell_world.specs.declared.state.LinkRow.{LinkRow as Row};
 ghost use Rattle.cell_graph.specs.Removal.{is_listed, is_used_outside, links_without, sections_without, uses_from_outside, IsCellUsedBy, IsUsedBy};
-ghost use Rattle.cell_graph.specs.Order.{below_link, below_section, with_link, without_link, Rises};
+ghost use Rattle.cell_graph.specs.Order.{below_link, below_section, with_link, Rises};
+ghost use Rattle.cell_graph.specs.Several.{AreThere, all_unlinked};
 ghost use Rattle.cell_graph.specs.Users.{is_marked, is_user_of, leads_to};
 ghost use Rattle.cell_graph.specs.Weaks.{made_for};
 
 use crate::chains::Sections;
 use crate::links::{
-    add_section, bind_row, link_named, move_row, remove_rows, remove_sections, unbind_at,
+    add_section, bind_row, link_named, move_row, remove_rows, remove_sections, unbind_rows,
 };
 use crate::marks::mark;
 use crate::near::Near;
@@ -224,51 +224,75 @@ impl Graph {
         }
     }
 
-    /// Marks the cells of the links into a section that is there.
+    /// The same of a section that is there, with the index where it is named. It is looked for at an index
+    /// first.
+    fn users_near(&self, sec: SecKey, near: usize) -> (Users<'_>, usize)
+        requires { Contains self.now.sections sec }
+        ensures users { IsPermutation (links_to sec self.now.rows) result.0 }
+        ensures bounded { result.1 < usize.MAX }
+    {
+        let place = self.section_list.place_near(near, sec);
+        match look_counted::<Brand>(&self.sections, place.0, Blank::new(1)) {
+            Some(section) => (Users::of(&self.rows, section.first, section.users), place.1),
+            None => unreachable!(),
+        }
+    }
+
+    /// Marks the cells of the links into a section that is there, and answers the index behind it.
     fn mark_users_of_section<L: Ledger>(
         &self,
         sec: SecKey,
+        near: usize,
         marks: &mut Vec<bool>,
         steps: &mut Steps<L>,
-    ) -> Result<(), AllocError>
+    ) -> Result<usize, AllocError>
         requires { Contains self.now.sections sec }
         ensures marks { OnOk result ((n : ℕ) → is_marked marks.new.items n ≡ (is_marked marks.old.items n || leads_to sec self.now.rows n)) }
         ensures steps { steps.new ≤ steps.old + length (links_to sec self.now.rows) }
     {
-        let mut users = self.users_of(sec);
+        let found = self.users_near(sec, near);
+        let mut users = found.0;
         while let Some(row) = users.step(steps) {
             mark(marks, row.user.cell)?;
         }
-        Ok(())
+        Ok(found.1 + 1)
     }
 
     /// Marks the cells of the links into a cell, with a counter of its own.
     fn mark_counted<L: Ledger>(
         &self,
         cell: CellId,
+        near: usize,
         marks: &mut Vec<bool>,
         blank: Blank,
-    ) -> Result<(), AllocError>
+    ) -> Result<usize, AllocError>
         requires name { blank.name ≡ L.name }
         requires parts { blank.parts ≡ L.parts }
         requires countable { 0 < blank.parts }
         ensures { OnOk result ((n : ℕ) → is_marked marks.new.items n ≡ (is_marked marks.old.items n || is_user_of cell.0 self.now.rows n)) }
     {
         let mut steps = Steps::<L>::new(blank);
+        let mut next = near;
         let sections = self.section_list.of_cell(cell);
         for index in 0..sections.len() {
             let at = sections.at(index, &mut steps);
-            self.mark_users_of_section(at.key, marks, &mut steps)?;
+            next = self.mark_users_of_section(at.key, next, marks, &mut steps)?;
         }
-        Ok(())
+        Ok(next)
     }
 
     /// Marks the cells that have a link into this one, by their numbers, in a list that grows as far as
-    /// it must. It goes over these links alone.
-    pub fn mark_users_of(&self, cell: CellId, marks: &mut Vec<bool>) -> Result<(), AllocError>
+    /// it must. It goes over these links alone. The cell's sections are looked for at an index first, and
+    /// the answer is the index behind them.
+    pub fn mark_users_of(
+        &self,
+        cell: CellId,
+        near: usize,
+        marks: &mut Vec<bool>,
+    ) -> Result<usize, AllocError>
         ensures { OnOk result ((n : ℕ) → is_marked marks.new.items n ≡ (is_marked marks.old.items n || is_user_of cell.0 self.now.rows n)) }
     {
-        self.mark_counted::<Brand>(cell, marks, Blank::new(1))
+        self.mark_counted::<Brand>(cell, near, marks, Blank::new(1))
     }
 
     /// A reference to a section that is there, which doesn't keep it there.
@@ -344,39 +368,25 @@ impl Graph {
         }
     }
 
-    /// Takes the link at an index away, with a counter of its own.
-    fn unbind_index<L: Ledger>(&mut self, index: usize, blank: Blank)
-        requires name { blank.name ≡ L.name }
-        requires parts { blank.parts ≡ L.parts }
-        requires countable { 0 < blank.parts }
-        requires within { index < length self.old.rows }
-        ensures left { self.new.rows ≡ remove self.old.rows index }
-        ensures room { self.new.spare_rows ≡ self.old.spare_rows + 1 }
+    /// Takes links away that are there. Their room is in reserve again. Takes no memory. The list of links is
+    /// gone over once, and for each of these links one link is read.
+    pub fn unbind_all<L: Ledger>(&mut self, gone: &[LinkRow], steps: &mut Steps<L>)
+        requires { AreThere self.old.rows gone.now }
+        ensures gone { self.new.rows ≡ all_unlinked self.old.rows gone.now }
+        ensures steps { steps.new ≡ steps.old + 2 * length gone.now + length self.old.rows }
+        ensures room { self.old.spare_rows + length gone.now ≤ self.new.spare_rows }
         ensures same_sections { self.new.sections ≡ self.old.sections }
-        ensures same_room_for_sections { self.new.spare_sections ≡ self.old.spare_sections }
+        ensures same_room_for_sections { self.old.spare_sections ≤ self.new.spare_sections }
     {
         let _ = self.rows.capacity();
-        let mut steps = Steps::<L>::new(blank);
-        unbind_at(
+        unbind_rows(
             &mut self.sections,
             &mut self.rows,
             &self.section_list,
             &mut self.row_list,
-            index,
-            &mut steps,
+            gone,
+            steps,
         );
-    }
-
-    /// Takes a link away that is there. Its room is in reserve again.
-    pub fn unbind(&mut self, row: LinkRow)
-        requires { Contains self.old.rows row }
-        ensures gone { self.new.rows ≡ without_link row.user row.entry self.old.rows }
-        ensures room { self.old.spare_rows + 1 ≤ self.new.spare_rows }
-        ensures same_sections { self.new.sections ≡ self.old.sections }
-        ensures same_room_for_sections { self.old.spare_sections ≤ self.new.spare_sections }
-    {
-        let index = self.row_list.index(row.user, row.entry);
-        self.unbind_index::<Brand>(index, Blank::new(1));
     }
 
     /// A section of a cell that isn't listed, which has a link to the section.

@@ -22,6 +22,7 @@ mod weak;
 
 pub use cell_world::LinkRow;
 pub use graph::Graph;
+pub use marks::mark;
 pub use removal::StillUsed;
 pub use rows::{ChainRow, Rows};
 pub use steps::Steps;

@@ -1,7 +1,7 @@
 //! The links by both their arenas and both their lists.
 
 ghost use Rattle.std.specs.Prelude.{◌≡◌, ℕ, ◌+◌, ◌*◌, ◌<◌, ◌≤◌, ◌∷◌, ◌++◌, [], List, Option, Some, true, false, Contains, IsTrue, length, map, slice_index_or};
-ghost use Rattle.std.specs.List.{AllByRecursion, remove};
+ghost use Rattle.std.specs.List.{AllByRecursion};
 ghost use Rattle.slab.specs.Slab.{ContainsKey, HasRoomFor, get, slab_len};
 ghost use Rattle.cell_graph.specs.Chains.{AreChained, SameKeys};
 ghost use Rattle.cell_graph.specs.Dropped.{AreDropped, DropsIf, HasNone, links_at};
@@ -10,10 +10,12 @@ ghost use Rattle.cell_graph.specs.declared.rows.ChainRow.{ChainRow};
 ghost use Rattle.cell_graph.specs.declared.order.SectionPlace.{SectionPlace};
 ghost use Rattle.cell_graph.specs.declared.order.RowPlace.{RowPlace};
 ghost use Rattle.cell_graph.specs.Listed.{IsListed, IsWhole, SectionsListed};
-ghost use Rattle.cell_graph.specs.Lists.{IsSectionAt, has_row};
+ghost use Rattle.cell_graph.specs.Lists.{IsSectionAt, RowsRise, has_row};
 ghost use Rattle.cell_graph.specs.Moves.{moved};
 ghost use Rattle.cell_graph.specs.Order.{below_section, with_link};
 ghost use Rattle.cell_graph.specs.Places.{link_at};
+ghost use Rattle.cell_graph.specs.Several.{AreThere, all_unlinked, unlinked};
+ghost use Rattle.cell_graph.specs.Standing.{standing};
 
 use crate::chains::{Sections, link, unlink};
 use crate::near::Near;
@@ -150,14 +152,16 @@ pub fn bind_row(
     row_list.insert(index, at);
 }
 
-/// Takes the link at a place out of its chain and its arena. The list still names it.
+/// Takes the link at a place out of its chain and its arena. The list still names it. Its target is looked
+/// for at an index first, and the answer is the index where it is named.
 fn drop_row<L: Ledger>(
     sections: &mut Sections,
     rows: &mut Rows,
     section_list: &SectionList,
     place: usize,
+    near: usize,
     steps: &mut Steps<L>,
-)
+) -> usize
     requires chained { AreChained (get rows.old) (get sections.old) }
     requires listed { SectionsListed (get sections.old) section_list.now.items }
     requires stands { ContainsKey rows.old place }
@@ -171,35 +175,91 @@ fn drop_row<L: Ledger>(
     ensures section_capacity { sections.new.capacity ≡ sections.old.capacity }
 {
     let chain = rows.read(place, steps);
-    let target = section_list.place(chain.row.target);
-    unlink(sections, rows, target, place, chain);
+    let target = section_list.place_near(near, chain.row.target);
+    unlink(sections, rows, target.0, place, chain);
     rows.remove(place);
+    target.1
 }
 
-/// Takes the link at an index of the list away.
-pub fn unbind_at<L: Ledger>(
+/// Takes a link that is there out of its chain and its arena, and tells where to look for the next one
+/// first. The list still names it.
+fn unbind_one<L: Ledger>(
     sections: &mut Sections,
     rows: &mut Rows,
     section_list: &SectionList,
-    row_list: &mut RowList,
-    index: usize,
+    row_list: &RowList,
+    row: LinkRow,
+    near: Near,
     steps: &mut Steps<L>,
-)
-    requires whole { IsWhole (get rows.old) (get sections.old) section_list.now.items row_list.old.items }
-    requires within { index < length row_list.old.items }
-    ensures whole { IsWhole (get rows.new) (get sections.new) section_list.now.items row_list.new.items }
-    ensures items { row_list.new.items ≡ remove row_list.old.items index }
-    ensures left { map (link_at (get rows.new)) row_list.new.items ≡ map (link_at (get rows.old)) (remove row_list.old.items index) }
+) -> Near
+    requires rise { RowsRise row_list.now.items }
+    requires whole { IsWhole (get rows.old) (get sections.old) section_list.now.items (standing (get rows.old) row_list.now.items) }
+    requires there { Contains (map (link_at (get rows.old)) (standing (get rows.old) row_list.now.items)) row }
+    ensures whole { IsWhole (get rows.new) (get sections.new) section_list.now.items (standing (get rows.new) row_list.now.items) }
+    ensures left { map (link_at (get rows.new)) (standing (get rows.new) row_list.now.items) ≡ unlinked (map (link_at (get rows.old)) (standing (get rows.old) row_list.now.items)) row }
     ensures steps { steps.new ≡ steps.old + 2 }
     ensures row_count { slab_len rows.new + 1 ≡ slab_len rows.old }
     ensures section_count { slab_len sections.new ≡ slab_len sections.old }
     ensures row_capacity { rows.new.capacity ≡ rows.old.capacity }
     ensures section_capacity { sections.new.capacity ≡ sections.old.capacity }
-    ensures list_room { row_list.new.spare ≡ row_list.old.spare + 1 }
 {
+    let index = row_list.index_near(near.row, row.user, row.entry);
     let place = row_list.at(index, steps).place;
-    drop_row(sections, rows, section_list, place, steps);
-    row_list.remove(index);
+    let old = drop_row(sections, rows, section_list, place, near.old, steps);
+    Near {
+        row: index + 1,
+        old,
+        new: near.new,
+    }
+}
+
+/// Takes links that are there out of their chains and their arena. The list still names them.
+fn unbind_each<L: Ledger>(
+    sections: &mut Sections,
+    rows: &mut Rows,
+    section_list: &SectionList,
+    row_list: &RowList,
+    gone: &[LinkRow],
+    steps: &mut Steps<L>,
+)
+    requires whole { IsWhole (get rows.old) (get sections.old) section_list.now.items row_list.now.items }
+    requires there { AreThere (map (link_at (get rows.old)) row_list.now.items) gone.now }
+    ensures whole { IsWhole (get rows.new) (get sections.new) section_list.now.items (standing (get rows.new) row_list.now.items) }
+    ensures left { map (link_at (get rows.new)) (standing (get rows.new) row_list.now.items) ≡ all_unlinked (map (link_at (get rows.old)) row_list.now.items) gone.now }
+    ensures steps { steps.new ≡ steps.old + 2 * length gone.now }
+    ensures row_count { slab_len rows.new + length gone.now ≡ slab_len rows.old }
+    ensures section_count { slab_len sections.new ≡ slab_len sections.old }
+    ensures row_capacity { rows.new.capacity ≡ rows.old.capacity }
+    ensures section_capacity { sections.new.capacity ≡ sections.old.capacity }
+{
+    let mut near = Near::start();
+    for row in gone {
+        near = unbind_one(sections, rows, section_list, row_list, *row, near, steps);
+    }
+}
+
+/// Takes links away that are there. The list is gone over once.
+pub fn unbind_rows<L: Ledger>(
+    sections: &mut Sections,
+    rows: &mut Rows,
+    section_list: &SectionList,
+    row_list: &mut RowList,
+    gone: &[LinkRow],
+    steps: &mut Steps<L>,
+)
+    requires whole { IsWhole (get rows.old) (get sections.old) section_list.now.items row_list.old.items }
+    requires there { AreThere (map (link_at (get rows.old)) row_list.old.items) gone.now }
+    ensures whole { IsWhole (get rows.new) (get sections.new) section_list.now.items row_list.new.items }
+    ensures left { map (link_at (get rows.new)) row_list.new.items ≡ all_unlinked (map (link_at (get rows.old)) row_list.old.items) gone.now }
+    ensures steps { steps.new ≡ steps.old + 2 * length gone.now + length row_list.old.items }
+    ensures row_count { slab_len rows.new + length gone.now ≡ slab_len rows.old }
+    ensures section_count { slab_len sections.new ≡ slab_len sections.old }
+    ensures row_capacity { rows.new.capacity ≡ rows.old.capacity }
+    ensures section_capacity { sections.new.capacity ≡ sections.old.capacity }
+    ensures list_room { row_list.new.spare ≡ row_list.old.spare + length gone.now }
+{
+    unbind_each(sections, rows, section_list, row_list, gone, steps);
+    row_list.keep_standing(rows, steps);
 }
 
 /// The same for a link whose user is of a listed cell.
@@ -226,7 +286,7 @@ fn drop_listed_row<L: Ledger>(
     if !is_listed(cells, at.user) {
         return;
     }
-    drop_row(sections, rows, section_list, at.place, steps);
+    let _ = drop_row(sections, rows, section_list, at.place, 0, steps);
 }
 
 /// The same for all links whose users are of listed cells.

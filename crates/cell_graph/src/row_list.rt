@@ -1,15 +1,18 @@
 //! The list of the links.
 
 ghost use Rattle.std.specs.Prelude.{◌≡◌, ◌+◌, ◌<◌, ◌≤◌, [], IsTrue, OnOk, filter, length, not, slice_index_or};
-ghost use Rattle.std.specs.List.{insert, remove};
+ghost use Rattle.std.specs.List.{insert};
+ghost use Rattle.slab.specs.Slab.{get};
 ghost use Rattle.cell_graph.specs.Lists.{IsCellRange, IsRowAt, RowsRise, has_row};
 ghost use Rattle.cell_graph.specs.Order.{IsCut, below_row};
 ghost use Rattle.cell_graph.specs.Removal.{is_listed};
+ghost use Rattle.cell_graph.specs.Standing.{standing};
 ghost use Rattle.cell_graph.specs.declared.order.RowPlace.{RowPlace};
 
 use crate::near::cell_rows_near;
 use crate::order::{RowPlace, row_cell_end, row_cell_start, row_cut};
 use crate::removal::is_listed;
+use crate::rows::Rows;
 use crate::steps::Steps;
 use crate::walks::CellRows;
 use cell_num::{CellId, SecKey};
@@ -68,15 +71,6 @@ impl RowList {
         self.list[index]
     }
 
-    /// The index of a link that is there.
-    pub fn index(&self, user: SecKey, entry: u32) -> usize
-        requires rise { RowsRise self.now.items }
-        requires bound { IsTrue (has_row self.now.items user entry) }
-        ensures { IsRowAt self.now.items result user entry }
-    {
-        row_index(&self.list, user, entry)
-    }
-
     /// The index of a link that is there. It is looked for at an index first.
     pub fn index_near(&self, near: usize, user: SecKey, entry: u32) -> usize
         requires rise { RowsRise self.now.items }
@@ -130,14 +124,16 @@ impl RowList {
         let _ = self.list.insert(index, at);
     }
 
-    /// Takes the one at an index away.
-    pub fn remove(&mut self, index: usize)
-        requires { index < length self.old.items }
-        ensures items { self.new.items ≡ remove self.old.items index }
-        ensures spare { self.new.spare ≡ self.old.spare + 1 }
+    /// Takes those away at whose places no link stands any more. Each that is there is one step.
+    pub fn keep_standing<L: Ledger>(&mut self, rows: &Rows, steps: &mut Steps<L>)
+        ensures items { self.new.items ≡ standing (get rows.now) self.old.items }
+        ensures room { self.new.spare + length self.new.items ≡ self.old.spare + length self.old.items }
+        ensures steps { steps.new ≡ steps.old + length self.old.items }
     {
         let _ = self.list.capacity();
-        let _ = self.list.remove(index);
+        steps.ticks(self.list.len());
+        self.list.retain(|at| rows.has(at.place));
+        let _ = self.list.capacity();
     }
 
     /// Takes those with users of listed cells away. Each link that is there is one step.

@@ -1,6 +1,6 @@
 //! The arena of the links.
 
-ghost use Rattle.std.specs.Prelude.{◌≡◌, ℕ, ◌+◌, ◌≤◌, [], None, Some, IfSome, OnOk};
+ghost use Rattle.std.specs.Prelude.{◌≡◌, ◌↔◌, ℕ, ◌+◌, ◌≤◌, [], None, Some, IfSome, IsTrue, OnOk};
 ghost use Rattle.slab.specs.Slab.{ContainsKey, HasRoomFor, get, slab_len};
 
 use crate::steps::Steps;
@@ -59,6 +59,13 @@ impl Rows {
         ensures { result ≡ slab_len self.now }
     {
         self.arena.len()
+    }
+
+    /// Whether a link stands at the place.
+    pub(crate) fn has(&self, place: usize) -> bool
+        ensures { IsTrue result ↔ ContainsKey self.now place }
+    {
+        self.arena.contains(place)
     }
 
     /// How many there is room for.

@@ -90,6 +90,17 @@ impl SectionList {
         section_index_near(&self.list, near, key)
     }
 
+    /// The place of a section that is there, and the index where it is named. It is looked for at an index
+    /// first.
+    pub fn place_near(&self, near: usize, key: SecKey) -> (usize, usize)
+        requires rise { SectionsRise self.now.items }
+        requires present { Contains (map (λ s. s.key) self.now.items) key }
+        ensures named { Contains self.now.items (record { key = key; place = result.0 }) }
+        ensures bounded { result.1 < usize.MAX }
+    {
+        section_place_near(&self.list, near, key)
+    }
+
     /// The sections of a cell.
     pub fn of_cell(&self, cell: CellId) -> CellSections<'_>
         requires { SectionsRise self.now.items }
@@ -214,6 +225,18 @@ fn section_index_near(list: &[SectionPlace], near: usize, key: SecKey) -> usize
         return near;
     }
     section_index(list, key)
+}
+
+/// The place of a section that is there, and the index where the list names it. It is looked for at an
+/// index first.
+fn section_place_near(list: &[SectionPlace], near: usize, key: SecKey) -> (usize, usize)
+    requires rise { SectionsRise list.now }
+    requires present { Contains (map (λ s. s.key) list.now) key }
+    ensures named { Contains list.now (record { key = key; place = result.0 }) }
+    ensures within { result.1 < length list.now }
+{
+    let index = section_index_near(list, near, key);
+    (list[index].place, index)
 }
 
 /// The sections of a cell that the list names.

@@ -66,7 +66,7 @@ impl Hart {
     }
 
     /// What stands in a register.
-    fn register(&self, n: u8) -> u64
+    pub(crate) fn register(&self, n: u8) -> u64
         ensures { result ≡ slice_index self.now.x n }
     {
         let place = usize::from(n);
@@ -89,7 +89,7 @@ impl Hart {
     }
 
     /// A trap at this instruction.
-    fn trap(&self, cause: Cause) -> Stop
+    pub(crate) fn trap(&self, cause: Cause) -> Stop
         ensures { result ≡ Stop.Trap cause self.now.pc }
     {
         Stop::Trap { cause, pc: self.pc }
@@ -106,7 +106,7 @@ impl Hart {
     }
 
     /// On to the next instruction, with a number in rd.
-    fn compute(&mut self, memory: &Memory, rd: u8, value: u64) -> Stop
+    pub(crate) fn compute(&mut self, memory: &Memory, rd: u8, value: u64) -> Stop
         ensures { Steps result (computed (seen_of memory.now) self.old.x self.old.pc rd value) self.old self.new memory.now memory.now }
     {
         self.set_register(rd, value);
@@ -114,7 +114,7 @@ impl Hart {
     }
 
     /// A jump, or a branch that is taken.
-    fn jump(&mut self, memory: &Memory, aim: u64, rd: u8, value: u64) -> Stop
+    pub(crate) fn jump(&mut self, memory: &Memory, aim: u64, rd: u8, value: u64) -> Stop
         ensures { Steps result (jumped (seen_of memory.now) self.old.x aim rd value) self.old self.new memory.now memory.now }
     {
         if aim % 4 != 0 {
@@ -126,7 +126,14 @@ impl Hart {
     }
 
     /// So many bytes from the address on go into rd.
-    fn load(&mut self, memory: &Memory, rd: u8, addr: u64, width: u8, with_sign: bool) -> Stop
+    pub(crate) fn load(
+        &mut self,
+        memory: &Memory,
+        rd: u8,
+        addr: u64,
+        width: u8,
+        with_sign: bool,
+    ) -> Stop
         requires { is_width width ≡ true }
         ensures { Steps result (loaded (seen_of memory.now) self.old.x self.old.pc rd addr width with_sign) self.old self.new memory.now memory.now }
     {
@@ -137,7 +144,7 @@ impl Hart {
     }
 
     /// The low bytes of a number, so many, go to the address.
-    fn store(&mut self, memory: &mut Memory, addr: u64, width: u8, value: u64) -> Stop
+    pub(crate) fn store(&mut self, memory: &mut Memory, addr: u64, width: u8, value: u64) -> Stop
         requires width { is_width width ≡ true }
         requires undo { HasWrites memory.old 1 }
         ensures { Steps result (stored (seen_of memory.old) self.old.x self.old.pc addr width value) self.old self.new memory.old memory.new }
@@ -196,8 +203,8 @@ impl Hart {
         }
     }
 
-    /// The instruction that a word is.
-    fn perform_word(&mut self, memory: &mut Memory, word: u32) -> Stop
+    /// The instruction that a word is, decoded whole.
+    pub(crate) fn perform_word(&mut self, memory: &mut Memory, word: u32) -> Stop
         requires { HasWrites memory.old 1 }
         ensures { Steps result (execute_word (seen_of memory.old) self.old.x self.old.pc word) self.old self.new memory.old memory.new }
     {
@@ -213,7 +220,7 @@ impl Hart {
         ensures { Steps result (execute (seen_of memory.old) self.old.x self.old.pc) self.old self.new memory.old memory.new }
     {
         match memory.fetch(self.pc) {
-            Ok(word) => self.perform_word(memory, word),
+            Ok(word) => self.perform_opcode(memory, word),
             Err(_) => self.trap(Cause::Fetch),
         }
     }

@@ -3,7 +3,9 @@
 #![tactic(auto)]
 
 mod causes;
+mod forms;
 mod hart;
+mod opcodes;
 mod stop;
 
 pub use hart::Hart;

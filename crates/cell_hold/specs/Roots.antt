@@ -15,9 +15,9 @@ use Rattle.cell_hold.specs.declared.roots.Root.{Root}
 use Rattle.cell_hold.specs.declared.roots.Root.TheVariants.{Attached, Task, Word}
 use Rattle.cell_hold.specs.declared.roots.TaskView.{TaskView}
 
--- the task of the machine that is viewed
+-- the task of the machine that is viewed, whose words don't hang on its spawn
 abbrev pub task_of : TaskView → WorldTask
-task_of t = record { number = t.task; root = t.root.0; stack = t.stack; pc = t.pc; registers = t.x; fault = None }
+task_of t = record { number = t.task; origin = record { ns = 0; name = []; arg = 0 }; root = t.root.0; stack = t.stack; pc = t.pc; registers = t.x; fault = None }
 
 -- the root is that attached cell
 abbrev pub is_attached : Root → ℕ → Bool

@@ -35,4 +35,10 @@ impl<T: Drop> Boxed<T> {
             inner: Box::new(alloc, value)?,
         })
     }
+
+    pub fn set(&mut self, value: T)
+        ensures { self.new ≡ value }
+    {
+        *self.inner = value;
+    }
 }

@@ -1,28 +1,32 @@
 -- A change says how many cells come and go: the replaced ones are put aside, new ones appended, and what names, places and routines do leaves their numbers.
-use Rattle.std.proofs.Common.{◌≡◌, refl, sym, ◌∙◌, ap, subst, arith, ℕ, suc, Bool, true, false, cond, List, [], ◌∷◌, ◌+◌, ◌≤◌, map, length, Option, Some, None, Ok}
-use Rattle.std.specs.Prelude.{fold, nat_lt, option_and_then}
+use Rattle.std.proofs.Common.{◌≡◌, refl, sym, ◌∙◌, ap, subst, arith, ℕ, suc, Bool, true, false, not, cond, List, [], ◌∷◌, ◌+◌, ◌≤◌, map, length, Option, Some, None, Ok}
+use Rattle.std.specs.Prelude.{fold, nat_lt, ◌==◌, option_and_then}
 use Rattle.cell_num.specs.Lists.{each_pair}
+use Rattle.cell_num.specs.declared.ids.CellId.{CellId}
 use Rattle.cell_world.specs.declared.command.SwapItem.{SwapItem}
-use Rattle.cell_world.specs.declared.refusal.Refusal.TheVariants.{NoObject}
-use Rattle.cell_world.specs.World.{World, Cell, Alias, cell_of}
-use Rattle.cell_world.specs.Answer.{Done, ids, numbers_of, space_of}
-use Rattle.cell_world.specs.Commands.Asked.{next_load, next_swap, wants_of}
+use Rattle.cell_world.specs.declared.reply.Reply.{Reply}
+use Rattle.cell_world.specs.declared.reply.Reply.TheVariants.{Recover, Rebuild}
+use Rattle.cell_world.specs.declared.refusal.Refusal.TheVariants.{NoCrate, NoObject}
+use Rattle.cell_world.specs.World.{World, Cell, Alias, Task, cell_of}
+use Rattle.cell_world.specs.Answer.{Done, fresh_by, ids, numbers_of, space_of}
+use Rattle.cell_world.specs.Commands.Asked.{next_load, next_swap, next_recover, next_rebuild, next_renewed, exchange_reply, renewals, renewing, wants_of}
+use Rattle.cell_world.specs.Commands.Recovery.{faulted_task, rebuild_of, recovery_of}
 use Rattle.cell_world.specs.Change.{Change, Made, Plan, Want, adding, append_want, exchanges_from, garbage_after, gather, make_change, old_of, set_aside, swapped_out, with_names}
 use Rattle.cell_world.specs.Coherent.{IsCoherent}
 use Rattle.cell_world.specs.Gather.{Source, depot_files, fresh_cells, one_file}
 use Rattle.cell_num.specs.Limits.{max_cells}
 use Rattle.cell_world.specs.Names.{names_of}
-use Rattle.cell_world.specs.Outcome.{each}
+use Rattle.cell_world.specs.Outcome.{each, need}
 use Rattle.cell_world.specs.Reexport.{heir_of, take_on, with_alias, with_reexports}
 use Rattle.cell_world.specs.Commands.UnloadCommand.{put_aside, without_cells}
 use Rattle.cell_lemmas.proofs.Naming.Appended.{ok_same}
-use Rattle.cell_lemmas.proofs.Outcomes.{bind_ok}
+use Rattle.cell_lemmas.proofs.Outcomes.{bind_ok, then_ok}
 use Rattle.cell_lemmas.proofs.Placement.PlacedAll.{each_keeps}
 use Rattle.cell_lemmas.proofs.Naming.PutAside.{put_number}
 use Rattle.cell_lemmas.proofs.Naming.Reexported.{renamed_same}
-use Rattle.cell_change_law.proofs.Ending.{without_none}
-use Rattle.cell_change_law.proofs.Settled.{second_parts}
+use Rattle.cell_change_law.proofs.Ending.{last_parts, without_none}
 use Rattle.cell_change_law.proofs.Steps.{Changed, Planned, changed, planned}
+use Rattle.cell_laws.specs.Counts.{removed_by}
 use Rattle.cell_laws.proofs.Counted.{Counted, CountedIn, CountsCells, all_counted, begins, cells_rise, few_counted, numbers_mapped}
 use Rattle.cell_laws.proofs.CountsLoad.{append_counted, bring_counted, placed_counted}
 use Rattle.cell_laws.proofs.CountsRemoval.{purged_counted}
@@ -76,24 +80,24 @@ module _ (sources : List Source) (w : World) (h : IsCoherent w) where
       placed : Counted w.next_cell (length w.cells) (numbers_of x.world.cells) x.gathered.next_cell
       placed = placed_counted x.gathered (fresh_cells w.next_cell x.gathered) x.world x.placing (gathered_counted x.gathered x.gathering)
 
-      -- linking and the routines leave the cells
-      same : c.second.cells ≡ x.world.cells
-      same = ap (λ (u : World). u.cells) (second_parts asked c.plan c.second c.run) ∙ ap (λ (p : Plan). p.linked.cells) (sym x.is)
+      -- linking, the routines and a task that begins again leave the cells
+      same : c.last.cells ≡ x.world.cells
+      same = ap (λ (u : World). u.cells) (last_parts asked c.plan c.last c.run) ∙ ap (λ (p : Plan). p.linked.cells) (sym x.is)
 
-      rises : each_pair (λ (a b : Cell). nat_lt a.id.0 b.id.0) c.second.cells ≡ true
+      rises : each_pair (λ (a b : Cell). nat_lt a.id.0 b.id.0) c.last.cells ≡ true
       rises = subst (λ (cells : List Cell). each_pair (λ (a b : Cell). nat_lt a.id.0 b.id.0) cells ≡ true) (sym same) (cells_rise x.world.cells placed)
 
-      counted : length c.second.cells ≡ length w.cells + length (ids (numbers_of c.plan.fresh))
+      counted : length c.last.cells ≡ length w.cells + length (ids (numbers_of c.plan.fresh))
       counted =
           ap (λ (cells : List Cell). length cells) same
           ∙ (all_counted x.world.cells placed ∙ ap (λ (p : Plan). length w.cells + length (ids (numbers_of p.fresh))) x.is)
 
-      few : length c.second.cells ≤ max_cells
+      few : length c.last.cells ≤ max_cells
       few = omega (arith, ap (λ (cells : List Cell). length cells) same, few_counted x.world.cells placed)
 
-      swept : (old : List ℕ) → length (without_cells c.second (garbage_after old c.second)).cells + length (ids (garbage_after old c.second)) ≡ length c.second.cells
-      swept [] = omega (arith, ap (λ (u : World). length u.cells) (without_none c.second))
-      swept (n ∷ old) = purged_counted c.second rises
+      swept : (old : List ℕ) → length (without_cells c.last (garbage_after old c.last)).cells + length (ids (garbage_after old c.last)) ≡ length c.last.cells
+      swept [] = omega (arith, ap (λ (u : World). length u.cells) (without_none c.last))
+      swept (n ∷ old) = purged_counted c.last rises
 
       -- as many cells more as are new, less those that went
       pub made_counted : (length made.world.cells + length (ids made.removed) ≡ length w.cells + length (ids (numbers_of made.fresh))) × (length w.cells + length (ids (numbers_of made.fresh)) ≤ max_cells)
@@ -115,7 +119,27 @@ module _ (sources : List Source) (w : World) (h : IsCoherent w) where
   pub swap_counts : (items : List SwapItem) (reexport strict : Bool) (words : List (List ℕ)) (budget : ℕ) (d : Done) → next_swap sources w items reexport strict words budget ≡ Ok d → CountsCells w d
   swap_counts items reexport strict words budget d e =
       let a = bind_ok (wants_of sources w items) _ d e in
-      let asked : Change = record { wants = a.0; reexport = reexport; strict = strict; routines = words; budget = budget } in
+      let asked : Change = record { wants = a.0; reexport = reexport; strict = strict; routines = words; budget = budget; restarts = None } in
       let m = bind_ok (make_change sources w asked) _ d a.2 in
       let n = made_counted asked m.0 m.1 in
       subst (CountsCells w) (ok_same _ d m.2) (record { counted = n.0; room = n.1 })
+
+  -- a recovery answers by what its change has made
+  module _ (task : Task) (cells : List Cell) (d : Done) where
+    renewed_counts : (said : ℕ → List CellId → ℕ → List CellId → List CellId → Reply) → next_renewed sources w task cells said ≡ Ok d
+        → ((made : Made) → fresh_by (exchange_reply said made) ≡ ids (numbers_of made.fresh)) → ((made : Made) → removed_by (exchange_reply said made) ≡ ids made.removed) → CountsCells w d
+    renewed_counts said e fresh removed =
+        let n = then_ok (need (not (length cells == 0)) (NoCrate task.number task.pc)) _ d e in
+        let a = bind_ok (renewals sources cells) _ d n.2 in
+        let m = bind_ok (make_change sources w (renewing a.0 task.number)) _ d a.2 in
+        let c = made_counted (renewing a.0 task.number) m.0 m.1 in
+        subst (CountsCells w) (ok_same _ d m.2) (record {
+          counted = omega (arith, c.0, ap (λ (xs : List CellId). length xs) (fresh m.0), ap (λ (xs : List CellId). length xs) (removed m.0));
+          room = omega (arith, c.1, ap (λ (xs : List CellId). length xs) (fresh m.0));
+        })
+
+  pub recover_counts : (task : ℕ) (d : Done) → next_recover sources w task ≡ Ok d → CountsCells w d
+  recover_counts task d e = let t = bind_ok (faulted_task w task) _ d e in renewed_counts t.0 (recovery_of w t.0) d (Recover task) t.2 (λ made. refl) (λ made. refl)
+
+  pub rebuild_counts : (task : ℕ) (d : Done) → next_rebuild sources w task ≡ Ok d → CountsCells w d
+  rebuild_counts task d e = let t = bind_ok (faulted_task w task) _ d e in renewed_counts t.0 (rebuild_of w t.0) d (Rebuild task) t.2 (λ made. refl) (λ made. refl)

@@ -13,3 +13,5 @@ mod CountsRemoval
 mod CountsChange
 pub mod Counts
 mod FilesSound
+mod OwnItems
+mod Recovered

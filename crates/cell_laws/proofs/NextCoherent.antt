@@ -1,7 +1,7 @@
 -- Each command keeps the machine coherent.
 use Rattle.std.proofs.Common.{◌≡◌, subst, ap, ℕ, List, Ok}
 use Rattle.cell_world.specs.declared.command.Command.{Command}
-use Rattle.cell_world.specs.declared.command.Command.TheVariants.{Ns, Load, Spawn, Step, Run, Kill, Swap, Unload, Purge, Tasks, Find, Deps, Users, Map, Dump, DumpAll}
+use Rattle.cell_world.specs.declared.command.Command.TheVariants.{Ns, Load, Spawn, Step, Run, Kill, Swap, Unload, Purge, Tasks, Find, Deps, Users, Map, Dump, DumpAll, Recover, Rebuild}
 use Rattle.cell_world.specs.World.{World}
 use Rattle.cell_world.specs.Gather.{Source}
 use Rattle.cell_world.specs.Answer.{Done, present_cell}
@@ -16,7 +16,7 @@ use Rattle.cell_lemmas.proofs.Tasks.Spawned.{spawn_keeps}
 use Rattle.cell_lemmas.proofs.Tasks.Commands.{step_keeps, run_keeps, kill_keeps, tasks_keeps}
 use Rattle.cell_lemmas.proofs.Holding.Removals.{removed_coherent, purge_removed, unload_removed}
 use Rattle.cell_change_law.specs.Sound.{HasMade}
-use Rattle.cell_change_law.proofs.Asking.{load_made, swap_made}
+use Rattle.cell_change_law.proofs.Asking.{load_made, rebuild_made, recover_made, swap_made}
 use Rattle.cell_change_law.proofs.Ending.{made_coherent}
 
 pub deps_same : (w : World) (cell : ℕ) (d : Done) → next_deps w cell ≡ Ok d → w ≡ d.world
@@ -46,6 +46,8 @@ outcome_coherent sources w (Users cell) sound c d h = subst IsCoherent (users_sa
 outcome_coherent sources w Map sound c d h = subst IsCoherent (map_same w d h) c
 outcome_coherent sources w (Dump cell section) sound c d h = subst IsCoherent (dump_same w cell section d h) c
 outcome_coherent sources w DumpAll sound c d h = subst IsCoherent (ap (λ (x : Done). x.world) (ok_same _ d h)) c
+outcome_coherent sources w (Recover task) sound c d h = made_coherent_by sources w sound c d (recover_made sources w c task d h)
+outcome_coherent sources w (Rebuild task) sound c d h = made_coherent_by sources w sound c d (rebuild_made sources w c task d h)
 
 pub next_coherent : (sources : List Source) (w : World) (command : Command) → AreSound sources → IsCoherent w → IsCoherent (next sources w command).world
 next_coherent sources w command sound c = answered w (outcome_of sources w command) c (outcome_coherent sources w command sound c)

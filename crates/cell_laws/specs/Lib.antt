@@ -3,3 +3,4 @@ pub mod Counts
 pub mod KeepsTargets
 pub mod Progress
 pub mod Worked
+pub mod Recovery

@@ -2,7 +2,7 @@
 
 ghost use Rattle.std.specs.Prelude.{ℕ, ◌≡◌, ◌≤◌, List, All, Some, Ok, Err, length, map, Bool};
 ghost use Rattle.cell_world.specs.Answer.{Done};
-ghost use Rattle.cell_world.specs.Commands.Asked.{next_load, next_swap};
+ghost use Rattle.cell_world.specs.Commands.Asked.{next_load, next_rebuild, next_recover, next_swap};
 ghost use Rattle.cell_world.specs.Coherent.{AreSound, IsCoherent};
 ghost use Rattle.cell_world.specs.Gather.{Source, source_of};
 ghost use Rattle.cell_num.specs.Limits.{max_file_bytes};
@@ -36,7 +36,7 @@ pub fn refused_changes_nothing()
     ensures { (sources : List Source) (w : World) (command : Command) (refusal : Refusal) → (next sources w command).answer ≡ Err refusal → (next sources w command).world ≡ w }
 {}
 
-/// Each accepted command that changes something keeps the machine coherent. Only a load and a swap ask for more: that the
+/// Each accepted command that changes something keeps the machine coherent. Only those that ask for a change of cells need more: that the
 /// objects in the files are sound, which all that are read are (`files_are_sound`).
 pub fn commands_keep_coherent()
     ensures ns { (w : World) (name : List ℕ) (parent : List ℕ) (d : Done) → IsCoherent w → next_ns w name parent ≡ Ok d → IsCoherent d.world }
@@ -49,6 +49,8 @@ pub fn commands_keep_coherent()
     ensures purge { (w : World) (d : Done) → IsCoherent w → next_purge w ≡ Ok d → IsCoherent d.world }
     ensures swap { (sources : List Source) (w : World) (items : List SwapItem) (reexport strict : Bool) (words : List (List ℕ)) (budget : ℕ) (d : Done) → AreSound sources → IsCoherent w →
         next_swap sources w items reexport strict words budget ≡ Ok d → IsCoherent d.world }
+    ensures recover { (sources : List Source) (w : World) (task : ℕ) (d : Done) → AreSound sources → IsCoherent w → next_recover sources w task ≡ Ok d → IsCoherent d.world }
+    ensures rebuild { (sources : List Source) (w : World) (task : ℕ) (d : Done) → AreSound sources → IsCoherent w → next_rebuild sources w task ≡ Ok d → IsCoherent d.world }
 {}
 
 /// A turn of a live task keeps the machine coherent.

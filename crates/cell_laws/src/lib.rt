@@ -13,6 +13,7 @@
 //! - `transfer`: what the routines of a swap may touch
 //! - `undo`: what going back by the records of all writes gives back
 //! - `removal`: which cells are kept, who holds them, which are left, and that nothing leads into one that went
+//! - `recovery`: an accepted recovery is the swap of its cells and a restart of the task
 //! - `counting`: how many cells there are, by what replies say of them
 #![tactic(auto)]
 
@@ -21,6 +22,7 @@ pub mod contents;
 pub mod counting;
 pub mod files;
 pub mod presence;
+pub mod recovery;
 pub mod relinking;
 pub mod removal;
 pub mod room;

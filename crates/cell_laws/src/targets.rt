@@ -56,7 +56,7 @@ pub fn removing_keeps_targets()
     ensures purge { (w : World) (d : Done) → IsCoherent w → next_purge w ≡ Ok d → LeavesTargets w d.world }
 {}
 
-/// An accepted command that is neither a load nor a swap changes no target of a cell that stays.
+/// An accepted command that asks for no change of cells changes no target of a cell that stays.
 pub fn other_commands_keep_targets()
     ensures { (sources : List Source) (w : World) (command : Command) (d : Done) → BringsNoCells command → AreSound sources → IsCoherent w → outcome_of sources w command ≡ Ok d → KeepsTargets w d.world }
 {}

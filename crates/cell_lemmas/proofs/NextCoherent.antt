@@ -39,6 +39,7 @@ empty_ready base pages s = record {
   parents = record { spaces = refl; space_names = refl; few_spaces = omega arith };
   memory = record { regions = refl; in_space = refl; apart = refl };
   running = record { task_order = refl; tasks = refl; few_tasks = omega arith; task_numbers = omega arith };
+  origins = refl;
   space = s;
 }
 

@@ -6,6 +6,7 @@ pub mod Killed
 pub mod Kept
 pub mod Memory
 pub mod OtherTasks
+pub mod Restarted
 pub mod Runs
 pub mod Spawned
 pub mod Stacks

@@ -34,7 +34,7 @@ use Rattle.cell_lemmas.proofs.Naming.Brought.{brought}
 use Rattle.cell_lemmas.proofs.Outcomes.{bind_ok}
 use Rattle.cell_lemmas.proofs.Placement.PlacedAll.{CellRuns, cell_runs, each_keeps}
 use Rattle.cell_change_law.specs.Sound.{HasMade, IsSound}
-use Rattle.cell_change_law.proofs.Ending.{second_is}
+use Rattle.cell_change_law.proofs.Ending.{last_parts}
 use Rattle.cell_change_law.proofs.Steps.{Changed, Planned, changed, planned}
 use Rattle.cell_origin_law.specs.Readings.{AreApart, IsRead}
 use Rattle.cell_origin_law.specs.Spelled.{AreNamed, IsNamedSource, IsShortReading, IsSpelled, IsSpelledCell}
@@ -263,9 +263,9 @@ module _ (sources : List Source) (apart : AreApart sources) (named : AreNamed so
         let p : Planned sources w c x.plan = planned sources w c x.plan x.planned in
         let placed : IsKept sources p.world = each_keeps (IsKept sources) place_cell placed_one (fresh_cells w.next_cell p.gathered) p.gathered p.world p.placing (gathered_kept c s p.gathered p.gathering) in
         let linked : IsKept sources x.plan.linked = subst (λ (plan : Plan). IsKept sources plan.linked) p.is (as_before p.world placed _ refl refl refl) in
-        let same : record x.second { regions = x.plan.linked.regions } ≡ x.plan.linked = second_is c x.plan x.second x.run (λ (u : World). record u { regions = x.plan.linked.regions } ≡ x.plan.linked) refl (λ stack f. refl) in
-        let second : IsKept sources x.second = as_before x.plan.linked linked x.second (ap (λ (u : World). u.cells) same) (ap (λ (u : World). u.namespaces) same) (ap (λ (u : World). u.next_cell) same) in
-        subst (λ (m : Made). IsKept sources m.world) x.is (without_kept x.second second (garbage_after (old_of c) x.second))
+        let same = last_parts c x.plan x.last x.run in
+        let last : IsKept sources x.last = as_before x.plan.linked linked x.last (ap (λ (u : World). u.cells) same) (ap (λ (u : World). u.namespaces) same) (ap (λ (u : World). u.next_cell) same) in
+        subst (λ (m : Made). IsKept sources m.world) x.is (without_kept x.last last (garbage_after (old_of c) x.last))
 
     pub change_kept : (d : Done) → HasMade sources w d → IsKept sources d.world
     change_kept d m = subst (IsKept sources) m.world (made_kept m.change m.sound m.made m.making)

@@ -8,7 +8,7 @@ use Rattle.cell_depot.specs.ObjectName.{is_object_name}
 use Rattle.cell_script.specs.Grammar.{is_name}
 use Rattle.cell_script.specs.Script.{is_said}
 use Rattle.cell_world.specs.declared.command.Command.{Command}
-use Rattle.cell_world.specs.declared.command.Command.TheVariants.{Deps, Dump, DumpAll, Find, Kill, Load, Map, Ns, Purge, Run, Spawn, Step, Swap, Tasks, Unload, Users}
+use Rattle.cell_world.specs.declared.command.Command.TheVariants.{Deps, Dump, DumpAll, Find, Kill, Load, Map, Ns, Purge, Rebuild, Recover, Run, Spawn, Step, Swap, Tasks, Unload, Users}
 use Rattle.cell_world.specs.declared.file.File.{File}
 use Rattle.cell_world.specs.declared.refusal.Many.TheVariants.{Tasks as ManyTasks, TaskNumbers}
 use Rattle.cell_world.specs.declared.refusal.Refusal.TheVariants.{NoEntry, TooMany}
@@ -30,7 +30,7 @@ use Rattle.cell_lemmas.proofs.Naming.NamespaceAdded.{Added, ns_ok}
 use Rattle.cell_lemmas.proofs.NextCoherent.{dump_same, find_same, map_same}
 use Rattle.cell_lemmas.proofs.Outcomes.{bind_ok, then_ok}
 use Rattle.cell_lemmas.proofs.Holding.Removals.{Removed, purge_removed, unload_removed}
-use Rattle.cell_change_law.proofs.Asking.{load_made, swap_made}
+use Rattle.cell_change_law.proofs.Asking.{load_made, rebuild_made, recover_made, swap_made}
 use Rattle.cell_origin_law.specs.Readings.{AreApart, AreRead, IsRead}
 use Rattle.cell_origin_law.specs.Spelled.{AreNamed, IsNamedSource, IsSpelled, IsSpelledCell}
 use Rattle.cell_origin_law.proofs.Changes.{IsKept, as_before, change_kept, without_kept}
@@ -123,6 +123,8 @@ module _ (sources : List Source) (sound : AreSound sources) (apart : AreApart so
   outcome_kept Map said d e = unchanged d.world (map_same w d e)
   outcome_kept (Dump cell section) said d e = unchanged d.world (dump_same w cell section d e)
   outcome_kept DumpAll said d e = unchanged d.world (ap (λ (x : Done). x.world) (ok_same _ d e))
+  outcome_kept (Recover task) said d e = change_kept sources apart named w h k d (recover_made sources w h task d e)
+  outcome_kept (Rebuild task) said d e = change_kept sources apart named w h k d (rebuild_made sources w h task d e)
 
 -- read and spelled
 pub outcome_keeps : (sources : List Source) → AreSound sources → AreApart sources → AreNamed sources → (w : World) → IsCoherent w → AreRead sources w → IsSpelled w

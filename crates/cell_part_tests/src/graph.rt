@@ -1,11 +1,14 @@
 //! Links that go, and keys of sections that went.
 
-ghost use Rattle.std.specs.Prelude.{◌≡◌, ◌≤◌, ◌∷◌, [], IfOk};
+ghost use Rattle.std.specs.Prelude.{◌≡◌, ◌<◌, ◌≤◌, ◌∷◌, [], IfOk};
+ghost use Rattle.cell_graph.specs.Several.{AreThere};
 ghost use Rattle.cell_world.specs.World.{key_of};
 
 use cell_graph::*;
 use cell_num::{CellId, SecKey};
 use std::alloc::{AllocError, Global};
+use std::marker::Brand;
+use std::sync::ledger::{Blank, Ledger};
 use std::test::*;
 
 fn key(cell: u32, section: u16) -> SecKey
@@ -41,6 +44,17 @@ fn sections(alloc: Global) -> Result<Graph, AllocError>
     Ok(graph)
 }
 
+/// Takes links away, with a counter that nobody reads.
+fn unbind_with<L: Ledger>(graph: &mut Graph, gone: &[LinkRow], blank: Blank)
+    requires name { blank.name ≡ L.name }
+    requires parts { blank.parts ≡ L.parts }
+    requires countable { 0 < blank.parts }
+    requires there { AreThere graph.old.rows gone.now }
+{
+    let mut steps = Steps::<L>::new(blank);
+    graph.unbind_all(gone, &mut steps);
+}
+
 /// A link goes again.
 #[test]
 fn a_link_goes(rt: HostRuntime) -> Result<(), Fail> {
@@ -48,7 +62,7 @@ fn a_link_goes(rt: HostRuntime) -> Result<(), Fail> {
     let row = link(key(1, 1), 0, key(2, 1));
     let mut graph = sections(alloc)?;
     graph.bind(row);
-    graph.unbind(row);
+    unbind_with::<Brand>(&mut graph, &[row], Blank::new(1));
     let left: Vec<LinkRow> = graph.deps_of_cell(CellId(1)).collect(alloc)?;
     assert!(rt; left.is_empty());
     Ok(())

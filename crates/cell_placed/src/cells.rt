@@ -1,6 +1,6 @@
 //! A cell by its number.
 
-ghost use Rattle.std.specs.Prelude.{IsTrue, nat_lt, ◌≡◌, ◌==◌, find, option_map};
+ghost use Rattle.std.specs.Prelude.{IsTrue, nat_lt, ◌≡◌, ◌==◌, ◌++◌, find, option_map};
 ghost use Rattle.cell_num.specs.Lists.{each_pair};
 ghost use Rattle.cell_world.specs.Before.{AreBefore};
 ghost use Rattle.cell_placed.specs.Keys.{number_in};
@@ -29,4 +29,19 @@ pub fn cell_numbered(cells: &[NewCell], number: u32) -> Option<&NewCell>
         return None;
     }
     Some(cell)
+}
+
+/// The cell of that number among some cells and others that come behind them.
+pub fn cell_among<'a>(
+    present: &'a [NewCell],
+    fresh: &'a [NewCell],
+    number: u32,
+) -> Option<&'a NewCell>
+    requires { IsTrue (each_pair (λ a b. nat_lt a.id.0 b.id.0) (present.now ++ fresh.now)) }
+    ensures { option_map (λ c. c.now) result ≡ find (λ c. c.id.0 == number) (present.now ++ fresh.now) }
+{
+    if let Some(cell) = cell_numbered(present, number) {
+        return Some(cell);
+    }
+    cell_numbered(fresh, number)
 }

@@ -7,7 +7,7 @@ mod own;
 mod places;
 mod sections;
 
-pub use cells::cell_numbered;
-pub use own::{own_target, target_in};
+pub use cells::{cell_among, cell_numbered};
+pub use own::{own_target, symbol_at, target_in};
 pub use places::start_of;
 pub use sections::section_of;

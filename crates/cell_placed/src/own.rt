@@ -12,7 +12,7 @@ use cell_object::{Home, Object, Symbol};
 use cell_world::{NewCell, Target};
 
 /// The symbol with a number, from 1.
-fn symbol_at(object: &Object, number: u32) -> Option<&Symbol>
+pub fn symbol_at(object: &Object, number: u32) -> Option<&Symbol>
     ensures { option_map (λ s. s.now) result ≡ symbol_with object.now number }
 {
     let index = number.checked_sub(1)?;

@@ -10,6 +10,7 @@ mod firsts;
 mod known;
 mod lasts;
 mod laws;
+mod marks;
 mod old;
 mod partners;
 mod places;

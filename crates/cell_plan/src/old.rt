@@ -1,41 +1,45 @@
 //! Some cells by their numbers.
 
-ghost use Rattle.std.specs.Prelude.{◌≡◌, ◌==◌, ◌||◌, ℕ, IfOk, OnOk, map};
+ghost use Rattle.std.specs.Prelude.{◌≡◌, ◌==◌, ◌<◌, ℕ, IfOk, length, map};
 ghost use Rattle.std.specs.List.{list_any};
-ghost use Rattle.std.specs.Ordering.{nat_cmp};
-ghost use Rattle.std.specs.BTreeSet.{contains};
+ghost use Rattle.cell_graph.specs.Users.{is_marked};
 ghost use Rattle.cell_num.specs.Lists.{holds};
 
+use crate::marks::is_marked;
+use cell_graph::mark;
 use cell_num::CellId;
 use std::alloc::{AllocError, Global};
-use std::collections::BTreeSet;
 
-/// Among so many cells one is looked for sooner than in the set of their numbers.
+/// Among so many cells one is looked for sooner than among marks.
 const FEW: usize = 4;
 
-/// Some cells by their numbers.
+/// Some cells by their numbers, which are marked where they are many.
 #[derive(Drop)]
 pub struct Old<'a> {
     pub cells: &'a [CellId],
-    numbers: BTreeSet<u32>,
-    ghost are: { (q : ℕ) → contains nat_cmp numbers q ≡ list_any (λ c. c.0 == q) cells.now },
+    marks: Vec<bool>,
+    ghost are: { 4 < length cells.now → (q : ℕ) → is_marked marks.items q ≡ list_any (λ c. c.0 == q) cells.now },
 }
 
-fn add_number(numbers: &mut BTreeSet<u32>, cell: CellId) -> Result<(), AllocError>
-    ensures { OnOk result ((q : ℕ) → contains nat_cmp numbers.new q ≡ (contains nat_cmp numbers.old q || cell.0 == q)) }
+/// Marks of these cells.
+fn marks_of(alloc: Global, cells: &[CellId]) -> Result<Vec<bool>, AllocError>
+    ensures { IfOk result (λ marks. (q : ℕ) → is_marked marks.items q ≡ list_any (λ c. c.0 == q) cells.now) }
 {
-    numbers.insert(cell.0)?;
-    Ok(())
-}
-
-fn numbers_of(alloc: Global, cells: &[CellId]) -> Result<BTreeSet<u32>, AllocError>
-    ensures { IfOk result (λ numbers. (q : ℕ) → contains nat_cmp numbers q ≡ list_any (λ c. c.0 == q) cells.now) }
-{
-    let mut numbers = BTreeSet::new(alloc);
+    let mut marks = Vec::new(alloc);
     for index in 0..cells.len() {
-        add_number(&mut numbers, cells[index])?;
+        mark(&mut marks, cells[index])?;
     }
-    Ok(numbers)
+    Ok(marks)
+}
+
+/// The same, where they are many.
+fn marks_of_many(alloc: Global, cells: &[CellId]) -> Result<Vec<bool>, AllocError>
+    ensures { IfOk result (λ marks. 4 < length cells.now → (q : ℕ) → is_marked marks.items q ≡ list_any (λ c. c.0 == q) cells.now) }
+{
+    if cells.len() <= FEW {
+        return Ok(Vec::new(alloc));
+    }
+    marks_of(alloc, cells)
 }
 
 fn is_among(cells: &[CellId], cell: CellId) -> bool
@@ -48,8 +52,8 @@ impl<'a> Old<'a> {
     pub fn of(alloc: Global, cells: &'a [CellId]) -> Result<Old<'a>, AllocError>
         ensures { IfOk result (λ old. old.cells.now ≡ cells.now) }
     {
-        let numbers = numbers_of(alloc, cells)?;
-        Ok(Old { cells, numbers })
+        let marks = marks_of_many(alloc, cells)?;
+        Ok(Old { cells, marks })
     }
 
     #[tactic(auto, using(crate::proofs::Lists::any_map))]
@@ -59,6 +63,6 @@ impl<'a> Old<'a> {
         if self.cells.len() <= FEW {
             return is_among(self.cells, cell);
         }
-        self.numbers.contains(&cell.0)
+        is_marked(&self.marks, cell)
     }
 }

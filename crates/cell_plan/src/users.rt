@@ -5,6 +5,7 @@ ghost use Rattle.cell_graph.specs.Users.{is_marked};
 ghost use Rattle.cell_plan.specs.Marked.{has_mark};
 ghost use Rattle.cell_plan.specs.Users.{leads_among, may_change as may_change_by};
 
+use crate::marks::is_marked;
 use crate::old::Old;
 use cell_graph::Graph;
 use cell_num::CellId;
@@ -16,17 +17,11 @@ fn mark_users(alloc: Global, graph: &Graph, old: &Old) -> Result<Vec<bool>, Allo
     ensures { IfOk result (λ marks. (n : ℕ) → is_marked marks.items n ≡ leads_among (map (λ c. c.0) old.now.cells.now) graph.now.rows n) }
 {
     let mut marks = Vec::new(alloc);
+    let mut near = 0;
     for index in 0..old.cells.len() {
-        graph.mark_users_of(old.cells[index], &mut marks)?;
+        near = graph.mark_users_of(old.cells[index], near, &mut marks)?;
     }
     Ok(marks)
-}
-
-fn is_marked(marks: &[bool], cell: CellId) -> bool
-    ensures { result ≡ is_marked marks.now cell.0 }
-{
-    let place = cell.0 as usize;
-    place < marks.len() && marks[place]
 }
 
 /// Marks of cells that use others, and some cells themselves.

@@ -20,13 +20,13 @@ use Rattle.cell_world.specs.declared.reply.LinkLine.{LinkLine}
 use Rattle.cell_world.specs.declared.reply.MapCell.{MapCell}
 use Rattle.cell_world.specs.declared.reply.MapSection.{MapSection}
 use Rattle.cell_world.specs.declared.reply.Reply.{Reply}
-use Rattle.cell_world.specs.declared.reply.Reply.TheVariants.{Ns, Load, Spawn, Step, Run, Kill, Swap, Unload, Purge, Tasks, Find, Deps, Users, Map, Dump, DumpAll}
+use Rattle.cell_world.specs.declared.reply.Reply.TheVariants.{Ns, Load, Spawn, Step, Run, Kill, Swap, Unload, Purge, Tasks, Find, Deps, Users, Map, Dump, DumpAll, Recover, Rebuild}
 use Rattle.cell_world.specs.declared.reply.TaskLine.{TaskLine}
 use Rattle.cell_world.specs.declared.reply.TaskRun.{TaskRun}
 use Rattle.cell_world.specs.declared.reply.TaskState.{TaskState}
 use Rattle.cell_world.specs.declared.reply.TaskState.TheVariants.{Ready, Done, Fault}
 use Rattle.cell_world.specs.declared.refusal.Refusal.{Refusal}
-use Rattle.cell_world.specs.declared.refusal.Refusal.TheVariants.{Unknown, NameTaken, NotRunnable, TooMany, NoObject, Ambiguous, BadObject, Duplicate, Missing, NoEntry, Exhausted, Overflow, Torn, Transfer, Held}
+use Rattle.cell_world.specs.declared.refusal.Refusal.TheVariants.{Unknown, NameTaken, NotRunnable, TooMany, NoObject, Ambiguous, BadObject, Duplicate, Missing, NoEntry, Exhausted, Overflow, Torn, Transfer, Held, NotFaulted, NoCrate}
 use Rattle.cell_dumped.specs.Texts.{line_text}
 use Rattle.cell_print.specs.Words.{many_word, kind_word, cause_word}
 
@@ -156,6 +156,16 @@ why_word (Returned code) = codes "returned " ++ decimal code
 why_word (Trap cause pc) = concat (codes "trap " ∷ cause_word cause ∷ codes " at " ∷ hex pc ∷ [])
 why_word Budget = codes "budget"
 
+-- the number of a swap, its new cells, how many fields were patched, the cells that went, and those put aside that stay
+abbrev pub exchange_words : ℕ → List CellId → ℕ → List CellId → List CellId → List (List ℕ)
+exchange_words number fresh patched removed kept =
+    decimal number ∷ codes "new" ∷ cells_word fresh ∷ codes "patched" ∷ decimal patched
+    ∷ codes "removed" ∷ cells_word removed ∷ codes "kept" ∷ cells_word kept ∷ []
+
+-- the task that begins again, and the swap
+abbrev pub again_words : ℕ → ℕ → List CellId → ℕ → List CellId → List CellId → List (List ℕ)
+again_words task number fresh patched removed kept = task_word task ∷ codes "swap" ∷ exchange_words number fresh patched removed kept
+
 abbrev pub reply_lines : ℕ → Reply → List ℕ
 reply_lines n (Ns name) = answer_line n (codes "ok ns") (name ∷ [])
 reply_lines n (Load fresh patched) = answer_line n (codes "ok load") (cells_word fresh ∷ codes "patched" ∷ decimal patched ∷ [])
@@ -163,10 +173,7 @@ reply_lines n (Spawn task pc) = answer_line n (codes "ok spawn") (task_word task
 reply_lines n (Step run) = run_lines (decimal n ++ codes " ok step t") run
 reply_lines n (Run runs) = answer_line n (codes "ok run") [] ++ flat_map (run_lines (codes "  t")) runs
 reply_lines n (Kill task) = answer_line n (codes "ok kill") (task_word task ∷ [])
-reply_lines n (Swap number fresh patched removed kept) =
-    answer_line n (codes "ok swap")
-    (decimal number ∷ codes "new" ∷ cells_word fresh ∷ codes "patched" ∷ decimal patched
-    ∷ codes "removed" ∷ cells_word removed ∷ codes "kept" ∷ cells_word kept ∷ [])
+reply_lines n (Swap number fresh patched removed kept) = answer_line n (codes "ok swap") (exchange_words number fresh patched removed kept)
 reply_lines n (Unload removed) = answer_line n (codes "ok unload removed") (cells_word removed ∷ [])
 reply_lines n (Purge removed) = answer_line n (codes "ok purge removed") (cells_word removed ∷ [])
 reply_lines n (Tasks tasks) = answer_line n (codes "ok tasks") [] ++ flat_map task_line tasks
@@ -176,6 +183,8 @@ reply_lines n (Users cell links) = answer_line n (codes "ok users") (cell_word c
 reply_lines n (Map cells) = answer_line n (codes "ok map") [] ++ flat_map cell_lines cells
 reply_lines n (Dump key start bytes) = answer_line n (codes "ok dump") (key_word key ∷ []) ++ rows start bytes
 reply_lines n (DumpAll lines) = answer_line n (codes "ok dumpall") [] ++ flat_map dump_line lines
+reply_lines n (Recover task number fresh patched removed kept) = answer_line n (codes "ok recover") (again_words task number fresh patched removed kept)
+reply_lines n (Rebuild task number fresh patched removed kept) = answer_line n (codes "ok rebuild") (again_words task number fresh patched removed kept)
 
 abbrev pub place_in : CellId → ℕ → ℕ → List ℕ
 place_in cell section offset = place_word (record { cell = cell; section = section }) offset
@@ -196,6 +205,8 @@ refusal_line n (Overflow cell section offset kind) = answer_line n (codes "E12 o
 refusal_line n (Torn task cell section offset) = answer_line n (codes "E13 torn") (task_word task ∷ place_in cell section offset ∷ [])
 refusal_line n (Transfer name why) = answer_line n (codes "E14 transfer") (name ∷ why_word why ∷ [])
 refusal_line n (Held cell holder) = answer_line n (codes "E15 held") (cell_word cell ∷ holder_word holder ∷ [])
+refusal_line n (NotFaulted task) = answer_line n (codes "E16 not-faulted") (task_word task ∷ [])
+refusal_line n (NoCrate task pc) = answer_line n (codes "E17 no-crate") (task_word task ∷ hex pc ∷ [])
 
 abbrev pub lines_of : ℕ → Result Reply Refusal → List ℕ
 lines_of n (Ok reply) = reply_lines n reply

@@ -87,5 +87,11 @@ pub fn put_refusal(line: u32, refusal: &Refusal, into: &mut Vec<u8>) -> Result<(
         Refusal::Held { cell, holder } => {
             put_answer(line, b"E15 held", &[Cell(*cell), Holder(*holder)], into)
         }
+        Refusal::NotFaulted { task } => {
+            put_answer(line, b"E16 not-faulted", &[Task(*task)], into)
+        }
+        Refusal::NoCrate { task, pc } => {
+            put_answer(line, b"E17 no-crate", &[Task(*task), Hex(*pc)], into)
+        }
     }
 }

@@ -103,6 +103,60 @@ pub fn put_reply(line: u32, reply: &Reply, into: &mut Vec<u8>) -> Result<(), All
             put_answer(line, b"ok dumpall", &[], into)?;
             put_dump(lines.as_slice(), into)
         }
+        Reply::Recover {
+            task,
+            number,
+            fresh,
+            patched,
+            removed,
+            kept: stay,
+        } => {
+            put_answer(
+                line,
+                b"ok recover",
+                &[
+                    Task(*task),
+                    Text(b"swap"),
+                    Dec(*number),
+                    Text(b"new"),
+                    Cells(fresh.as_slice()),
+                    Text(b"patched"),
+                    Dec(*patched),
+                    Text(b"removed"),
+                    Cells(removed.as_slice()),
+                    Text(b"kept"),
+                    Cells(stay.as_slice()),
+                ],
+                into,
+            )
+        }
+        Reply::Rebuild {
+            task,
+            number,
+            fresh,
+            patched,
+            removed,
+            kept: stay,
+        } => {
+            put_answer(
+                line,
+                b"ok rebuild",
+                &[
+                    Task(*task),
+                    Text(b"swap"),
+                    Dec(*number),
+                    Text(b"new"),
+                    Cells(fresh.as_slice()),
+                    Text(b"patched"),
+                    Dec(*patched),
+                    Text(b"removed"),
+                    Cells(removed.as_slice()),
+                    Text(b"kept"),
+                    Cells(stay.as_slice()),
+                ],
+                into,
+            )
+        }
     }
 }
 

@@ -1,3 +1,4 @@
+pub mod SymbolPlaces
 pub mod BeginPlaces
 pub mod DefinitionRows
 pub mod Named

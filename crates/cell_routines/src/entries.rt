@@ -1,15 +1,17 @@
 //! The places of a new cell at which a routine may begin.
 
-ghost use Rattle.std.specs.Prelude.{◌≡◌, ◌==◌, ◌%◌, ◌+◌, ◌&&◌, IfOk, IsTrue, nat_le, nat_lt};
+ghost use Rattle.std.specs.Prelude.{◌≡◌, ◌==◌, ◌%◌, ◌+◌, ◌&&◌, IfOk, IsTrue, is_some, nat_le, nat_lt};
 ghost use Rattle.cell_num.specs.Lists.{each_pair};
 ghost use Rattle.cell_layout.specs.Layout.{offsets_of};
 ghost use Rattle.cell_world.specs.Before.{AreBefore};
 ghost use Rattle.cell_world.specs.Coherent.{IsLoadable};
+ghost use Rattle.cell_world.specs.Commands.SpawnCommand.{entry_offset};
 ghost use Rattle.cell_routines.specs.Begins.{begin_at, begin_in, section_number};
 
 use cell_layout::lay_out;
 use cell_num::CellId;
 use cell_object::{Home, Section, Symbol};
+use cell_placed::symbol_at;
 use cell_world::{NewCell, SecPlace};
 use std::alloc::{AllocError, Global};
 
@@ -93,5 +95,17 @@ impl<'a> Entries<'a> {
             Home::Inside(section) => self.at(section, symbol.value),
             Home::Undef | Home::Abs | Home::Elsewhere => None,
         }
+    }
+}
+
+/// Whether a task may begin at the cell's symbol of that number.
+pub fn can_begin_at(alloc: Global, cell: &NewCell, symbol: u32) -> Result<bool, AllocError>
+    requires { IsLoadable cell.now.object }
+    ensures { IfOk result (λ can. can ≡ is_some (entry_offset cell.now.object symbol)) }
+{
+    let entries = Entries::of(alloc, cell)?;
+    match symbol_at(&cell.object, symbol) {
+        Some(symbol) => Ok(entries.of_symbol(symbol).is_some()),
+        None => Ok(false),
     }
 }

@@ -9,5 +9,5 @@ mod routines;
 
 pub use addresses::add_addresses;
 pub use begins::begins_of;
-pub use entries::Begin;
+pub use entries::{Begin, can_begin_at};
 pub use routines::routines_at;

@@ -17,3 +17,5 @@ pub mod Entries
 pub mod Several
 pub mod Latecomers
 pub mod Yielding
+pub mod Recovers
+pub mod Rebuilds

@@ -22,6 +22,8 @@ ghost use Rattle.cell_rows.specs.Entries as entries;
 ghost use Rattle.cell_rows.specs.Several as several;
 ghost use Rattle.cell_rows.specs.Latecomers as latecomers;
 ghost use Rattle.cell_rows.specs.Yielding as yielding;
+ghost use Rattle.cell_rows.specs.Recovers as recovers;
+ghost use Rattle.cell_rows.specs.Rebuilds as rebuilds;
 
 /// A load links a field to a cell that was loaded before it, and a dump shows the address.
 pub fn loads_and_dumps()
@@ -107,4 +109,14 @@ pub fn latecomers()
 /// A load whose cell defines a name changes the call in the cell that has it weakly, but not while a task stands between the call's two instructions.
 pub fn yielding()
     ensures { answers yielding.files (empty_world 0x1000_0000 1024) yielding.script ≡ yielding.answered }
+{}
+
+/// A faulted task is recovered: the crate that it stands in comes anew, with its data, and the task begins again with its argument.
+pub fn recovers()
+    ensures { answers recovers.files (empty_world 0x1000_0000 1024) recovers.script ≡ recovers.answered }
+{}
+
+/// A task that faulted outside all crates can't be recovered, but rebuilt. A task that is ready can't be recovered.
+pub fn rebuilds()
+    ensures { answers rebuilds.files (empty_world 0x1000_0000 1024) rebuilds.script ≡ rebuilds.answered }
 {}

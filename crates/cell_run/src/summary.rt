@@ -29,7 +29,10 @@ fn fresh_count(reply: &Reply) -> u64
     ensures { result ≡ length (fresh_by reply.now) }
 {
     match reply {
-        Reply::Load { fresh, .. } | Reply::Swap { fresh, .. } => fresh.as_slice().len() as u64,
+        Reply::Load { fresh, .. }
+        | Reply::Swap { fresh, .. }
+        | Reply::Recover { fresh, .. }
+        | Reply::Rebuild { fresh, .. } => fresh.as_slice().len() as u64,
         _ => 0,
     }
 }
@@ -39,9 +42,11 @@ fn removed_count(reply: &Reply) -> u64
     ensures { result ≡ length (removed_by reply.now) }
 {
     match reply {
-        Reply::Swap { removed, .. } | Reply::Unload { removed } | Reply::Purge { removed } => {
-            removed.as_slice().len() as u64
-        }
+        Reply::Swap { removed, .. }
+        | Reply::Recover { removed, .. }
+        | Reply::Rebuild { removed, .. }
+        | Reply::Unload { removed }
+        | Reply::Purge { removed } => removed.as_slice().len() as u64,
         _ => 0,
     }
 }
@@ -51,7 +56,10 @@ fn patched_count(reply: &Reply) -> u64
     ensures { result ≡ patched_by reply.now }
 {
     match reply {
-        Reply::Load { patched, .. } | Reply::Swap { patched, .. } => u64::from(*patched),
+        Reply::Load { patched, .. }
+        | Reply::Swap { patched, .. }
+        | Reply::Recover { patched, .. }
+        | Reply::Rebuild { patched, .. } => u64::from(*patched),
         _ => 0,
     }
 }

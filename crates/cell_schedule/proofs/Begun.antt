@@ -2,7 +2,7 @@
 use Rattle.std.proofs.Common.{◌≡◌, refl, sym, ◌∙◌, ap, subst, arith, ℕ, ◌+◌, ◌-◌, ◌*◌, ◌^◌, ◌≤◌, ◌<◌, inl, inr, Bool, true, false, ◌||◌, List, [], ◌∷◌, length, replicate, Option, Some, None, Ok, Err, min}
 use Rattle.std.specs.Prelude.{◌%◌, All, is_some, nat_le}
 use Rattle.std.specs.List.{list_all}
-use Rattle.std.proofs.lemmas.Bool.{le-leb, or_left, or_right}
+use Rattle.std.proofs.lemmas.Bool.{le-leb, lt-ltb, or_left, or_right}
 use Rattle.std.proofs.lemmas.List.{length-replicate}
 use Rattle.cell_world.specs.declared.refusal.Refusal.TheVariants.{Exhausted}
 use Rattle.cell_world.specs.declared.reply.Reply.TheVariants.{Spawn as SpawnDone}
@@ -14,6 +14,7 @@ use Rattle.cell_world.specs.Placed.Place.{page_table, start_of_run, with_region}
 use Rattle.cell_world.specs.Placed.Layout.{permission_of}
 use Rattle.cell_world.specs.declared.layout.Class.TheVariants.{Writable}
 use Rattle.cell_world.specs.Commands.SpawnCommand.{new_task}
+use Rattle.cell_world.specs.declared.state.Origin.{Origin}
 use Rattle.cell_world.specs.World.{World, Region, cell_of}
 use Rattle.cell_lemmas.specs.Clear.{IsClear}
 use Rattle.cell_num.proofs.Elements.{All-In, In-all}
@@ -53,10 +54,10 @@ module _ (m : Machine) (sound : IsSound m) where
   abbrev run_start : Option ℕ → Outcome ℕ
   run_start o = elim o as (λ _. Outcome ℕ) [ None ↦ Err (Exhausted 4 (longest_run (page_table w))) | Some page ↦ Ok (w.base + 4096 * page) ]
 
-  pub full : (entry : ℕ × ℕ) (arg : ℕ) (none : NoRun) → Err none ≡ run_of m.space.taken 4 → started w entry arg ≡ Err (Exhausted none.wanted none.largest)
-  full entry arg none e =
+  pub full : (entry : ℕ × ℕ) (origin : Origin) (none : NoRun) → Err none ≡ run_of m.space.taken 4 → started w entry origin ≡ Err (Exhausted none.wanted none.largest)
+  full entry origin none e =
       let r = run_missed (page_table w) 4 none (e ∙ ap (λ (t : List Bool). run_of t 4) sound.table) in
-      ap (λ (o : Option ℕ). run_start o >>= (λ stack. done (SpawnDone w.next_task entry.1) (with_started w entry arg stack))) r.0
+      ap (λ (o : Option ℕ). run_start o >>= (λ stack. done (SpawnDone w.next_task entry.1) (with_started w entry origin stack))) r.0
       ∙ ap (λ (x : NoRun). Err (Exhausted x.wanted x.largest)) (sym r.1)
 
   module _ (run : Run) (is : Ok run ≡ run_of m.space.taken 4) where
@@ -112,7 +113,7 @@ module _ (m : Machine) (sound : IsSound m) where
         (subst (λ (a : ℕ). IsRoom (reserved m.memory 1) a (length bytes)) (sym at)
         (subst (λ (n : ℕ). IsRoom (reserved m.memory 1) stack n) (sym long) room))
 
-    module _ (entry : ℕ × ℕ) (arg : ℕ) (present : is_some (cell_of w entry.0) ≡ true) (few : length m.tasks.tasks < 64) (low : m.tasks.next ≤ 65535) where
+    module _ (entry : ℕ × ℕ) (origin : Origin) (known : origin.ns < length w.namespaces) (present : is_some (cell_of w entry.0) ≡ true) (few : length m.tasks.tasks < 64) (low : m.tasks.next ≤ 65535) where
       abbrev region : Region
       region = record { start = stack; permission = permission_of Writable; bytes = replicate 16384 0 }
 
@@ -120,7 +121,7 @@ module _ (m : Machine) (sound : IsSound m) where
       new = record m {
         space = with_run m.space run true;
         memory = mapped (reserved m.memory 1) stack (permission_of Writable) (replicate 16384 0);
-        tasks = with_new m.tasks (new_task m.tasks.next entry.0 entry.1 arg stack);
+        tasks = with_new m.tasks (new_task m.tasks.next entry.0 entry.1 origin stack);
       }
 
       table_begun : (with_run m.space run true).taken ≡ page_table (world_of new)
@@ -131,7 +132,7 @@ module _ (m : Machine) (sound : IsSound m) where
 
       begun_sound : IsSound new
       begun_sound = record {
-        coherent = spawn_coherent w sound.coherent stack starts entry.0 entry.1 arg present few low;
+        coherent = spawn_coherent w sound.coherent stack starts entry.0 entry.1 origin (lt-ltb origin.ns (length w.namespaces) known) present few low;
         parts = record {
           joined = sound.joined;
           table = table_begun;
@@ -145,10 +146,10 @@ module _ (m : Machine) (sound : IsSound m) where
         undo = ap (with_mapped region) sound.undo;
       }
 
-      begun : HasDone (started w entry arg) 1 m (SpawnDone m.tasks.next entry.1) new
+      begun : HasDone (started w entry origin) 1 m (SpawnDone m.tasks.next entry.1) new
       begun =
-          one_stack (started w entry arg) m new (SpawnDone m.tasks.next entry.1) sound begun_sound
-          (ap (λ (o : Outcome ℕ). o >>= (λ stack. done (SpawnDone w.next_task entry.1) (with_started w entry arg stack))) starts)
+          one_stack (started w entry origin) m new (SpawnDone m.tasks.next entry.1) sound begun_sound
+          (ap (λ (o : Outcome ℕ). o >>= (λ stack. done (SpawnDone w.next_task entry.1) (with_started w entry origin stack))) starts)
           refl refl refl refl
 
       abbrev by_parts : SpaceState → MemoryState → TasksState → Machine
@@ -156,18 +157,18 @@ module _ (m : Machine) (sound : IsSound m) where
 
       -- the machine by its parts
       pub begun_by : (space : SpaceState) → space ≡ with_run m.space run true → (reserve : MemoryState) → reserve ≡ reserved m.memory 1 → (addr : ℕ) → addr ≡ stack → (bytes : List ℕ) → bytes ≡ replicate 16384 0
-          → (memory : MemoryState) → memory ≡ mapped reserve addr (permission_of Writable) bytes → (tasks : TasksState) → tasks ≡ with_new m.tasks (new_task m.tasks.next entry.0 entry.1 arg addr) → (number : ℕ) → number ≡ m.tasks.next
-          → HasDone (started w entry arg) 1 m (SpawnDone number entry.1) (record m { space = space; memory = memory; tasks = tasks })
+          → (memory : MemoryState) → memory ≡ mapped reserve addr (permission_of Writable) bytes → (tasks : TasksState) → tasks ≡ with_new m.tasks (new_task m.tasks.next entry.0 entry.1 origin addr) → (number : ℕ) → number ≡ m.tasks.next
+          → HasDone (started w entry origin) 1 m (SpawnDone number entry.1) (record m { space = space; memory = memory; tasks = tasks })
       begun_by space s reserve r addr a bytes b memory e tasks t number n =
           let is_memory : memory ≡ mapped (reserved m.memory 1) stack (permission_of Writable) (replicate 16384 0) =
           e
           ∙ (ap (λ (x : MemoryState). mapped x addr (permission_of Writable) bytes) r
           ∙ (ap (λ (x : ℕ). mapped (reserved m.memory 1) x (permission_of Writable) bytes) a
           ∙ ap (λ (x : List ℕ). mapped (reserved m.memory 1) stack (permission_of Writable) x) b)) in
-          let is_tasks : tasks ≡ with_new m.tasks (new_task m.tasks.next entry.0 entry.1 arg stack) = t ∙ ap (λ (x : ℕ). with_new m.tasks (new_task m.tasks.next entry.0 entry.1 arg x)) a in
+          let is_tasks : tasks ≡ with_new m.tasks (new_task m.tasks.next entry.0 entry.1 origin stack) = t ∙ ap (λ (x : ℕ). with_new m.tasks (new_task m.tasks.next entry.0 entry.1 origin x)) a in
           let same : by_parts space memory tasks ≡ new =
           ap (λ (x : SpaceState). by_parts x memory tasks) s
           ∙ (ap (λ (x : MemoryState). by_parts (with_run m.space run true) x tasks) is_memory
           ∙ ap (λ (x : TasksState). by_parts (with_run m.space run true) (mapped (reserved m.memory 1) stack (permission_of Writable) (replicate 16384 0)) x) is_tasks) in
-          subst (λ (k : ℕ). HasDone (started w entry arg) 1 m (SpawnDone k entry.1) (by_parts space memory tasks)) (sym n)
-          (subst (λ (x : Machine). HasDone (started w entry arg) 1 m (SpawnDone m.tasks.next entry.1) x) (sym same) begun)
+          subst (λ (k : ℕ). HasDone (started w entry origin) 1 m (SpawnDone k entry.1) (by_parts space memory tasks)) (sym n)
+          (subst (λ (x : Machine). HasDone (started w entry origin) 1 m (SpawnDone m.tasks.next entry.1) x) (sym same) begun)

@@ -12,6 +12,7 @@ use Rattle.cell_world.specs.declared.reply.Reply.{Reply}
 use Rattle.cell_world.specs.Answer.{Done, space_of}
 use Rattle.cell_world.specs.Outcome.{Outcome, ◌>>=◌, ◌>>◌, found, need}
 use Rattle.cell_world.specs.Commands.SpawnCommand.{entry_named, next_spawn}
+use Rattle.cell_world.specs.declared.state.Origin.{Origin}
 use Rattle.cell_world.specs.World.{World}
 use Rattle.cell_lemmas.proofs.Outcomes.{need_ok, then_ok}
 use Rattle.cell_task.specs.State.{TasksState}
@@ -36,8 +37,12 @@ module _ (m : Machine) (name symbol : List ℕ) (arg : ℕ) where
   abbrev w : World
   w = world_of m
 
+  -- what the task keeps
+  abbrev pub origin_in : ℕ → Origin
+  origin_in ns = record { ns = ns; name = symbol; arg = arg }
+
   abbrev entered : ℕ → Outcome Done
-  entered ns = found (entry_named w ns symbol) (NoEntry symbol) >>= (λ entry. started w entry arg)
+  entered ns = found (entry_named w ns symbol) (NoEntry symbol) >>= (λ entry. started w entry (origin_in ns))
 
   next_is : next_spawn w name symbol arg ≡ (space_of w name >>= (λ ns. may_start m.tasks >> entered ns))
   next_is = go (space_of w name)
@@ -74,9 +79,9 @@ module _ (m : Machine) (name symbol : List ℕ) (arg : ℕ) where
       roomed = in_it ∙ ap (λ o. o >> entered ns) roomy
 
       pub no_entry : (fail : Fail) → FailsAs fail (found (entry_named w ns symbol) (NoEntry symbol)) → Does (next_spawn w name symbol arg) one_stack m (Err fail) m
-      no_entry fail e = failed (entered ns) roomed fail (bind_fails fail (found (entry_named w ns symbol) (NoEntry symbol)) (λ entry. started w entry arg) e)
+      no_entry fail e = failed (entered ns) roomed fail (bind_fails fail (found (entry_named w ns symbol) (NoEntry symbol)) (λ entry. started w entry (origin_in ns)) e)
 
       -- then all is as it starts
-      pub then_started : (entry : ℕ × ℕ) → found (entry_named w ns symbol) (NoEntry symbol) ≡ Ok entry → (result : Result Reply Fail) (new : Machine) → Does (started w entry arg) one_stack m result new → Does (next_spawn w name symbol arg) one_stack m result new
+      pub then_started : (entry : ℕ × ℕ) → found (entry_named w ns symbol) (NoEntry symbol) ≡ Ok entry → (result : Result Reply Fail) (new : Machine) → Does (started w entry (origin_in ns)) one_stack m result new → Does (next_spawn w name symbol arg) one_stack m result new
       then_started entry is result new d =
-          subst (λ (said : Outcome Done). Does said one_stack m result new) (sym (roomed ∙ ap (λ o. o >>= (λ entry. started w entry arg)) is)) d
+          subst (λ (said : Outcome Done). Does said one_stack m result new) (sym (roomed ∙ ap (λ o. o >>= (λ entry. started w entry (origin_in ns))) is)) d

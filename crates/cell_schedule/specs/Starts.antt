@@ -2,7 +2,7 @@
 --     entry_as e                    the cell's number and the address
 --     entry_at w target             the entry that the target is
 --     may_start s                   there is room for one more task
---     started w entry arg           the answer, and the machine with the task, on a stack in the lowest free run
+--     started w entry origin        the answer, and the machine with the task, on a stack in the lowest free run
 use Rattle.std.specs.Prelude.{ℕ, suc, ◌+◌, ◌%◌, ◌==◌, nat_lt, nat_le, Bool, ◌&&◌, [], ◌∷◌, ◌++◌, Option, None, length, option_and_then}
 use Rattle.cell_num.specs.Lists.{where_true}
 use Rattle.cell_object.specs.declared.object.Section.{Section as ObjectSection}
@@ -11,6 +11,7 @@ use Rattle.cell_world.specs.declared.refusal.Many.TheVariants.{Tasks as ManyTask
 use Rattle.cell_world.specs.declared.refusal.Refusal.TheVariants.{TooMany}
 use Rattle.cell_world.specs.declared.reply.Reply.TheVariants.{Spawn as SpawnDone}
 use Rattle.cell_world.specs.declared.state.NewCell.{NewCell}
+use Rattle.cell_world.specs.declared.state.Origin.{Origin}
 use Rattle.cell_world.specs.declared.state.Target.{Target}
 use Rattle.cell_world.specs.declared.state.Target.TheVariants.{Section, Number}
 use Rattle.cell_world.specs.Answer.{Done, done}
@@ -43,13 +44,13 @@ abbrev pub may_start : TasksState → Outcome (Unit {0})
 may_start s =
     need (nat_lt (length s.tasks) 64) (TooMany ManyTasks 64) >> need (nat_le s.next 65535) (TooMany TaskNumbers 65535)
 
-abbrev pub with_started : World → ℕ × ℕ → ℕ → ℕ → World
-with_started w entry arg stack =
+abbrev pub with_started : World → ℕ × ℕ → Origin → ℕ → World
+with_started w entry origin stack =
     record (with_stack w stack) {
-      tasks = w.tasks ++ new_task w.next_task entry.0 entry.1 arg stack ∷ [];
+      tasks = w.tasks ++ new_task w.next_task entry.0 entry.1 origin stack ∷ [];
       next_task = suc w.next_task;
     }
 
-abbrev pub started : World → ℕ × ℕ → ℕ → Outcome Done
-started w entry arg =
-    start_of_run w 4 >>= (λ stack. done (SpawnDone w.next_task entry.1) (with_started w entry arg stack))
+abbrev pub started : World → ℕ × ℕ → Origin → Outcome Done
+started w entry origin =
+    start_of_run w 4 >>= (λ stack. done (SpawnDone w.next_task entry.1) (with_started w entry origin stack))

@@ -4,7 +4,7 @@ ghost use Rattle.cell_machine.specs.Machine.{IsSound, world_of};
 ghost use Rattle.cell_world.specs.Commands.TaskCommands.{next_kill};
 ghost use Rattle.cell_machine.specs.Does.{Does, no_stack};
 
-use crate::live::live;
+use crate::live_task::live;
 use crate::stack::give_back;
 use cell_machine::Machine;
 use cell_world::{Fail, Reply};

@@ -56,7 +56,8 @@ fn entry_at(machine: &Machine, target: Target) -> Option<Entry>
     }
 }
 
-fn find_entry(machine: &Machine, ns: u16, symbol: &[u8]) -> Option<Entry>
+/// The entry that the provider of a name for a namespace has, if it has one. This takes no memory.
+pub fn find_entry(machine: &Machine, ns: u16, symbol: &[u8]) -> Option<Entry>
     requires sound { IsSound machine.now }
     requires ns { ns < length machine.now.spaces.namespaces }
     ensures { option_map entry_as result ≡ entry_named (world_of machine.now) ns symbol.now }

@@ -4,7 +4,7 @@
 
 mod ending;
 mod entry;
-mod live;
+mod live_task;
 mod overview;
 mod round;
 mod slice;
@@ -14,6 +14,8 @@ mod stepping;
 mod turn;
 
 pub use ending::kill;
+pub use entry::{Entry, find_entry};
+pub use live_task::live;
 pub use overview::tasks;
 pub use round::run;
 pub use starting::spawn;

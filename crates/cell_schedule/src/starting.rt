@@ -12,10 +12,10 @@ ghost use Rattle.cell_schedule.specs.Starts.{entry_as, may_start, started};
 use crate::entry::{Entry, entry_for};
 use cell_machine::{Machine, namespace};
 use cell_mem::Perm;
-use cell_num::{MAX_TASK_NUMBER, MAX_TASKS, STACK_PAGES, STACK_SIZE, zeros};
+use cell_num::{MAX_TASK_NUMBER, MAX_TASKS, Name, STACK_PAGES, STACK_SIZE, zeros};
 use cell_place::NoRun;
 use cell_task::Tasks;
-use cell_world::{Fail, Many, Permission, Refusal, Reply};
+use cell_world::{Fail, Many, Origin, Permission, Refusal, Reply};
 use std::alloc::Global;
 
 /// A stack may be read and written.
@@ -56,12 +56,13 @@ fn exhausted(none: NoRun) -> Refusal
 
 /// Starts a task on a stack of its own. All that can fail comes before the stack is mapped, or is
 /// taken back.
-fn start(alloc: Global, machine: &mut Machine, entry: Entry, arg: u64) -> Result<Reply, Fail>
+fn start(alloc: Global, machine: &mut Machine, entry: Entry, origin: Origin) -> Result<Reply, Fail>
     requires sound { IsSound machine.old }
     requires few { length machine.old.tasks.tasks < 64 }
     requires numbers { machine.old.tasks.next ≤ 65535 }
+    requires known { origin.ns < length machine.old.spaces.namespaces }
     requires present { is_some (cell_of (world_of machine.old) entry.cell.0) ≡ true }
-    ensures { Does (started (world_of machine.old) (entry_as entry) arg) one_stack machine.old result machine.new }
+    ensures { Does (started (world_of machine.old) (entry_as entry) origin) one_stack machine.old result machine.new }
 {
     let bytes = zeros(alloc, STACK_SIZE as usize)?;
     machine.memory.reserve(1)?;
@@ -70,7 +71,7 @@ fn start(alloc: Global, machine: &mut Machine, entry: Entry, arg: u64) -> Result
         Err(none) => return Err(Fail::Refused(exhausted(none))),
     };
     let stack = machine.space.address_of(run);
-    let task = match machine.tasks.spawn(entry.addr, arg, stack, entry.cell) {
+    let task = match machine.tasks.spawn(origin, entry.addr, stack, entry.cell) {
         Ok(task) => task,
         Err(_) => {
             machine.space.give(run);
@@ -102,5 +103,6 @@ pub fn spawn(
     let ns = namespace(alloc, &machine.spaces, ns)?;
     check(&machine.tasks)?;
     let entry = entry_for(alloc, machine, ns, symbol)?;
-    start(alloc, machine, entry, arg)
+    let name = Name::of(alloc, symbol)?;
+    start(alloc, machine, entry, Origin { ns, name, arg })
 }

@@ -7,7 +7,7 @@ ghost use Rattle.cell_task.specs.State.{seen_as};
 ghost use Rattle.cell_world.specs.Commands.TaskCommands.{can_run as can_run_as, next_step};
 ghost use Rattle.cell_machine.specs.Does.{Does, no_stack};
 
-use crate::live::live;
+use crate::live_task::live;
 use crate::slice::slice;
 use cell_machine::Machine;
 use cell_task::Task;

@@ -5,7 +5,7 @@ use Rattle.std.specs.Prelude.{Option, Some, None, Result, Ok, Err, bytes_eq, cod
 use Rattle.cell_num.specs.Lists.{where_true}
 use Rattle.cell_world.specs.declared.command.SwapItem.{SwapItem}
 use Rattle.cell_world.specs.declared.command.Command.{Command}
-use Rattle.cell_world.specs.declared.command.Command.TheVariants.{Ns, Load, Spawn, Step, Run, Kill, Unload, Purge, Find, Map, Tasks, Deps, Users, Dump, DumpAll}
+use Rattle.cell_world.specs.declared.command.Command.TheVariants.{Ns, Load, Spawn, Step, Run, Kill, Unload, Purge, Find, Map, Tasks, Deps, Users, Dump, DumpAll, Recover, Rebuild}
 use Rattle.cell_script.specs.declared.command.Reading.{Reading}
 use Rattle.cell_script.specs.declared.command.Reading.TheVariants.{Nothing, Does, Bad}
 use Rattle.cell_script.specs.declared.line.Line.{Line}
@@ -154,7 +154,13 @@ all_forms = (
                               both_said number number (λ cell section. Dump cell section) (λ a b. refl),
                               (
                                 alone_said DumpAll refl,
-                                tt,
+                                (
+                                  single_said (λ task. Recover task) (λ a. refl) number,
+                                  (
+                                    single_said (λ task. Rebuild task) (λ a. refl) number,
+                                    tt,
+                                  ),
+                                ),
                               ),
                             ),
                           ),

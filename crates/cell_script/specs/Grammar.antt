@@ -10,7 +10,7 @@ use Rattle.cell_text.specs.Number.{number_in, hex_number_in}
 use Rattle.cell_world.specs.declared.command.CellName.{CellName}
 use Rattle.cell_world.specs.declared.command.SwapItem.{SwapItem}
 use Rattle.cell_world.specs.declared.command.Command.{Command}
-use Rattle.cell_world.specs.declared.command.Command.TheVariants.{Ns, Load, Spawn, Step, Run, Kill, Swap, Unload, Purge, Find, Map, Tasks, Deps, Users, Dump, DumpAll}
+use Rattle.cell_world.specs.declared.command.Command.TheVariants.{Ns, Load, Spawn, Step, Run, Kill, Swap, Unload, Purge, Find, Map, Tasks, Deps, Users, Dump, DumpAll, Recover, Rebuild}
 use Rattle.cell_script.specs.declared.transfer.Transfer.{Transfer}
 
 abbrev pub is_name_byte : ℕ → Bool
@@ -209,6 +209,8 @@ forms =
     ∷ record { word = codes "users"; arguments = single number (λ cell. Users cell) }
     ∷ record { word = codes "dump"; arguments = both number number (λ cell section. Dump cell section) }
     ∷ record { word = codes "dumpall"; arguments = alone DumpAll }
+    ∷ record { word = codes "recover"; arguments = single number (λ task. Recover task) }
+    ∷ record { word = codes "rebuild"; arguments = single number (λ task. Rebuild task) }
     ∷ []
 
 abbrev pub command_in : List Form → List ℕ → List (List ℕ) → Option Command

@@ -1,7 +1,7 @@
 //! The words of one line.
 
 ghost use Rattle.std.specs.Prelude.{◌≡◌, List, [], ◌∷◌, map, codes, IfOk};
-ghost use Rattle.cell_world.specs.declared.command.Command.TheVariants.{Ns, Load, Spawn, Step, Run, Kill, Unload, Purge, Find, Map, Tasks, Deps, Users, Dump, DumpAll};
+ghost use Rattle.cell_world.specs.declared.command.Command.TheVariants.{Ns, Load, Spawn, Step, Run, Kill, Unload, Purge, Find, Map, Tasks, Deps, Users, Dump, DumpAll, Recover, Rebuild};
 ghost use Rattle.cell_script.specs.Grammar.{name, symbol, number, turns_of_one, turns_of_run, argument, alone, single, both, all_three, both_around, several, cell_names, swap_words, forms, command_in};
 ghost use Rattle.cell_script.specs.Script.{is_comment, reading_in};
 
@@ -84,6 +84,10 @@ fn read_command(
         Ok(read_dump(arguments))
     } else if word == b"dumpall".as_slice() {
         Ok(read_dump_all(arguments))
+    } else if word == b"recover".as_slice() {
+        Ok(read_recover(arguments))
+    } else if word == b"rebuild".as_slice() {
+        Ok(read_rebuild(arguments))
     } else {
         Ok(None)
     }
@@ -271,4 +275,26 @@ fn read_dump_all(arguments: &[&[u8]]) -> Option<Command>
         [] => Some(Command::DumpAll),
         _ => None,
     }
+}
+
+/// `recover T`
+fn read_recover(arguments: &[&[u8]]) -> Option<Command>
+    ensures { result ≡ single number (λ task. Recover task) (map (λ word. word.now) arguments.now) }
+{
+    let [task] = arguments else {
+        return None;
+    };
+    let task = read_number(task)?;
+    Some(Command::Recover { task })
+}
+
+/// `rebuild T`
+fn read_rebuild(arguments: &[&[u8]]) -> Option<Command>
+    ensures { result ≡ single number (λ task. Rebuild task) (map (λ word. word.now) arguments.now) }
+{
+    let [task] = arguments else {
+        return None;
+    };
+    let task = read_number(task)?;
+    Some(Command::Rebuild { task })
 }

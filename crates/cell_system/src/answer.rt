@@ -12,7 +12,7 @@ ghost use Rattle.cell_system.specs.Step.{counts_of};
 
 use crate::Fail;
 use crate::namespaces::add_namespace;
-use cell_commands::{Options, load, swap};
+use cell_commands::{SwapWords, load, rebuild, recover, swap};
 use cell_depot::Depot;
 use cell_machine::Machine;
 use cell_schedule::{kill, run, spawn, step, tasks};
@@ -59,13 +59,15 @@ pub fn answer(
             routines,
             budget,
         } => {
-            let options = Options {
+            let words = SwapWords {
                 reexport: *reexport,
                 strict: *strict,
                 routines: routines.as_slice(),
                 budget: *budget,
             };
-            swap(alloc, depot, machine, items.as_slice(), &options)
+            swap(alloc, depot, machine, items.as_slice(), &words)
         }
+        Command::Recover { task } => recover(alloc, depot, machine, *task),
+        Command::Rebuild { task } => rebuild(alloc, depot, machine, *task),
     }
 }

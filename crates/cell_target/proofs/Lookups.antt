@@ -1,8 +1,6 @@
 -- Look-ups in the machine that is seen.
 use Rattle.std.proofs.Common.{◌≡◌, refl, sym, ◌∙◌, ap, arith, ℕ, zero, suc, ◌<◌, Bool, true, false, cond, inl, inr, List, [], ◌∷◌, ◌++◌, length, get_or}
 use Rattle.std.specs.Prelude.{Option, Some, None, ◌==◌, find, option_map, option_and_then}
-use Rattle.std.specs.Option.{option_or}
-use Rattle.std.proofs.lemmas.List.Folds.{find-append}
 use Rattle.cell_world.specs.declared.state.Namespace.{Namespace}
 use Rattle.cell_world.specs.declared.state.NewCell.{NewCell}
 use Rattle.cell_world.specs.declared.state.Target.{Target}
@@ -34,22 +32,12 @@ found_in n [] c e = absurd (cc e)
 found_in n (d ∷ cells) c e = in_cons (d.id.0 == n) c d (find (is_numbered n) cells) cells e (found_in n cells c)
 
 module _ (namespaces : List Namespace) (cells : List NewCell) (known : List SpaceCell) (are : AreJoined cells known) (n : ℕ) where
-  by_places : option_map placed_of (cell_of (seen namespaces cells known) n) ≡ find (is_numbered n) cells
+  pub by_places : option_map placed_of (cell_of (seen namespaces cells known) n) ≡ find (is_numbered n) cells
   by_places = found_placed n (cells_of cells known) ∙ ap (find (is_numbered n)) are.placed
 
   -- a cell that is found is one of the cells
   pub found_there : (c : NewCell) → option_map placed_of (cell_of (seen namespaces cells known) n) ≡ Some c → In c cells
   found_there c e = found_in n cells c (sym by_places ∙ e)
-
-module _ (namespaces : List Namespace) (present fresh : List NewCell) (known : List SpaceCell) (are : AreJoined (present ++ fresh) known) (n : ℕ) where
-  by_parts : option_map placed_of (cell_of (seen namespaces (present ++ fresh) known) n) ≡ option_or (find (is_numbered n) present) (find (is_numbered n) fresh)
-  by_parts = by_places namespaces (present ++ fresh) known are n ∙ find-append (is_numbered n) present fresh
-
-  pub in_present : (c : NewCell) → Some c ≡ find (is_numbered n) present → Some c ≡ option_map placed_of (cell_of (seen namespaces (present ++ fresh) known) n)
-  in_present c e = ap (λ o. option_or o (find (is_numbered n) fresh)) e ∙ sym by_parts
-
-  pub in_fresh : (o : Option NewCell) → None ≡ find (is_numbered n) present → o ≡ find (is_numbered n) fresh → o ≡ option_map placed_of (cell_of (seen namespaces (present ++ fresh) known) n)
-  in_fresh o none e = e ∙ ap (λ p. option_or p (find (is_numbered n) fresh)) none ∙ sym by_parts
 
 -- who is asked for a name is told by the spaces
 module _ (namespaces : List Namespace) (spaces : List SpaceCell) (cells : List NewCell) (are : AreCells spaces cells) (ns : ℕ) (state : Standing) (name : List ℕ) (asked : Asked) where

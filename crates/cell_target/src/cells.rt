@@ -6,7 +6,7 @@ ghost use Rattle.cell_space.specs.Joined.{placed_of};
 ghost use Rattle.cell_target.specs.Scene.{seen};
 
 use crate::scene::Scene;
-use cell_placed::cell_numbered;
+use cell_placed::cell_among;
 use cell_world::NewCell;
 
 impl<'a> Scene<'a> {
@@ -14,9 +14,6 @@ impl<'a> Scene<'a> {
     pub fn cell(&self, number: u32) -> Option<&'a NewCell>
         ensures { option_map (λ c. c.now) result ≡ option_map placed_of (cell_of (seen self.now.ahead.now.namespaces (self.now.present.now ++ self.now.fresh.now) self.now.ahead.now.cells) number) }
     {
-        if let Some(cell) = cell_numbered(self.present, number) {
-            return Some(cell);
-        }
-        cell_numbered(self.fresh, number)
+        cell_among(self.present, self.fresh, number)
     }
 }

@@ -20,7 +20,7 @@ use Rattle.cell_task.specs.Turns.{IsTurn}
 use Rattle.cell_task.proofs.Places.{live_at, sound_changed, state_changed}
 use Rattle.cell_task.proofs.Turning.{still_mapped, turn_stays, turn_ends, found_changed}
 
-some_same : {X : Type 0} (x y : X) (o : Option X) → o ≡ Some x → o ≡ Some y → x ≡ y
+pub some_same : {X : Type 0} (x y : X) (o : Option X) → o ≡ Some x → o ≡ Some y → x ≡ y
 some_same x y o p q = cc
 
 -- the task at a place had the value t, and has u after its turn
@@ -32,10 +32,10 @@ module _ (i : Inside) (sound : IsSound i) (s : TasksState) (view : state_of i �
   pub turned_sound : IsSound turned
   turned_sound = sound_changed i sound place number at turned key e u refl refl refl refl
 
-  there : live_in s number ≡ Some (seen_as number t)
+  pub there : live_in s number ≡ Some (seen_as number t)
   there = sym (ap (λ x. live_in x number) view) ∙ live_at i sound place number at t (sym (got ∙ ap (get i.arena) e))
 
-  turned_view : state_of turned ≡ record s { tasks = with_task (seen_as number u) s.tasks }
+  pub turned_view : state_of turned ≡ record s { tasks = with_task (seen_as number u) s.tasks }
   turned_view =
       state_changed i sound place number at turned key e u refl refl refl refl
       ∙ ap (λ (x : TasksState). let y : TasksState = record x { tasks = with_task (seen_as number u) x.tasks } in y) view

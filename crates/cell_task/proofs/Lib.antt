@@ -5,3 +5,6 @@ mod Places
 pub mod Standing
 mod Turning
 pub mod Wording
+mod Restarting
+mod Zeroing
+mod Cleared

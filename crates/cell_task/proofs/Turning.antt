@@ -5,6 +5,7 @@ use Rattle.std.specs.List.{find}
 use Rattle.std.proofs.lemmas.Bool.{eq-eqb}
 use Rattle.cell_world.specs.declared.reply.TaskState.TheVariants.{Ready as IsReady, Done as IsDone, Fault as IsFault}
 use Rattle.cell_world.specs.declared.reply.TaskState.{TaskState}
+use Rattle.cell_world.specs.declared.state.Origin.{Origin}
 use Rattle.cell_world.specs.World.{World, Region, Task}
 use Rattle.cell_world.specs.Placed.Pages.{filled}
 use Rattle.cell_world.specs.Running.Execute.{Seen, Effect, Goes, Calls, Traps, execute}
@@ -36,11 +37,12 @@ task_after number t after =
 seen_after : (number : ℕ) (after : Move) (answer : Answer) (t u : LiveTask) (out out' : List ℕ) → IsRan after answer t u out out'
     → seen_as number u ≡ task_after number t after
 seen_after number after answer t u out out' r =
-    ap (λ (root : ℕ). let w : Task = record { number = number; root = root; stack = u.stack; pc = u.hart.pc; registers = u.hart.x; fault = option_map fault_as u.fault } in w) (ap (λ x. x.0) r.root)
-    ∙ ap (λ (stack : ℕ). let w : Task = record { number = number; root = t.root.0; stack = stack; pc = u.hart.pc; registers = u.hart.x; fault = option_map fault_as u.fault } in w) r.stack
-    ∙ ap (λ (pc : ℕ). let w : Task = record { number = number; root = t.root.0; stack = t.stack; pc = pc; registers = u.hart.x; fault = option_map fault_as u.fault } in w) r.pc
-    ∙ ap (λ (xs : List ℕ). let w : Task = record { number = number; root = t.root.0; stack = t.stack; pc = after.hart.pc; registers = xs; fault = option_map fault_as u.fault } in w) r.registers
-    ∙ ap (λ (fault : Option TaskFault). let w : Task = record { number = number; root = t.root.0; stack = t.stack; pc = after.hart.pc; registers = after.hart.registers; fault = option_map fault_as fault } in w) r.fault
+    ap (λ (o : Origin). let w : Task = record { number = number; origin = o; root = u.root.0; stack = u.stack; pc = u.hart.pc; registers = u.hart.x; fault = option_map fault_as u.fault } in w) r.origin
+    ∙ ap (λ (root : ℕ). let w : Task = record { number = number; origin = t.origin; root = root; stack = u.stack; pc = u.hart.pc; registers = u.hart.x; fault = option_map fault_as u.fault } in w) (ap (λ x. x.0) r.root)
+    ∙ ap (λ (stack : ℕ). let w : Task = record { number = number; origin = t.origin; root = t.root.0; stack = stack; pc = u.hart.pc; registers = u.hart.x; fault = option_map fault_as u.fault } in w) r.stack
+    ∙ ap (λ (pc : ℕ). let w : Task = record { number = number; origin = t.origin; root = t.root.0; stack = t.stack; pc = pc; registers = u.hart.x; fault = option_map fault_as u.fault } in w) r.pc
+    ∙ ap (λ (xs : List ℕ). let w : Task = record { number = number; origin = t.origin; root = t.root.0; stack = t.stack; pc = after.hart.pc; registers = xs; fault = option_map fault_as u.fault } in w) r.registers
+    ∙ ap (λ (fault : Option TaskFault). let w : Task = record { number = number; origin = t.origin; root = t.root.0; stack = t.stack; pc = after.hart.pc; registers = after.hart.registers; fault = option_map fault_as fault } in w) r.fault
 
 -- a change of the task that is then taken away is not seen
 gone_changed : (u : Task) (ts : List Task) → filter (λ w. not (w.number == u.number)) (with_task u ts) ≡ filter (λ w. not (w.number == u.number)) ts

@@ -3,3 +3,4 @@ pub mod Numbers
 pub mod Ran
 pub mod State
 pub mod Turns
+pub mod Clearing

@@ -31,6 +31,7 @@ pub record IsRan (after : Move) (answer : Answer) (old new : LiveTask) (out out'
   pub pc : new.hart.pc ≡ after.hart.pc
   pub registers : new.hart.x ≡ after.hart.registers
   pub fault : new.fault ≡ fault_after old.fault after.state
+  pub origin : new.origin ≡ old.origin
   pub root : new.root ≡ old.root
   pub stack : new.stack ≡ old.stack
   pub put_out : out' ≡ out ++ after.out

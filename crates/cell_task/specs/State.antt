@@ -3,6 +3,7 @@
 --     seen_as number t         the task of the machine that t is
 --     live_in s number         the live task of that number
 use Rattle.std.specs.Prelude.{◌≡◌, ℕ, suc, ◌==◌, not, List, [], ◌∷◌, ◌++◌, Option, Some, None, filter, find, option_map}
+use Rattle.cell_world.specs.Running.Turn.{with_task}
 use Rattle.cell_world.specs.World.{Task, Fault}
 use Rattle.cell_task.specs.declared.task.Task.{Task as LiveTask}
 use Rattle.cell_task.specs.declared.task.TaskFault.{TaskFault}
@@ -22,6 +23,7 @@ abbrev pub seen_as : ℕ → LiveTask → Task
 seen_as number t =
     record {
       number = number;
+      origin = t.origin;
       root = t.root.0;
       stack = t.stack;
       pc = t.hart.pc;
@@ -35,6 +37,10 @@ live_in s number = find (λ t. t.number == number) s.tasks
 -- with one more task, which has the next number
 abbrev pub with_new : TasksState → Task → TasksState
 with_new s t = record { tasks = s.tasks ++ t ∷ []; next = suc s.next }
+
+-- with the task in the place of the one of its number
+abbrev pub with_changed : TasksState → Task → TasksState
+with_changed s t = record s { tasks = with_task t s.tasks }
 
 abbrev pub without : TasksState → ℕ → TasksState
 without s number = record s { tasks = filter (λ t. not (t.number == number)) s.tasks }

@@ -1,6 +1,7 @@
 //! The live tasks: their arena, and one turn of a task.
 #![tactic(auto)]
 
+mod clearing;
 mod numbers;
 mod output;
 mod task;

@@ -6,15 +6,19 @@ ghost use Rattle.cell_mem.specs.State.{region_from};
 ghost use Rattle.cell_world.specs.Commands.SpawnCommand.{new_task};
 ghost use Rattle.cell_world.specs.Running.Words.{words_of as words_in_task};
 ghost use Rattle.cell_world.specs.World.{Task as WorldTask};
-ghost use Rattle.cell_task.specs.State.{IsReady, live_in, no_tasks, seen_as, with_new, without};
+ghost use Rattle.cell_world.specs.Running.Restart.{restarted};
+ghost use Rattle.cell_task.specs.Clearing.{CanClear, with_cleared};
+ghost use Rattle.cell_task.specs.State.{IsReady, live_in, no_tasks, seen_as, with_changed, with_new, without};
 ghost use Rattle.cell_task.specs.Turns.{IsTurn};
 ghost use Rattle.cell_task.specs.Numbers.{HasAt, Lacks, RisesSomewhere};
 
+use crate::clearing::clear_stack;
 use crate::words::put_words;
 use crate::{Numbers, Task, Turned};
 use cell_hart::Hart;
 use cell_mem::Memory;
 use cell_num::CellId;
+use cell_world::Origin;
 use slab::Slab;
 use std::alloc::{AllocError, Global};
 use std::marker::Model;
@@ -92,27 +96,29 @@ impl Tasks {
         self.arena.get(self.keys[place])
     }
 
-    /// Starts a task at `entry`, with `arg` in x10, whose stack begins at `stack`. The stack has
-    /// four pages, which the caller maps.
+    /// Starts a task at `entry`, which is in `root` and has the origin's name, with the origin's
+    /// argument in x10. Its stack begins at `stack` and has four pages, which the caller maps.
     pub fn spawn(
         &mut self,
+        origin: Origin,
         entry: u64,
-        arg: u64,
         stack: u64,
         root: CellId,
     ) -> Result<u32, AllocError>
         requires numbers { self.old.next ≤ 65535 }
         requires stack { stack + stack_size < 2 ^ 64 }
         ensures number { IfOk result (λ number. number ≡ self.old.next) }
-        ensures started { OnOk result (self.new ≡ with_new self.old (new_task self.old.next root.0 entry arg stack)) }
+        ensures started { OnOk result (self.new ≡ with_new self.old (new_task self.old.next root.0 entry origin stack)) }
         ensures kept { OnErr result (self.new ≡ self.old) }
     {
         self.numbers.reserve(1)?;
         self.keys.reserve(1)?;
         self.arena.reserve(1)?;
+        let hart = Hart::begin(entry, origin.arg, stack);
         let task = Task {
+            origin,
             root,
-            hart: Hart::begin(entry, arg, stack),
+            hart,
             stack,
             fault: None,
         };
@@ -122,6 +128,26 @@ impl Tasks {
         self.keys.push(key)?;
         self.next += 1;
         Ok(number)
+    }
+
+    /// Begins a live task again at `entry`, which is in `root`: its registers are as at its spawn, and
+    /// its stack is cleared. Its number, its stack and its origin stay. This takes no memory.
+    pub fn restart(&mut self, task: u32, entry: u64, root: CellId, memory: &mut Memory)
+        requires live { is_some (live_in self.old task) ≡ true }
+        requires stack { (t : WorldTask) → live_in self.old task ≡ Some t → CanClear memory.old t.stack }
+        requires undo { memory.old.undo ≡ None }
+        ensures tasks { (t : WorldTask) → live_in self.old task ≡ Some t → self.new ≡ with_changed self.old (restarted t (root.0, entry)) }
+        ensures memory { (t : WorldTask) → live_in self.old task ≡ Some t → memory.new ≡ with_cleared memory.old t.stack }
+    {
+        let Some(place) = place_in(&self.numbers, task) else {
+            unreachable!();
+        };
+        let Some(live) = self.arena.get_mut(self.keys[place]) else {
+            unreachable!();
+        };
+        let stack = live.stack;
+        live.begin_again(entry, root);
+        clear_stack(memory, stack);
     }
 
     /// Takes a live task away, and gives the first address of its stack, which the caller unmaps.

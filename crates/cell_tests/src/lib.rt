@@ -42,6 +42,12 @@ mod objects;
 #[cfg(test)]
 mod places;
 #[cfg(test)]
+mod recovery;
+#[cfg(test)]
+mod recovery_faults;
+#[cfg(test)]
+mod recovery_refusals;
+#[cfg(test)]
 mod repeated;
 #[cfg(test)]
 mod samples;

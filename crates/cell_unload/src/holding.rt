@@ -3,6 +3,7 @@
 ghost use Rattle.std.specs.Prelude.{◌≡◌, ◌++◌, IfOk, IsTrue, OnOk, flat_map, map, nat_lt};
 ghost use Rattle.cell_num.specs.Lists.{In, each_pair};
 ghost use Rattle.cell_machine.specs.Machine.{IsSound, world_of};
+ghost use Rattle.cell_hold.specs.declared.roots.Root.TheVariants.{Task as TaskRoot};
 ghost use Rattle.cell_unload.specs.Begun.{is_aside, root_of, root_of_task};
 ghost use Rattle.cell_task.specs.State.{seen_as};
 ghost use Rattle.cell_world.specs.World.{Cell};
@@ -50,16 +51,23 @@ fn add_cells(machine: &Machine, aside: &[CellId], into: &mut Vec<Root>) -> Resul
     Ok(())
 }
 
-fn root_of_task(alloc: Global, number: u32, task: &Task) -> Result<Root, AllocError>
-    ensures { IfOk result (λ root. root ≡ root_of_task (seen_as number task.now)) }
+/// What of the live task of that number may hold cells.
+pub fn view_of(number: u32, task: &Task) -> TaskView
+    ensures { TaskRoot result ≡ root_of_task (seen_as number task.now) }
 {
-    let view = TaskView {
+    TaskView {
         task: number,
         root: task.root,
         pc: task.hart.pc,
         x: task.hart.x,
         stack: task.stack,
-    };
+    }
+}
+
+fn root_of_task(alloc: Global, number: u32, task: &Task) -> Result<Root, AllocError>
+    ensures { IfOk result (λ root. root ≡ root_of_task (seen_as number task.now)) }
+{
+    let view = view_of(number, task);
     Ok(Root::Task(Boxed::new(alloc, view)?))
 }
 

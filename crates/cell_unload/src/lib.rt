@@ -12,7 +12,7 @@ mod survey;
 mod sweep;
 mod unloading;
 
-pub use holding::roots;
+pub use holding::{roots, view_of};
 pub use named::named_cell;
 pub use outlook::Outlook;
 pub use removal::take_away;

@@ -7,11 +7,12 @@ ghost use Rattle.cell_world.specs.Kept.{placed_in};
 ghost use Rattle.cell_world.specs.World.{attached};
 ghost use Rattle.cell_world.specs.declared.state.NewCell.{NewCell as Cell};
 ghost use Rattle.cell_hold.specs.declared.roots.Root.TheVariants.{Attached};
+ghost use Rattle.cell_unload.specs.Begun.{renewed_root};
 ghost use Rattle.cell_unload.specs.Sweep.{IsOutlook};
 
 use crate::holding::roots;
 use crate::places::places_of;
-use cell_hold::{Places, Root};
+use cell_hold::{Places, Root, TaskView};
 use cell_machine::Machine;
 use cell_num::CellId;
 use cell_world::NewCell;
@@ -32,6 +33,17 @@ fn add_attached(roots: &mut Vec<Root>, fresh: &[NewCell]) -> Result<(), AllocErr
         roots.push(Root::Attached(cell.id))?;
     }
     Ok(())
+}
+
+/// Has the root be the view, if it is the task of the view.
+fn renew_root(root: &mut Root, view: &TaskView)
+    ensures { root.new ≡ renewed_root view.now root.old }
+{
+    if let Root::Task(seen) = root {
+        if seen.get().task == view.task {
+            seen.set(*view);
+        }
+    }
 }
 
 impl Outlook {
@@ -59,5 +71,15 @@ impl Outlook {
         add_attached(&mut roots, fresh)?;
         let places = places_of(alloc, present, fresh)?;
         Ok(Outlook { places, roots })
+    }
+
+    /// Has holding begin where the task of the view is seen now. This takes no memory.
+    pub fn renew(&mut self, view: TaskView)
+        ensures places { self.new.places ≡ self.old.places }
+        ensures roots { self.new.roots.items ≡ map (renewed_root view) self.old.roots.items }
+    {
+        for root in self.roots.iter_mut() {
+            renew_root(root, &view);
+        }
     }
 }

@@ -7,11 +7,12 @@
 --     first_uncovered w c gathered   the first need of another cell that has lost its provider
 --     plan_of sources w c            all that is decided before anything changes, and the machine with the new cells linked
 --     with_routines c plan           that machine after the routines
+--     with_sequel c plan             and once the task has begun again, if one does
 --     make_change sources w c        the machine after the change, or its first refusal
-use Rattle.std.specs.Prelude.{ℕ, suc, ◌+◌, nat_lt, Bool, false, not, ◌&&◌, List, [], ◌∷◌, ◌++◌, Option, Some, None, Ok, filter, filter_map, length, option_map, if◌then◌else◌}
+use Rattle.std.specs.Prelude.{ℕ, suc, ◌+◌, nat_lt, Bool, false, not, ◌&&◌, List, [], ◌∷◌, ◌++◌, Option, Some, None, Ok, filter, filter_map, length, option_and_then, option_map, if◌then◌else◌}
 use Rattle.cell_num.specs.Lists.{holds}
 use Rattle.cell_world.specs.declared.refusal.Refusal.{Refusal}
-use Rattle.cell_world.specs.World.{World, Cell}
+use Rattle.cell_world.specs.World.{World, Cell, Task, task_of}
 use Rattle.cell_world.specs.Linked.Relink.{field_count, relink}
 use Rattle.cell_world.specs.Placed.Place.{place_all}
 use Rattle.cell_world.specs.Gather.{Source, Need, append_cell, bring, fresh_cells, first_lack, missing}
@@ -22,6 +23,7 @@ use Rattle.cell_world.specs.Changed.{FieldAt, changed_fields}
 use Rattle.cell_world.specs.Linked.Linking.{link_refusal}
 use Rattle.cell_world.specs.declared.transfer.Routine.{Routine}
 use Rattle.cell_world.specs.Running.Transfer.{Addresses, transfer}
+use Rattle.cell_world.specs.Running.Restart.{no_entry_again, restarted_in, restart_by}
 use Rattle.cell_world.specs.Commands.SwapTransfer.{begins_of, stack_for, routines_in, addresses_in, transferred_by}
 use Rattle.cell_world.specs.Outcome.{Outcome, ◌>>=◌, ◌>>◌, refused_by, each}
 use Rattle.cell_world.specs.Answer.{numbers_of}
@@ -41,10 +43,12 @@ pub record Change : Type 0 where
   -- what runs once all is linked, and how many turns there are for all of it
   pub routines : List (List ℕ)
   pub budget : ℕ
+  -- the number of the task that begins again after them, if one does
+  pub restarts : Option ℕ
 
 -- new cells beside the others, and no more
 abbrev pub adding : List Want → Change
-adding wants = record { wants = wants; reexport = false; strict = false; routines = []; budget = 0 }
+adding wants = record { wants = wants; reexport = false; strict = false; routines = []; budget = 0; restarts = None }
 
 abbrev pub replaced : Change → List Cell
 replaced c = filter_map (λ want. want.replaces) c.wants
@@ -92,22 +96,36 @@ is_bystander w c d = nat_lt d.id.0 w.next_cell && not (holds (old_of c) d.id.0)
 abbrev pub first_uncovered : World → Change → World → Option Need
 first_uncovered w c gathered = first_lack gathered (filter (is_bystander w c) gathered.cells)
 
+-- the live task that begins again
+abbrev pub restarting : World → Change → Option Task
+restarting w c = option_and_then (task_of w) c.restarts
+
+-- what it is refused for, where it has no place to begin among these cells
+abbrev pub restart_refusal : World → Change → World → Option Refusal
+restart_refusal w c gathered = option_and_then (no_entry_again gathered) (restarting w c)
+
+-- the task as it begins among them
+abbrev pub restarted_task : World → Change → World → Option Task
+restarted_task w c placed = option_and_then (restarted_in placed) (restarting w c)
+
 -- a change that nothing stands in the way of: the new cells, the fields of others that change, the machine with all of it linked,
--- and the routines that run then, on the stack that starts there
+-- the routines that run then, on the stack that starts there, and the task that begins again, as it begins
 pub record Plan : Type 0 where
   pub fresh : List Cell
   pub changed : List FieldAt
   pub linked : World
   pub stack : Option ℕ
   pub routines : List Routine
+  pub restarted : Option Task
 
--- In this order: the new cells; each other cell still has what it needs; the routines are there; there is room, for the new cells and
--- then for the routines' stack; each entry of a new cell fits, and then each that changes; no task stands inside what changes
+-- In this order: the new cells; each other cell still has what it needs; the routines are there, and the place where the task begins
+-- again; there is room, for the new cells and then for the routines' stack; each entry of a new cell fits, and then each that changes; no task stands inside what changes
 abbrev pub plan_of : List Source → World → Change → Outcome Plan
 plan_of sources w c = do
   gathered ← gather sources w c
   refused_by (option_map missing (first_uncovered w c gathered))
   begins ← begins_of (new_since w gathered) c.routines
+  refused_by (restart_refusal w c gathered)
   placed ← place_all gathered (new_since w gathered)
   stack ← stack_for placed c.routines
   refused_by (link_refusal w placed)
@@ -117,6 +135,7 @@ plan_of sources w c = do
     linked = relink placed;
     stack = stack;
     routines = routines_in placed begins;
+    restarted = restarted_task w c placed;
   })
 
 -- what the routines may ask for, in the change's order
@@ -130,13 +149,16 @@ with_routines c plan =
       | Some stack ↦ transferred_by c.routines (transfer plan.linked stack (addresses_of c plan) plan.routines c.budget)
     ]
 
+abbrev pub with_sequel : Change → Plan → Outcome World
+with_sequel c plan = with_routines c plan >>= (λ second. Ok (restart_by plan.restarted second))
+
 abbrev pub first_held_old : Change → World → Option Refusal
-first_held_old c second = if c.strict then first_held (holding_of second) (old_of c) else None
+first_held_old c last = if c.strict then first_held (holding_of last) (old_of c) else None
 
 -- where cells were replaced, every cell goes that is put aside and that nobody keeps
 abbrev pub garbage_after : List ℕ → World → List ℕ
-garbage_after [] second = []
-garbage_after (old ∷ more) second = garbage_of second
+garbage_after [] last = []
+garbage_after (old ∷ more) last = garbage_of last
 
 -- the new cells, how many fields were written, the cells that went, and the machine without them
 pub record Made : Type 0 where
@@ -146,19 +168,19 @@ pub record Made : Type 0 where
   pub world : World
 
 abbrev pub made_by : Change → Plan → World → Made
-made_by c plan second =
-    let removed = garbage_after (old_of c) second in
+made_by c plan last =
+    let removed = garbage_after (old_of c) last in
     record {
       fresh = plan.fresh;
       patched = field_count plan.fresh + length plan.changed;
       removed = removed;
-      world = without_cells second removed;
+      world = without_cells last removed;
     }
 
--- Then the new cells are there. The routines end well, and no replaced cell is held where none may be
+-- Then the new cells are there. The routines end well, the task begins again, and no replaced cell is held where none may be
 abbrev pub make_change : List Source → World → Change → Outcome Made
 make_change sources w c = do
   plan ← plan_of sources w c
-  second ← with_routines c plan
-  refused_by (first_held_old c second)
-  Ok (made_by c plan second)
+  last ← with_sequel c plan
+  refused_by (first_held_old c last)
+  Ok (made_by c plan last)

@@ -124,6 +124,10 @@ abbrev pub is_sound_task : World → Task → Bool
 is_sound_task w t =
     nat_lt t.number w.next_task && is_some (cell_of w t.root) && (length t.registers == 32) && (slice_index t.registers 0 == 0)
 
+-- the namespace of its spawn is there
+abbrev pub has_known_origin : World → Task → Bool
+has_known_origin w t = nat_lt t.origin.ns (length w.namespaces)
+
 -- The parts of a machine that a group of facts reads. What leaves those alone hands the group on as it is.
 abbrev pub only_cells : World → World
 only_cells w = record w { links = []; regions = []; tasks = []; base = 0; pages = 0; next_task = 0 }
@@ -185,6 +189,7 @@ pub record IsReady (w : World) : Type 0 where
   pub open memory use *
   pub running : AreSoundTasks (only_tasks w)
   pub open running use *
+  pub origins : IsTrue (list_all (has_known_origin w) w.tasks)
   pub space : IsSpace w.base w.pages
 
 -- memory and links are those of the objects

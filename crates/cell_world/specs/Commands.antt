@@ -6,6 +6,7 @@ pub mod FindCommand
 pub mod LinkCommands
 pub mod MapCommand
 pub mod NsCommand
+pub mod Recovery
 pub mod SpawnCommand
 pub mod SwapTransfer
 pub mod TaskCommands

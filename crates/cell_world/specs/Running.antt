@@ -2,6 +2,7 @@
 pub mod Execute
 pub mod Memory
 pub mod Move
+pub mod Restart
 pub mod Transfer
 pub mod Turn
 pub mod Undo

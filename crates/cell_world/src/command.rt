@@ -88,4 +88,12 @@ pub enum Command {
     },
     /// Show the whole machine.
     DumpAll,
+    /// Renew the cell that a faulted task stands in, and begin the task again.
+    Recover {
+        task: u32,
+    },
+    /// Renew every attached cell that a faulted task holds, and begin the task again.
+    Rebuild {
+        task: u32,
+    },
 }

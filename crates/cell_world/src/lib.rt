@@ -21,6 +21,6 @@ pub use line::{DumpLine, Part};
 pub use refusal::{Many, Refusal};
 pub use reply::{Found, LinkLine, MapCell, MapSection, Reply, TaskLine, TaskRun, TaskState};
 pub use state::{
-    LinkRow, Namespace, NewCell, Permission, Placed, Region, SecPlace, Standing, Target,
+    LinkRow, Namespace, NewCell, Origin, Permission, Placed, Region, SecPlace, Standing, Target,
 };
 pub use transfer::{Failure, NameAddr, Record, Routine};

@@ -92,4 +92,13 @@ pub enum Refusal {
         cell: CellId,
         holder: Holder,
     },
+    /// E16: the task is ready, so there is nothing to recover from.
+    NotFaulted {
+        task: u32,
+    },
+    /// E17: no attached cell is there to be renewed for the task, which faulted at that pc.
+    NoCrate {
+        task: u32,
+        pc: u64,
+    },
 }

@@ -144,4 +144,22 @@ pub enum Reply {
     DumpAll {
         lines: Listed<DumpLine>,
     },
+    /// The task that begins again, and the swap as `Swap` has it.
+    Recover {
+        task: u32,
+        number: u32,
+        fresh: Listed<CellId>,
+        patched: u32,
+        removed: Listed<CellId>,
+        kept: Listed<CellId>,
+    },
+    /// The same, of all cells that the task held.
+    Rebuild {
+        task: u32,
+        number: u32,
+        fresh: Listed<CellId>,
+        patched: u32,
+        removed: Listed<CellId>,
+        kept: Listed<CellId>,
+    },
 }

@@ -9,6 +9,7 @@ use Rattle.cell_world.specs.Placed.Pages.{longest_run, lowest_run}
 use Rattle.cell_world.specs.Placed.Place.{page_table, start_of_run}
 use Rattle.cell_world.specs.Change.{Change as ChangeSaid, addresses_of, first_held_old, replaced, with_routines}
 use Rattle.cell_world.specs.Commands.SwapTransfer.{Begin, addresses_in, transferred_by}
+use Rattle.cell_world.specs.Running.Restart.{restart_by}
 use Rattle.cell_world.specs.Running.Transfer.{Addresses, transfer}
 use Rattle.cell_world.specs.World.{Cell, World}
 use Rattle.cell_world.specs.Names.{names_of}
@@ -168,7 +169,8 @@ module _ {first : Machine} {asked : Change} {r : Ready} (q : CanFinish first ask
 
   -- what the change comes to, where a routine fails
   pub failed_so : (e : Refusal) → with_routines change q.is.plan ≡ Err e → ended change q.is.plan ≡ Err e
-  failed_so e is = ap (λ (x : Outcome World). x >>= (λ w. refused_by (first_held_old change w) >> Ok w)) is
+  failed_so e is =
+      ap (λ (x : Outcome World). (x >>= (λ second. let y : Outcome World = Ok (restart_by q.is.plan.restarted second) in y)) >>= (λ w. refused_by (first_held_old change w) >> Ok w)) is
 
   module _ (n : Machine) (values : List FieldValue) (as_patched : values ≡ r.plan.patches.items) (left : length r.plan.links.unbinds.items ≤ n.graph.spare_rows)
       (commits : (c : IsCommittable first r.plan.staged r.prepared values r.plan.links)
@@ -386,11 +388,13 @@ module _ {first : Machine} {asked : Change} {r : Ready} (q : CanFinish first ask
             way_back = way_back (Ok tt) s x;
             entered = record {
               whole = whole_again (record n { memory = s }) second.sound;
-              is = second.is;
               cells = cells_are m p q.is k r q.ready (suspended n) all_added ∙ ap (λ (cs : List Cell). (world_of m).cells ++ cs) (sym (fresh_is m p q.is k r q.ready));
               placed = (is_added m p q.is k r q.ready (suspended n) all_added).is.cells;
               counted = counted s second.patches second.maps;
             };
+            is = second.is;
+            tasks = (is_added m p q.is k r q.ready (suspended n) all_added).is.tasks;
+            outlook_is = ap (λ (x : Plan). x.outlook) q.ready.plan;
             looked = looks_again (record n { memory = s }) asked.replaced.items r.plan.outlook (looked m p q.is k r q.ready (suspended n) all_added (with_undo None s) second.sound);
           }
 

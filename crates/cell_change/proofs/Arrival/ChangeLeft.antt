@@ -5,7 +5,7 @@ use Rattle.cell_num.specs.Lists.{holds}
 use Rattle.std.proofs.lemmas.List.{length-map}
 use Rattle.cell_num.specs.declared.ids.CellId.{CellId}
 use Rattle.cell_num.proofs.Sublists.{In-fixed}
-use Rattle.cell_world.specs.Change.{Change as ChangeSaid, first_held_old, garbage_after, old_of}
+use Rattle.cell_world.specs.Change.{Change as ChangeSaid, first_held_old, garbage_after, old_of, with_sequel}
 use Rattle.cell_world.specs.Kept.{Holding, holding_of}
 use Rattle.cell_world.specs.Outcome.{Outcome, ◌>>=◌, ◌>>◌, refused_by}
 use Rattle.cell_world.specs.Commands.UnloadCommand.{detached_of, first_held, garbage_of, purged, put_aside, without_cells}
@@ -24,6 +24,7 @@ use Rattle.cell_change.specs.declared.request.Change.{Change}
 use Rattle.cell_change.specs.declared.made.Made.{Made}
 use Rattle.cell_change.specs.declared.ready.Ready.{Ready}
 use Rattle.cell_change.specs.declared.planning.Plan.{Plan}
+use Rattle.cell_change.specs.Asking.{is_strict}
 use Rattle.cell_change.specs.Entering.{HasEntered, HasTried, Reads}
 use Rattle.cell_change.specs.Exchanged.{CanFinish, HasFinished, are_aside, ended, named_in}
 use Rattle.cell_change.specs.Planning.{wish}
@@ -62,12 +63,12 @@ module _ {first : Machine} {asked : Change} {r : Ready} (q : CanFinish first ask
   nothing_aside : aside_in n [] ≡ world_of n
   nothing_aside = ap (λ (cells : List Cell). let w : World = record (world_of n) { cells = cells } in w) (In-fixed (put_aside (suc (world_of n).swaps) []) (world_of n).cells (λ c i. refl))
 
-  held_is : (if asked.options.strict then first_held (holding_in n []) (map (λ c. c.0) asked.replaced.items) else None) ≡ first_held_old change (world_of n)
-  held_is = ap₂ (λ (h : Holding) (ns : List ℕ). if asked.options.strict then first_held h ns else None) (ap holding_of nothing_aside) q.is.begun.found.old
+  held_is : (if is_strict asked.options.ending then first_held (holding_in n []) (map (λ c. c.0) asked.replaced.items) else None) ≡ first_held_old change (world_of n)
+  held_is = ap₂ (λ (h : Holding) (ns : List ℕ). if is_strict asked.options.ending then first_held h ns else None) (ap holding_of nothing_aside) q.is.begun.found.old
 
-  pub ended_so : (o : Option Refusal) → o ≡ (if asked.options.strict then first_held (holding_in n []) (map (λ c. c.0) asked.replaced.items) else None) → ended change q.is.plan ≡ (refused_by o >> Ok (world_of n))
-  ended_so o same =
-      ap (λ (x : Outcome World). x >>= (λ w. refused_by (first_held_old change w) >> Ok w)) e.is
+  pub ended_so : with_sequel change q.is.plan ≡ Ok (world_of n) → (o : Option Refusal) → o ≡ (if is_strict asked.options.ending then first_held (holding_in n []) (map (λ c. c.0) asked.replaced.items) else None) → ended change q.is.plan ≡ (refused_by o >> Ok (world_of n))
+  ended_so is o same =
+      ap (λ (x : Outcome World). x >>= (λ w. refused_by (first_held_old change w) >> Ok w)) is
       ∙ ap (λ (x : Option Refusal). refused_by x >> (let y : Outcome World = Ok (world_of n) in y)) (sym (same ∙ held_is))
 
   -- the last machine

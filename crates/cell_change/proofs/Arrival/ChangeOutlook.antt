@@ -8,7 +8,6 @@ use Rattle.cell_num.specs.declared.ids.CellId.{CellId}
 use Rattle.cell_hold.specs.declared.roots.Root.{Root}
 use Rattle.cell_hold.specs.declared.roots.Root.TheVariants.{Attached as AttachedRoot}
 use Rattle.cell_hold.specs.Roots.{attached_by, claims_by, named_by}
-use Rattle.cell_task.specs.State.{TasksState}
 use Rattle.cell_world.specs.Answer.{numbers_of}
 use Rattle.cell_world.specs.Kept.{placed_in}
 use Rattle.cell_world.specs.Commands.MapCommand.{group_of}
@@ -84,12 +83,12 @@ all_three {X} p a b c h = In-all p ((a ++ b) ++ c) (λ x i. all-In p ((a ++ c) +
         first x (inr j) = In-right (a ++ c) b x j
 
 module _ (before : Machine) (old : List CellId) (m n : Machine) (before_sound : IsSound before) (aside : IsAside before old m) (sound : IsSound n) (new : List Cell) (are : (world_of n).cells ≡ (world_of m).cells ++ new)
-    (stand : (c : Cell) → In c new → c.standing ≡ Attached) (tasks : n.tasks ≡ m.tasks) (staged : List NewCell) (placed : staged ≡ map placed_of new) (items : n.cells.items ≡ m.cells.items ++ staged) where
+    (stand : (c : Cell) → In c new → c.standing ≡ Attached) (staged : List NewCell) (placed : staged ≡ map placed_of new) (items : n.cells.items ≡ m.cells.items ++ staged) where
   abbrev begun : List Root
   begun = flat_map (root_of old) (world_of before).cells
 
   abbrev live : List Root
-  live = map root_of_task before.tasks.tasks
+  live = map root_of_task n.tasks.tasks
 
   abbrev fresh : List Root
   fresh = map new_root staged
@@ -102,12 +101,12 @@ module _ (before : Machine) (old : List CellId) (m n : Machine) (before_sound : 
 
   -- the roots of the machine with the new cells
   in_order : (begun ++ fresh) ++ live ≡ roots_without n []
-  in_order = sym (ap₂ (λ (xs : List Root) (ts : TasksState). xs ++ map root_of_task ts.tasks) by_cells (tasks ∙ aside.tasks))
+  in_order = sym (ap (λ (xs : List Root). xs ++ map root_of_task n.tasks.tasks) by_cells)
 
   attached_now : flat_map attached_by ((begun ++ live) ++ fresh) ≡ flat_map attached_by ((begun ++ fresh) ++ live)
   attached_now =
       flat_three attached_by begun live fresh
-      ∙ (empty_middle (flat_map attached_by begun) (flat_map attached_by live) (flat_map attached_by fresh) (attached_are [] 0 [] before.tasks.tasks live refl)
+      ∙ (empty_middle (flat_map attached_by begun) (flat_map attached_by live) (flat_map attached_by fresh) (attached_are [] 0 [] n.tasks.tasks live refl)
       ∙ sym (flat_three attached_by begun fresh live))
 
   claims_now : flat_map (claims_by n.memory.regions) ((begun ++ live) ++ fresh) ≡ flat_map (claims_by n.memory.regions) ((begun ++ fresh) ++ live)
@@ -119,7 +118,7 @@ module _ (before : Machine) (old : List CellId) (m n : Machine) (before_sound : 
   abbrev is_named : Root → Bool
   is_named root = list_all (holds (numbers_of (world_of n).cells)) (named_by root)
 
-  pub outlook_after : (o : Outlook) → o.places ≡ flat_map (λ c. placed_in (attached c)) (m.cells.items ++ staged) → o.roots.items ≡ roots_without before old ++ fresh → IsOutlook n [] o
+  pub outlook_after : (o : Outlook) → o.places ≡ flat_map (λ c. placed_in (attached c)) (m.cells.items ++ staged) → o.roots.items ≡ (begun ++ live) ++ fresh → IsOutlook n [] o
   outlook_after o places rooted = record {
     sections = places ∙ (ap (flat_map (λ (c : NewCell). placed_in (attached c))) (sym items) ∙ all_there n sound);
     attached =

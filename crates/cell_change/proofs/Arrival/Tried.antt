@@ -4,20 +4,34 @@ use Rattle.std.specs.Prelude.{Ok, vec_capacity}
 use Rattle.std.proofs.lemmas.List.{length-append}
 use Rattle.cell_num.specs.declared.ids.CellId.{CellId}
 use Rattle.cell_mem.specs.State.{MemoryState}
+use Rattle.cell_world.specs.Change.{with_sequel}
+use Rattle.cell_world.specs.Outcome.{Outcome, ◌>>=◌}
+use Rattle.cell_world.specs.Running.Restart.{restart_by}
+use Rattle.cell_world.specs.World.{Task, World}
 use Rattle.cell_machine.specs.declared.machine.Machine.{Machine}
 use Rattle.cell_unload.specs.declared.outlook.Outlook.{Outlook}
 use Rattle.cell_unload.specs.declared.survey.Survey.{Survey}
 use Rattle.cell_machine.specs.Machine.{IsSound, world_of}
 use Rattle.cell_machine.specs.Same.{IsSame, without_counts}
 use Rattle.cell_commit.specs.declared.wiring.Rewiring.{Rewiring}
+use Rattle.cell_load.specs.declared.prepared.Prepared.{Prepared}
+use Rattle.cell_xfer.specs.declared.carrying.Transfer.{Transfer}
 use Rattle.cell_change.specs.declared.ready.Ready.{Ready}
 use Rattle.cell_change.specs.Back.{CanUndo}
 use Rattle.cell_change.specs.declared.request.Change.{Change}
-use Rattle.cell_change.specs.Entering.{CanTry, HasEntered, HasTried, IsEntered, IsOpen, Reads}
+use Rattle.cell_change.specs.declared.planning.Plan.{Plan}
+use Rattle.cell_change.specs.Entering.{CanRenew, CanSettle, CanTry, HasEntered, HasTried, IsEntered, IsOpen, Reads}
 use Rattle.cell_change.specs.Exchanged.{CanFinish, HasUndone, ended, room_for}
-use Rattle.cell_change.specs.Planning.{wish}
+use Rattle.cell_change.specs.Planning.{BeginsBy, wish}
 use Rattle.cell_change.specs.Sweeping.{CanSweep}
 use Rattle.cell_change.proofs.Arrival.Suspended.{survey_suspended, suspended, whole_suspended}
+
+module _ {first : Machine} {asked : Change} {r : Ready} {q : CanFinish first asked r} {outlook : Option Outlook} {n : Machine} (e : IsEntered q outlook n) where
+  -- no task begins again
+  pub plain_sequel : q.is.plan.restarted ≡ None → with_sequel (wish q.is.begun) q.is.plan ≡ Ok (world_of n)
+  plain_sequel none =
+      ap (λ (x : Outcome World). x >>= (λ second. let y : Outcome World = Ok (restart_by q.is.plan.restarted second) in y)) e.is
+      ∙ ap (λ (o : Option Task). let y : Outcome World = Ok (restart_by o (world_of n)) in y) none
 
 -- the machine after the routines, once the undo is forgotten
 module _ {first : Machine} {asked : Change} {r : Ready} {q : CanFinish first asked r} {outlook : Option Outlook} {n : Machine} (e : IsEntered q outlook n) (s : MemoryState) (out : s ≡ record n.memory { undo = None }) where
@@ -27,7 +41,6 @@ module _ {first : Machine} {asked : Change} {r : Ready} {q : CanFinish first ask
   entered_suspended : HasEntered q (suspended n)
   entered_suspended = record {
     whole = whole_suspended n e.entered.whole;
-    is = e.entered.is;
     cells = e.entered.cells;
     placed = e.entered.placed;
     counted = record { patches = e.entered.patches; maps = e.entered.maps };
@@ -97,3 +110,29 @@ can_sweep {asked = asked} {r = r} {q = q} {survey = survey} {n = n} t = go surve
       removed_room = fits (vec_capacity r.lists.removed) q.ready.lists.removed_room read.0;
       aside_room = fits (vec_capacity r.lists.aside) q.ready.lists.aside_room read.0;
     }
+
+-- the plan's task that begins again, or none
+module _ {first : Machine} {asked : Change} {plan : Plan} {prepared : Prepared} {transfer : Option Transfer} {room : ℕ} (t : CanTry first asked plan prepared transfer room)
+    (outlook : Option Outlook) (n : Machine) (e : IsEntered t.can outlook n) where
+  by_plan : BeginsBy t.can.before asked t.can.is.plan plan.again
+  by_plan = subst (BeginsBy t.can.before asked t.can.is.plan) (sym (ap (λ (p : Plan). p.again) t.can.ready.plan)) t.can.is.again
+
+  pub can_renew : (task : ℕ) → plan.again ≡ Some task → CanRenew n asked task outlook room
+  can_renew task is = record {
+    first = first;
+    ready = record t.rest { plan = plan; prepared = prepared; transfer = transfer };
+    can = t.can;
+    entered = e;
+    fits = t.fits;
+    begun = subst (BeginsBy t.can.before asked t.can.is.plan) is by_plan;
+  }
+
+  pub can_settle : plan.again ≡ None → CanSettle n asked outlook room
+  can_settle is = record {
+    first = first;
+    ready = record t.rest { plan = plan; prepared = prepared; transfer = transfer };
+    can = t.can;
+    entered = e;
+    fits = t.fits;
+    none = subst (BeginsBy t.can.before asked t.can.is.plan) is by_plan;
+  }

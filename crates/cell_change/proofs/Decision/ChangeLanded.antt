@@ -1,9 +1,9 @@
 -- What the new cells of a change come to where they stand, with the old ones put aside.
 use Rattle.std.proofs.Common.{◌≡◌, refl, ◌∙◌, ap, subst, ℕ, ◌+◌, ◌*◌, Bool, true, List, [], ◌∷◌, ◌++◌, map}
-use Rattle.std.specs.Prelude.{Option, Some, None, Ok, Err, filter, nat_le, option_map}
+use Rattle.std.specs.Prelude.{Option, Some, None, Ok, Err, filter, nat_le, nat_lt, option_map}
 use Rattle.std.specs.List.{list_all}
 use Rattle.std.proofs.lemmas.Bool.{and_from, and_parts}
-use Rattle.cell_num.specs.Lists.{holds, or_else, In}
+use Rattle.cell_num.specs.Lists.{each_pair, holds, or_else, In}
 use Rattle.cell_world.specs.declared.layout.Starts.{Starts}
 use Rattle.cell_world.specs.declared.refusal.Refusal.{Refusal}
 use Rattle.cell_world.specs.declared.state.LinkRow.{LinkRow}
@@ -20,7 +20,7 @@ use Rattle.cell_change.specs.Transferring.{pages_for}
 use Rattle.cell_world.specs.Outcome.{Outcome, ◌>>=◌, ◌>>◌, refused_by}
 use Rattle.cell_world.specs.Placed.Place.{page_table, place_all}
 use Rattle.cell_world.specs.Linked.Relink.{relink}
-use Rattle.cell_world.specs.Change.{Change as ChangeSaid, Plan as PlanSaid, first_uncovered, gather, old_of, plan_of}
+use Rattle.cell_world.specs.Change.{Change as ChangeSaid, Plan as PlanSaid, first_uncovered, gather, old_of, plan_of, restart_refusal, restarted_task}
 use Rattle.cell_world.specs.Linked.Linking.{link_refusal}
 use Rattle.cell_world.specs.Torn.{first_torn}
 use Rattle.cell_lemmas.specs.Grown.{links_from, patch_at, with_changes}
@@ -54,13 +54,16 @@ numbers_placed n (s ∷ starts) (c ∷ cells) e =
 module _ (v : World) (asked : ChangeSaid) where
   abbrev stack_then : World → List Begin → Option ℕ → Outcome PlanSaid
   stack_then w begins stack =
-      refused_by (link_refusal v w) >> Ok (record { fresh = fresh_cells v.next_cell w; changed = changed_fields v w; linked = relink w; stack = stack; routines = routines_in w begins })
+      refused_by (link_refusal v w) >> Ok (record { fresh = fresh_cells v.next_cell w; changed = changed_fields v w; linked = relink w; stack = stack; routines = routines_in w begins; restarted = restarted_task v asked w })
 
   abbrev placed_then : List Begin → World → Outcome PlanSaid
   placed_then begins w = stack_for w asked.routines >>= stack_then w begins
 
+  abbrev again_then : World → List Begin → Outcome PlanSaid
+  again_then g begins = place_all g (fresh_cells v.next_cell g) >>= placed_then begins
+
   abbrev begun_then : World → List Begin → Outcome PlanSaid
-  begun_then g begins = place_all g (fresh_cells v.next_cell g) >>= placed_then begins
+  begun_then g begins = refused_by (restart_refusal v asked g) >> again_then g begins
 
   abbrev after_gather : World → Outcome PlanSaid
   after_gather g = refused_by (option_map missing (first_uncovered v asked g)) >> (begins_of (fresh_cells v.next_cell g) asked.routines >>= begun_then g)
@@ -116,6 +119,10 @@ module _ (sources : List Source) (sound : AreSound sources) (v : World) (h : IsC
 
   fresh : fresh_cells v.next_cell g ≡ new
   fresh = fresh_is u base new g.next_cell all_new
+
+  -- the cells are in the order of their numbers
+  pub in_order : each_pair (λ (a b : Cell). nat_lt a.id.0 b.id.0) g.cells ≡ true
+  in_order = reached.0.order
 
   pub old_attached : (c : Cell) → In c v.cells → holds old c.id.0 ≡ true → is_attached c.standing ≡ true
   old_attached = replaced_attached sources v h asked good
@@ -200,81 +207,90 @@ module _ (sources : List Source) (sound : AreSound sources) (v : World) (h : IsC
       by_begins : plan_of sources v asked ≡ begun_then v asked g begins
       by_begins = by_covered ∙ ap (λ (o : Outcome (List Begin)). o >>= begun_then v asked g) begun
 
-      by_places : plan_of sources v asked
-          ≡ ((take_all u.base (page_table u) (objects_of new) >>= (λ t. let o : Outcome World = Ok (placed_after t.starts u new) in o)) >>= placed_then v asked begins)
-      by_places = by_begins ∙ ap (λ (o : Outcome World). o >>= placed_then v asked begins) places_are
+      -- the task that is to begin again has no place to begin
+      pub misplaced : (r : Refusal) → restart_refusal v asked g ≡ Some r → plan_of sources v asked ≡ Err r
+      misplaced r e = by_begins ∙ ap (λ (o : Option Refusal). refused_by o >> again_then v asked g begins) e
 
-      -- no run is long enough
-      full : (r : Refusal) → take_all u.base (page_table u) (objects_of new) ≡ Err r → plan_of sources v asked ≡ Err r
-      full r e = by_places ∙ ap (λ (o : Outcome ManyTaken). (o >>= (λ t. let p : Outcome World = Ok (placed_after t.starts u new) in p)) >>= placed_then v asked begins) e
+      module _ (again : restart_refusal v asked g ≡ None) where
+        by_again : plan_of sources v asked ≡ again_then v asked g begins
+        by_again = by_begins ∙ ap (λ (o : Option Refusal). refused_by o >> again_then v asked g begins) again
 
-      module _ (t : ManyTaken) (runs : take_all u.base (page_table u) (objects_of new) ≡ Ok t) where
-        by_world : plan_of sources v asked ≡ placed_then v asked begins (W t runs)
-        by_world = by_places ∙ ap (λ (o : Outcome ManyTaken). (o >>= (λ t. let p : Outcome World = Ok (placed_after t.starts u new) in p)) >>= placed_then v asked begins) runs
+        by_places : plan_of sources v asked
+            ≡ ((take_all u.base (page_table u) (objects_of new) >>= (λ t. let o : Outcome World = Ok (placed_after t.starts u new) in o)) >>= placed_then v asked begins)
+        by_places = by_again ∙ ap (λ (o : Outcome World). o >>= placed_then v asked begins) places_are
 
-        -- there is no stack
-        no_stack : (r : Refusal) → extra_start u.base t.table (pages_for words) ≡ Err r → plan_of sources v asked ≡ Err r
-        no_stack r e = by_world ∙ ap (λ (o : Outcome (Option ℕ)). o >>= stack_then v asked (W t runs) begins) (stack_at t runs ∙ e)
+        -- no run is long enough
+        full : (r : Refusal) → take_all u.base (page_table u) (objects_of new) ≡ Err r → plan_of sources v asked ≡ Err r
+        full r e = by_places ∙ ap (λ (o : Outcome ManyTaken). (o >>= (λ t. let p : Outcome World = Ok (placed_after t.starts u new) in p)) >>= placed_then v asked begins) e
 
-        module _ (stack : Option ℕ) (at : extra_start u.base t.table (pages_for words) ≡ Ok stack) where
-          -- the plan, if nothing stands in its way
-          abbrev pub plan : PlanSaid
-          plan = record {
-            fresh = fresh_cells v.next_cell (W t runs);
-            changed = changed_fields v (W t runs);
-            linked = relink (W t runs);
-            stack = stack;
-            routines = routines_in (W t runs) begins;
-          }
+        module _ (t : ManyTaken) (runs : take_all u.base (page_table u) (objects_of new) ≡ Ok t) where
+          by_world : plan_of sources v asked ≡ placed_then v asked begins (W t runs)
+          by_world = by_places ∙ ap (λ (o : Outcome ManyTaken). (o >>= (λ t. let p : Outcome World = Ok (placed_after t.starts u new) in p)) >>= placed_then v asked begins) runs
 
-          abbrev torn : Option Refusal
-          torn = first_torn (changed_fields v (W t runs)) (filter is_ready v.tasks)
+          -- there is no stack
+          no_stack : (r : Refusal) → extra_start u.base t.table (pages_for words) ≡ Err r → plan_of sources v asked ≡ Err r
+          no_stack r e = by_world ∙ ap (λ (o : Outcome (Option ℕ)). o >>= stack_then v asked (W t runs) begins) (stack_at t runs ∙ e)
 
-          -- the plan, unless that refuses it
-          abbrev unless : Option Refusal → Outcome PlanSaid
-          unless o = refused_by o >> Ok plan
+          module _ (stack : Option ℕ) (at : extra_start u.base t.table (pages_for words) ≡ Ok stack) where
+            -- the plan, if nothing stands in its way
+            abbrev pub plan : PlanSaid
+            plan = record {
+              fresh = fresh_cells v.next_cell (W t runs);
+              changed = changed_fields v (W t runs);
+              linked = relink (W t runs);
+              stack = stack;
+              routines = routines_in (W t runs) begins;
+              restarted = restarted_task v asked (W t runs);
+            }
 
-          planned : plan_of sources v asked ≡ stack_then v asked (W t runs) begins stack
-          planned = by_world ∙ ap (λ (o : Outcome (Option ℕ)). o >>= stack_then v asked (W t runs) begins) (stack_at t runs ∙ at)
+            abbrev torn : Option Refusal
+            torn = first_torn (changed_fields v (W t runs)) (filter is_ready v.tasks)
 
-          pub overflows : (r : Refusal) → first_misfit (W t runs) (F t runs) ≡ Some r → plan_of sources v asked ≡ Err r
-          overflows r e = planned ∙ ap (λ (o : Option Refusal). unless (or_else o (or_else (first_changed_misfit v (W t runs) v.cells) torn))) (ap (first_misfit (W t runs)) (fresh_placed t runs) ∙ e)
+            -- the plan, unless that refuses it
+            abbrev unless : Option Refusal → Outcome PlanSaid
+            unless o = refused_by o >> Ok plan
 
-          module _ (fit : first_misfit (W t runs) (F t runs) ≡ None) where
-            so_far : plan_of sources v asked ≡ unless (or_else (first_changed_misfit v (W t runs) v.cells) torn)
-            so_far = planned ∙ ap (λ (o : Option Refusal). unless (or_else o (or_else (first_changed_misfit v (W t runs) v.cells) torn))) (ap (first_misfit (W t runs)) (fresh_placed t runs) ∙ fit)
+            planned : plan_of sources v asked ≡ stack_then v asked (W t runs) begins stack
+            planned = by_world ∙ ap (λ (o : Outcome (Option ℕ)). o >>= stack_then v asked (W t runs) begins) (stack_at t runs ∙ at)
 
-            pub changed_refused : (r : Refusal) → first_changed_misfit v (W t runs) v.cells ≡ Some r → plan_of sources v asked ≡ Err r
-            changed_refused r e = so_far ∙ ap (λ (o : Option Refusal). unless (or_else o torn)) e
+            pub overflows : (r : Refusal) → first_misfit (W t runs) (F t runs) ≡ Some r → plan_of sources v asked ≡ Err r
+            overflows r e = planned ∙ ap (λ (o : Option Refusal). unless (or_else o (or_else (first_changed_misfit v (W t runs) v.cells) torn))) (ap (first_misfit (W t runs)) (fresh_placed t runs) ∙ e)
 
-            module _ (changed_fit : first_changed_misfit v (W t runs) v.cells ≡ None) where
-              fits : plan_of sources v asked ≡ unless torn
-              fits = so_far ∙ ap (λ (o : Option Refusal). unless (or_else o torn)) changed_fit
+            module _ (fit : first_misfit (W t runs) (F t runs) ≡ None) where
+              so_far : plan_of sources v asked ≡ unless (or_else (first_changed_misfit v (W t runs) v.cells) torn)
+              so_far = planned ∙ ap (λ (o : Option Refusal). unless (or_else o (or_else (first_changed_misfit v (W t runs) v.cells) torn))) (ap (first_misfit (W t runs)) (fresh_placed t runs) ∙ fit)
 
-              pub torn_refused : (r : Refusal) → first_torn (changed_fields v (W t runs)) (filter is_ready v.tasks) ≡ Some r → plan_of sources v asked ≡ Err r
-              torn_refused r e = fits ∙ ap unless e
+              pub changed_refused : (r : Refusal) → first_changed_misfit v (W t runs) v.cells ≡ Some r → plan_of sources v asked ≡ Err r
+              changed_refused r e = so_far ∙ ap (λ (o : Option Refusal). unless (or_else o torn)) e
 
-              pub accepted : first_torn (changed_fields v (W t runs)) (filter is_ready v.tasks) ≡ None → plan_of sources v asked ≡ Ok plan
-              accepted e = fits ∙ ap unless e
+              module _ (changed_fit : first_changed_misfit v (W t runs) v.cells ≡ None) where
+                fits : plan_of sources v asked ≡ unless torn
+                fits = so_far ∙ ap (λ (o : Option Refusal). unless (or_else o torn)) changed_fit
 
-      -- there is no room, or an entry doesn't fit
-      pub unplaced : (r : Refusal) → placing u new (pages_for words) ≡ Err r → plan_of sources v asked ≡ Err r
-      unplaced r e = go (take_all u.base (page_table u) (objects_of new)) refl e
-        where
-          same : {A : Type 0} (a b : Refusal) → (let x : Outcome A = Err a in x) ≡ Err b → a ≡ b
-          same a b k = cc
+                pub torn_refused : (r : Refusal) → first_torn (changed_fields v (W t runs)) (filter is_ready v.tasks) ≡ Some r → plan_of sources v asked ≡ Err r
+                torn_refused r e = fits ∙ ap unless e
 
-          unfit : (t : ManyTaken) (runs : take_all u.base (page_table u) (objects_of new) ≡ Ok t) (stack : Option ℕ) → extra_start u.base t.table (pages_for words) ≡ Ok stack
-              → (o : Option Refusal) → first_misfit (placed_after t.starts u new) (placed_cells t.starts new) ≡ o → refused_by o ≡ Err r → plan_of sources v asked ≡ Err r
-          unfit t runs stack at None is k = cc
-          unfit t runs stack at (Some other) is k = overflows t runs stack at r (is ∙ ap Some (same other r k))
+                pub accepted : first_torn (changed_fields v (W t runs)) (filter is_ready v.tasks) ≡ None → plan_of sources v asked ≡ Ok plan
+                accepted e = fits ∙ ap unless e
 
-          stacked : (t : ManyTaken) → take_all u.base (page_table u) (objects_of new) ≡ Ok t → (o : Outcome (Option ℕ)) → extra_start u.base t.table (pages_for words) ≡ o
-              → (o >> refused_by (first_misfit (placed_after t.starts u new) (placed_cells t.starts new))) ≡ Err r → plan_of sources v asked ≡ Err r
-          stacked t runs (Err other) is k = no_stack t runs r (is ∙ ap (λ x. Err x) (same other r k))
-          stacked t runs (Ok stack) is k = unfit t runs stack is (first_misfit (placed_after t.starts u new) (placed_cells t.starts new)) refl k
+        -- there is no room, or an entry doesn't fit
+        pub unplaced : (r : Refusal) → placing u new (pages_for words) ≡ Err r → plan_of sources v asked ≡ Err r
+        unplaced r e = go (take_all u.base (page_table u) (objects_of new)) refl e
+          where
+            same : {A : Type 0} (a b : Refusal) → (let x : Outcome A = Err a in x) ≡ Err b → a ≡ b
+            same a b k = cc
 
-          go : (o : Outcome ManyTaken) → take_all u.base (page_table u) (objects_of new) ≡ o
-              → (o >>= (λ t. extra_start u.base t.table (pages_for words) >> refused_by (first_misfit (placed_after t.starts u new) (placed_cells t.starts new)))) ≡ Err r → plan_of sources v asked ≡ Err r
-          go (Err other) is k = full r (is ∙ ap (λ x. Err x) (same other r k))
-          go (Ok t) is k = stacked t is (extra_start u.base t.table (pages_for words)) refl k
+            unfit : (t : ManyTaken) (runs : take_all u.base (page_table u) (objects_of new) ≡ Ok t) (stack : Option ℕ) → extra_start u.base t.table (pages_for words) ≡ Ok stack
+                → (o : Option Refusal) → first_misfit (placed_after t.starts u new) (placed_cells t.starts new) ≡ o → refused_by o ≡ Err r → plan_of sources v asked ≡ Err r
+            unfit t runs stack at None is k = cc
+            unfit t runs stack at (Some other) is k = overflows t runs stack at r (is ∙ ap Some (same other r k))
+
+            stacked : (t : ManyTaken) → take_all u.base (page_table u) (objects_of new) ≡ Ok t → (o : Outcome (Option ℕ)) → extra_start u.base t.table (pages_for words) ≡ o
+                → (o >> refused_by (first_misfit (placed_after t.starts u new) (placed_cells t.starts new))) ≡ Err r → plan_of sources v asked ≡ Err r
+            stacked t runs (Err other) is k = no_stack t runs r (is ∙ ap (λ x. Err x) (same other r k))
+            stacked t runs (Ok stack) is k = unfit t runs stack is (first_misfit (placed_after t.starts u new) (placed_cells t.starts new)) refl k
+
+            go : (o : Outcome ManyTaken) → take_all u.base (page_table u) (objects_of new) ≡ o
+                → (o >>= (λ t. extra_start u.base t.table (pages_for words) >> refused_by (first_misfit (placed_after t.starts u new) (placed_cells t.starts new)))) ≡ Err r → plan_of sources v asked ≡ Err r
+            go (Err other) is k = full r (is ∙ ap (λ x. Err x) (same other r k))
+            go (Ok t) is k = stacked t is (extra_start u.base t.table (pages_for words)) refl k

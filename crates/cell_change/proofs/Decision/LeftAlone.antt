@@ -1,10 +1,10 @@
--- What a change leaves alone: cells without a WEAK symbol, and without a link into a replaced cell or into one that has one.
-use Rattle.std.proofs.Common.{◌≡◌, refl, sym, ◌∙◌, ap, subst, ℕ, ◌⊎◌, inl, inr, Bool, true, false, not, ◌&&◌, ◌||◌, true≢false, List, ◌++◌, map, Option, Some, None}
+-- What a change leaves alone: cells that await no name which comes, and have no link into a replaced cell or into one that awaits one.
+use Rattle.std.proofs.Common.{◌≡◌, refl, sym, ◌∙◌, ap, ap₂, subst, ℕ, ◌⊎◌, inl, inr, Bool, true, false, not, ◌&&◌, ◌||◌, true≢false, List, ◌++◌, map, Option, Some, None}
 use Rattle.std.specs.Prelude.{filter, filter_map}
 use Rattle.std.specs.List.{list_any}
 use Rattle.std.proofs.lemmas.Bool.{and_parts, or_parts}
 use Rattle.cell_num.specs.Lists.{holds, numbered, numbered_from, In}
-use Rattle.cell_num.proofs.Elements.{In-append, In-filtered, In-map, In-none, In-numbered, all-In, any-Has, filter-Passes, get-In, none-In}
+use Rattle.cell_num.proofs.Elements.{In-append, In-filtered, In-map, In-none, In-numbered, all-In, any-Has, any-In, filter-Passes, get-In, none-In}
 use Rattle.cell_object.specs.declared.object.Entry.{Entry}
 use Rattle.cell_object.specs.declared.object.Symbol.{Symbol}
 use Rattle.cell_object.specs.Parts.{has_no_weak, is_defined, is_weak}
@@ -21,16 +21,29 @@ use Rattle.cell_world.specs.Linked.Relink.{link_of, link_to}
 use Rattle.cell_world.specs.Linked.Target.{target_of}
 use Rattle.cell_world.specs.World.{Alias, Cell, World, key_of}
 use Rattle.cell_lemmas.specs.Targets.{is_target_in}
-use Rattle.cell_lemmas.specs.Touched.{holds_name, touched, yields}
+use Rattle.cell_lemmas.specs.Touched.{awaits, holds_name, touched, yields}
 use Rattle.cell_lemmas.proofs.Holding.KeptPaths.{In-holds, holds-In}
 use Rattle.cell_lemmas.proofs.Naming.Lookups.{filter_map-In, has_place}
 use Rattle.cell_change_law.specs.Sound.{HasCome, IsSound}
 use Rattle.cell_change_law.proofs.Untouched.{change_stays, comers}
 use Rattle.cell_plan.specs.Staying.{is_user, links_in}
 
--- a cell that yields a name defines it as WEAK
-yields_soft : (coming : List Cell) (d : Cell) → yields coming d ≡ true → has_no_weak d.object ≡ false
-yields_soft coming d y = go (has_no_weak d.object) refl
+-- a cell that awaits a name has a WEAK symbol
+pub awaits_soft : (coming : List Cell) (d : Cell) → awaits coming d ≡ true → has_no_weak d.object ≡ false
+awaits_soft coming d y = go (has_no_weak d.object) refl
+  where
+    s : (s : Symbol) × In s d.object.symbols × ((is_weak s.bind && list_any (λ (n : Cell). holds_name n s.name) coming) ≡ true)
+    s = any-Has (λ (s : Symbol). is_weak s.bind && list_any (λ (n : Cell). holds_name n s.name) coming) d.object.symbols y
+
+    go : (b : Bool) → has_no_weak d.object ≡ b → b ≡ false
+    go false e = refl
+    go true e = absurd (true≢false (sym (all-In (λ (s : Symbol). not (is_weak s.bind)) d.object.symbols e s.0 s.1) ∙ ap not (and_parts (is_weak s.0.bind) (list_any (λ (n : Cell). holds_name n s.0.name) coming) s.2).0))
+
+-- a cell that yields a name awaits it
+yields_awaited : (coming : List Cell) (d : Cell) → yields coming d ≡ true → awaits coming d ≡ true
+yields_awaited coming d y =
+    any-In (λ (s : Symbol). is_weak s.bind && list_any (λ (n : Cell). holds_name n s.name) coming) d.object.symbols q.0.1 there
+    (ap₂ (λ a b. a && b) weak (subst (λ (x : Alias). list_any (λ (n : Cell). holds_name n x.name) coming ≡ true) q.2 a.2))
   where
     a : (a : Alias) × In a (weak_definitions_of d.object) × (list_any (λ (n : Cell). holds_name n a.name) coming ≡ true)
     a = any-Has (λ (a : Alias). list_any (λ (n : Cell). holds_name n a.name) coming) (weak_definitions_of d.object) y
@@ -43,10 +56,6 @@ yields_soft coming d y = go (has_no_weak d.object) refl
 
     there : In q.0.1 d.object.symbols
     there = let n = In-numbered d.object.symbols 1 q.0 (In-filtered (λ (q : ℕ × Symbol). is_weak_definition q.1) (numbered_from 1 d.object.symbols) q.0 q.1) in get-In d.object.symbols n.0 q.0.1 n.1
-
-    go : (b : Bool) → has_no_weak d.object ≡ b → b ≡ false
-    go false e = refl
-    go true e = absurd (true≢false (sym (all-In (λ (s : Symbol). not (is_weak s.bind)) d.object.symbols e q.0.1 there) ∙ ap not weak))
 
 -- a target in one of the cells would have a link
 no_target : (numbers : List ℕ) (v : World) (c : Cell) → is_user v numbers c ≡ false → (e : Entry) → In e c.object.entries → is_target_in numbers (target_of v c e) ≡ false
@@ -64,7 +73,7 @@ no_target numbers v c none e j = go (target_of v c e) refl
         none-In (λ (l : LinkRow). holds numbers l.target.cell.0) (links_in v c) none row (filter_map-In (link_of v c) (numbered c.object.entries) (n.0, e) row n.1 one)
 
 module _ (sources : List Source) (sound : AreSound sources) (v : World) (h : IsCoherent v) (asked : ChangeSaid) (good : IsSound sources v asked) (w : World) (p : HasCome sources v asked w)
-    (softs : List ℕ) (soft : (d : Cell) → In d v.cells → has_no_weak d.object ≡ false → holds softs d.id.0 ≡ true) where
+    (softs : List ℕ) (soft : (d : Cell) → In d v.cells → awaits (comers sources sound v h asked good p.gathered p.gathering w p.placing p.covered) d ≡ true → holds softs d.id.0 ≡ true) where
   abbrev old : List ℕ
   old = old_of asked
 
@@ -83,7 +92,7 @@ module _ (sources : List Source) (sound : AreSound sources) (v : World) (h : IsC
       by l i (inl j) = true≢false (sym (In-holds old l.target.cell.0 j) ∙ none-In (λ (l : LinkRow). holds old l.target.cell.0) (links_in v c) olds l i)
       by l i (inr j) =
           let d = In-map (λ (d : Cell). d.id.0) (filter (yields coming) v.cells) l.target.cell.0 j in
-          let there : holds softs d.0.id.0 ≡ true = soft d.0 (In-filtered (yields coming) v.cells d.0 d.1) (yields_soft coming d.0 (filter-Passes (yields coming) v.cells d.0 d.1)) in
+          let there : holds softs d.0.id.0 ≡ true = soft d.0 (In-filtered (yields coming) v.cells d.0 d.1) (yields_awaited coming d.0 (filter-Passes (yields coming) v.cells d.0 d.1)) in
           true≢false (sym (subst (λ (n : ℕ). holds softs n ≡ true) (sym d.2) there) ∙ none-In (λ (l : LinkRow). holds softs l.target.cell.0) (links_in v c) others l i)
 
       go : (l : LinkRow) → In l (links_in v c) → (b : Bool) → holds (touched v old coming) l.target.cell.0 ≡ b → b ≡ false
@@ -95,12 +104,12 @@ module _ (sources : List Source) (sound : AreSound sources) (v : World) (h : IsC
   left_alone c i unpicked e j =
       let olds = or_parts (is_user v old c) (is_user v softs c || holds softs c.id.0) unpicked in
       let others = or_parts (is_user v softs c) (holds softs c.id.0) olds.1 in
-      change_stays sources sound v h asked good p.gathered p.gathering w p.placing p.covered c i (plain others.1) e j
+      change_stays sources sound v h asked good p.gathered p.gathering w p.placing p.covered c i (quiet others.1) e j
       (no_target (touched v old coming) v c (untouched c olds.0 others.0) e j)
     where
-      plain : holds softs c.id.0 ≡ false → has_no_weak c.object ≡ true
-      plain out = go (has_no_weak c.object) refl
+      quiet : holds softs c.id.0 ≡ false → awaits coming c ≡ false
+      quiet out = go (awaits coming c) refl
         where
-          go : (b : Bool) → has_no_weak c.object ≡ b → b ≡ true
-          go true k = refl
-          go false k = absurd (true≢false (sym (soft c i k) ∙ out))
+          go : (b : Bool) → awaits coming c ≡ b → b ≡ false
+          go false k = refl
+          go true k = absurd (true≢false (sym (soft c i k) ∙ out))

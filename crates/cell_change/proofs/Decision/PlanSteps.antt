@@ -1,8 +1,8 @@
 -- The steps of a plan, one after another: what each asks, and which refusal of the definition one that fails gives.
-use Rattle.std.proofs.Common.{◌≡◌, refl, sym, ◌∙◌, ap, ap₂, subst, arith, ℕ, ◌+◌, ◌*◌, ◌<◌, ◌^◌, Bor, Global, Vec, List, ◌++◌, ◌≤◌, refl, map, length, Ok}
-use Rattle.std.specs.Prelude.{All, IsTrue, Option, None, Err, filter, nat_lt, option_map}
+use Rattle.std.proofs.Common.{◌≡◌, refl, sym, ◌∙◌, ap, ap₂, subst, arith, ◌⊎◌, inl, inr, ℕ, ◌+◌, ◌*◌, ◌<◌, ◌^◌, Bor, Global, Vec, List, ◌++◌, ◌≤◌, refl, map, length, Ok}
+use Rattle.std.specs.Prelude.{All, IsTrue, Option, None, Err, filter, nat_lt, option_and_then, option_map}
 use Rattle.std.proofs.lemmas.Bool.{ltb-true}
-use Rattle.std.proofs.lemmas.List.{length-map}
+use Rattle.std.proofs.lemmas.List.{length-map, map-append}
 use Rattle.cell_num.specs.Lists.{each_pair, In}
 use Rattle.cell_world.specs.declared.fail.Fail.{Fail}
 use Rattle.cell_world.specs.declared.fail.Fail.TheVariants.{Refused, OutOfMemory}
@@ -12,15 +12,16 @@ use Rattle.cell_world.specs.declared.refusal.Refusal.{Refusal}
 use Rattle.cell_world.specs.declared.state.NewCell.{NewCell}
 use Rattle.cell_world.specs.declared.state.Namespace.{Namespace}
 use Rattle.cell_world.specs.Changed.{changed_fields, first_changed_misfit}
-use Rattle.cell_world.specs.Coherent.{IsLoadable, is_known_cell}
+use Rattle.cell_world.specs.Coherent.{IsLoadable, has_known_origin, is_known_cell}
 use Rattle.cell_world.specs.declared.state.SecPlace.{SecPlace}
 use Rattle.cell_world.specs.Gather.{missing}
-use Rattle.cell_world.specs.Change.{first_uncovered}
+use Rattle.cell_world.specs.Change.{first_uncovered, plan_of, restart_refusal, restarting}
+use Rattle.cell_world.specs.Running.Restart.{no_entry_again}
 use Rattle.cell_world.specs.Torn.{first_torn}
 use Rattle.cell_world.specs.World.{Cell, World, attached, is_ready}
 use Rattle.cell_lemmas.specs.Grown.{patch_at}
 use Rattle.cell_lemmas.proofs.Naming.Appended.{unmapped}
-use Rattle.cell_num.proofs.Elements.{All-In, In-All, In-filtered, In-map, all-In, map-In}
+use Rattle.cell_num.proofs.Elements.{All-In, In-All, In-append, In-filtered, In-map, all-In, map-In, pairs-map}
 use Rattle.cell_lemmas.proofs.Naming.Known.{known_parts}
 use Rattle.cell_lemmas.proofs.Placement.Inside.{ready_linkable}
 use Rattle.cell_machine.proofs.Low.{is_low, place_low}
@@ -44,6 +45,8 @@ use Rattle.cell_routines.specs.declared.entries.Begin.{Begin as Place}
 use Rattle.cell_routines.specs.Begins.{begin_as}
 use Rattle.cell_routines.specs.Placed.{routines_among}
 use Rattle.cell_layout.specs.Placing.{extra_start}
+use Rattle.cell_change.specs.Asking.{restart_by}
+use Rattle.cell_change.specs.Restarting.{AreAhead, Begins, KnowOrigins, live_named}
 use Rattle.cell_change.specs.Transferring.{pages_for}
 use Rattle.cell_world.specs.Change.{Plan as PlanSaid}
 use Rattle.cell_change.proofs.Decision.BeginsPlain.{aside_older, begins_long, begins_new, begins_plain, placed_of_new, routines_same}
@@ -58,11 +61,12 @@ use Rattle.cell_plan.specs.Users.{may_change as may_change_by}
 use Rattle.cell_change.specs.declared.affected.Affected.{Affected}
 use Rattle.cell_change.specs.declared.request.Change.{Change}
 use Rattle.cell_change.specs.Planning.{FindsNew, GathersFor, IsAffected, IsBegun, IsGatheredFor, IsPlan, Looks, Plans, numbers_in, view_with, wish}
-use Rattle.cell_change.proofs.Decision.Began.{are, aside_is, h, old, sources, u, v, good}
+use Rattle.cell_change.proofs.Decision.Began.{are, aside_is, good, h, old, parts, sources, u, v}
 use Rattle.cell_change.proofs.Decision.UserChanges.{W, W_is, as_many, fits, patches_from_are, runs, spans_are, taken, unfit_is}
-use Rattle.cell_change.proofs.Decision.Covered.{G, lost_is, gathering}
+use Rattle.cell_change.proofs.Decision.BeginsBy.{begins_by}
+use Rattle.cell_change.proofs.Decision.Covered.{G, gathering, is_ahead, lost_is}
 use Rattle.cell_change.proofs.Decision.Planned.{can_change, ready_to_add, st, starts_same}
-use Rattle.cell_change.proofs.Decision.ChangeLanded.{accepted, changed_refused, fresh_placed, plan as plan_in, torn_refused, unbegun, uncovered, unplaced}
+use Rattle.cell_change.proofs.Decision.ChangeLanded.{accepted, changed_refused, fresh_placed, in_order, misplaced, plan as plan_in, torn_refused, unbegun, uncovered, unplaced}
 use Rattle.cell_change.proofs.Decision.Users.{has_cell, picked, same_place, softs, there_aside, users, users_are}
 
 -- where the routines begin, and their stack, as code says it
@@ -84,6 +88,9 @@ module _ (files : List File) (asked : Change) (m : Machine) (b : IsBegun files a
 
   abbrev before : World
   before = v files asked m b
+
+  named_live : live_named m.tasks (restart_by asked.options.ending) ≡ restarting before (wish b)
+  named_live = ap (λ (ts : TasksState). live_named ts (restart_by asked.options.ending)) b.aside.tasks
 
   pub gather_failed : (fail : Fail) → GathersFor files asked m b (Err fail) → FindsNew files asked m b (Err fail)
   gather_failed (Refused r) e = e
@@ -149,6 +156,40 @@ module _ (files : List File) (asked : Change) (m : Machine) (b : IsBegun files a
       pub all_covered : lost ≡ None → first_uncovered before (wish b) (G files asked m b g gathered) ≡ None
       all_covered e = unmapped missing _ (sym lost_so ∙ e)
 
+      -- the task that is to begin again has a place to begin
+      abbrev HasPlace : Type 0
+      HasPlace = restart_refusal before (wish b) (G files asked m b g gathered) ≡ None
+
+      pub has_place : (again : Option ℕ) → Begins (G files asked m b g gathered) m.tasks (restart_by asked.options.ending) (Ok again) → HasPlace
+      has_place again x = ap (option_and_then (no_entry_again (G files asked m b g gathered))) (sym named_live) ∙ x.0
+
+      pub are_ahead : AreAhead (G files asked m b g gathered) m g
+      are_ahead = record {
+        named = is_ahead files asked m b g gathered;
+        placed =
+            map-append placed_of (u files asked m b).cells (new_cells g)
+            ∙ ap₂ (λ (xs ys : List NewCell). xs ++ ys) (ap (λ (w : World). map placed_of w.cells) (sym (aside_is files asked m b)) ∙ (parts files asked m b).joined.placed) gathered.are.placed;
+      }
+
+      -- what live tasks keep of their spawns is known there
+      pub know_origins : KnowOrigins m g
+      know_origins t i = record {
+        known =
+            subst (λ (ns : List Namespace). t.origin.ns < length ns) (sym (gathered.are.namespaces ∙ b.aside.namespaces))
+            (ltb-true t.origin.ns (length before.namespaces) (all-In (has_known_origin before) before.tasks (h files asked m b).ready.origins t (subst (λ (ts : TasksState). In t ts.tasks) b.aside.tasks i)));
+        rise =
+            subst (λ (cs : List NewCell). IsTrue (each_pair (λ (x y : NewCell). nat_lt x.id.0 y.id.0) cs)) are_ahead.placed
+            (pairs-map (λ (x y : NewCell). nat_lt x.id.0 y.id.0) placed_of (G files asked m b g gathered).cells
+            ∙ in_order (sources files asked m b) (are files asked m b) before (h files asked m b) (wish b) (good files asked m b) (new_cells g) (gathering files asked m b g gathered));
+        loadable = λ c k. loadable c (In-append m.cells.items g.cells.items c k);
+      }
+        where
+          loadable : (c : NewCell) → In c m.cells.items ⊎ In c g.cells.items → IsLoadable c.object
+          loadable c (inl k) =
+              let d = In-map placed_of before.cells c (subst (λ (cs : List NewCell). In c cs) (b.aside.cells ∙ sym b.sound.joined.placed) k) in
+              subst (λ (p : NewCell). IsLoadable p.object) (sym d.2) (All-In (λ (x : Cell). IsLoadable x.object) before.cells (h files asked m b).ready.objects d.0 d.1)
+          loadable c (inr k) = All-In (λ (x : NewCell). IsLoadable x.object) g.cells.items gathered.are.objects c k
+
       module _ (covered : first_uncovered before (wish b) (G files asked m b g gathered) ≡ None) where
         -- the places of routines are a matter of the placed cells
         begins_are : begins_of (map attached g.cells.items) words ≡ begins_of (new_cells g) words
@@ -164,11 +205,17 @@ module _ (files : List File) (asked : Change) (m : Machine) (b : IsBegun files a
           begun_so : begins_of (new_cells g) words ≡ Ok begins
           begun_so = sym begins_are ∙ begun
 
-          pub landing_failed : (roots : Option (List Root)) (fail : Fail) → Lands m g (pages_for words) (Err fail) → Plans files asked m b roots (Err fail)
-          landing_failed roots (Refused r) e =
-              unplaced (sources files asked m b) (are files asked m b) before (h files asked m b) (wish b) (good files asked m b) (new_cells g) (gathering files asked m b g gathered) covered begins begun_so r
+          pub again_failed : (roots : Option (List Root)) (fail : Fail) → Begins (G files asked m b g gathered) m.tasks (restart_by asked.options.ending) (Err fail) → Plans files asked m b roots (Err fail)
+          again_failed roots (Refused r) e =
+              misplaced (sources files asked m b) (are files asked m b) before (h files asked m b) (wish b) (good files asked m b) (new_cells g) (gathering files asked m b g gathered) covered begins begun_so r
+              (ap (option_and_then (no_entry_again (G files asked m b g gathered))) (sym named_live) ∙ e)
+          again_failed roots OutOfMemory e = tt
+
+          pub landing_failed : HasPlace → (roots : Option (List Root)) (fail : Fail) → Lands m g (pages_for words) (Err fail) → Plans files asked m b roots (Err fail)
+          landing_failed again roots (Refused r) e =
+              unplaced (sources files asked m b) (are files asked m b) before (h files asked m b) (wish b) (good files asked m b) (new_cells g) (gathering files asked m b g gathered) covered begins begun_so again r
               (ap (λ (w : World). placing w (new_cells g) (pages_for words)) (sym (aside_is files asked m b)) ∙ e)
-          landing_failed roots OutOfMemory e = tt
+          landing_failed again roots OutOfMemory e = tt
 
         module _ (l : Landed) (landed : IsLanded m g l) where
           pub cells_are : AreCells l.ahead.cells (m.cells.items ++ l.cells.items)
@@ -211,12 +258,12 @@ module _ (files : List File) (asked : Change) (m : Machine) (b : IsBegun files a
           stack_so : HasStack → extra_start (u files asked m b).base l.space.taken (pages_for words) ≡ Ok l.extra
           stack_so e = ap (λ (w : World). extra_start w.base l.space.taken (pages_for words)) (sym (aside_is files asked m b)) ∙ e
 
-          pub changing_failed : (begins : List Begin) → begins_of (map attached g.cells.items) words ≡ Ok begins → HasStack
+          pub changing_failed : (begins : List Begin) → begins_of (map attached g.cells.items) words ≡ Ok begins → HasPlace → HasStack
               → (roots : Option (List Root)) (fail : Fail) → Changes (view_with m l) (map (λ c. c.now) using) (Err fail) → Plans files asked m b roots (Err fail)
-          changing_failed begins begun at roots (Refused r) e =
+          changing_failed begins begun again at roots (Refused r) e =
               changed_refused (sources files asked m b) (are files asked m b) before (h files asked m b) (wish b) (good files asked m b) (new_cells g) (gathering files asked m b g gathered) covered
-              begins (begun_so begins begun) (taken files asked m b g gathered l landed covered) (runs files asked m b g gathered l landed covered) l.extra (stack_so at) new_fit r (sym unfit_so ∙ e)
-          changing_failed begins begun at roots OutOfMemory e = tt
+              begins (begun_so begins begun) again (taken files asked m b g gathered l landed covered) (runs files asked m b g gathered l landed covered) l.extra (stack_so at) new_fit r (sym unfit_so ∙ e)
+          changing_failed begins begun again at roots OutOfMemory e = tt
 
           pub sections_ordered : (c : NewCell) → In c (m.cells.items ++ l.cells.items) → IsTrue (each_pair (λ a b. nat_lt a.section b.section) c.places)
           sections_ordered c i = (landed.are.low c i).ordered
@@ -234,15 +281,15 @@ module _ (files : List File) (asked : Change) (m : Machine) (b : IsBegun files a
             torn_so : torn ≡ first_torn (changed_fields before (W files asked m b g gathered l landed covered)) (filter is_ready before.tasks)
             torn_so = ap (λ (ts : TasksState). first_torn (changed_fields before (W files asked m b g gathered l landed covered)) (filter is_ready ts.tasks)) b.aside.tasks
 
-            pub standing_failed : (begins : List Begin) → begins_of (map attached g.cells.items) words ≡ Ok begins → HasStack
+            pub standing_failed : (begins : List Begin) → begins_of (map attached g.cells.items) words ≡ Ok begins → HasPlace → HasStack
                 → (roots : Option (List Root)) (fail : Fail) → Covers torn (Err fail) → Plans files asked m b roots (Err fail)
-            standing_failed begins begun at roots (Refused r) e =
+            standing_failed begins begun again at roots (Refused r) e =
                 torn_refused (sources files asked m b) (are files asked m b) before (h files asked m b) (wish b) (good files asked m b) (new_cells g) (gathering files asked m b g gathered) covered
-                begins (begun_so begins begun) (taken files asked m b g gathered l landed covered) (runs files asked m b g gathered l landed covered) l.extra (stack_so at) new_fit
+                begins (begun_so begins begun) again (taken files asked m b g gathered l landed covered) (runs files asked m b g gathered l landed covered) l.extra (stack_so at) new_fit
                 (fits files asked m b g gathered l landed covered changed changes) r (sym torn_so ∙ e)
-            standing_failed begins begun at roots OutOfMemory e = tt
+            standing_failed begins begun again at roots OutOfMemory e = tt
 
-            module _ (begins : Vec Place Global) (begun : begins_of (map attached g.cells.items) words ≡ Ok (map begin_as begins.items)) (at : HasStack) (low : All (λ x. x.offset < 2 ^ 32) begins.items)
+            module _ (begins : Vec Place Global) (begun : begins_of (map attached g.cells.items) words ≡ Ok (map begin_as begins.items)) (again : Option ℕ) (begins_so : Begins (G files asked m b g gathered) m.tasks (restart_by asked.options.ending) (Ok again)) (at : HasStack) (low : All (λ x. x.offset < 2 ^ 32) begins.items)
                 (roots : Option (List Root)) (untorn : torn ≡ None) (outlook : Option Outlook) (looks : Looks m l.cells.items roots outlook)
                 (s : Staged) (named : Names l s) where
               abbrev later : World
@@ -255,7 +302,7 @@ module _ (files : List File) (asked : Change) (m : Machine) (b : IsBegun files a
               abbrev said : PlanSaid
               said =
                   plan_in (sources files asked m b) (are files asked m b) before (h files asked m b) (wish b) (good files asked m b) (new_cells g) (gathering files asked m b g gathered) covered
-                  (map begin_as begins.items) (begun_so (map begin_as begins.items) begun) (taken files asked m b g gathered l landed covered) (runs files asked m b g gathered l landed covered) l.extra (stack_so at)
+                  (map begin_as begins.items) (begun_so (map begin_as begins.items) begun) (has_place again begins_so) (taken files asked m b g gathered l landed covered) (runs files asked m b g gathered l landed covered) l.extra (stack_so at)
 
               -- the new cells have the highest numbers
               is_older : (c : Cell) → In c (u files asked m b).cells → c.id.0 < before.next_cell
@@ -280,13 +327,17 @@ module _ (files : List File) (asked : Change) (m : Machine) (b : IsBegun files a
                   let mapped = length-map begins.items begin_as in
                   omega (arith, long, mapped)
 
-              pub is_plan : IsPlan files asked m b roots (record { staged = s; patches = changed.patches; links = changed.links; outlook = outlook; begins = begins; stack = l.extra })
+              is_said : plan_of (sources files asked m b) before (wish b) ≡ Ok said
+              is_said =
+                  accepted (sources files asked m b) (are files asked m b) before (h files asked m b) (wish b) (good files asked m b) (new_cells g) (gathering files asked m b g gathered) covered
+                  (map begin_as begins.items) (begun_so (map begin_as begins.items) begun) (has_place again begins_so)
+                  (taken files asked m b g gathered l landed covered) (runs files asked m b g gathered l landed covered) l.extra (stack_so at) new_fit
+                  (fits files asked m b g gathered l landed covered changed changes) (sym torn_so ∙ untorn)
+
+              pub is_plan : IsPlan files asked m b roots (record { staged = s; patches = changed.patches; links = changed.links; outlook = outlook; begins = begins; stack = l.extra; again = again })
               is_plan = record {
                 plan = said;
-                is = accepted (sources files asked m b) (are files asked m b) before (h files asked m b) (wish b) (good files asked m b) (new_cells g) (gathering files asked m b g gathered) covered
-                    (map begin_as begins.items) (begun_so (map begin_as begins.items) begun)
-                    (taken files asked m b g gathered l landed covered) (runs files asked m b g gathered l landed covered) l.extra (stack_so at) new_fit
-                    (fits files asked m b g gathered l landed covered changed changes) (sym torn_so ∙ untorn);
+                is = is_said;
                 changed = map (patch_at later) (changed_fields before later);
                 ready = ready_to_add files asked m b g gathered covered l landed changed changes s named;
                 linked = refl;
@@ -302,4 +353,5 @@ module _ (files : List File) (asked : Change) (m : Machine) (b : IsBegun files a
                 stack_is = refl;
                 begins = low;
                 routines = entries_are;
+                again = begins_by files asked m b said is_said again begins_so.1;
               }

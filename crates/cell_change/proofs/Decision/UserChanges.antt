@@ -53,7 +53,7 @@ use Rattle.cell_change.specs.declared.request.Change.{Change}
 use Rattle.cell_change.specs.Planning.{IsBegun, IsGatheredFor, view_with, wish}
 use Rattle.cell_change.proofs.Decision.Began.{are, aside_is, h, old, sources, u, v, good}
 use Rattle.cell_change.proofs.Decision.Covered.{G, gathering}
-use Rattle.cell_change.proofs.Decision.LeftAlone.{left_alone}
+use Rattle.cell_change.proofs.Decision.LeftAlone.{awaits_soft, left_alone}
 use Rattle.cell_change.proofs.Decision.LinksLead.{picked_of_all, uncoming, ungone, unmoved, unreturned}
 use Rattle.cell_change.proofs.Decision.ChangeLanded.{come as come_in, fresh_placed}
 use Rattle.cell_change.proofs.Decision.Users.{links_own, picked, plain, same_place, soft_there, softs, stands, there_aside, users}
@@ -164,7 +164,7 @@ module _ (files : List File) (asked : Change) (m : Machine) (b : IsBegun files a
   -- what isn't picked is left alone
   left : (c : Cell) → In c before.cells → picked files asked m b c ≡ false → (e : Entry) → In e c.object.entries → differs before W c e ≡ false
   left =
-      left_alone (sources files asked m b) (are files asked m b) before (h files asked m b) (wish b) (good files asked m b) W placed (softs files asked m b) (soft_there files asked m b)
+      left_alone (sources files asked m b) (are files asked m b) before (h files asked m b) (wish b) (good files asked m b) W placed (softs files asked m b) (λ d i a. soft_there files asked m b d i (awaits_soft _ d a))
 
   fields_are : changed_fields before W ≡ flat_map (changed_in before W) some
   fields_are = changed_among before W (picked files asked m b) before.cells (λ c i a. nothing_changed before W c (left c i a))

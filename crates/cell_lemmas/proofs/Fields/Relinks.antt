@@ -34,6 +34,7 @@ ready_relinked w c = record {
     apart = sym (pairs-map shape_before shape_of (relink w).regions) ∙ (ap (each_pair shape_before) shapes ∙ (pairs-map shape_before shape_of w.regions ∙ c.apart));
   };
   running = c.running;
+  origins = c.origins;
   space = c.space;
 }
   where

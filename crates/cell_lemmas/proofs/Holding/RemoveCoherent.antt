@@ -65,6 +65,7 @@ module _ (w : World) (h : IsCoherent w) (numbers : List ℕ) (closed : Closed w 
         few_tasks = h.ready.few_tasks;
         task_numbers = h.ready.task_numbers;
       };
+      origins = h.ready.origins;
       space = h.ready.space;
     };
     linked = relinked left (links_left w h numbers closed) bytes_left;

@@ -7,7 +7,7 @@ use Rattle.std.proofs.lemmas.List.Elements.{filter-append, filter_map-append}
 use Rattle.cell_num.specs.Lists.{first, holds, or_else, In}
 use Rattle.cell_world.specs.World.{World, Cell, Standing, is_attached}
 use Rattle.cell_world.specs.declared.state.Standing.TheVariants.{Attached, Detached}
-use Rattle.cell_world.specs.Names.{Provider, asked_by, by_spaces, chain, first_provider, nearest_provider, provider_for, symbol_named, weak_symbol_named}
+use Rattle.cell_world.specs.Names.{Provider, asked_by, by_spaces, chain, first_provider, nearest_provider, provider_for, strong_provider, symbol_named, weak_symbol_named}
 use Rattle.cell_num.proofs.Elements.{In-filtered}
 use Rattle.cell_lemmas.proofs.Naming.Asked.{weakly_offered}
 use Rattle.cell_lemmas.proofs.Naming.Attach.{Grows, same_group}
@@ -67,7 +67,10 @@ module _ (w w' : World) (g : Grows w w') (name : List ℕ) (nobody : (c : Cell) 
       go Attached = attached
       go (Detached k) = ap₂ (λ (a b : Option Provider). or_else a b) (ap (ask (chain w.namespaces ns)) (same_group w w' g k)) attached
 
+  pub strong_still : (s : Standing) → strong_provider w' s ns name ≡ strong_provider w s ns name
+  strong_still s = asked_still (λ spaces cells. first_provider spaces name cells) (λ cells more f spaces. first_still name cells more f spaces) s
+
   pub provider_still : (s : Standing) → provider_for w' s ns name ≡ provider_for w s ns name
   provider_still s = ap₂ (λ (a b : Option Provider). or_else a b)
-      (asked_still (λ spaces cells. first_provider spaces name cells) (λ cells more f spaces. first_still name cells more f spaces) s)
+      (strong_still s)
       (asked_still (λ spaces cells. nearest_provider spaces name cells) (λ cells more f spaces. nearest_still name cells more f spaces) s)

@@ -1,5 +1,5 @@
 -- A namespace that is added keeps the machine coherent: no cell, link or byte depends on it.
-use Rattle.std.proofs.Common.{◌≡◌, ◌∙◌, ap, subst, ℕ, ◌<◌, true, List, map, length, Option, None, Ok}
+use Rattle.std.proofs.Common.{◌≡◌, ◌∙◌, ap, subst, ℕ, ◌<◌, true, List, [], ◌∷◌, map, length, Option, None, Ok}
 use Rattle.std.specs.Prelude.{All, nat_lt, is_none, filter_map, fold, unwrap_or}
 use Rattle.std.proofs.lemmas.Bool.{lt-ltb}
 use Rattle.cell_num.specs.Lists.{equals, numbered, In}
@@ -18,13 +18,13 @@ use Rattle.cell_world.specs.Linked.Relink.{bound_entries, Patch, patch_of, patch
 use Rattle.cell_world.specs.Outcome.{need}
 use Rattle.cell_world.specs.Answer.{Done, space_of}
 use Rattle.cell_world.specs.Commands.NsCommand.{with_namespace, next_ns}
-use Rattle.cell_world.specs.Coherent.{IsReady, IsCoherent, is_supplied, is_fitting}
+use Rattle.cell_world.specs.Coherent.{IsReady, IsCoherent, is_supplied, is_fitting, has_known_origin}
 use Rattle.cell_num.proofs.Elements.{all-In, In-all, In-All, none_is, position_below, flat_same, filter_map_same, map_same}
 use Rattle.cell_lemmas.proofs.Outcomes.{bind_ok, then_ok, need_ok, found_ok}
 use Rattle.cell_lemmas.proofs.Naming.Appended.{ok_same}
 use Rattle.cell_lemmas.proofs.Links.FreshLinks.{link_with}
 use Rattle.cell_lemmas.proofs.Naming.Supplied.{still_supplied}
-use Rattle.cell_lemmas.proofs.Naming.Spaces.{child, spaces_more, names_more, few_more, chain_stays, space_grows, provider_stays, target_stays, stands_there, known_stays, names_stay}
+use Rattle.cell_lemmas.proofs.Naming.Spaces.{below_more, child, spaces_more, names_more, few_more, chain_stays, space_grows, provider_stays, target_stays, stands_there, known_stays, names_stay}
 
 module _ (w : World) (coherent : IsCoherent w) (name : List ℕ) (parent : ℕ) where
   abbrev after : World
@@ -80,6 +80,7 @@ module _ (w : World) (coherent : IsCoherent w) (name : List ℕ) (parent : ℕ) 
     };
     memory = ready.memory;
     running = ready.running;
+    origins = In-all (has_known_origin after) w.tasks (λ t k. below_more w.namespaces (child name parent ∷ []) t.origin.ns (all-In (has_known_origin w) w.tasks ready.origins t k));
     space = ready.space;
   }
 

@@ -138,6 +138,7 @@ module _ (w : World) (h : IsCoherent w) (ns : List ℕ) where
       few_tasks = b.few_tasks;
       task_numbers = b.task_numbers;
     };
+    origins = b.origins;
     space = b.space;
   }
     where

@@ -43,7 +43,7 @@ module _ {X : Type 0} where
       let q = and_parts (p (i, y)) (list_all p (numbered_from (suc i) ys)) h in
       and_from (p (i, y)) (list_all p (numbered_from (suc i) (ys ++ x ∷ []))) q.0 (numbered_push p ys (suc i) n x (omega (arith, e)) q.1 k)
 
-below_more : {X : Type 0} (xs ys : List X) (n : ℕ) → nat_lt n (length xs) ≡ true → nat_lt n (length (xs ++ ys)) ≡ true
+pub below_more : {X : Type 0} (xs ys : List X) (n : ℕ) → nat_lt n (length xs) ≡ true → nat_lt n (length (xs ++ ys)) ≡ true
 below_more xs ys n h = lt-ltb n (length (xs ++ ys)) (omega (arith, ltb-true n (length xs) h, length-append xs ys))
 
 begins_more : (spaces more : List Namespace) → begins_with_k spaces ≡ true → begins_with_k (spaces ++ more) ≡ true

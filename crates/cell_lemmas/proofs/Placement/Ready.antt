@@ -12,7 +12,7 @@ use Rattle.cell_world.specs.Gather.{first_lack, fresh_cells}
 use Rattle.cell_world.specs.Linked.Fit.{first_misfit}
 use Rattle.cell_num.specs.Limits.{max_cells}
 use Rattle.cell_world.specs.Placed.Pages.{IsSpace}
-use Rattle.cell_world.specs.Coherent.{IsReady, AreSoundRegions, AreSoundSpaces, AreSoundTasks, only_regions, only_tasks, IsLoadable, Shape, shape_of, with_shape, stack_shape, wanted_shapes, may_both_stand, has_each_name_once, is_placed, is_supplied, is_fitting, is_known_cell, is_sound_task}
+use Rattle.cell_world.specs.Coherent.{IsReady, AreSoundRegions, AreSoundSpaces, AreSoundTasks, only_regions, only_tasks, IsLoadable, Shape, shape_of, with_shape, stack_shape, wanted_shapes, may_both_stand, has_each_name_once, is_placed, is_supplied, is_fitting, is_known_cell, is_sound_task, has_known_origin}
 use Rattle.cell_lemmas.specs.Linkable.{IsLinkable}
 use Rattle.cell_num.specs.Lists.{In}
 use Rattle.cell_num.proofs.Elements.{Has, all-In, In-all, All-In, In-All, In-append, In-right, In-map, filter-In, some_has}
@@ -39,10 +39,11 @@ pub record IsBase (v : World) : Type 0 where
   pub parents : AreSoundSpaces v.namespaces
   pub running : AreSoundTasks (only_tasks v)
   pub open running use *
+  pub origins : list_all (has_known_origin v) v.tasks ≡ true
   pub space : IsSpace v.base v.pages
 
 pub ready_base : (v : World) → IsReady v → IsBase v
-ready_base v r = record { memory = r.memory; placed = r.placed; known = r.cells; parents = r.parents; running = r.running; space = r.space }
+ready_base v r = record { memory = r.memory; placed = r.placed; known = r.cells; parents = r.parents; running = r.running; origins = r.origins; space = r.space }
 
 pub append_same : {X : Type 0} (front xs ys : List X) → front ++ xs ≡ front ++ ys → xs ≡ ys
 append_same [] xs ys e = e
@@ -166,5 +167,6 @@ module _ (v : World) (base : IsBase v) (new placed : List Cell) (next : ℕ) (re
         few_tasks = base.few_tasks;
         task_numbers = base.task_numbers;
       };
+      origins = base.origins;
       space = base.space;
     }

@@ -1,4 +1,4 @@
--- What changes when cells come and leave, changes in the cells with a WEAK symbol and in those with a link into a cell that leaves or yields.
+-- What changes when cells come and leave, changes in the cells that await a name which comes and in those with a link into a cell that leaves or yields.
 use Rattle.std.proofs.Common.{◌≡◌, refl, ◌∙◌, ap, ℕ, inl, inr, Bool, true, false, cond, not, ◌&&◌, List, [], ◌∷◌, ◌++◌, map, Option, Some, None}
 use Rattle.std.specs.Prelude.{filter, filter_map, flat_map, option_map}
 use Rattle.std.proofs.lemmas.Bool.{or_parts}
@@ -14,10 +14,9 @@ use Rattle.cell_world.specs.Linked.Field.{fields_of, fits, is_at}
 use Rattle.cell_world.specs.Linked.Fit.{overflow_at}
 use Rattle.cell_world.specs.Changed.{now_in, differs, is_changed, changed_in, changed_fields, changed_misfit, first_changed_misfit}
 use Rattle.cell_lemmas.specs.Targets.{is_target_in}
-use Rattle.cell_object.specs.Parts.{has_no_weak}
-use Rattle.cell_lemmas.specs.Touched.{is_affected, links_into, touched}
+use Rattle.cell_lemmas.specs.Touched.{awaits, is_affected, links_into, touched}
 use Rattle.cell_num.proofs.Elements.{filter_none, In-none, none-In}
-use Rattle.cell_lemmas.proofs.Fields.ChangedFits.{not_fits, unfound_all}
+use Rattle.cell_lemmas.proofs.Fields.ChangedFits.{unfound_all}
 use Rattle.cell_lemmas.proofs.Naming.Lookups.{filter_map-In, has_place}
 
 and_false : (a : Bool) → (a && false) ≡ false
@@ -73,11 +72,11 @@ unlinked numbers v c none e j = go (target_of v c e) refl
         (filter_map-In (link_of v c) (numbered c.object.entries) (n.0, e) row n.1 one)
 
 module _ (v w : World) (old : List ℕ) (comers : List Cell)
-    (stays : (c : Cell) → In c v.cells → has_no_weak c.object ≡ true → (e : Entry) → In e c.object.entries → is_target_in (touched v old comers) (target_of v c e) ≡ false → differs v w c e ≡ false) where
+    (stays : (c : Cell) → In c v.cells → awaits comers c ≡ false → (e : Entry) → In e c.object.entries → is_target_in (touched v old comers) (target_of v c e) ≡ false → differs v w c e ≡ false) where
   left_alone : (c : Cell) → In c v.cells → is_affected v old comers c ≡ false → (e : Entry) → In e c.object.entries → differs v w c e ≡ false
   left_alone c i a e j =
-      let parts = or_parts (not (has_no_weak c.object)) (links_into (touched v old comers) v c) a in
-      stays c i (not_fits (has_no_weak c.object) parts.0) e j (unlinked (touched v old comers) v c parts.1 e j)
+      let parts = or_parts (awaits comers c) (links_into (touched v old comers) v c) a in
+      stays c i parts.0 e j (unlinked (touched v old comers) v c parts.1 e j)
 
   pub enough_fields : changed_fields v w ≡ flat_map (changed_in v w) (filter (is_affected v old comers) v.cells)
   enough_fields = changed_among v w (is_affected v old comers) v.cells (λ c i a. nothing_changed v w c (left_alone c i a))

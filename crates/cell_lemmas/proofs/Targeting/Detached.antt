@@ -380,6 +380,14 @@ module _ (w : World) (h : IsNamed w) (k : ℕ) (ns : List ℕ)
         go (Some r) q = q
         go None q = own_weak_kept f (Some p) q (λ r s. let z : p ≡ r = cc in subst (λ (x : Provider). holds ns x.cell ≡ false) z o)
 
+    -- and whom nobody gave the name at all
+    pub own_none : provider_for w Attached m name ≡ None → provider_for aside (Detached k) m name ≡ None
+    own_none e = ap (λ x. or_else x (weak_provider aside (Detached k) m name)) own_strong ∙ go (strong_provider w Attached m name) e
+      where
+        go : (x : Option Provider) → or_else x (weak_provider w Attached m name) ≡ None → or_else x (weak_provider aside (Detached k) m name) ≡ None
+        go None q = own_weak_none q
+        go (Some r) q = let z : Some r ≡ None = q in cc
+
     own_weak_some : IsSome (weak_provider w Attached m name) → IsSome (weak_provider aside (Detached k) m name)
     own_weak_some h = go (holds ns c.0.id.0) refl
       where

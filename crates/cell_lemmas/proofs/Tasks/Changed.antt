@@ -1,10 +1,11 @@
--- A live task changed in its pc, registers and fault keeps the machine coherent.
+-- A live task changed in its pc, registers and fault, or begun again in another cell, keeps the machine coherent.
 use Rattle.std.proofs.Common.{◌≡◌, refl, sym, ◌∙◌, ap, subst, arith, Bool, true, false, cond, List, [], ◌++◌, length, map}
 use Rattle.std.specs.Prelude.{flat_map, nat_lt, ◌==◌, ◌&&◌, slice_index, if◌then◌else◌, is_some}
 use Rattle.std.proofs.lemmas.Bool.{eqb-true, eq-eqb, and_from, and_parts}
 use Rattle.std.proofs.lemmas.List.{length-map}
+use Rattle.cell_world.specs.declared.state.Origin.{Origin}
 use Rattle.cell_world.specs.World.{World, Task, cell_of}
-use Rattle.cell_world.specs.Coherent.{IsCoherent, Shape, stack_shape, is_sound_task}
+use Rattle.cell_world.specs.Coherent.{IsCoherent, Shape, stack_shape, is_sound_task, has_known_origin}
 use Rattle.cell_world.specs.Running.Turn.{with_task}
 use Rattle.cell_num.specs.Lists.{In}
 use Rattle.cell_num.proofs.Elements.{all-In, In-all, In-map, map_same}
@@ -38,7 +39,8 @@ task_from w t p =
 pub live_parts : (w : World) → IsCoherent w → (t : Task) → In t w.tasks → TaskParts w t
 live_parts w h t i = task_parts w t (all-In (is_sound_task w) w.tasks h.ready.tasks t i)
 
-module _ (w : World) (h : IsCoherent w) (t u : Task) (live : In t w.tasks) (number : u.number ≡ t.number) (stack : u.stack ≡ t.stack) (root : u.root ≡ t.root) (many : length u.registers ≡ 32) (first : slice_index u.registers 0 ≡ 0) where
+-- it may have another root, which is a present cell
+module _ (w : World) (h : IsCoherent w) (t u : Task) (live : In t w.tasks) (number : u.number ≡ t.number) (stack : u.stack ≡ t.stack) (root : is_some (cell_of w u.root) ≡ true) (many : length u.registers ≡ 32) (first : slice_index u.registers 0 ≡ 0) (origin : u.origin ≡ t.origin) where
   abbrev put : Task → Task
   put x = if x.number == u.number then u else x
 
@@ -63,7 +65,7 @@ module _ (w : World) (h : IsCoherent w) (t u : Task) (live : In t w.tasks) (numb
       let old : TaskParts w t = live_parts w h t live in
       task_from w u (record {
         number = subst (λ n. nat_lt n w.next_task ≡ true) (sym number) old.number;
-        root = subst (λ n. is_some (cell_of w n) ≡ true) (sym root) old.root;
+        root = root;
         registers = many;
         first = first;
       })
@@ -78,8 +80,21 @@ module _ (w : World) (h : IsCoherent w) (t u : Task) (live : In t w.tasks) (numb
   sound_all : (y : Task) → (x : Task) × In x w.tasks × (y ≡ put x) → is_sound_task w y ≡ true
   sound_all y r = subst (λ v. is_sound_task w v ≡ true) (sym r.2) (sound_put r.0 r.1)
 
-  pub task_coherent : IsCoherent (record w { tasks = with_task u w.tasks })
-  task_coherent = record {
+  known : has_known_origin w u ≡ true
+  known = subst (λ (x : Origin). nat_lt x.ns (length w.namespaces) ≡ true) (sym origin) (all-In (has_known_origin w) w.tasks h.ready.origins t live)
+
+  known_put : (x : Task) → In x w.tasks → has_known_origin w (put x) ≡ true
+  known_put x i = go (x.number == u.number) (all-In (has_known_origin w) w.tasks h.ready.origins x i)
+    where
+      go : (b : Bool) → has_known_origin w x ≡ true → has_known_origin w (cond b u x) ≡ true
+      go true s = known
+      go false s = s
+
+  known_all : (y : Task) → (x : Task) × In x w.tasks × (y ≡ put x) → has_known_origin w y ≡ true
+  known_all y r = subst (λ v. has_known_origin w v ≡ true) (sym r.2) (known_put r.0 r.1)
+
+  pub changed_coherent : IsCoherent (record w { tasks = with_task u w.tasks })
+  changed_coherent = record {
     ready = record {
       alone = h.ready.alone;
       together = h.ready.together;
@@ -97,7 +112,13 @@ module _ (w : World) (h : IsCoherent w) (t u : Task) (live : In t w.tasks) (numb
         few_tasks = omega (arith, length-map w.tasks put, h.ready.few_tasks);
         task_numbers = h.ready.task_numbers;
       };
+      origins = In-all (has_known_origin w) (map put w.tasks) (λ y i. known_all y (In-map put w.tasks y i));
       space = h.ready.space;
     };
     linked = relinked (record w { tasks = with_task u w.tasks }) (links_fixed w h.linked) (remade_fixed w h.linked);
   }
+
+pub task_coherent : (w : World) (h : IsCoherent w) (t u : Task) → In t w.tasks → u.number ≡ t.number → u.stack ≡ t.stack → u.root ≡ t.root → length u.registers ≡ 32 → slice_index u.registers 0 ≡ 0 → u.origin ≡ t.origin
+    → IsCoherent (record w { tasks = with_task u w.tasks })
+task_coherent w h t u live number stack root many first origin =
+    changed_coherent w h t u live number stack (subst (λ n. is_some (cell_of w n) ≡ true) (sym root) (live_parts w h t live).root) many first origin

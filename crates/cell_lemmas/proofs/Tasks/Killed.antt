@@ -4,7 +4,7 @@ use Rattle.std.specs.Prelude.{filter, flat_map, ◌==◌, not}
 use Rattle.std.proofs.lemmas.Bool.{eqb-true}
 use Rattle.std.proofs.lemmas.List.Elements.{filter-append}
 use Rattle.cell_world.specs.World.{World, Task}
-use Rattle.cell_world.specs.Coherent.{IsCoherent, Shape, shape_of, stack_shape, wanted_shapes, is_in_space, ends_before, is_sound_task}
+use Rattle.cell_world.specs.Coherent.{IsCoherent, Shape, shape_of, stack_shape, wanted_shapes, is_in_space, ends_before, is_sound_task, has_known_origin}
 use Rattle.cell_world.specs.Running.Turn.{without_task, without_region}
 use Rattle.cell_num.specs.Lists.{In}
 use Rattle.cell_num.proofs.Elements.{In-filtered, filter_all}
@@ -54,6 +54,7 @@ module _ (w : World) (h : IsCoherent w) (t : Task) (live : In t w.tasks) where
         few_tasks = omega (arith, length-filter_le (λ (u : Task). not (u.number == t.number)) w.tasks, h.ready.few_tasks);
         task_numbers = h.ready.task_numbers;
       };
+      origins = all-filter (has_known_origin w) _ w.tasks h.ready.origins;
       space = h.ready.space;
     };
     linked = relinked (without_task w t) (links_fixed w h.linked) (λ r i. remade_fixed w h.linked r (In-filtered _ w.regions r i));

@@ -4,12 +4,13 @@ use Rattle.std.specs.Prelude.{fold, flat_map, nat_lt, nat_le, ◌==◌, ◌/◌,
 use Rattle.std.proofs.lemmas.Bool.{eq-eqb, leb-true, ltb-true, lt-ltb}
 use Rattle.std.proofs.lemmas.List.{length-replicate, append_assoc, map-append}
 use Rattle.std.proofs.lemmas.List.Sums.{fold-append}
-use Rattle.cell_world.specs.declared.refusal.Refusal.TheVariants.{TooMany, NoEntry}
+use Rattle.cell_world.specs.declared.refusal.Refusal.TheVariants.{TooMany, NoEntry, Unknown}
 use Rattle.cell_world.specs.declared.refusal.Many.TheVariants.{Tasks as ManyTasks, TaskNumbers}
 use Rattle.cell_num.specs.Limits.{stack_size}
+use Rattle.cell_world.specs.declared.state.Origin.{Origin}
 use Rattle.cell_world.specs.World.{World, Cell, Region, Task, cell_of}
 use Rattle.cell_world.specs.Running.Memory.{covers}
-use Rattle.cell_world.specs.Names.{Provider, attached_provider}
+use Rattle.cell_world.specs.Names.{Provider, attached_provider, namespace_named}
 use Rattle.cell_world.specs.Linked.Field.{fields_of, place_of}
 use Rattle.cell_world.specs.Linked.Relink.{Patch, patch_of, patched, patches_of, bound_entries, remade}
 use Rattle.cell_world.specs.Placed.Layout.{permission_of}
@@ -19,10 +20,10 @@ use Rattle.cell_world.specs.Outcome.{need, found}
 use Rattle.cell_world.specs.declared.reply.Reply.{Reply}
 use Rattle.cell_world.specs.declared.reply.Reply.TheVariants.{Spawn as SpawnDone}
 use Rattle.cell_world.specs.Answer.{Done, done, space_of}
-use Rattle.cell_world.specs.Coherent.{IsCoherent, Shape, shape_of, with_shape, stack_shape, wanted_shapes, is_in_space, is_sound_task}
+use Rattle.cell_world.specs.Coherent.{IsCoherent, Shape, shape_of, with_shape, stack_shape, wanted_shapes, is_in_space, is_sound_task, has_known_origin}
 use Rattle.cell_world.specs.Commands.SpawnCommand.{with_stack, new_task, next_spawn, entry_named, entry_address}
-use Rattle.cell_num.specs.Lists.{In}
-use Rattle.cell_num.proofs.Elements.{all-In, In-all, In-map, In-flat_map, found-In, find_there, all_push, pairs_push}
+use Rattle.cell_num.specs.Lists.{equals, In}
+use Rattle.cell_num.proofs.Elements.{all-In, In-all, In-map, In-flat_map, found-In, find_there, all_push, pairs_push, position_below}
 use Rattle.cell_lemmas.proofs.Outcomes.{bind_ok, then_ok, need_ok, found_ok}
 use Rattle.cell_lemmas.proofs.Naming.Appended.{ok_same}
 use Rattle.cell_lemmas.proofs.Fields.Relinked.{patches, own_image}
@@ -90,9 +91,9 @@ module _ (w : World) (h : IsCoherent w) (start : ℕ) (run : start_of_run w 4 �
   stack_remade : remade w (new_stack start) ≡ new_stack start
   stack_remade = ap (λ (x : Region). fold patched x (patches w)) (restored_bare w (new_stack start) bare) ∙ passed_by (new_stack start) (patches w) no_field
 
-  module _ (root entry arg : ℕ) (there : is_some (cell_of w root) ≡ true) (few : length w.tasks < 64) (free : w.next_task ≤ 65535) where
+  module _ (root entry : ℕ) (origin : Origin) (known : nat_lt origin.ns (length w.namespaces) ≡ true) (there : is_some (cell_of w root) ≡ true) (few : length w.tasks < 64) (free : w.next_task ≤ 65535) where
     abbrev task : Task
-    task = new_task w.next_task root entry arg start
+    task = new_task w.next_task root entry origin start
 
     abbrev after : World
     after = record (with_stack w start) { tasks = w.tasks ++ task ∷ []; next_task = suc w.next_task }
@@ -133,13 +134,14 @@ module _ (w : World) (h : IsCoherent w) (start : ℕ) (run : start_of_run w 4 �
           few_tasks = omega (arith, length-append w.tasks (task ∷ []), few);
           task_numbers = omega (arith, free);
         };
+        origins = all_push (has_known_origin after) w.tasks task h.ready.origins known;
         space = h.ready.space;
       };
       linked = relinked after (links_fixed w h.linked) (λ r i. remade_at r (In-inserted (new_stack start) r w.regions i));
     }
 
 -- an entry is in a present cell
-entry_present : (w : World) (ns : ℕ) (symbol : List ℕ) (e : ℕ × ℕ) → entry_named w ns symbol ≡ Some e → is_some (cell_of w e.0) ≡ true
+pub entry_present : (w : World) (ns : ℕ) (symbol : List ℕ) (e : ℕ × ℕ) → entry_named w ns symbol ≡ Some e → is_some (cell_of w e.0) ≡ true
 entry_present w ns symbol e q = go (attached_provider w ns symbol) q
   where
     some_same : (a b : ℕ × ℕ) → Some a ≡ Some b → a ≡ b
@@ -160,10 +162,10 @@ entry_present w ns symbol e q = go (attached_provider w ns symbol) q
     go (Some p) r = mid p (cell_of w p.cell) refl r
 
 -- what an accepted `spawn` answers with
-spawned : (w : World) (h : IsCoherent w) (start : ℕ) (run : start_of_run w 4 ≡ Ok start) (entry : ℕ × ℕ) (arg : ℕ) (reply : Reply) → is_some (cell_of w entry.0) ≡ true → length w.tasks < 64 → w.next_task ≤ 65535 → (d : Done)
-    → done reply (record (with_stack w start) { tasks = w.tasks ++ new_task w.next_task entry.0 entry.1 arg start ∷ []; next_task = suc w.next_task }) ≡ Ok d → IsCoherent d.world
-spawned w h start run entry arg reply there few free d e =
-    subst IsCoherent (ap (λ (x : Done). x.world) (ok_same _ d e)) (spawn_coherent w h start run entry.0 entry.1 arg there few free)
+spawned : (w : World) (h : IsCoherent w) (start : ℕ) (run : start_of_run w 4 ≡ Ok start) (entry : ℕ × ℕ) (origin : Origin) (reply : Reply) → nat_lt origin.ns (length w.namespaces) ≡ true → is_some (cell_of w entry.0) ≡ true → length w.tasks < 64 → w.next_task ≤ 65535 → (d : Done)
+    → done reply (record (with_stack w start) { tasks = w.tasks ++ new_task w.next_task entry.0 entry.1 origin start ∷ []; next_task = suc w.next_task }) ≡ Ok d → IsCoherent d.world
+spawned w h start run entry origin reply known there few free d e =
+    subst IsCoherent (ap (λ (x : Done). x.world) (ok_same _ d e)) (spawn_coherent w h start run entry.0 entry.1 origin known there few free)
 
 pub spawn_keeps : (w : World) (name symbol : List ℕ) (arg : ℕ) (d : Done) → IsCoherent w → next_spawn w name symbol arg ≡ Ok d → IsCoherent d.world
 spawn_keeps w name symbol arg d h e =
@@ -172,5 +174,7 @@ spawn_keeps w name symbol arg d h e =
     let free = then_ok (need (nat_le w.next_task 65535) (TooMany TaskNumbers 65535)) _ d few.2 in
     let entry = bind_ok (found (entry_named w ns.0 symbol) (NoEntry symbol)) _ d free.2 in
     let stack = bind_ok (start_of_run w 4) _ d entry.2 in
-    spawned w h stack.0 stack.1 entry.0 arg (SpawnDone w.next_task entry.0.1) (entry_present w ns.0 symbol entry.0 (found_ok (entry_named w ns.0 symbol) (NoEntry symbol) entry.0 entry.1))
+    spawned w h stack.0 stack.1 entry.0 (record { ns = ns.0; name = symbol; arg = arg }) (SpawnDone w.next_task entry.0.1)
+    (lt-ltb ns.0 (length w.namespaces) (position_below (λ space. equals space.name name) w.namespaces ns.0 (found_ok (namespace_named w name) (Unknown name) ns.0 ns.1)))
+    (entry_present w ns.0 symbol entry.0 (found_ok (entry_named w ns.0 symbol) (NoEntry symbol) entry.0 entry.1))
     (ltb-true (length w.tasks) 64 (need_ok _ _ few.0 few.1)) (leb-true w.next_task 65535 (need_ok _ _ free.0 free.1)) d stack.2

@@ -87,6 +87,7 @@ module _ (w : World) (h : IsCoherent w) (addr : ℕ) (new : List ℕ) (free : (s
           apart = keeps_apart w.regions h.ready.apart addr new may;
         };
         running = h.ready.running;
+        origins = h.ready.origins;
         space = h.ready.space;
       };
       linked = relinked (record w { regions = map (λ r. written r addr new) w.regions }) (links_fixed w h.linked) (λ r i. again r (In-map (λ x. written x addr new) w.regions r i));

@@ -38,9 +38,9 @@ turned_coherent w h t i after g = go after.state
     whole = g.whole (live_whole w h t i)
 
     go : (state : TaskState) → IsCoherent (standing v u state)
-    go Ready = task_coherent v coherent t u i refl refl refl whole.0 whole.1
+    go Ready = task_coherent v coherent t u i refl refl refl whole.0 whole.1 refl
     go (Done code) = kill_coherent v coherent t i
-    go (Faulted cause pc) = task_coherent v coherent t (record u { fault = Some (record { cause = cause; pc = pc }) }) i refl refl refl whole.0 whole.1
+    go (Faulted cause pc) = task_coherent v coherent t (record u { fault = Some (record { cause = cause; pc = pc }) }) i refl refl refl whole.0 whole.1 refl
 
 pub turn_coherent : (w : World) → IsCoherent w → (t : Task) → In t w.tasks → IsCoherent (turn w t).world
 turn_coherent w h t i = turned_coherent w h t i _ (good_move (seen_in w) (hart_of t) task_column)

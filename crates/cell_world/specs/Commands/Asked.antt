@@ -1,17 +1,21 @@
 -- The commands that change cells, as changes that they ask for.
 --     next_load     `load NS STEM`: the cell of the one file of that stem, beside the others
 --     next_swap     `swap NS/OLD=FILE ...`: for each item a cell of the file in the place of the old one
-use Rattle.std.specs.Prelude.{ℕ, Bool, List, [], ◌∷◌, ◌++◌, Some, None, Ok}
+--     next_recover  `recover T`: for the cell that the task stands in a fresh one of its own file, and the task begins again
+--     next_rebuild  `rebuild T`: the same for all attached cells that the task holds
+use Rattle.std.specs.Prelude.{ℕ, ◌==◌, Bool, true, false, not, List, [], ◌∷◌, ◌++◌, Some, None, Ok, length}
+use Rattle.cell_num.specs.declared.ids.CellId.{CellId}
 use Rattle.cell_world.specs.declared.command.SwapItem.{SwapItem}
-use Rattle.cell_world.specs.declared.refusal.Refusal.TheVariants.{Unknown, NoObject}
+use Rattle.cell_world.specs.declared.refusal.Refusal.TheVariants.{Unknown, NoCrate, NoObject}
 use Rattle.cell_world.specs.declared.reply.Reply.{Reply}
-use Rattle.cell_world.specs.declared.reply.Reply.TheVariants.{Load as LoadDone, Swap as SwapDone}
-use Rattle.cell_world.specs.World.{World}
+use Rattle.cell_world.specs.declared.reply.Reply.TheVariants.{Load as LoadDone, Swap as SwapDone, Recover as RecoverDone, Rebuild as RebuildDone}
+use Rattle.cell_world.specs.World.{World, Cell, Task}
 use Rattle.cell_world.specs.Gather.{Source, depot_files, one_file, file_named}
 use Rattle.cell_world.specs.Commands.UnloadCommand.{attached_cell, detached_of}
-use Rattle.cell_world.specs.Outcome.{Outcome, ◌>>=◌, found, each}
+use Rattle.cell_world.specs.Commands.Recovery.{faulted_task, recovery_of, rebuild_of}
+use Rattle.cell_world.specs.Outcome.{Outcome, ◌>>=◌, ◌>>◌, need, found, each}
 use Rattle.cell_world.specs.Answer.{Done, done, ids, numbers_of, space_of}
-use Rattle.cell_world.specs.Change.{Want, Made, adding, make_change}
+use Rattle.cell_world.specs.Change.{Change, Want, Made, adding, make_change}
 
 abbrev pub next_load : List Source → World → List ℕ → List ℕ → Outcome Done
 next_load sources w name stem = do
@@ -29,12 +33,47 @@ want_of sources w item = do
 abbrev pub wants_of : List Source → World → List SwapItem → Outcome (List Want)
 wants_of sources w items = each (λ wants item. want_of sources w item >>= (λ want. Ok (wants ++ want ∷ []))) [] items
 
+-- what is said of cells that came in the place of others
+abbrev pub exchange_reply : (ℕ → List CellId → ℕ → List CellId → List CellId → Reply) → Made → Reply
+exchange_reply said made =
+    said made.world.swaps (ids (numbers_of made.fresh)) made.patched (ids made.removed) (ids (detached_of made.world))
+
 abbrev pub swap_reply : Made → Reply
-swap_reply made =
-    SwapDone made.world.swaps (ids (numbers_of made.fresh)) made.patched (ids made.removed) (ids (detached_of made.world))
+swap_reply made = exchange_reply SwapDone made
 
 abbrev pub next_swap : List Source → World → List SwapItem → Bool → Bool → List (List ℕ) → ℕ → Outcome Done
 next_swap sources w items reexport strict routines budget = do
   wants ← wants_of sources w items
-  made ← make_change sources w (record { wants = wants; reexport = reexport; strict = strict; routines = routines; budget = budget })
+  made ← make_change sources w (record { wants = wants; reexport = reexport; strict = strict; routines = routines; budget = budget; restarts = None })
   done (swap_reply made) made.world
+
+-- a fresh instance of the cell's own file in the place of the cell
+abbrev pub renewal : List Source → Cell → Outcome Want
+renewal sources c = do
+  file ← found (file_named sources c.file) (Unknown c.file)
+  Ok (record { file = file; ns = c.ns; replaces = Some c })
+
+abbrev pub renewals : List Source → List Cell → Outcome (List Want)
+renewals sources cells = each (λ wants c. renewal sources c >>= (λ want. Ok (wants ++ want ∷ []))) [] cells
+
+-- the swap of these cells with all their names, and a restart of the task
+abbrev pub renewing : List Want → ℕ → Change
+renewing wants task =
+    record { wants = wants; reexport = true; strict = false; routines = []; budget = 0; restarts = Some task }
+
+abbrev pub next_renewed : List Source → World → Task → List Cell → (ℕ → List CellId → ℕ → List CellId → List CellId → Reply) → Outcome Done
+next_renewed sources w t cells said = do
+  need (not (length cells == 0)) (NoCrate t.number t.pc)
+  wants ← renewals sources cells
+  made ← make_change sources w (renewing wants t.number)
+  done (exchange_reply said made) made.world
+
+abbrev pub next_recover : List Source → World → ℕ → Outcome Done
+next_recover sources w number = do
+  t ← faulted_task w number
+  next_renewed sources w t (recovery_of w t) (RecoverDone number)
+
+abbrev pub next_rebuild : List Source → World → ℕ → Outcome Done
+next_rebuild sources w number = do
+  t ← faulted_task w number
+  next_renewed sources w t (rebuild_of w t) (RebuildDone number)

@@ -10,6 +10,7 @@ use Rattle.cell_world.specs.declared.refusal.Refusal.TheVariants.{TooMany, NoEnt
 use Rattle.cell_world.specs.declared.refusal.Many.TheVariants.{Tasks as ManyTasks, TaskNumbers}
 use Rattle.cell_world.specs.declared.reply.Reply.TheVariants.{Spawn as SpawnDone}
 use Rattle.cell_num.specs.Limits.{max_task_number, max_tasks, stack_size}
+use Rattle.cell_world.specs.declared.state.Origin.{Origin}
 use Rattle.cell_world.specs.World.{World, Cell, Task, cell_of}
 use Rattle.cell_world.specs.Names.{attached_provider}
 use Rattle.cell_world.specs.Linked.Target.{start_of}
@@ -56,14 +57,15 @@ with_stack w start =
 abbrev pub first_registers : ℕ → ℕ → List ℕ
 first_registers arg stack = slice_set (slice_set (replicate 32 0) 10 arg) 2 (stack + stack_size - 16)
 
-abbrev pub new_task : ℕ → ℕ → ℕ → ℕ → ℕ → Task
-new_task number root entry arg stack =
+abbrev pub new_task : ℕ → ℕ → ℕ → Origin → ℕ → Task
+new_task number root entry origin stack =
     record {
       number = number;
+      origin = origin;
       root = root;
       stack = stack;
       pc = entry;
-      registers = first_registers arg stack;
+      registers = first_registers origin.arg stack;
       fault = None;
     }
 
@@ -75,4 +77,4 @@ next_spawn w name symbol arg = do
   entry ← found (entry_named w ns symbol) (NoEntry symbol)
   stack ← start_of_run w 4
   done (SpawnDone w.next_task entry.1)
-      (record (with_stack w stack) { tasks = w.tasks ++ new_task w.next_task entry.0 entry.1 arg stack ∷ []; next_task = suc w.next_task })
+      (record (with_stack w stack) { tasks = w.tasks ++ new_task w.next_task entry.0 entry.1 (record { ns = ns; name = symbol; arg = arg }) stack ∷ []; next_task = suc w.next_task })

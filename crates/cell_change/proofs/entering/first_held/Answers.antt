@@ -13,4 +13,4 @@ returns-in-Some c =
     let reads = subst (Reads m asked.replaced.items) c.in-Some.is c.requires in
     c.first_held.ensures [] reads.1
     ∙ (ap (λ (old : List CellId). first_held (holding_in m []) (map (λ (x : CellId). x.0) old)) c.deref.ensures.value
-    ∙ ap (λ (b : Bool). if b then first_held (holding_in m []) (map (λ (x : CellId). x.0) asked.replaced.items) else None) (sym c.if-not-asked.false))
+    ∙ ap (λ (b : Bool). if b then first_held (holding_in m []) (map (λ (x : CellId). x.0) asked.replaced.items) else None) (sym (sym c.is_strict.ensures ∙ c.if-not-is_strict.false)))

@@ -1,10 +1,6 @@
-use Rattle.std.proofs.Common.{List, None, Some, subst}
-use Rattle.cell_num.specs.declared.ids.CellId.{CellId}
-use Rattle.cell_change.specs.Entering.{Reads}
 use Rattle.std.proofs.lemmas.Result.{err_from_is_err_and}
 use Rattle.cell_change.proofs.Arrival.ChangeEnded.{failed_so}
-use Rattle.cell_change.proofs.Arrival.ChangeLeft.{ended_so}
-use Rattle.cell_change.proofs.Arrival.Tried.{all_there, tried}
+use Rattle.cell_change.proofs.Arrival.Tried.{can_renew, can_settle}
 use Rattle.cell_change.proofs.entering.try_new_cells.Goals as goal
 
 pub enter-requires : goal.enter-requires
@@ -16,29 +12,18 @@ returns-in_err-outlook c t =
     let e = c.in_err-outlook.ensures (record { asked = c.args.asked.now; rest = t.rest; can = t.can }) in
     rw (p.1, p.2) (failed_so t.can _ e.0, e.1)
 
-pub read-survey-requires-clause-whole : goal.read-survey-requires-clause-whole
-read-survey-requires-clause-whole c = (c.in_ok-outlook.ensures (record { asked = c.args.asked.now; rest = c.requires.can.rest; can = c.requires.can.can })).entered.whole
+pub renew-requires-clause-can : goal.renew-requires-clause-can
+renew-requires-clause-can c =
+    can_renew c.requires.can c.in_ok-outlook.outlook c.enter.new.machine (c.in_ok-outlook.ensures (record { asked = c.args.asked.now; rest = c.requires.can.rest; can = c.requires.can.can })) c.in-Some.again c.in-Some.is
 
-pub read-survey-requires-clause-looks : goal.read-survey-requires-clause-looks
-read-survey-requires-clause-looks c = rw c.deref.ensures.value (c.in_ok-outlook.ensures (record { asked = c.args.asked.now; rest = c.requires.can.rest; can = c.requires.can.can })).looked
-
-pub read-survey-requires-clause-room : goal.read-survey-requires-clause-room
-read-survey-requires-clause-room c =
-    rw c.deref.ensures.value
-    (all_there (c.in_ok-outlook.ensures (record { asked = c.args.asked.now; rest = c.requires.can.rest; can = c.requires.can.can })).entered _ c.requires.can.fits)
-
-pub first_held-requires : goal.first_held-requires
-first_held-requires c = subst (λ (old : List CellId). Reads c.enter.new.machine old c.read-survey.result) c.deref.ensures.value c.read-survey.ensures
+pub settle-requires-clause-can : goal.settle-requires-clause-can
+settle-requires-clause-can c =
+    can_settle c.requires.can c.in_ok-outlook.outlook c.enter.new.machine (c.in_ok-outlook.ensures (record { asked = c.args.asked.now; rest = c.requires.can.rest; can = c.requires.can.can })) c.in-None.is
 
 pub returns-in-Some : goal.returns-in-Some
 returns-in-Some c t =
-    let e = c.in_ok-outlook.ensures (record { asked = c.args.asked.now; rest = t.rest; can = t.can }) in
-    (ended_so t.can _ e.entered (Some c.in-Some.refusal) c.in-Some.ensures, e.way_back)
+    c.renew.ensures (can_renew t c.in_ok-outlook.outlook c.enter.new.machine (c.in_ok-outlook.ensures (record { asked = c.args.asked.now; rest = t.rest; can = t.can })) c.in-Some.again c.in-Some.is)
 
-pub forget-requires : goal.forget-requires
-forget-requires c = (c.in_ok-outlook.ensures (record { asked = c.args.asked.now; rest = c.requires.can.rest; can = c.requires.can.can })).way_back.undo.begun
-
-pub returns : goal.returns
-returns c t =
-    let e = c.in_ok-outlook.ensures (record { asked = c.args.asked.now; rest = t.rest; can = t.can }) in
-    tried e _ c.forget.ensures _ (subst (λ (old : List CellId). Reads c.enter.new.machine old c.read-survey.result) c.deref.ensures.value c.read-survey.ensures) (ended_so t.can _ e.entered None c.in_default.ensures)
+pub returns-in-None : goal.returns-in-None
+returns-in-None c t =
+    c.settle.ensures (can_settle t c.in_ok-outlook.outlook c.enter.new.machine (c.in_ok-outlook.ensures (record { asked = c.args.asked.now; rest = t.rest; can = t.can })) c.in-None.is)

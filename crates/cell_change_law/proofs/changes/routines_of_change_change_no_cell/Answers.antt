@@ -1,5 +1,4 @@
-use Rattle.cell_change_law.proofs.Ending.{stack_lowest, second_turns, no_routines, second_shapes, second_read_only, second_fields, second_sealed}
-use Rattle.cell_change_law.proofs.Settled.{second_parts}
+use Rattle.cell_change_law.proofs.Ending.{stack_lowest, second_turns, no_routines, second_shapes, second_read_only, second_fields, second_parts, second_sealed}
 use Rattle.cell_change_law.proofs.changes.routines_of_change_change_no_cell.Goals as goal
 
 pub returns-clause-stack : goal.returns-clause-stack

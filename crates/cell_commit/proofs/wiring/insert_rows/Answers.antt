@@ -1,5 +1,5 @@
 use Rattle.std.proofs.Common.{arith, ◌∙◌}
-use Rattle.cell_commit.specs.Rewiring.{linked}
+use Rattle.cell_graph.specs.Several.{linked}
 use Rattle.cell_commit.proofs.LinksLeft.{present_here}
 use Rattle.cell_commit.proofs.RewiringLeft.{fold_done, fold_more, free_here, free_more}
 use Rattle.cell_commit.proofs.wiring.insert_rows.Goals as goal

@@ -1,5 +1,5 @@
 use Rattle.std.proofs.Common.{◌≡◌, ◌≤◌, ◌+◌, drop, length}
-use Rattle.cell_commit.specs.Rewiring.{AreNew, all_linked}
+use Rattle.cell_graph.specs.Several.{AreNew, all_linked}
 use Rattle.cell_commit.proofs.wiring.insert_rows.Given as goal
 
 -- those that are left are new, and once they are there too all are

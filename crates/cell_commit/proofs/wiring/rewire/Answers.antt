@@ -8,7 +8,7 @@ use Rattle.cell_lemmas.specs.LinkSteps.{afters}
 use Rattle.cell_graph.specs.Links.{is_bound}
 use Rattle.cell_graph.specs.Moves.{moved}
 use Rattle.cell_graph.specs.Order.{Rises, below_link}
-use Rattle.cell_commit.specs.Rewiring.{AreNew, all_linked}
+use Rattle.cell_graph.specs.Several.{AreNew, all_linked}
 use Rattle.cell_commit.proofs.Rewired.{gone_there, led_after, led_apart, led_bound, new_after, new_are_new, rewired}
 use Rattle.cell_commit.proofs.wiring.rewire.Goals as goal
 

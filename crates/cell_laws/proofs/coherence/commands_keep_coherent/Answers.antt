@@ -2,7 +2,7 @@ use Rattle.cell_lemmas.proofs.Naming.NamespaceAdded.{ns_coherent}
 use Rattle.cell_lemmas.proofs.Tasks.Spawned.{spawn_keeps}
 use Rattle.cell_lemmas.proofs.Tasks.Commands.{step_keeps, run_keeps, kill_keeps}
 use Rattle.cell_lemmas.proofs.Holding.Removals.{purge_removed, removed_coherent, unload_removed}
-use Rattle.cell_change_law.proofs.Asking.{load_made, swap_made}
+use Rattle.cell_change_law.proofs.Asking.{load_made, rebuild_made, recover_made, swap_made}
 use Rattle.cell_laws.proofs.NextCoherent.{made_coherent_by}
 use Rattle.cell_laws.proofs.coherence.commands_keep_coherent.Goals as goal
 
@@ -32,3 +32,9 @@ returns-clause-purge c w d h e = removed_coherent w d.world h (purge_removed w d
 
 pub returns-clause-swap : goal.returns-clause-swap
 returns-clause-swap c sources w items reexport strict words budget d sound h e = made_coherent_by sources w sound h d (swap_made sources w h items reexport strict words budget d e)
+
+pub returns-clause-recover : goal.returns-clause-recover
+returns-clause-recover c sources w task d sound h e = made_coherent_by sources w sound h d (recover_made sources w h task d e)
+
+pub returns-clause-rebuild : goal.returns-clause-rebuild
+returns-clause-rebuild c sources w task d sound h e = made_coherent_by sources w sound h d (rebuild_made sources w h task d e)

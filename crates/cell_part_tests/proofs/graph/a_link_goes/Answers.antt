@@ -12,6 +12,6 @@ bind-requires-clause-user g c = has _ _ (key_of 1 1) c.in_ok-graph.ensures.secti
 pub bind-requires-clause-target : goal.bind-requires-clause-target
 bind-requires-clause-target g c = has _ _ (key_of 2 1) c.in_ok-graph.ensures.sections (ap (λ r. r.target) c.link-row.ensures ∙ c.key-2.ensures) refl
 
-pub unbind-requires : goal.unbind-requires
-unbind-requires g c =
-    subst (λ (rows : List LinkRow). Contains rows c.link-row.result) (sym (c.bind.ensures.added ∙ ap (with_link c.link-row.result) c.in_ok-graph.ensures.rows)) (Contains-head c.link-row.result [])
+pub unbind_with-requires-clause-there : goal.unbind_with-requires-clause-there
+unbind_with-requires-clause-there g c =
+    (subst (λ (rows : List LinkRow). Contains rows c.link-row.result) (sym (c.bind.ensures.added ∙ ap (with_link c.link-row.result) c.in_ok-graph.ensures.rows)) (Contains-head c.link-row.result []), tt)

@@ -26,3 +26,6 @@ returns-in-Overflow-clause-ok c = rw c.in-Overflow.is c.put_answer-in-Overflow.e
 
 pub returns-in-Transfer-clause-ok : goal.returns-in-Transfer-clause-ok
 returns-in-Transfer-clause-ok c = rw c.in-Transfer.is c.put_answer-in-Transfer.ensures.ok
+
+pub returns-in-NoCrate-clause-ok : goal.returns-in-NoCrate-clause-ok
+returns-in-NoCrate-clause-ok c = rw c.in-NoCrate.is c.put_answer-in-NoCrate.ensures.ok

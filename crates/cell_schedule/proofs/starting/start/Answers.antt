@@ -34,7 +34,7 @@ returns-in_err-reserve c =
 pub returns-in-Err : goal.returns-in-Err
 returns-in-Err c =
     let m = c.args.machine.now in (
-      full m c.requires.sound (entry_as c.args.entry) c.args.arg c.in-Err.none c.in-Err.ensures.answer ∙ ap (λ r. Err r) (sym c.exhausted.ensures),
+      full m c.requires.sound (entry_as c.args.entry) c.args.origin c.in-Err.none c.in-Err.ensures.answer ∙ ap (λ r. Err r) (sym c.exhausted.ensures),
       record {
         cells = refl;
         soft = refl;
@@ -85,6 +85,6 @@ pub returns : goal.returns
 returns c =
     let m = c.args.machine.now in
     let at : c.address_of-stack.result ≡ m.memory.base + 4096 * c.in-Ok.run'.page = stack_at m c.requires.sound c.in-Ok.run' c.in-Ok.ensures.answer c.take.new.self c.in-Ok.ensures.taken c.address_of-stack.result c.address_of-stack.ensures.address in
-    begun_by m c.requires.sound c.in-Ok.run' c.in-Ok.ensures.answer (entry_as c.args.entry) c.args.arg c.requires.present c.requires.few c.requires.numbers
+    begun_by m c.requires.sound c.in-Ok.run' c.in-Ok.ensures.answer (entry_as c.args.entry) c.args.origin c.requires.known c.requires.present c.requires.few c.requires.numbers
     c.take.new.self c.in-Ok.ensures.taken c.reserve.new.self (c.in_ok-reserve.ensures {u = tt}).ok c.address_of-stack.result at c.in_ok-bytes.bytes.items c.in_ok-bytes.ensures
     c.map.new.self (c.map.ensures ∙ ap (λ p. mapped c.reserve.new.self c.address_of-stack.result p c.in_ok-bytes.bytes.items) c.of.ensures) c.spawn.new.self c.in-Ok-spawn.ensures.started c.in-Ok-spawn.task c.in-Ok-spawn.ensures.number

@@ -74,3 +74,13 @@ returns-in-Swap c =
     subst (λ (k : Command). Does (outcome_of (map source_of c.args.depot.now) (world_of c.args.machine.now) k) (counts_of (map source_of c.args.depot.now) (world_of c.args.machine.now) k) c.args.machine.now c.swap.result c.swap.new.machine)
     (ap₂ (λ (items : List SwapItem) (routines : List (List ℕ)). let k : Command = Swap items c.in-Swap.reexport c.in-Swap.strict routines c.in-Swap.budget in k) c.as_slice-in-Swap-2.ensures c.as_slice-in-Swap.ensures ∙ sym c.in-Swap.is)
     c.swap.ensures
+
+pub returns-in-Recover : goal.returns-in-Recover
+returns-in-Recover c =
+    subst (λ (k : Command). Does (outcome_of (map source_of c.args.depot.now) (world_of c.args.machine.now) k) (counts_of (map source_of c.args.depot.now) (world_of c.args.machine.now) k) c.args.machine.now c.recover.result c.recover.new.machine)
+    (sym c.in-Recover.is) c.recover.ensures
+
+pub returns-in-Rebuild : goal.returns-in-Rebuild
+returns-in-Rebuild c =
+    subst (λ (k : Command). Does (outcome_of (map source_of c.args.depot.now) (world_of c.args.machine.now) k) (counts_of (map source_of c.args.depot.now) (world_of c.args.machine.now) k) c.args.machine.now c.rebuild.result c.rebuild.new.machine)
+    (sym c.in-Rebuild.is) c.rebuild.ensures

@@ -22,7 +22,7 @@ pub loop-index-preserved : goal.loop-index-preserved
 loop-index-preserved g c =
     let rows = c.args.self.now.rows in
     λ n. marked_more rows c.of_cell-sections.result c.loop-index.index n no_section _ _ _ (omega (arith, c.loop-index-test.true, c.len-index-end.ensures))
-    (c.in_ok-mark_users_of_section.ensures.marks n ∙ ap (λ (s : SectionPlace). is_marked c.loop-index.marks.items n || leads_to s.key rows n) (c.at-at.ensures.place no_section))
+    (c.in_ok-next.ensures.marks n ∙ ap (λ (s : SectionPlace). is_marked c.loop-index.marks.items n || leads_to s.key rows n) (c.at-at.ensures.place no_section))
     (c.loop-index.invariant n)
 
 pub returns : goal.returns

@@ -14,7 +14,7 @@ loop-row-init g c =
     record {
       marks = λ n.
           ap (λ b. is_marked c.args.marks.now.items n || b)
-          (sym (list_any-IsPermutation (λ (r : LinkRow). r.user.cell.0 == n) to c.users_of-users.result c.users_of-users.ensures)
+          (sym (list_any-IsPermutation (λ (r : LinkRow). r.user.cell.0 == n) to c.users_near-found.result.0 c.users_near-found.ensures.users)
           ∙ any_filter (λ (r : LinkRow). is_same r.target c.args.sec) (λ r. r.user.cell.0 == n) rows);
-      steps = ap (λ k. c.args.steps.now + k) (length_permutation to c.users_of-users.result c.users_of-users.ensures);
+      steps = ap (λ k. c.args.steps.now + k) (length_permutation to c.users_near-found.result.0 c.users_near-found.ensures.users);
     }

@@ -12,6 +12,7 @@ returns-in-Call-clause-ran c =
       pc = ran.pc ∙ ap (λ r. r.hart.pc) same;
       registers = ran.registers ∙ ap (λ r. r.hart.registers) same;
       fault = ran.fault ∙ ap (λ r. fault_after c.args.self.now.fault r.state) same;
+      origin = ran.origin;
       root = ran.root;
       stack = ran.stack;
       put_out = ran.put_out ∙ ap (λ r. c.args.out.now.items ++ r.out) same;

@@ -29,6 +29,6 @@ returns-clause-started c =
     let j : Inside = record { arena = c.insert_reserved-key.new.self; numbers = c.push.new.self; keys = c.push-2.new.self; next = i.next + 1 } in
     state_pushed i c.self.invariant c.reserve-3.new.self j c.insert_reserved-key.result _ (ap (λ (s : Slab LiveTask). s.slots) c.reserve-3.ensures.rest_kept)
     c.insert_reserved-key.ensures.was_vacant c.insert_reserved-key.ensures.updates numbers keys refl
-    ∙ ap (λ (pc : ℕ). let t : Task = record { number = i.next; root = c.args.root.0; stack = c.args.stack; pc = pc; registers = c.begin.result.x; fault = None } in with_new (state_of i) t) c.begin.ensures.pc
-    ∙ ap (λ (xs : List ℕ). let t : Task = record { number = i.next; root = c.args.root.0; stack = c.args.stack; pc = c.args.entry; registers = xs; fault = None } in with_new (state_of i) t) c.begin.ensures.x
-    ∙ ap (λ (s : TasksState). with_new s (new_task s.next c.args.root.0 c.args.entry c.args.arg c.args.stack)) c.self.view_is
+    ∙ ap (λ (pc : ℕ). let t : Task = record { number = i.next; origin = c.args.origin; root = c.args.root.0; stack = c.args.stack; pc = pc; registers = c.begin-hart.result.x; fault = None } in with_new (state_of i) t) c.begin-hart.ensures.pc
+    ∙ ap (λ (xs : List ℕ). let t : Task = record { number = i.next; origin = c.args.origin; root = c.args.root.0; stack = c.args.stack; pc = c.args.entry; registers = xs; fault = None } in with_new (state_of i) t) c.begin-hart.ensures.x
+    ∙ ap (λ (s : TasksState). with_new s (new_task s.next c.args.root.0 c.args.entry c.args.origin c.args.stack)) c.self.view_is
