@@ -1,11 +1,11 @@
 -- The new cells are there: what the routines do, what holding is read from, what is taken away.
-mod Beginning
+pub mod Beginning
 pub mod BegunAgain
 pub mod ChangeEnded
 pub mod ChangeLeft
 pub mod ChangeOutlook
 pub mod ChangeRuns
-mod Renewing
+pub mod Renewing
 mod RoutinesRun
 mod StackOpen
 pub mod StillDetached

@@ -29,8 +29,6 @@ use Rattle.cell_world.specs.Linked.Relink.{field_count}
 use Rattle.cell_world.specs.Outcome.{Outcome, ◌>>=◌}
 use Rattle.cell_world.specs.Change.{Plan as PlanSaid}
 use Rattle.cell_world.specs.declared.refusal.Refusal.{Refusal}
-use Rattle.cell_world.specs.declared.state.LinkRow.{LinkRow}
-use Rattle.cell_graph.specs.Moves.{AreApart}
 use Rattle.cell_machine.specs.Same.{IsSame, without_counts}
 use Rattle.cell_mem.specs.State.{MemoryState}
 use Rattle.cell_change.specs.Before.{begun_in}

@@ -1,5 +1,5 @@
 -- The last steps of a change come to what the definition says of its plan.
-use Rattle.std.proofs.Common.{◌≡◌, refl, sym, ◌∙◌, ap, ap₂, subst, arith, ℕ, ◌+◌, ◌<◌, List, ◌++◌, map, length, Option, None, Some}
+use Rattle.std.proofs.Common.{◌≡◌, sym, ◌∙◌, ap, ap₂, subst, arith, ℕ, ◌+◌, ◌<◌, List, ◌++◌, map, length, Option, None, Some}
 use Rattle.std.specs.Prelude.{flat_map}
 use Rattle.cell_num.specs.Lists.{In}
 use Rattle.cell_num.specs.declared.ids.CellId.{CellId}

@@ -11,7 +11,7 @@ pub mod GatheredFor
 pub mod HasEntry
 pub mod LeftAlone
 pub mod LinksLead
-mod Naming
+pub mod Naming
 pub mod OldRivals
 pub mod OldStates
 pub mod PlanSteps

@@ -1,5 +1,5 @@
 -- Where no cell is replaced and none has a WEAK symbol, nothing changes, and no task stands inside nothing.
-use Rattle.std.proofs.Common.{◌≡◌, refl, ◌∙◌, ap, ap₂, Bool, false, ◌||◌, List, [], ◌∷◌, map, None}
+use Rattle.std.proofs.Common.{◌≡◌, refl, ◌∙◌, ap₂, Bool, false, ◌||◌, List, [], ◌∷◌, map, None}
 use Rattle.std.specs.Prelude.{filter, ◌==◌}
 use Rattle.std.specs.List.{list_any}
 use Rattle.cell_num.specs.declared.ids.CellId.{CellId}

@@ -45,22 +45,23 @@ module _ {m : Machine} {task : ℕ} (c : CanRestart m task) where
       ap₂ (λ (ts : TasksState) (s : MemoryState). let n : Machine = record m { tasks = ts; memory = s } in n)
       (changed ∙ ap (λ (e : ℕ × ℕ). with_changed m.tasks (restarted c.t e)) (some_same entry c.entry same)) cleared
 
+  changed_live : (tasks : List Task) (t u : Task) → u.number ≡ t.number → find (λ x. x.number == task) tasks ≡ Some t → find (λ x. x.number == task) (with_task u tasks) ≡ Some u
+  changed_live [] t u same e = absurd (cc e)
+  changed_live (x ∷ tasks) t u same e = go (λ k. changed_live tasks t u same k) (x.number == u.number) refl (x.number == task) refl e
+    where
+      numbered : find (λ (y : Task). y.number == task) (x ∷ tasks) ≡ Some t → (t.number == task) ≡ true
+      numbered k = (found-In (λ (y : Task). y.number == task) (x ∷ tasks) t k).1
+
+      is_task : u.number ≡ task
+      is_task = same ∙ eqb-true t.number task (numbered e)
+
+      go : (find (λ (y : Task). y.number == task) tasks ≡ Some t → find (λ (y : Task). y.number == task) (with_task u tasks) ≡ Some u)
+          → (a : Bool) → (x.number == u.number) ≡ a → (b : Bool) → (x.number == task) ≡ b → cond b (Some x) (find (λ (y : Task). y.number == task) tasks) ≡ Some t
+          → find (λ (y : Task). y.number == task) (cond a u x ∷ with_task u tasks) ≡ Some u
+      go behind true f b g k = ap (λ (y : Bool). cond y (Some u) (find (λ (z : Task). z.number == task) (with_task u tasks))) (eq-eqb u.number task is_task)
+      go behind false f true g k = absurd (true≢false (sym (eq-eqb x.number u.number (eqb-true x.number task g ∙ sym is_task)) ∙ f))
+      go behind false f false g k = ap (λ (y : Bool). cond y (Some x) (find (λ (z : Task). z.number == task) (with_task u tasks))) g ∙ behind k
+
   -- it is live then, by its number
   pub live_again : (n : Machine) → n ≡ with_restarted m (restarted c.t c.entry) → live_in n.tasks task ≡ Some (restarted c.t c.entry)
   live_again n is = ap (λ (x : Machine). live_in x.tasks task) is ∙ changed_live m.tasks.tasks c.t (restarted c.t c.entry) refl c.live
-    where
-      changed_live : (tasks : List Task) (t u : Task) → u.number ≡ t.number → find (λ x. x.number == task) tasks ≡ Some t → find (λ x. x.number == task) (with_task u tasks) ≡ Some u
-      changed_live [] t u same e = absurd (cc e)
-      changed_live (x ∷ tasks) t u same e = go (x.number == u.number) refl (x.number == task) refl e
-        where
-          numbered : find (λ (y : Task). y.number == task) (x ∷ tasks) ≡ Some t → (t.number == task) ≡ true
-          numbered k = (found-In (λ (y : Task). y.number == task) (x ∷ tasks) t k).1
-
-          is_task : u.number ≡ task
-          is_task = same ∙ eqb-true t.number task (numbered e)
-
-          go : (a : Bool) → (x.number == u.number) ≡ a → (b : Bool) → (x.number == task) ≡ b → cond b (Some x) (find (λ (y : Task). y.number == task) tasks) ≡ Some t
-              → find (λ (y : Task). y.number == task) (cond a u x ∷ with_task u tasks) ≡ Some u
-          go true f b g k = ap (λ (y : Bool). cond y (Some u) (find (λ (z : Task). z.number == task) (with_task u tasks))) (eq-eqb u.number task is_task)
-          go false f true g k = absurd (true≢false (sym (eq-eqb x.number u.number (eqb-true x.number task g ∙ sym is_task)) ∙ f))
-          go false f false g k = ap (λ (y : Bool). cond y (Some x) (find (λ (z : Task). z.number == task) (with_task u tasks))) g ∙ changed_live tasks t u same k

@@ -103,16 +103,19 @@ module _ {first : Machine} {asked : Change} {r : Ready} {q : CanFinish first ask
   pub sound_then : IsSound (suspended n)
   sound_then = let w = whole_suspended n e.entered.whole in record { coherent = w.coherent; parts = w.parts; undo = refl }
 
-  live_then : live_in n.tasks task ≡ Some b.t
+  pub live_then : live_in n.tasks task ≡ Some b.t
   live_then = ap (λ (ts : TasksState). live_in ts task) e.tasks ∙ b.live
 
-  pub can_restart : CanRestart (suspended n) task
+  pub there_then : entry_again (world_of n) b.t ≡ Some b.entry
+  there_then = entry_as_linked (world_of n) q.is.plan.linked b.t (second_parts change q.is.plan (world_of n) e.is) ∙ b.there
+
+  abbrev pub can_restart : CanRestart (suspended n) task
   can_restart = record {
     sound = sound_then;
     t = b.t;
     live = live_then;
     entry = b.entry;
-    there = entry_as_linked (world_of n) q.is.plan.linked b.t (second_parts change q.is.plan (world_of n) e.is) ∙ b.there;
+    there = there_then;
   }
 
   abbrev begun : Task
@@ -125,7 +128,7 @@ module _ {first : Machine} {asked : Change} {r : Ready} {q : CanFinish first ask
   there = (found-In (λ (u : Task). u.number == task) w.tasks b.t live_then).0
 
   present : is_some (cell_of w b.entry.0) ≡ true
-  present = entry_present w b.t.origin.ns b.t.origin.name b.entry can_restart.there
+  present = entry_present w b.t.origin.ns b.t.origin.name b.entry there_then
 
   coherent : IsCoherent (restart begun w)
   coherent = restart_coherent w e.entered.whole.coherent b.t there b.entry present

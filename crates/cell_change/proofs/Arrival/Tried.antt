@@ -114,10 +114,10 @@ can_sweep {asked = asked} {r = r} {q = q} {survey = survey} {n = n} t = go surve
 -- the plan's task that begins again, or none
 module _ {first : Machine} {asked : Change} {plan : Plan} {prepared : Prepared} {transfer : Option Transfer} {room : ℕ} (t : CanTry first asked plan prepared transfer room)
     (outlook : Option Outlook) (n : Machine) (e : IsEntered t.can outlook n) where
-  by_plan : BeginsBy t.can.before asked t.can.is.plan plan.again
+  pub by_plan : BeginsBy t.can.before asked t.can.is.plan plan.again
   by_plan = subst (BeginsBy t.can.before asked t.can.is.plan) (sym (ap (λ (p : Plan). p.again) t.can.ready.plan)) t.can.is.again
 
-  pub can_renew : (task : ℕ) → plan.again ≡ Some task → CanRenew n asked task outlook room
+  abbrev pub can_renew : (task : ℕ) → plan.again ≡ Some task → CanRenew n asked task outlook room
   can_renew task is = record {
     first = first;
     ready = record t.rest { plan = plan; prepared = prepared; transfer = transfer };
@@ -127,7 +127,7 @@ module _ {first : Machine} {asked : Change} {plan : Plan} {prepared : Prepared} 
     begun = subst (BeginsBy t.can.before asked t.can.is.plan) is by_plan;
   }
 
-  pub can_settle : plan.again ≡ None → CanSettle n asked outlook room
+  abbrev pub can_settle : plan.again ≡ None → CanSettle n asked outlook room
   can_settle is = record {
     first = first;
     ready = record t.rest { plan = plan; prepared = prepared; transfer = transfer };

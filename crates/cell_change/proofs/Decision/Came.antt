@@ -1,9 +1,8 @@
 -- A change whose new cells have their places: what it has come to, and what it changes in a cell that was there.
-use Rattle.std.proofs.Common.{◌≡◌, sym, ap, subst, suc, Bool, true, false, List, map, None, ℕ}
+use Rattle.std.proofs.Common.{◌≡◌, sym, subst, suc, true, false, List, map, None, ℕ}
 use Rattle.std.specs.Prelude.{All}
 use Rattle.cell_num.specs.Lists.{In}
 use Rattle.cell_num.proofs.Elements.{All-In, In-All, In-map}
-use Rattle.cell_object.specs.declared.object.Entry.{Entry}
 use Rattle.cell_world.specs.Change.{Change as ChangeSaid, old_of}
 use Rattle.cell_world.specs.Changed.{differs, first_changed_misfit, now_in}
 use Rattle.cell_world.specs.Coherent.{AreSound, IsCoherent, IsReady}

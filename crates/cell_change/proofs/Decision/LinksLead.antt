@@ -1,5 +1,5 @@
 -- What becomes of the links of others when a change links them: each entry's link before and by now.
-use Rattle.std.proofs.Common.{◌≡◌, refl, sym, ◌∙◌, ap, ap₂, subst, arith, ℕ, suc, ◌<◌, ◌⊎◌, inl, inr, Bool, true, false, cond, not, ◌&&◌, ◌||◌, ◌==◌, List, [], ◌∷◌, ◌++◌, map, Option, Some, None}
+use Rattle.std.proofs.Common.{◌≡◌, refl, sym, ◌∙◌, ap, subst, arith, ℕ, suc, ◌<◌, ◌⊎◌, inl, inr, Bool, true, false, cond, not, ◌&&◌, ◌||◌, ◌==◌, List, [], ◌∷◌, ◌++◌, map, Option, Some, None}
 use Rattle.std.specs.Prelude.{All, Contains, filter, filter_map, flat_map, nat_lt}
 use Rattle.std.specs.List.{cons_option, list_all}
 use Rattle.std.proofs.lemmas.Bool.{and_from, and_parts, ltb-true}
@@ -14,7 +14,7 @@ use Rattle.cell_world.specs.declared.state.NewCell.{NewCell}
 use Rattle.cell_world.specs.declared.state.Target.{Target}
 use Rattle.cell_world.specs.declared.state.Target.TheVariants.{Section, Number}
 use Rattle.cell_world.specs.World.{World, Cell, key_of}
-use Rattle.cell_world.specs.Changed.{differs, is_same_key, now_in}
+use Rattle.cell_world.specs.Changed.{differs, now_in}
 use Rattle.cell_world.specs.Coherent.{IsCoherent, IsReady}
 use Rattle.cell_world.specs.Linked.Relink.{link_of, link_to}
 use Rattle.cell_world.specs.Linked.Target.{target_of}

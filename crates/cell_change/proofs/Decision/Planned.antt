@@ -48,7 +48,7 @@ use Rattle.cell_plan.specs.declared.changed.Changed.{Changed}
 use Rattle.cell_plan.specs.Exchanged.{IsChange, patches_of}
 use Rattle.cell_change.specs.declared.request.Change.{Change}
 use Rattle.cell_change.specs.Planning.{IsBegun, IsGatheredFor, view_with, wish}
-use Rattle.cell_change.proofs.Decision.Began.{are, aside_is, h, like, no_undo, old, parts, sources, u, v, good}
+use Rattle.cell_change.proofs.Decision.Began.{are, aside_is, h, like, no_undo, parts, sources, u, v, good}
 use Rattle.cell_change.proofs.Decision.UserChanges.{W, W_is, backs_are, binds_are, fits, moves_are, patches_are, placed, ready, regrown, runs, stays_by, taken, unbinds_are}
 use Rattle.cell_change.proofs.Decision.Covered.{G, gathering}
 use Rattle.cell_change.proofs.Decision.LinksLead.{are_steps, steps_present}

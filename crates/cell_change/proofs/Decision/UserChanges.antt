@@ -29,6 +29,7 @@ use Rattle.cell_num.proofs.Elements.{All-In, In-All, In-filtered}
 use Rattle.cell_lemmas.proofs.Fields.Relinked.{map_twice}
 use Rattle.cell_lemmas.specs.Loads.{ManyTaken, objects_of, placed_after, placed_cells, take_all}
 use Rattle.cell_change_law.specs.Sound.{HasCome}
+use Rattle.cell_change_law.proofs.Untouched.{comers}
 use Rattle.cell_change.proofs.Decision.Came.{came_now, came_ready, came_regrown, came_stays}
 use Rattle.cell_space.specs.Ahead.{AheadState}
 use Rattle.cell_space.specs.Joined.{placed_of}
@@ -164,7 +165,9 @@ module _ (files : List File) (asked : Change) (m : Machine) (b : IsBegun files a
   -- what isn't picked is left alone
   left : (c : Cell) → In c before.cells → picked files asked m b c ≡ false → (e : Entry) → In e c.object.entries → differs before W c e ≡ false
   left =
-      left_alone (sources files asked m b) (are files asked m b) before (h files asked m b) (wish b) (good files asked m b) W placed (softs files asked m b) (λ d i a. soft_there files asked m b d i (awaits_soft _ d a))
+      left_alone (sources files asked m b) (are files asked m b) before (h files asked m b) (wish b) (good files asked m b) W placed (softs files asked m b)
+      (λ d i a. soft_there files asked m b d i
+          (awaits_soft (comers (sources files asked m b) (are files asked m b) before (h files asked m b) (wish b) (good files asked m b) placed.gathered placed.gathering W placed.placing placed.covered) d a))
 
   fields_are : changed_fields before W ≡ flat_map (changed_in before W) some
   fields_are = changed_among before W (picked files asked m b) before.cells (λ c i a. nothing_changed before W c (left c i a))

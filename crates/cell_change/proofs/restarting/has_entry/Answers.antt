@@ -1,5 +1,6 @@
-use Rattle.std.proofs.Common.{◌∙◌, ap, subst, ◌++◌, List, ℕ, None, Some}
-use Rattle.cell_world.specs.Names.{chain}
+use Rattle.std.proofs.Common.{◌≡◌, ap, subst, ◌++◌, List, ℕ, Option, None, Some}
+use Rattle.std.specs.Prelude.{IfOk}
+use Rattle.cell_world.specs.Names.{Provider, chain}
 use Rattle.cell_world.specs.declared.state.Standing.TheVariants.{Attached}
 use Rattle.cell_space.specs.Named.{provider_as, provider_for}
 use Rattle.cell_change.specs.Restarting.{has_begin}
@@ -17,7 +18,7 @@ may_begin_at-requires-clause-loadable c = c.requires.loadable
 pub returns-in-Some : goal.returns-in-Some
 returns-in-Some c =
     let there = subst (λ (name : List ℕ). Some (provider_as c.in-Some.provider) ≡ provider_for (chain c.args.gathered.now.ahead.namespaces c.args.origin.now.ns) Attached name c.args.gathered.now.ahead.cells) c.bytes.ensures (c.in-Some.ensures {u = tt}) in
-    λ {u}. c.may_begin_at.ensures {u = u} ∙ ap (has_begin (c.args.machine.now.cells.items ++ c.args.gathered.now.cells.items)) there
+    subst (λ (o : Option Provider). IfOk c.may_begin_at.result (λ may. may ≡ has_begin (c.args.machine.now.cells.items ++ c.args.gathered.now.cells.items) o)) there c.may_begin_at.ensures
 
 pub returns-in-None : goal.returns-in-None
 returns-in-None c =

@@ -1,5 +1,5 @@
-use Rattle.std.proofs.Common.{sym, ◌∙◌, ap, subst, ◌++◌, List, Option, None, Some}
-use Rattle.std.specs.Prelude.{◌==◌, IsTrue, find, is_some, nat_lt, option_and_then}
+use Rattle.std.proofs.Common.{◌≡◌, sym, ap, subst, ◌++◌, List, Option, None, Some}
+use Rattle.std.specs.Prelude.{◌==◌, IfOk, IsTrue, find, is_some, nat_lt, option_and_then}
 use Rattle.cell_num.specs.Lists.{each_pair}
 use Rattle.cell_num.proofs.Elements.{found-In}
 use Rattle.cell_world.specs.Commands.SpawnCommand.{entry_offset}
@@ -23,7 +23,7 @@ returns-in-Some c =
     let is_it = λ (d : NewCell). d.id.0 == c.args.provider.now.cell.0 in
     let among = subst (λ (cs : List NewCell). Some c.in-Some.cell.now ≡ find is_it (cs ++ c.deref-2.result.now)) c.deref.ensures.value (c.in-Some.ensures {u = tt}) in
     let there = subst (λ (cs : List NewCell). Some c.in-Some.cell.now ≡ find is_it (c.args.machine.now.cells.items ++ cs)) c.deref-2.ensures.value among in
-    λ {u}. c.can_begin_at.ensures {u = u} ∙ ap (λ (o : Option NewCell). is_some (option_and_then (λ (d : NewCell). entry_offset d.object c.args.provider.now.symbol) o)) there
+    subst (λ (o : Option NewCell). IfOk c.can_begin_at.result (λ can. can ≡ is_some (option_and_then (λ (d : NewCell). entry_offset d.object c.args.provider.now.symbol) o))) there c.can_begin_at.ensures
 
 pub returns-in-None : goal.returns-in-None
 returns-in-None c =
