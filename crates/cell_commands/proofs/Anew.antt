@@ -1,7 +1,7 @@
 -- The wants of a recovery, by the task and the cells that are found.
-use Rattle.std.proofs.Common.{◌≡◌, sym, ◌∙◌, ap, subst, arith, ℕ, ◌<◌, inl, inr, true, List, [], ◌∷◌, map, length, Ok, Err}
-use Rattle.std.specs.Prelude.{All, Result}
-use Rattle.std.proofs.lemmas.Bool.{and_parts, ltb-true}
+use Rattle.std.proofs.Common.{◌≡◌, sym, ◌∙◌, ap, subst, arith, ℕ, suc, ◌<◌, inl, inr, Bool, true, false, not, List, [], ◌∷◌, map, length, Ok, Err}
+use Rattle.std.specs.Prelude.{◌==◌, All, Result}
+use Rattle.std.proofs.lemmas.Bool.{and_parts, eqb-true, false_from_ne_true, ltb-true}
 use Rattle.cell_num.specs.Lists.{In}
 use Rattle.cell_num.proofs.Elements.{In-All, In-filtered, all-In, filter-Passes}
 use Rattle.cell_world.specs.declared.fail.Fail.{Fail}
@@ -15,7 +15,7 @@ use Rattle.cell_world.specs.Commands.Recovery.{faulted_task, is_rebuilt, rebuild
 use Rattle.cell_world.specs.Kept.{claim_of, holding_of, is_claimed_by}
 use Rattle.cell_world.specs.Following.{FailsAs}
 use Rattle.cell_world.specs.Gather.{Source}
-use Rattle.cell_world.specs.Outcome.{Outcome, ◌>>=◌}
+use Rattle.cell_world.specs.Outcome.{Outcome, ◌>>=◌, ◌>>◌, need}
 use Rattle.cell_world.specs.World.{Cell, Task, World, is_attached}
 use Rattle.cell_lemmas.proofs.Naming.Known.{known_parts}
 use Rattle.cell_space.specs.Joined.{placed_of}
@@ -23,6 +23,9 @@ use Rattle.cell_change.specs.declared.request.Change.{Change}
 use Rattle.cell_commands.specs.Renewals.{AreAt, AsksAnew, renewed_cells, wanted_anew}
 use Rattle.cell_commands.proofs.Faulted.{same_number}
 use Rattle.cell_commands.proofs.Renewing.{IsFirst}
+
+not_zero : (n : ℕ) → (suc n == 0) ≡ false
+not_zero n = false_from_ne_true (suc n == 0) (λ e. let same = eqb-true (suc n) 0 e in omega (arith, same))
 
 module _ (sources : List Source) (w : World) (number : ℕ) (set : World → Task → List Cell) where
   abbrev all : Outcome (List Wanted)
@@ -48,7 +51,10 @@ module _ (sources : List Source) (w : World) (number : ℕ) (set : World → Tas
     -- some are
     module _ (c : Cell) (cells : List Cell) (some : set w t ≡ c ∷ cells) where
       pub anew_is : all ≡ renewals sources (c ∷ cells)
-      anew_is = by_task ∙ ap (λ (found : List Cell). renewed_cells sources w (λ v u. found) t) some
+      anew_is =
+          by_task
+          ∙ (ap (λ (found : List Cell). renewed_cells sources w (λ v u. found) t) some
+          ∙ ap (λ (none : Bool). need (not none) (NoCrate t.number t.pc) >> renewals sources (c ∷ cells)) (not_zero (length cells)))
 
       pub renewed_so : (result : Result Change Fail) → AsksAnew sources w (renewals sources (c ∷ cells)) (length (c ∷ cells)) number result → AsksAnew sources w all 1 number result
       renewed_so (Ok change) x = record {

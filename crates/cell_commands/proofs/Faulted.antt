@@ -1,6 +1,6 @@
 -- A task that has faulted, and the cells that are renewed for it.
 use Rattle.std.proofs.Common.{◌≡◌, refl, sym, ◌∙◌, ap, ℕ, Bool, true, false, not, Option, None, Some, Ok, Err}
-use Rattle.std.specs.Prelude.{◌==◌, decimal, is_none, option_map}
+use Rattle.std.specs.Prelude.{◌==◌, decimal, is_some, option_map}
 use Rattle.std.proofs.lemmas.Bool.{eqb-true}
 use Rattle.cell_num.proofs.Elements.{found-In}
 use Rattle.cell_world.specs.declared.fail.Fail.{Fail}
@@ -48,9 +48,9 @@ module _ (w : World) (number : ℕ) (t : Task) (live : live_task w number ≡ Ok
   has_faulted faulted = by_live ∙ ap (λ (b : Bool). need (not b) (NotFaulted number) >> (let o : Outcome Task = Ok t in o)) faulted
 
 -- whether a task is ready is told by its fault
-pub ready_is : (number : ℕ) (t : LiveTask) → is_ready (seen_as number t) ≡ is_none t.fault
+pub ready_is : (number : ℕ) (t : LiveTask) → is_ready (seen_as number t) ≡ not (is_some t.fault)
 ready_is number t = go t.fault
   where
-    go : (o : Option TaskFault) → is_none (option_map fault_as o) ≡ is_none o
+    go : (o : Option TaskFault) → (elim (option_map fault_as o) as (λ _. Bool) [ None ↦ true | Some fault ↦ false ]) ≡ not (is_some o)
     go None = refl
     go (Some fault) = refl

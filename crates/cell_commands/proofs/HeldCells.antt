@@ -1,6 +1,7 @@
 -- The cells that a faulted task holds.
-use Rattle.std.proofs.Common.{◌≡◌, refl, sym, ◌∙◌, ap, subst, ℕ, Bor, Bool, true, false, not, List, [], ◌∷◌, map, length, Option, None, Some, Ok}
+use Rattle.std.proofs.Common.{◌≡◌, refl, sym, ◌∙◌, ap, subst, arith, ℕ, Bor, Bool, true, false, not, List, [], ◌∷◌, map, length, Option, None, Some, Ok}
 use Rattle.std.specs.Prelude.{◌==◌, Err, Result, decimal, option_map}
+use Rattle.std.proofs.lemmas.Bool.{eqb-true}
 use Rattle.cell_world.specs.declared.fail.Fail.{Fail}
 use Rattle.cell_world.specs.declared.refusal.Refusal.TheVariants.{NotFaulted, Unknown}
 use Rattle.cell_world.specs.declared.state.NewCell.{NewCell}
@@ -20,7 +21,7 @@ use Rattle.cell_commands.proofs.Anew.{held_at, renewed_so}
 pub none_held : (all : List Cell) (cells : List (Bor NewCell)) → map (λ c. c.now) cells ≡ map placed_of all → (length cells == 0) ≡ true → all ≡ []
 none_held [] cells e empty = refl
 none_held (c ∷ all) [] e empty = absurd (cc e)
-none_held (c ∷ all) (b ∷ cells) e empty = absurd (cc empty)
+none_held (c ∷ all) (b ∷ cells) e empty = let none = eqb-true (length (b ∷ cells)) 0 empty in absurd (omega (arith, none))
 
 -- a task that has faulted is live
 pub still_live : (w : World) (number : ℕ) (t : Task) → faulted_task w number ≡ Ok t → task_of w number ≡ Some t

@@ -54,7 +54,7 @@ module _ (word : ℕ) where
   -- a word lies in a section of the cell, among all sections
   pub among_all : (cells : List Cell) → each_pair (λ (a b : Cell). nat_lt a.id.0 b.id.0) cells ≡ true → (c : Cell) → In c cells → list_any (is_inside c.id.0 word) (flat_map placed_in cells) ≡ has_word c.placed word
   among_all [] order c i = absurd i
-  among_all (d ∷ cells) order c i = list_any-append (is_inside c.id.0 word) (placed_in d) (flat_map placed_in cells) ∙ go i
+  among_all (d ∷ cells) order c i = list_any-append (is_inside c.id.0 word) (placed_in d) (flat_map placed_in cells) ∙ go (λ order_in k. among_all cells order_in c k) i
     where
       parts : (list_all (λ (b : Cell). nat_lt d.id.0 b.id.0) cells ≡ true) × (each_pair (λ (a b : Cell). nat_lt a.id.0 b.id.0) cells ≡ true)
       parts = and_parts (list_all (λ (b : Cell). nat_lt d.id.0 b.id.0) cells) (each_pair (λ (a b : Cell). nat_lt a.id.0 b.id.0) cells) order
@@ -62,13 +62,14 @@ module _ (word : ℕ) where
       above : (e : Cell) → In e cells → d.id.0 < e.id.0
       above e k = ltb-true d.id.0 e.id.0 (all-In (λ (b : Cell). nat_lt d.id.0 b.id.0) cells parts.0 e k)
 
-      go : In c (d ∷ cells) → (list_any (is_inside c.id.0 word) (placed_in d) || list_any (is_inside c.id.0 word) (flat_map placed_in cells)) ≡ has_word c.placed word
-      go (inl same) =
+      go : (each_pair (λ (a b : Cell). nat_lt a.id.0 b.id.0) cells ≡ true → In c cells → list_any (is_inside c.id.0 word) (flat_map placed_in cells) ≡ has_word c.placed word)
+          → In c (d ∷ cells) → (list_any (is_inside c.id.0 word) (placed_in d) || list_any (is_inside c.id.0 word) (flat_map placed_in cells)) ≡ has_word c.placed word
+      go among (inl same) =
           subst (λ (x : Cell). (list_any (is_inside x.id.0 word) (placed_in d) || list_any (is_inside x.id.0 word) (flat_map placed_in cells)) ≡ has_word x.placed word) (sym same)
           (ap₂ (λ (a b : Bool). a || b) (own d d.object.sections) (behind d.id.0 cells above) ∙ or_false (has_word d.placed word))
-      go (inr k) =
+      go among (inr k) =
           ap (λ (b : Bool). b || list_any (is_inside c.id.0 word) (flat_map placed_in cells)) (other d c.id.0 (not_same d.id.0 c.id.0 (above c k)) d.object.sections)
-          ∙ among_all cells parts.1 c k
+          ∙ among parts.1 k
 
 module _ (w : World) (order : each_pair (λ (a b : Cell). nat_lt a.id.0 b.id.0) w.cells ≡ true) (t : Task) where
   abbrev words : List ℕ

@@ -7,6 +7,7 @@ mod Faulted
 mod RenewSaid
 mod Renewing
 mod Anew
+mod AttachedCells
 mod Found
 mod HeldCells
 mod Holds

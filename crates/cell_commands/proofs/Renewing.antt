@@ -111,7 +111,7 @@ module _ (pc : ℕ) where
 
   pub first_taken : (cells : List Cell) (p : NewCell) → Some p ≡ find runs (map placed_of (filter is_here cells)) → IsFirst cells p
   first_taken [] p e = absurd (cc e)
-  first_taken (c ∷ cells) p e = go c.standing refl (list_any (is_run_at pc c) c.object.sections) refl e
+  first_taken (c ∷ cells) p e = go (first_taken cells p) c.standing refl (list_any (is_run_at pc c) c.object.sections) refl e
     where
       later : IsFirst cells p → runs_at pc c ≡ false → IsFirst (c ∷ cells) p
       later x out = record {
@@ -122,10 +122,10 @@ module _ (pc : ℕ) where
         att = x.att;
       }
 
-      go : (s : Standing) → c.standing ≡ s → (b : Bool) → list_any (is_run_at pc c) c.object.sections ≡ b
+      go : (Some p ≡ find runs (map placed_of (filter is_here cells)) → IsFirst cells p) → (s : Standing) → c.standing ≡ s → (b : Bool) → list_any (is_run_at pc c) c.object.sections ≡ b
           → Some p ≡ find runs (map placed_of (cond (is_attached s) (c ∷ filter is_here cells) (filter is_here cells))) → IsFirst (c ∷ cells) p
-      go (Detached k) s b r k2 = later (first_taken cells p k2) (ap (λ (x : Standing). is_attached x && list_any (is_run_at pc c) c.object.sections) s)
-      go Attached s true r k2 = record {
+      go behind (Detached k) s b r k2 = later (behind k2) (ap (λ (x : Standing). is_attached x && list_any (is_run_at pc c) c.object.sections) s)
+      go behind Attached s true r k2 = record {
         cell = c;
         taken =
             ap (λ (x : Bool). take 1 (cond x (c ∷ filter (runs_at pc) cells) (filter (runs_at pc) cells)))
@@ -134,24 +134,24 @@ module _ (pc : ℕ) where
         there = inl refl;
         att = ap is_attached s;
       }
-      go Attached s false r k2 =
-          later (first_taken cells p (k2 ∙ ap (λ (x : Bool). cond x (Some c.placed) (find runs (map placed_of (filter is_here cells)))) r))
+      go behind Attached s false r k2 =
+          later (behind (k2 ∙ ap (λ (x : Bool). cond x (Some c.placed) (find runs (map placed_of (filter is_here cells)))) r))
           (ap (λ (x : Standing). is_attached x && list_any (is_run_at pc c) c.object.sections) s ∙ r)
 
   pub none_taken : (cells : List Cell) → None ≡ find runs (map placed_of (filter is_here cells)) → take 1 (filter (runs_at pc) cells) ≡ []
   none_taken [] e = refl
-  none_taken (c ∷ cells) e = go c.standing refl (list_any (is_run_at pc c) c.object.sections) refl e
+  none_taken (c ∷ cells) e = go (none_taken cells) c.standing refl (list_any (is_run_at pc c) c.object.sections) refl e
     where
       later : take 1 (filter (runs_at pc) cells) ≡ [] → runs_at pc c ≡ false → take 1 (filter (runs_at pc) (c ∷ cells)) ≡ []
       later x out = ap (λ (b : Bool). take 1 (cond b (c ∷ filter (runs_at pc) cells) (filter (runs_at pc) cells))) out ∙ x
 
-      go : (s : Standing) → c.standing ≡ s → (b : Bool) → list_any (is_run_at pc c) c.object.sections ≡ b
+      go : (None ≡ find runs (map placed_of (filter is_here cells)) → take 1 (filter (runs_at pc) cells) ≡ []) → (s : Standing) → c.standing ≡ s → (b : Bool) → list_any (is_run_at pc c) c.object.sections ≡ b
           → None ≡ find runs (map placed_of (cond (is_attached s) (c ∷ filter is_here cells) (filter is_here cells))) → take 1 (filter (runs_at pc) (c ∷ cells)) ≡ []
-      go (Detached k) s b r k2 = later (none_taken cells k2) (ap (λ (x : Standing). is_attached x && list_any (is_run_at pc c) c.object.sections) s)
-      go Attached s true r k2 = absurd (none_some c.placed (k2 ∙ ap (λ (x : Bool). cond x (Some c.placed) (find runs (map placed_of (filter is_here cells)))) r))
+      go behind (Detached k) s b r k2 = later (behind k2) (ap (λ (x : Standing). is_attached x && list_any (is_run_at pc c) c.object.sections) s)
+      go behind Attached s true r k2 = absurd (none_some c.placed (k2 ∙ ap (λ (x : Bool). cond x (Some c.placed) (find runs (map placed_of (filter is_here cells)))) r))
         where
           none_some : (x : NewCell) → (let o : Option NewCell = None in o) ≡ Some x → ⊥
           none_some x q = cc
-      go Attached s false r k2 =
-          later (none_taken cells (k2 ∙ ap (λ (x : Bool). cond x (Some c.placed) (find runs (map placed_of (filter is_here cells)))) r))
+      go behind Attached s false r k2 =
+          later (behind (k2 ∙ ap (λ (x : Bool). cond x (Some c.placed) (find runs (map placed_of (filter is_here cells)))) r))
           (ap (λ (x : Standing). is_attached x && list_any (is_run_at pc c) c.object.sections) s ∙ r)

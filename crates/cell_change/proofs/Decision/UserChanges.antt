@@ -167,7 +167,7 @@ module _ (files : List File) (asked : Change) (m : Machine) (b : IsBegun files a
   left =
       left_alone (sources files asked m b) (are files asked m b) before (h files asked m b) (wish b) (good files asked m b) W placed (softs files asked m b)
       (λ d i a. soft_there files asked m b d i
-          (awaits_soft (comers (sources files asked m b) (are files asked m b) before (h files asked m b) (wish b) (good files asked m b) placed.gathered placed.gathering W placed.placing placed.covered) d a))
+      (awaits_soft (comers (sources files asked m b) (are files asked m b) before (h files asked m b) (wish b) (good files asked m b) placed.gathered placed.gathering W placed.placing placed.covered) d a))
 
   fields_are : changed_fields before W ≡ flat_map (changed_in before W) some
   fields_are = changed_among before W (picked files asked m b) before.cells (λ c i a. nothing_changed before W c (left c i a))

@@ -1,4 +1,4 @@
-use Rattle.std.proofs.Common.{sym, ◌∙◌}
+use Rattle.std.proofs.Common.{◌∙◌, ap, not}
 use Rattle.std.proofs.lemmas.Result.{err_from_is_err_and}
 use Rattle.cell_machine.specs.Machine.{world_of}
 use Rattle.cell_task.specs.State.{seen_as}
@@ -13,9 +13,9 @@ returns-in_err-task c =
 pub returns-then-is_none : goal.returns-then-is_none
 returns-then-is_none c =
     goes_on (world_of c.args.machine.now) c.args.number (seen_as c.args.number c.in_ok-task.task.now) (c.in_ok-task.ensures {u = tt})
-    (ready_is c.args.number c.in_ok-task.task.now ∙ (sym c.is_none.ensures ∙ c.if-is_none.true))
+    (ready_is c.args.number c.in_ok-task.task.now ∙ ap not (c.is_none.ensures ∙ ap not c.if-is_none.true))
 
 pub returns : goal.returns
 returns c =
     has_faulted (world_of c.args.machine.now) c.args.number (seen_as c.args.number c.in_ok-task.task.now) (c.in_ok-task.ensures {u = tt})
-    (ready_is c.args.number c.in_ok-task.task.now ∙ (sym c.is_none.ensures ∙ c.if-is_none.false))
+    (ready_is c.args.number c.in_ok-task.task.now ∙ ap not (c.is_none.ensures ∙ ap not c.if-is_none.false))
