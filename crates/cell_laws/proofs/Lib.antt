@@ -14,4 +14,6 @@ mod CountsChange
 pub mod Counts
 mod FilesSound
 mod OwnItems
+mod OwnFiles
 mod Recovered
+mod KeptAgain

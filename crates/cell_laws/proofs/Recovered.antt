@@ -1,5 +1,5 @@
 -- An accepted recovery is the swap of its cells and the restart of the task.
-use Rattle.std.proofs.Common.{◌≡◌, refl, sym, ◌∙◌, ap, ap₂, subst, arith, ℕ, zero, suc, ◌+◌, ◌<◌, Bool, true, false, not, ◌&&◌, List, [], ◌∷◌, ◌++◌, map, length, Option, Some, None, Ok}
+use Rattle.std.proofs.Common.{◌≡◌, refl, sym, ◌∙◌, ap, ap₂, subst, arith, ℕ, ◌+◌, ◌<◌, true, false, not, ◌&&◌, List, [], ◌∷◌, ◌++◌, map, length, Option, Some, None, Ok}
 use Rattle.std.specs.Prelude.{filter, filter_map, nat_le, nat_lt, ◌==◌}
 use Rattle.std.specs.List.{cons_option, list_any}
 use Rattle.std.proofs.lemmas.Bool.{and_parts, eqb-true, leb-true, ltb-true}
@@ -14,12 +14,11 @@ use Rattle.cell_world.specs.declared.reply.Reply.{Reply}
 use Rattle.cell_world.specs.declared.reply.Reply.TheVariants.{Recover, Rebuild}
 use Rattle.cell_world.specs.World.{World, Cell, Region, Task, task_of, is_attached, is_ready}
 use Rattle.cell_world.specs.Answer.{Done, done, live_task, numbers_of}
-use Rattle.cell_world.specs.Change.{Change, Made, Plan, Want, first_held_old, made_by, make_change, old_of, plan_of, replaced, restarting, with_sequel}
+use Rattle.cell_world.specs.Change.{Change, Made, Plan, Want, first_held_old, made_by, make_change, old_of, plan_of, replaced, with_sequel}
 use Rattle.cell_world.specs.Changed.{changed_fields, first_changed_misfit}
-use Rattle.cell_world.specs.Commands.Asked.{exchange_reply, next_rebuild, next_recover, next_renewed, next_swap, renewal, renewals, renewing, swap_reply, wants_of}
+use Rattle.cell_world.specs.Commands.Asked.{exchange_reply, next_rebuild, next_recover, next_renewed, next_swap, renewal, renewals, renewing, swap_reply}
 use Rattle.cell_world.specs.Commands.Recovery.{faulted_task, is_run_at, rebuild_of, recovery_of, runs_at}
 use Rattle.cell_world.specs.Commands.SwapTransfer.{Begin, routines_in}
-use Rattle.cell_world.specs.Commands.UnloadCommand.{purged}
 use Rattle.cell_world.specs.Gather.{Source, file_named, fresh_cells}
 use Rattle.cell_world.specs.Linked.Linking.{link_refusal}
 use Rattle.cell_world.specs.Linked.Relink.{relink}
