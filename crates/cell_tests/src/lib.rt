@@ -46,6 +46,8 @@ mod recovery;
 #[cfg(test)]
 mod recovery_faults;
 #[cfg(test)]
+mod recovery_limits;
+#[cfg(test)]
 mod recovery_refusals;
 #[cfg(test)]
 mod repeated;
