@@ -23,9 +23,9 @@ import sys
 import tempfile
 
 TOP = pathlib.Path(__file__).resolve().parent.parent
-FOLDERS = [(TOP / "examples" / name, "script") for name in ("first", "swap", "tasks", "transfer", "unload", "plugins", "weak", "recover")] + [(TOP / "crates/cells/data/d", "s")]
+FOLDERS = [(TOP / "examples" / name, "script") for name in ("first", "swap", "tasks", "transfer", "unload", "plugins", "weak", "recover", "clone")] + [(TOP / "crates/cells/data/d", "s")]
 ODD_WORDS = ["", "k", "0", "1", "2", "3", "00", "4294967295", "4294967296", "18446744073709551615", "100001", "0x10000000", "#",
-             "k/a", "k/", "/", "=", "strict", "reexport", "transfer", "budget", "recover", "rebuild", "purge", "map", "tasks", "dumpall", "-", "\x00", "a" * 65]
+             "k/a", "k/", "/", "=", "strict", "reexport", "transfer", "budget", "recover", "rebuild", "clone", "as", "purge", "map", "tasks", "dumpall", "-", "\x00", "a" * 65]
 MOST_SECONDS = 1.0
 MOST_MEGABYTES = 150
 LONGEST_WAIT = 10

@@ -26,14 +26,14 @@ CALLS = [
     ["d", "script"], ["--generate", "1", "--seed", "0"], ["--seed=0", "--generate=1"], ["--", "d", "script"], ["d", "Script"],
     ["d", "script", "--base", "0x2000"], ["d", "none"], ["nowhere", "script"], ["d/script", "script"], ["", "script"], ["d", ""]]
 LINES = [
-    "ns n under k", "load k a", "spawn k a::f 0x1f", "step 1 100000", "run 10000", "kill 1", "recover 1", "rebuild 4294967295", "purge", "find k a::f", "map",
+    "ns n under k", "clone n as m", "load k a", "spawn k a::f 0x1f", "step 1 100000", "run 10000", "kill 1", "recover 1", "rebuild 4294967295", "purge", "find k a::f", "map",
     "tasks", "swap k/a=k#b.o reexport strict transfer a::f transfer b budget 7", "swap k/a=k#b.o k/b=c=d", "unload k/a k/b",
     "unload k/a", "deps 4294967295", "users 0", "dump 1 2", "dumpall", "# x", " #", "\tmap ", "",
     "swap k/a=k#b.o transfer strict budget 5", "swap k/a=b transfer a transfer b", "spawn k x 18446744073709551615"]
 PARTS = [
     "k", "k/a", "k/a=f", "a::f", "0", "01", "100001", "10001", "4294967296", "18446744073709551616", "0x0", "0x", "0xF",
     "0x00", "#", "=", "/", "k/a/b", "k/=x", "K", "a" * 64, "a" * 65, "b" * 255, "b" * 256, "c" * 1024, "c" * 1025, "\x7f",
-    "~", "!", "\r", "\0", "é", "transfer", "budget", "strict", "reexport", "under", "map", "swap", "unload", "100000",
+    "~", "!", "\r", "\0", "é", "transfer", "budget", "strict", "reexport", "under", "as", "map", "swap", "unload", "100000",
     "10000", "k/a=", "\v", "\f"]
 
 

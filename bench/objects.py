@@ -604,6 +604,12 @@ def spaces(folder):
     files = {"k#c%d.o" % n: crate_of_many(n, 1000) for n in range(1000)}
     write_folder(folder, "load-1000", files, "load k c0\n")
     write_folder(folder, "read-1000", files, "# the files are read, and none is loaded\n")
+    # There may be 1024 cells, so 500 crates and a clone of each.
+    files = {"red#c%d.o" % n: crate_of_many(n, 500) for n in range(500)}
+    load = "ns red under k\nload red c0\n"
+    write_folder(folder, "read-500", files, "# the files are read, and none is loaded\n")
+    write_folder(folder, "load-500", files, load)
+    write_folder(folder, "clone-500", files, load + "clone red as blue\n")
 
 
 def write_folder(top, name, files, script):

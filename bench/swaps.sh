@@ -3,11 +3,12 @@
 # that have just begun, and tasks whose stacks are full of addresses. The cell that is swapped has ten users' fields and
 # ten of its own. And how long a script takes with 900 loads and then 2,000 swaps of a cell that these 900 name in 1,800
 # fields. And how long a load and a swap take by which the same fields are bound to a name and let go again, where these 900
-# could do without it; and one load and one unload among 1000 cells of which none has a WEAK symbol. It fails where one swap
-# takes more than 3 ms of processor time, with twice the cells more than 2.3 times as long, that script more than a second,
-# or binding and letting go more than 1.3 times as long as leading the same fields elsewhere. Each script runs five times, and the least time counts: the same run takes up to twice
-# as long where something else shares the processor. Where valgrind is installed, it says too how many instructions a swap
-# takes, which nothing beside it changes.
+# could do without it; then both of 1,800 fields of ten cells, whose links stand in front of those of 1,000 other cells; and one
+# load and one unload among 1000 cells of which none has a WEAK symbol. It fails where one swap takes more than 3 ms of processor
+# time, with twice the cells more than 2.3 times as long, the script with 2,000 swaps more than a second, or binding and letting
+# go more than 1.3 times as long as leading the same fields elsewhere. Each script runs five times, and the least time counts: the
+# same run takes up to twice as long where something else shares the processor. Where valgrind is installed, it says too how many
+# instructions a swap takes, which nothing beside it changes.
 #
 #     bench/swaps.sh [CELLS CELLAS]
 #
@@ -166,24 +167,31 @@ for words in 0 2047; do
     if $counting; then echo "  and $(growth "$half_count" "$count") times as many instructions"; fi
 done
 
-users=$work/users
-printf '.data\n.globl x::v\nx::v: .quad 1\n' | assemble "$users" 'k#x.o'
-cp "$users/k#x.o" "$users/n#x-2.o"
-printf '.rodata\n.quad x::v, x::v\n' | assemble "$users" 'k#u1.o'
-for i in $(seq 2 900); do cp "$users/k#u1.o" "$users/k#u$i.o"; done
-for i in $(seq 900); do echo "load k u$i"; done > "$users/loads"
-{ cat "$users/loads"; alternate x 2000; } > "$users/all"
-{ cat "$users/loads"; alternate x $counted; } > "$users/some"
-loads=$(seconds "$users" loads)
-all=$(seconds "$users" all)
-swapped 2000 1800
-awk -v a="$loads" -v b="$all" 'BEGIN { printf "900 loads: %.3f s; with 2,000 swaps of 1,800 fields: %.3f s, %.3f ms each\n", a, b, (b - a) / 2 }'
-at_most seconds "$all" $most_seconds
-if $counting; then
-    moved_count=$(million "$users" loads some $counted)
-    echo "  $moved_count million instructions each"
-fi
-moved=$(awk -v a="$loads" -v b="$all" 'BEGIN { printf "%.4f", (b - a) / 2 }')
+# a crate whose name others need, and the same under another name
+provider() {
+    printf '.data\n.globl x::v\nx::v: .quad 1\n' | assemble "$1" 'k#x.o'
+    cp "$1/k#x.o" "$1/n#x-2.o"
+}
+
+# users FOLDER CRATES FIELDS WEAK: so many crates u1, u2 .. with so many fields each that name x::v, and their loads in `loads`; the
+# last is `.weak x::v`, where they can do without it
+users() {
+    { printf '.rodata\n%s\n' "$4"; for _ in $(seq "$3"); do echo '.quad x::v'; done; } | assemble "$1" 'k#u1.o'
+    for i in $(seq 2 "$2"); do cp "$1/k#u1.o" "$1/k#u$i.o"; done
+    for i in $(seq "$2"); do echo "load k u$i"; done > "$1/loads"
+}
+
+# led FOLDER: a swap that leads 1,800 fields elsewhere, after the loads. Puts the seconds of the loads and of 2,000 such swaps
+# with them into $loads and $all, the milliseconds of one into $moved, and its millions of instructions into $moved_count
+led() {
+    { cat "$1/loads"; alternate x 2000; } > "$1/all"
+    { cat "$1/loads"; alternate x $counted; } > "$1/some"
+    loads=$(seconds "$1" loads)
+    all=$(seconds "$1" all)
+    swapped 2000 1800
+    moved=$(awk -v a="$loads" -v b="$all" 'BEGIN { printf "%.4f", (b - a) / 2 }')
+    if $counting; then moved_count=$(million "$1" loads some $counted); fi
+}
 
 # come_and_go TIMES: so many loads of the crate that has the name, and as many swaps of it for one without the name
 come_and_go() {
@@ -194,32 +202,57 @@ come_and_go() {
     done
 }
 
-weak=$work/weak
-mkdir -p "$weak"
-cp "$users/k#x.o" "$weak"
-printf '' | assemble "$weak" 'n#e.o'
-printf '.rodata\n.weak x::v\n.quad x::v, x::v\n' | assemble "$weak" 'k#u1.o'
-for i in $(seq 2 900); do cp "$weak/k#u1.o" "$weak/k#u$i.o"; done
-cp "$users/loads" "$weak/loads"
-{ cat "$weak/loads"; come_and_go 1000; } > "$weak/all"
-{ cat "$weak/loads"; come_and_go $((counted / 2)); } > "$weak/some"
-loads=$(seconds "$weak" loads)
-all=$(seconds "$weak" all)
-swapped 1000 1800
-if [ "$(grep -c 'ok load .* patched 1800$' "$work/text.txt")" != 1000 ]; then
-    echo 'unexpected text'
-    exit 1
-fi
-bound=$(awk -v a="$loads" -v b="$all" 'BEGIN { printf "%.4f", (b - a) / 2 }')
-times=$(growth "$moved" "$bound")
-echo "1,000 loads and 1,000 swaps that bind 1,800 weak fields and let them go: $bound ms each, $times times as long as leading them elsewhere"
-if $counting; then
-    bound_count=$(million "$weak" loads some $counted)
-    echo "  $bound_count million instructions each"
-    at_most 'times the instructions' "$(growth "$moved_count" "$bound_count")" $most_weak
-else
-    at_most times "$times" $most_weak
-fi
+# bound FOLDER: loads and swaps that bind 1,800 weak fields and let them go, after the loads, against leading them elsewhere
+bound() {
+    printf '' | assemble "$1" 'n#e.o'
+    { cat "$1/loads"; come_and_go 1000; } > "$1/all"
+    { cat "$1/loads"; come_and_go $((counted / 2)); } > "$1/some"
+    loads=$(seconds "$1" loads)
+    all=$(seconds "$1" all)
+    swapped 1000 1800
+    if [ "$(grep -c 'ok load .* patched 1800$' "$work/text.txt")" != 1000 ]; then
+        echo 'unexpected text'
+        exit 1
+    fi
+    one=$(awk -v a="$loads" -v b="$all" 'BEGIN { printf "%.4f", (b - a) / 2 }')
+    times=$(growth "$moved" "$one")
+    echo "1,000 loads and 1,000 swaps that bind 1,800 weak fields and let them go: $one ms each, $times times as long as leading them elsewhere"
+    if $counting; then
+        count=$(million "$1" loads some $counted)
+        times=$(growth "$moved_count" "$count")
+        echo "  $count million instructions each, $times times as many"
+        at_most 'times the instructions' "$times" $most_weak
+    else
+        at_most times "$times" $most_weak
+    fi
+}
+
+provider "$work/users"
+users "$work/users" 900 2 ''
+led "$work/users"
+awk -v a="$loads" -v b="$all" 'BEGIN { printf "900 loads: %.3f s; with 2,000 swaps of 1,800 fields: %.3f s, %.3f ms each\n", a, b, (b - a) / 2 }'
+at_most seconds "$all" $most_seconds
+if $counting; then echo "  $moved_count million instructions each"; fi
+provider "$work/weak"
+users "$work/weak" 900 2 '.weak x::v'
+bound "$work/weak"
+
+# behind FOLDER: the loads of 1,000 other crates come after those of the users
+behind() {
+    cp "$crowd/k#f.o" "$crowd"/k#g*.o "$1"
+    printf 'load k f\nload k g998\n' >> "$1/loads"
+}
+
+provider "$work/front"
+users "$work/front" 10 180 ''
+behind "$work/front"
+led "$work/front"
+echo "a swap of 1,800 fields of 10 crates, with 1,000 others behind them: $moved ms"
+if $counting; then echo "  $moved_count million instructions"; fi
+provider "$work/front_weak"
+users "$work/front_weak" 10 180 '.weak x::v'
+behind "$work/front_weak"
+bound "$work/front_weak"
 
 printf '.data\n.globl y::v\ny::v: .quad g0::x\n' | assemble "$crowd" 'k#y.o'
 begun 1000 0 > "$crowd/before"

@@ -35,7 +35,7 @@ import subprocess
 import transcript
 from transcript import Wrong
 
-CHANGE_CELLS = {"load", "swap", "recover", "rebuild", "unload", "purge"}
+CHANGE_CELLS = {"load", "clone", "swap", "recover", "rebuild", "unload", "purge"}
 CHANGE_TASKS = {"spawn", "step", "run", "kill", "recover", "rebuild"}
 PERMISSIONS = {"rx": "code", "ro": "constants", "rw": "data"}
 NAMESPACE = re.compile(r"[ \t]*ns[ \t]+(\w+)[ \t]+under[ \t]+(\w+)[ \t]*$")

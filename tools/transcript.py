@@ -7,7 +7,7 @@ import sys
 from dataclasses import dataclass, field
 
 TOP = os.path.dirname(os.path.dirname(os.path.abspath(__file__)))
-COMMANDS = "ns|load|spawn|step|run|kill|swap|recover|rebuild|unload|purge|find|map|tasks|deps|users|dump|dumpall"
+COMMANDS = "ns|clone|load|spawn|step|run|kill|swap|recover|rebuild|unload|purge|find|map|tasks|deps|users|dump|dumpall"
 ANSWER = re.compile(rf"(\d+) (?:ok ({COMMANDS})\b|E(\d+) )(.*)")
 CELL = re.compile(r"  #(\d+) (\w+)/(\w+) (attached|detached (\d+)) (\S+)$")
 SECTION = re.compile(r"    (\d+) (rx|rw|ro) ([0-9a-f]+) (\d+)$")
@@ -165,7 +165,7 @@ def numbers(text):
 
 def came(answer):
     """The cells that came with a command."""
-    if answer.command == "load":
+    if answer.command in ("load", "clone"):
         return numbers(answer.rest.partition(" patched ")[0])
     return numbers(parsed(SWAP, answer.at, answer.rest)[3]) if answer.command in SWAPS else []
 

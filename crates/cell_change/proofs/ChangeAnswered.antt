@@ -66,7 +66,7 @@ module _ (files : List File) (before : Machine) (sound : IsSound before) (asked 
 
   -- what the definition is asked for
   abbrev c : ChangeSaid
-  c = as_said asked.options a.wants
+  c = as_said asked.options a.wants a.copies
 
   good : IsSoundChange sources w c
   good = asked_sound sources w asked a

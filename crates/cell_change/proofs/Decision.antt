@@ -14,6 +14,7 @@ pub mod LinksLead
 pub mod Naming
 pub mod OldRivals
 pub mod OldStates
+pub mod Originals
 pub mod PlanSteps
 pub mod Planned
 pub mod ReadyPlaces

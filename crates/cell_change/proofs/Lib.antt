@@ -1,7 +1,6 @@
 pub mod Decision
 pub mod Arrival
 pub mod Return
-mod Empty
 mod NoneAside
 mod Nobody
 pub mod ChangeFinished

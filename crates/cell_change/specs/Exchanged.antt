@@ -14,7 +14,7 @@
 --     HasChanged said old stacks m made n   what the definition has made was made of m, and is told so
 --     ended c plan                      the machine after the routines, and once the task has begun again, if one does, unless a routine fails or a strict change is refused
 --     Finishes c result l               the same without the cells that go, or the refusal, and but for counts the machine before the undo was begun
---     exchanged .. b                    the plan and the machine after its routines, unless that is refused
+--     exchanged .. b                    the plan and the machine that it ends with, unless that is refused
 --     Exchanges .. result n             the exchange was done, or the refusal, and but for counts the same machine
 --     Changes files asked a m result n  the change was made, or the refusal, and but for counts the same machine
 --     unless_attached cell group        the cell, if a swap put it aside
@@ -179,15 +179,15 @@ Exchanges files asked m b (Err OutOfMemory) n = IsSame m n
 
 pub record HasMade (files : List File) (asked : Change) (m : Machine) (a : IsAsked (map source_of files) (world_of m) asked) (made : Made) (n : Machine) : Type 0 where
   pub said : MadeSaid
-  pub is : make_change (map source_of files) (world_of m) (as_said asked.options a.wants) ≡ Ok said
+  pub is : make_change (map source_of files) (world_of m) (as_said asked.options a.wants a.copies) ≡ Ok said
   pub changed : HasChanged said asked.replaced.items (stacks_for asked.options.routines.now) m made n
 
 -- a refusal before there is a plan has counted nothing
 abbrev pub Changes : (files : List File) (asked : Change) (m : Machine) → IsAsked (map source_of files) (world_of m) asked → Result Made Fail → Machine → Type 0
 Changes files asked m a (Ok made) n = HasMade files asked m a made n
 Changes files asked m a (Err (Refused refusal)) n =
-    (make_change (map source_of files) (world_of m) (as_said asked.options a.wants) ≡ Err refusal)
-    × LeavesParts (Some (most_by (plan_of (map source_of files) (world_of m) (as_said asked.options a.wants)) (stacks_for asked.options.routines.now))) refusal m n
+    (make_change (map source_of files) (world_of m) (as_said asked.options a.wants a.copies) ≡ Err refusal)
+    × LeavesParts (Some (most_by (plan_of (map source_of files) (world_of m) (as_said asked.options a.wants a.copies)) (stacks_for asked.options.routines.now))) refusal m n
 Changes files asked m a (Err OutOfMemory) n = IsSame m n
 
 abbrev pub unless_attached : CellId → Option ℕ → List CellId

@@ -1,3 +1,4 @@
+pub mod Copying
 pub mod Asking
 pub mod OldCells
 pub mod Restarting

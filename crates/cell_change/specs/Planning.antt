@@ -60,7 +60,7 @@ pub record IsBegun (files : List File) (asked : Change) (m : Machine) : Type 0 w
   pub aside : IsAside before asked.replaced.items m
 
 abbrev pub wish : {files : List File} {asked : Change} {m : Machine} → IsBegun files asked m → ChangeSaid
-wish {files} {asked} {m} b = as_said asked.options b.found.wants
+wish {files} {asked} {m} b = as_said asked.options b.found.wants b.found.copies
 
 abbrev pub planned : (files : List File) (asked : Change) (m : Machine) → IsBegun files asked m → Outcome PlanSaid
 planned files asked m b = plan_of (map source_of files) (world_of b.before) (wish b)

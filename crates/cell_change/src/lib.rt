@@ -5,6 +5,7 @@
 mod affected;
 mod back;
 mod change;
+mod copying;
 mod entering;
 mod made;
 mod old_cells;
@@ -18,4 +19,4 @@ mod transferring;
 
 pub use change::make_change;
 pub use made::Made;
-pub use request::{Change, Ending, Options};
+pub use request::{CellCopy, Change, Ending, Options};

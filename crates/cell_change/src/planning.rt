@@ -8,13 +8,14 @@ ghost use Rattle.cell_change.specs.Planning.{FindsNew, GathersFor, IsAffected, I
 ghost use Rattle.cell_target.specs.Scene.{AreCells};
 
 use crate::affected::Affected;
+use crate::copying::originals;
 use crate::request::Change;
 use crate::restarting::begin_again;
 use crate::standing::check_torn;
 use crate::transferring::stack_pages;
 use cell_commit::Rewiring;
 use cell_depot::Depot;
-use cell_gather::{Gathered, gather};
+use cell_gather::{Gathered, Room, append_copies, gather};
 use cell_hold::Root;
 use cell_link::FieldValue;
 use cell_load::{Landed, land};
@@ -54,16 +55,23 @@ fn gather_new<'a>(
     requires { IsBegun depot.now asked.now machine.now }
     ensures { (b : IsBegun depot.now asked.now machine.now) → GathersFor depot.now asked.now machine.now b result }
 {
-    let present = machine.cells.len() as u32;
-    gather(
+    let room = Room {
+        spaces: &machine.spaces,
+        present: machine.cells.len() as u32,
+        next: machine.next,
+    };
+    let mut gathered = gather(
         alloc,
         depot,
-        &machine.spaces,
-        present,
-        machine.next,
+        room.spaces,
+        room.present,
+        room.next,
         &asked.wants,
         asked.options.reexport,
-    )
+    )?;
+    let originals = originals(alloc, machine, &asked.copies)?;
+    append_copies(alloc, &room, &mut gathered, &originals)?;
+    Ok(gathered)
 }
 
 /// The new cells, with which no other cell lacks a name that it needs.

@@ -53,10 +53,20 @@ pub struct Options<'a> {
     pub ending: Ending,
 }
 
-/// The wanted cells with those that they replace, and the latter, in the order of the wants.
+/// A copy that is to come: the present cell that it is a copy of, and the number of the namespace that it is
+/// to stand in.
+#[derive(Clone, Copy)]
+pub struct CellCopy {
+    pub original: CellId,
+    pub ns: u16,
+}
+
+/// The wanted cells with those that they replace, and the latter, in the order of the wants; and the copies of
+/// present cells that come behind them.
 #[derive(Drop)]
 pub struct Change<'a> {
     pub wants: Vec<Want>,
     pub replaced: Vec<CellId>,
+    pub copies: Vec<CellCopy>,
     pub options: Options<'a>,
 }

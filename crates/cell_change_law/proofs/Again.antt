@@ -1,5 +1,5 @@
 -- The task of a plan is a live one, which begins again in a present cell, and so the machine stays coherent.
-use Rattle.std.proofs.Common.{◌≡◌, sym, ◌∙◌, ap, subst, ℕ, List, Option, Some, None, Ok, true}
+use Rattle.std.proofs.Common.{◌≡◌, sym, ◌∙◌, ap, subst, List, Option, Some, None, Ok, true}
 use Rattle.std.specs.Prelude.{find, is_some, ◌==◌}
 use Rattle.cell_num.specs.Lists.{In}
 use Rattle.cell_num.proofs.Elements.{found-In}

@@ -10,8 +10,8 @@ use Rattle.cell_world.specs.declared.layout.Class.TheVariants.{Text, ReadOnly, W
 use Rattle.cell_world.specs.declared.refusal.Many.TheVariants.{Cells, CellNumbers}
 use Rattle.cell_world.specs.declared.refusal.Refusal.{Refusal}
 use Rattle.cell_world.specs.declared.refusal.Refusal.TheVariants.{Ambiguous, BadObject, Exhausted, NoEntry, Overflow, TooMany, Torn}
-use Rattle.cell_world.specs.Change.{Change, Plan, append_want, first_uncovered, gather, new_since, plan_of, restart_refusal, restarting, set_aside, with_names}
-use Rattle.cell_world.specs.Gather.{Source, Need, append_cell, bring_one, bring_within, clash_among, depot_files, duplicate, first_lack, fresh_cells, has_stem_in, missing, name_of_ns, nearest_file, object_in, one_file, stem_of_file}
+use Rattle.cell_world.specs.Change.{Change, Copy, Plan, append_copy, append_want, first_uncovered, gather, new_since, plan_of, restart_refusal, restarting, set_aside, with_names}
+use Rattle.cell_world.specs.Gather.{Source, Need, append_cell, bring, bring_one, bring_within, clash_among, depot_files, duplicate, first_lack, fresh_cells, has_stem_in, missing, name_of_ns, nearest_file, object_in, one_file, stem_of_file}
 use Rattle.cell_world.specs.Placed.Layout.{image_of, sections_in}
 use Rattle.cell_num.specs.Limits.{max_cells, max_cell_number}
 use Rattle.cell_world.specs.Names.{chain, clash_name, clash_stem, crate_of, definitions_of}
@@ -97,6 +97,11 @@ append_early w f ns =
     (λ object. next_early (refused_by (option_map (duplicate (stem_of_file f.name)) (clash_stem w ns (stem_of_file f.name)))) _ (mapped_early (duplicate (stem_of_file f.name)) (λ n. tt) _)
     (next_early (refused_by (clash_among w ns (definitions_of object))) _ (clash_early w ns (definitions_of object)) (passes _)))))
 
+copy_early : (w : World) (copy : Copy) → RefusesEarly (append_copy w copy)
+copy_early w copy =
+    next_early (need (nat_lt (length w.cells) max_cells) (TooMany Cells max_cells)) _ (need_early _ _ tt)
+    (next_early (need (nat_le w.next_cell max_cell_number) (TooMany CellNumbers max_cell_number)) _ (need_early _ _ tt) (passes _))
+
 one_file_early : (files : List Source) (lacking : Refusal) → IsEarly lacking → RefusesEarly (one_file files lacking)
 one_file_early [] lacking early = refuses lacking early
 one_file_early (f ∷ []) lacking early = passes f
@@ -134,7 +139,8 @@ bring_early (suc turns) sources from w = go (first_lack w (fresh_cells from w)) 
 gather_early : (sources : List Source) (w : World) (c : Change) → RefusesEarly (gather sources w c)
 gather_early sources w c =
     bind_early (each append_want (set_aside w c) c.wants) _ (each_early append_want (λ v want. append_early v want.file want.ns) c.wants (set_aside w c))
-    (λ appended. bring_early (suc max_cells) sources w.next_cell (with_names w.next_cell c appended))
+    (λ appended. bind_early (bring sources w.next_cell (with_names w.next_cell c appended)) _ (bring_early (suc max_cells) sources w.next_cell (with_names w.next_cell c appended))
+    (λ brought. each_early append_copy copy_early c.copies brought))
 
 begins_early : (cells : List Cell) (words : List (List ℕ)) → RefusesEarly (begins_of cells words)
 begins_early cells words = each_early _ (λ begins word. bind_early (found (begin_of cells word) (NoEntry word)) _ (found_early _ _ tt) (λ begin. passes _)) words []

@@ -1,7 +1,6 @@
 -- Where a task may begin again before the new cells have places, it may begin there once all is linked.
 use Rattle.std.proofs.Common.{◌≡◌, refl, sym, ◌∙◌, ap, ℕ, ◌+◌, Bool, true, false, cond, List, [], ◌∷◌, map, Option, Some, None, Ok}
 use Rattle.std.specs.Prelude.{find, option_map, option_and_then, is_some, ◌==◌}
-use Rattle.cell_world.specs.declared.refusal.Refusal.{Refusal}
 use Rattle.cell_world.specs.declared.refusal.Refusal.TheVariants.{NoEntry}
 use Rattle.cell_world.specs.declared.state.Standing.TheVariants.{Attached}
 use Rattle.cell_world.specs.World.{World, Cell, Task, cell_of}

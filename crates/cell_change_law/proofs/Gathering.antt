@@ -24,8 +24,8 @@ use Rattle.cell_lemmas.proofs.Targeting.Present.{and_then_ok}
 use Rattle.cell_lemmas.proofs.Targeting.Detached.{put, put_out}
 use Rattle.cell_lemmas.proofs.Naming.SetAside.{aside_ranks, aside_base}
 use Rattle.cell_lemmas.proofs.Naming.Reexported.{renamed, renamed_same, renamed_out, renamed_ranks}
-use Rattle.cell_world.specs.Change.{Want, Change, replaced, old_of, swapped_out, set_aside, append_want, exchange_at, exchanges_from, with_names, gather}
-use Rattle.cell_change_law.specs.Sound.{IsSound}
+use Rattle.cell_world.specs.Change.{Want, Copy, Change, replaced, old_of, swapped_out, set_aside, append_copy, append_want, exchange_at, exchanges_from, with_names, gather}
+use Rattle.cell_change_law.specs.Sound.{HasCopied, IsSound}
 
 fold_keeps : {X A : Type 0} (P : X → Type 0) (f : X → A → X) (items : List A) → ((x : X) (a : A) → In a items → P x → P (f x a)) → (x : X) → P x → P (fold f x items)
 fold_keeps P f [] k x p = p
@@ -196,11 +196,36 @@ module _ (sources : List Source) (sound : AreSound sources) (w : World) (h : IsC
   module _ (g : World) (e : gather sources w c ≡ Ok g) where
     -- the new cells are there, with as many numbers more as cells are wanted, or more
     pub all_gathered : ((Ranks g × Extends base_world g) × (w.next_cell + length c.wants ≤ g.next_cell)) × (first_lack g (fresh_cells w.next_cell g) ≡ None)
-    all_gathered =
-        let a = bind_ok (each append_want (set_aside w c) c.wants) _ g e in
-        let r : On (w.next_cell + length c.wants) a.0 = appended_all c.wants (λ want i. i) base_world a.0 (subst (λ (u : World). each append_want u c.wants ≡ Ok a.0) (sym at.is) a.1) ((at.ranks, extends_none base_world), omega arith) in
-        brought_going base_world at.base.known (w.next_cell + length c.wants) sources sound (with_names w.next_cell c a.0) g a.2
-        (names_going base_world at.base.known (w.next_cell + length c.wants) c w.next_cell (omega arith) a.0 r)
+    all_gathered = go s.copied
+      where
+        -- what was brought is all
+        plain : c.copies ≡ [] → ((Ranks g × Extends base_world g) × (w.next_cell + length c.wants ≤ g.next_cell)) × (first_lack g (fresh_cells w.next_cell g) ≡ None)
+        plain none =
+            let a = bind_ok (each append_want (set_aside w c) c.wants) _ g e in
+            let b = bind_ok (bring sources w.next_cell (with_names w.next_cell c a.0)) _ g a.2 in
+            let same : b.0 ≡ g = ok_same b.0 g (subst (λ (copies : List Copy). each append_copy b.0 copies ≡ Ok g) none b.2) in
+            let r : On (w.next_cell + length c.wants) a.0 = appended_all c.wants (λ want i. i) base_world a.0 (subst (λ (u : World). each append_want u c.wants ≡ Ok a.0) (sym at.is) a.1) ((at.ranks, extends_none base_world), omega arith) in
+            brought_going base_world at.base.known (w.next_cell + length c.wants) sources sound (with_names w.next_cell c a.0) g
+            (subst (λ (u : World). bring sources w.next_cell (with_names w.next_cell c a.0) ≡ Ok u) same b.1)
+            (names_going base_world at.base.known (w.next_cell + length c.wants) c w.next_cell (omega arith) a.0 r)
+
+        ranks : HasCopied w c g → Ranks g
+        ranks k = record { names = k.names; own_names = k.own_names; order = k.order; known = k.known; objects = k.objects; few = k.few; last = k.last }
+
+        number_aside : (set_aside w c).next_cell ≡ w.next_cell
+        number_aside = sym (ap (λ (u : World). u.next_cell) at.is)
+
+        extends : HasCopied w c g → Extends (set_aside w c) g
+        extends k = record { new = k.new; next = k.next; is = k.is; attached = k.attached; fresh = k.fresh; rises = omega (arith, k.enough, number_aside) }
+
+        next_is : (k : HasCopied w c g) → k.next ≡ g.next_cell
+        next_is k = ap (λ (u : World). u.next_cell) k.is
+
+        go : (c.copies ≡ []) ⊎ ((g : World) → gather sources w c ≡ Ok g → HasCopied w c g) → ((Ranks g × Extends base_world g) × (w.next_cell + length c.wants ≤ g.next_cell)) × (first_lack g (fresh_cells w.next_cell g) ≡ None)
+        go (inl none) = plain none
+        go (inr f) =
+            let k : HasCopied w c g = f g e in
+            (((ranks k, subst (λ (u : World). Extends u g) (sym at.is) (extends k)), omega (arith, k.enough, next_is k)), k.supplied)
 
     pub swaps_below : at.swaps < g.next_cell
     swaps_below =

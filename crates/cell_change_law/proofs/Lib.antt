@@ -1,10 +1,12 @@
+pub mod Siblings
+pub mod Copied
 pub mod Gathering
 pub mod Placing
 pub mod Planning
 mod Answered
 mod Torn
 pub mod Steps
-mod Added
+pub mod Added
 pub mod Ending
 pub mod Asking
 pub mod Lost

@@ -1,10 +1,10 @@
 -- A task that refuses a change is the first one inside a field that changes.
-use Rattle.std.proofs.Common.{◌≡◌, refl, sym, ap, subst, ◌∙◌, ℕ, Bool, false, not, ◌&&◌, List, [], ◌∷◌, Option, Some, None, Ok, Err}
+use Rattle.std.proofs.Common.{◌≡◌, sym, ap, subst, ◌∙◌, ℕ, not, ◌&&◌, List, [], ◌∷◌, Option, Some, None, Ok, Err}
 use Rattle.std.specs.Prelude.{filter, find, option_map}
 use Rattle.cell_num.specs.Lists.{or_else}
 use Rattle.cell_num.specs.declared.ids.CellId.{CellId}
 use Rattle.cell_num.specs.declared.kinds.RelKind.{RelKind}
-use Rattle.cell_world.specs.Change.{Change, Plan, plan_of}
+use Rattle.cell_world.specs.Change.{Change, plan_of}
 use Rattle.cell_world.specs.Changed.{changed_fields, first_changed_misfit, is_changed, now_in}
 use Rattle.cell_world.specs.Linked.Field.{fits, misfit_of}
 use Rattle.cell_world.specs.Linked.Fit.{first_misfit}

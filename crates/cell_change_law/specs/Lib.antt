@@ -1,3 +1,4 @@
 pub mod Sound
 pub mod Answered
 pub mod Again
+pub mod Cloned

@@ -60,6 +60,7 @@ module _ (sources : List Source) (w : World) (number : ℕ) (set : World → Tas
       renewed_so (Ok change) x = record {
         asked = x.asked;
         all_are = anew_is ∙ x.all_are;
+        none = x.none;
         enough = let enough = x.enough in omega (arith, enough);
         said = x.said;
       }

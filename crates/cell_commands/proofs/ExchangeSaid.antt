@@ -8,7 +8,7 @@ use Rattle.cell_world.specs.declared.file.File.{File}
 use Rattle.cell_world.specs.declared.reply.Reply.{Reply}
 use Rattle.cell_world.specs.Answer.{Done, done, fresh_by, ids, numbers_of}
 use Rattle.cell_world.specs.Commands.Asked.{exchange_reply}
-use Rattle.cell_world.specs.Change.{Change as ChangeSaid, Made as MadeSaid, Plan as PlanSaid, Want as Wanted, make_change, plan_of}
+use Rattle.cell_world.specs.Change.{Copy, Change as ChangeSaid, Made as MadeSaid, Plan as PlanSaid, Want as Wanted, make_change, plan_of}
 use Rattle.cell_world.specs.Following.{FailsAs}
 use Rattle.cell_world.specs.Gather.{Source, source_of}
 use Rattle.cell_world.specs.Outcome.{Outcome, ◌>>=◌}
@@ -66,13 +66,13 @@ module _ (files : List File) (before : Machine) (all : Outcome (List Wanted)) (a
     answer made = done (exchange_reply as_reply made) made.world
 
     abbrev made_of : List Wanted → Outcome Done
-    made_of wants = make_change sources w (as_said o wants) >>= answer
+    made_of wants = make_change sources w (as_said o wants []) >>= answer
 
     abbrev pub said : Outcome Done
     said = all >>= made_of
 
     abbrev pub plan : Outcome PlanSaid
-    plan = all >>= (λ wants. plan_of sources w (as_said o wants))
+    plan = all >>= (λ wants. plan_of sources w (as_said o wants []))
 
     abbrev most : Most
     most = most_by plan (stacks_for o.routines.now)
@@ -83,18 +83,18 @@ module _ (files : List File) (before : Machine) (all : Outcome (List Wanted)) (a
     pub not_asked : IsSound before → (fail : Fail) → FailsAs fail all → Does said counts before (Err fail) before
     not_asked sound fail e = nothing_named before sound all made_of (stacks_for o.routines.now) most fail e
 
-  module _ (asked : Change) (a : IsAsked sources w asked) (are : all ≡ Ok a.wants) (some : 0 < length asked.replaced.items) where
+  module _ (asked : Change) (a : IsAsked sources w asked) (none : a.copies ≡ []) (are : all ≡ Ok a.wants) (some : 0 < length asked.replaced.items) where
     abbrev o : Options
     o = asked.options
 
     abbrev change : ChangeSaid
-    change = as_said o a.wants
+    change = as_said o a.wants a.copies
 
     by_wants : said o ≡ (make_change sources w change >>= answer o)
-    by_wants = ap (λ (x : Outcome (List Wanted)). x >>= made_of o) are
+    by_wants = ap (λ (x : Outcome (List Wanted)). x >>= made_of o) are ∙ ap (λ (copies : List Copy). make_change sources w (as_said o a.wants copies) >>= answer o) (sym none)
 
     plan_is : plan o ≡ plan_of sources w change
-    plan_is = ap (λ (x : Outcome (List Wanted)). x >>= (λ wants. plan_of sources w (as_said o wants))) are
+    plan_is = ap (λ (x : Outcome (List Wanted)). x >>= (λ wants. plan_of sources w (as_said o wants []))) are ∙ ap (λ (copies : List Copy). plan_of sources w (as_said o a.wants copies)) (sym none)
 
     pub was_refused : (fail : Fail) (n : Machine) → Changes files asked before a (Err fail) n → Does (said o) (counts o) before (Err fail) n
     was_refused (Refused r) n e = (

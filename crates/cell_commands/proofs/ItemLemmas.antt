@@ -1,11 +1,11 @@
 -- Items looked up, one after another.
-use Rattle.std.proofs.Common.{◌≡◌, refl, sym, ◌∙◌, ap, subst, arith, ℕ, ◌+◌, ◌≤◌, ◌<◌, Bool, true, false, cond, List, [], ◌∷◌, ◌++◌, drop, get_or, length, map}
+use Rattle.std.proofs.Common.{◌≡◌, refl, sym, ◌∙◌, ap, subst, arith, ℕ, ◌+◌, ◌≤◌, ◌<◌, inl, Bool, true, false, cond, List, [], ◌∷◌, ◌++◌, drop, get_or, length, map}
 use Rattle.std.specs.Prelude.{Option, Some, None, Ok, Err, filter_map, find, nat_lt, option_map, ◌==◌, ◌&&◌}
 use Rattle.std.specs.List.{cons_option}
 use Rattle.std.specs.Option.{ForSome}
 use Rattle.std.proofs.lemmas.Bool.{and_parts, ltb-true}
 use Rattle.std.proofs.lemmas.List.{drop_more, length-append, map-append}
-use Rattle.std.proofs.lemmas.List.Elements.{filter_map-append}
+use Rattle.std.proofs.lemmas.List.Elements.{All-nil, filter_map-append}
 use Rattle.std.proofs.Math.ListN.{drop_of_length-le}
 use Rattle.cell_num.specs.declared.ids.CellId.{CellId}
 use Rattle.cell_world.specs.declared.command.SwapItem.{SwapItem}
@@ -19,7 +19,7 @@ use Rattle.cell_world.specs.Gather.{Source, file_named, source_of}
 use Rattle.cell_world.specs.Outcome.{Outcome, ◌>>=◌, each, found}
 use Rattle.cell_world.specs.Answer.{numbers_of}
 use Rattle.cell_world.specs.Commands.Asked.{want_of}
-use Rattle.cell_world.specs.Change.{Want as Wanted}
+use Rattle.cell_world.specs.Change.{Copy, Want as Wanted}
 use Rattle.cell_world.specs.Coherent.{IsCoherent, is_known_cell}
 use Rattle.cell_lemmas.proofs.Naming.Known.{known_parts}
 use Rattle.cell_world.specs.World.{World, Cell, is_attached, cell_of}
@@ -34,6 +34,7 @@ use Rattle.cell_num.proofs.Elements.{all-In, found-In}
 use Rattle.cell_lemmas.proofs.Targeting.Targets.{In-find}
 use Rattle.cell_unload.specs.Sweep.{cell_numbered}
 use Rattle.cell_change.specs.declared.request.Options.{Options}
+use Rattle.cell_change.specs.declared.request.CellCopy.{CellCopy}
 use Rattle.cell_change.specs.Asking.{AreWantsOf, IsAsked, IsWantOf}
 use Rattle.cell_commands.specs.Items.{old_placed, AddsWant, AreAsked, Asks, HasWant}
 
@@ -161,8 +162,8 @@ module _ (sources : List Source) (w : World) (h : IsCoherent w) (item : SwapItem
           same : (a b : Cell) → Some a ≡ Some b → a ≡ b
           same a b e = cc
 
-      pub has_want : (want : Want) → want ≡ record { ns = old.ns; file = item.file; replaces = Some old.id } → (asked new : Change) → new.wants.items ≡ asked.wants.items ++ want ∷ [] → new.replaced.items ≡ asked.replaced.items ++ old.id ∷ [] → new.options ≡ asked.options → HasWant sources w (want_of sources w item) asked new
-      has_want want e asked new wants numbers options = record {
+      pub has_want : (want : Want) → want ≡ record { ns = old.ns; file = item.file; replaces = Some old.id } → (asked new : Change) → new.wants.items ≡ asked.wants.items ++ want ∷ [] → new.replaced.items ≡ asked.replaced.items ++ old.id ∷ [] → new.copies.items ≡ asked.copies.items → new.options ≡ asked.options → HasWant sources w (want_of sources w item) asked new
+      has_want want e asked new wants numbers copies options = record {
         wanted = wanted;
         cell = that.cell;
         want = want;
@@ -178,6 +179,7 @@ module _ (sources : List Source) (w : World) (h : IsCoherent w) (item : SwapItem
         replaces = refl;
         wants = wants;
         numbers = numbers ∙ ap (λ (n : CellId). asked.replaced.items ++ n ∷ []) (sym (ap (λ (x : NewCell). x.id) that.placed));
+        copies = copies;
         options = options;
       }
 
@@ -208,17 +210,26 @@ module _ (sources : List Source) (v : World) (o : Options) {X : Type 0} (one : X
     pub asked_so : IsAsked sources v asked
     pub rest : all_of items ≡ each more asked_so.wants (drop place items)
     pub count : length asked.replaced.items ≡ place
+    pub none : asked_so.copies ≡ []
+    pub empty : asked.copies.items ≡ []
     pub options : asked.options ≡ o
 
-  pub nothing_asked : (items : List X) (asked : Change) → asked.wants.items ≡ [] → asked.replaced.items ≡ [] → asked.options ≡ o → IsAskedTo items 0 asked
-  nothing_asked items asked wants old options = record {
+  pub nothing_asked : (items : List X) (asked : Change) → asked.wants.items ≡ [] → asked.replaced.items ≡ [] → asked.copies.items ≡ [] → asked.options ≡ o → IsAskedTo items 0 asked
+  nothing_asked items asked wants old empty options = record {
     asked_so = record {
       wants = [];
       are = subst (AreWantsOf sources v []) (sym wants) tt;
       old = ap (map (λ (c : CellId). c.0)) old;
+      copies = [];
+      copies_are = ap (map (λ (c : CellCopy). (c.original.0, c.ns))) empty;
+      originals = All-nil (λ (c : Copy). In c.original v.cells);
+      spaces = All-nil (λ (c : Copy). c.ns < length v.namespaces);
+      copied = inl refl;
     };
     rest = refl;
     count = ap length old;
+    none = refl;
+    empty = empty;
     options = options;
   }
 
@@ -230,6 +241,7 @@ module _ (sources : List Source) (v : World) (o : Options) {X : Type 0} (one : X
     all_asked past = record {
       asked = to.asked_so;
       all_are = to.rest ∙ ap (each more wants) (drop_of_length-le items {i = place} past);
+      none = to.none;
       enough = let count = to.count in omega (arith, past, count);
       options = to.options;
     }
@@ -251,6 +263,11 @@ module _ (sources : List Source) (v : World) (o : Options) {X : Type 0} (one : X
               ap (map (λ (c : CellId). c.0)) has.numbers
               ∙ (map-append (λ (c : CellId). c.0) asked.replaced.items (has.cell.id ∷ [])
               ∙ (ap (λ (ns : List ℕ). ns ++ has.cell.id.0 ∷ []) to.asked_so.old ∙ sym (old_more wants has.wanted has.cell has.replaces)));
+          copies = [];
+          copies_are = ap (map (λ (c : CellCopy). (c.original.0, c.ns))) (has.copies ∙ to.empty);
+          originals = All-nil (λ (c : Copy). In c.original v.cells);
+          spaces = All-nil (λ (c : Copy). c.ns < length v.namespaces);
+          copied = inl refl;
         };
         rest = next ∙ ap (λ (x : Outcome Wanted). (x >>= (λ want. Ok (wants ++ want ∷ []))) >>= (λ wants. each more wants (drop (place + 1) items))) has.is;
         count =
@@ -258,5 +275,7 @@ module _ (sources : List Source) (v : World) (o : Options) {X : Type 0} (one : X
             let both = length-append asked.replaced.items (has.cell.id ∷ []) in
             let before = to.count in
             omega (arith, longer, both, before);
+        none = refl;
+        empty = has.copies ∙ to.empty;
         options = has.options ∙ to.options;
       }

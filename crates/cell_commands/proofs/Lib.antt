@@ -2,12 +2,17 @@ mod Files
 mod ItemLemmas
 mod ExchangeSaid
 mod SwapSaid
+mod PlainSaid
 mod LoadSaid
+mod CopiesSaid
+mod CloneSaid
+mod Parents
 mod Faulted
 mod RenewSaid
 mod Renewing
 mod Anew
 mod AttachedCells
+mod CopiedCells
 mod Found
 mod HeldCells
 mod Holds

@@ -92,12 +92,12 @@ module _ (files : List File) (before : Machine) (number : ℕ) (set : World → 
     no_words = ap (λ (c : ChangeSaid). c.routines) (x.said [])
 
     said_is : said files before all as_reply saying o ≡ renewed
-    said_is = bind_same all (λ wants. make_change sources w (as_said o wants) >>= answer) (then_done number) (λ wants. ap (λ (c : ChangeSaid). make_change sources w c >>= answer) (x.said wants)) ∙ sym by_wants
+    said_is = bind_same all (λ wants. make_change sources w (as_said o wants []) >>= answer) (then_done number) (λ wants. ap (λ (c : ChangeSaid). make_change sources w c >>= answer) (x.said wants)) ∙ sym by_wants
 
     counts_are : counts files before all as_reply saying o ≡ renewal_counts sources w number set
     counts_are =
-        ap (λ (words : List (List ℕ)). let c : Counts = record { stacks = stacks_for words; undone = Some (most_by (all >>= (λ wants. plan_of sources w (as_said o wants))) (stacks_for words)) } in c) no_words
-        ∙ ap (λ (p : Outcome PlanSaid). let c : Counts = record { stacks = 0; undone = Some (most_by p 0) } in c) (bind_same all (λ wants. plan_of sources w (as_said o wants)) (λ wants. plan_of sources w (renewing wants number)) (λ wants. ap (plan_of sources w) (x.said wants)))
+        ap (λ (words : List (List ℕ)). let c : Counts = record { stacks = stacks_for words; undone = Some (most_by (all >>= (λ wants. plan_of sources w (as_said o wants []))) (stacks_for words)) } in c) no_words
+        ∙ ap (λ (p : Outcome PlanSaid). let c : Counts = record { stacks = 0; undone = Some (most_by p 0) } in c) (bind_same all (λ wants. plan_of sources w (as_said o wants [])) (λ wants. plan_of sources w (renewing wants number)) (λ wants. ap (plan_of sources w) (x.said wants)))
 
     as_renewal : (result : Result Reply Fail) (n : Machine) → Does (said files before all as_reply saying o) (counts files before all as_reply saying o) before result n → RenewDoes result n
     as_renewal result n does =
@@ -108,7 +108,7 @@ module _ (files : List File) (before : Machine) (number : ℕ) (set : World → 
     enough = let count = x.enough in omega (arith, count)
 
     pub was_refused : (fail : Fail) (n : Machine) → Changes files change before x.asked (Err fail) n → RenewDoes (Err fail) n
-    was_refused fail n e = as_renewal (Err fail) n (was_refused_so files before all as_reply saying change x.asked x.all_are enough fail n e)
+    was_refused fail n e = as_renewal (Err fail) n (was_refused_so files before all as_reply saying change x.asked x.none x.all_are enough fail n e)
 
     pub was_renewed : (made : Made) (n : Machine) → HasMade files change before x.asked made n → RenewDoes (Ok (as_reply n.swaps made.fresh made.patched made.removed made.aside)) n
-    was_renewed made n has = as_renewal (Ok (as_reply n.swaps made.fresh made.patched made.removed made.aside)) n (was_made files before all as_reply saying change x.asked x.all_are enough made n has)
+    was_renewed made n has = as_renewal (Ok (as_reply n.swaps made.fresh made.patched made.removed made.aside)) n (was_made files before all as_reply saying change x.asked x.none x.all_are enough made n has)

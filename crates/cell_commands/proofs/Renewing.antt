@@ -40,8 +40,8 @@ module _ (sources : List Source) (w : World) (c : Cell) where
       same a b e = cc
 
   pub has_renewal : In c w.cells → c.ns < length w.namespaces → is_attached c.standing ≡ true → (file : Source) → file_of ≡ Ok file → (want : Want) → want ≡ record { ns = c.placed.ns; file = c.placed.file; replaces = Some c.placed.id }
-      → (old new : Change) → new.wants.items ≡ old.wants.items ++ want ∷ [] → new.replaced.items ≡ old.replaced.items ++ c.placed.id ∷ [] → new.options ≡ old.options → HasWant sources w (renewal sources c) old new
-  has_renewal there known att file f want e old new wants numbers options = record {
+      → (old new : Change) → new.wants.items ≡ old.wants.items ++ want ∷ [] → new.replaced.items ≡ old.replaced.items ++ c.placed.id ∷ [] → new.copies.items ≡ old.copies.items → new.options ≡ old.options → HasWant sources w (renewal sources c) old new
+  has_renewal there known att file f want e old new wants numbers copies options = record {
     wanted = record { file = file; ns = c.ns; replaces = Some c };
     cell = c;
     want = want;
@@ -57,6 +57,7 @@ module _ (sources : List Source) (w : World) (c : Cell) where
     replaces = refl;
     wants = wants;
     numbers = numbers;
+    copies = copies;
     options = options;
   }
 

@@ -1,5 +1,5 @@
 -- A swap is the change that its items ask for.
-use Rattle.std.proofs.Common.{◌≡◌, ◌<◌, refl, subst, arith, Bool, true, false, List, length, map, Option, ℕ, None}
+use Rattle.std.proofs.Common.{◌≡◌, ◌<◌, refl, subst, arith, Bool, true, false, List, [], length, map, Option, ℕ, None}
 use Rattle.std.specs.Prelude.{Err, Ok, Result, Some}
 use Rattle.cell_world.specs.declared.command.SwapItem.{SwapItem}
 use Rattle.cell_world.specs.declared.fail.Fail.{Fail}
@@ -49,7 +49,7 @@ module _ (files : List File) (before : Machine) (items : List SwapItem) where
   -- and of one that is as strict, and has that task begin again
   abbrev EndsSo : SwapWords → Bool → Option ℕ → Result Reply Fail → Machine → Type 0
   EndsSo words strict again result n =
-      let c : List Wanted → ChangeSaid = λ wants. record { wants = wants; reexport = words.reexport; strict = strict; routines = words.routines.now; budget = words.budget; restarts = again } in
+      let c : List Wanted → ChangeSaid = λ wants. record { wants = wants; reexport = words.reexport; strict = strict; routines = words.routines.now; budget = words.budget; restarts = again; copies = [] } in
       Does (wants_of sources w items >>= (λ wants. make_change sources w (c wants) >>= (λ made. done (exchange_reply SwapDone made) made.world)))
       (record { stacks = stacks_for words.routines.now; undone = Some (most_by (wants_of sources w items >>= (λ wants. plan_of sources w (c wants))) (stacks_for words.routines.now)) }) before result n
 
@@ -77,10 +77,10 @@ module _ (files : List File) (before : Machine) (items : List SwapItem) where
     pub was_refused : (fail : Fail) (n : Machine) → Changes files asked before x.asked (Err fail) n → SwapDoes words (Err fail) n
     was_refused fail n e =
         as_swap words (Err fail) n
-        (subst (λ (o : Options). SaidFor o (Err fail) n) x.options (was_refused_so files before (wants_of sources w items) SwapDone saying asked x.asked x.all_are enough fail n e))
+        (subst (λ (o : Options). SaidFor o (Err fail) n) x.options (was_refused_so files before (wants_of sources w items) SwapDone saying asked x.asked x.none x.all_are enough fail n e))
 
     pub was_swapped : (made : Made) (n : Machine) → HasMade files asked before x.asked made n → SwapDoes words (Ok (SwapDone n.swaps made.fresh made.patched made.removed made.aside)) n
     was_swapped made n has =
         as_swap words (Ok (SwapDone n.swaps made.fresh made.patched made.removed made.aside)) n
         (subst (λ (o : Options). SaidFor o (Ok (SwapDone n.swaps made.fresh made.patched made.removed made.aside)) n) x.options
-        (was_made files before (wants_of sources w items) SwapDone saying asked x.asked x.all_are enough made n has))
+        (was_made files before (wants_of sources w items) SwapDone saying asked x.asked x.none x.all_are enough made n has))

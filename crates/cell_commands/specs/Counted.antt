@@ -2,7 +2,7 @@
 --     swap_plan ..       the plan of the change that a swap asks for
 --     swap_counts ..     what it counts, be it accepted or refused
 --     renewal_counts ..  what a recovery counts
-use Rattle.std.specs.Prelude.{ℕ, Bool, List, None, Some}
+use Rattle.std.specs.Prelude.{ℕ, Bool, List, [], None, Some}
 use Rattle.cell_world.specs.declared.command.SwapItem.{SwapItem}
 use Rattle.cell_world.specs.Commands.Asked.{renewing, wants_of}
 use Rattle.cell_world.specs.Change.{Plan as PlanSaid, plan_of}
@@ -17,7 +17,7 @@ use Rattle.cell_commands.specs.Renewals.{wanted_anew}
 abbrev pub swap_plan : List Source → World → List SwapItem → Bool → Bool → List (List ℕ) → ℕ → Outcome PlanSaid
 swap_plan sources w items reexport strict routines budget =
     wants_of sources w items
-    >>= (λ wants. plan_of sources w (record { wants = wants; reexport = reexport; strict = strict; routines = routines; budget = budget; restarts = None }))
+    >>= (λ wants. plan_of sources w (record { wants = wants; reexport = reexport; strict = strict; routines = routines; budget = budget; restarts = None; copies = [] }))
 
 abbrev pub swap_counts : List Source → World → List SwapItem → Bool → Bool → List (List ℕ) → ℕ → Counts
 swap_counts sources w items reexport strict routines budget =

@@ -34,6 +34,7 @@ old_placed w item = attached_cell w (record { ns = item.ns; stem = item.stem }) 
 pub record AreAsked (sources : List Source) (v : World) (all : Outcome (List Wanted)) (count : ℕ) (o : Options) (change : Change) : Type 0 where
   pub asked : IsAsked sources v change
   pub all_are : all ≡ Ok asked.wants
+  pub none : asked.copies ≡ []
   pub enough : count ≤ length change.replaced.items
   pub options : change.options ≡ o
 
@@ -50,6 +51,7 @@ pub record HasWant (sources : List Source) (v : World) (one : Outcome Wanted) (o
   pub replaces : wanted.replaces ≡ Some cell
   pub wants : new.wants.items ≡ old.wants.items ++ want ∷ []
   pub numbers : new.replaced.items ≡ old.replaced.items ++ cell.id ∷ []
+  pub copies : new.copies.items ≡ old.copies.items
   pub options : new.options ≡ old.options
 
 abbrev pub AddsWant : List Source → World → Outcome Wanted → Change → Result (Unit {0}) Fail → Change → Type 0

@@ -4,7 +4,7 @@
 --     AddsRenewal sources placed old result new   the want of such a cell is added, or the refusal
 --     AsksRenewals sources placed number result   the change that renews such cells, or the refusal
 --     AsksFor sources w number set result         the change that renews the cells of the task, or the refusal
-use Rattle.std.specs.Prelude.{◌≡◌, ◌==◌, ◌≤◌, ◌<◌, ℕ, not, All, IsTrue, List, Result, Ok, Err, length, map}
+use Rattle.std.specs.Prelude.{[], ◌≡◌, ◌==◌, ◌≤◌, ◌<◌, ℕ, not, All, IsTrue, List, Result, Ok, Err, length, map}
 use Rattle.cell_num.specs.Lists.{In}
 use Rattle.cell_world.specs.declared.fail.Fail.{Fail}
 use Rattle.cell_world.specs.declared.refusal.Refusal.TheVariants.{NoCrate}
@@ -46,8 +46,9 @@ AddsRenewal sources placed old result new =
 pub record AreAskedAnew (sources : List Source) (w : World) (all : Outcome (List Wanted)) (count number : ℕ) (change : Change) : Type 0 where
   pub asked : IsAsked sources w change
   pub all_are : all ≡ Ok asked.wants
+  pub none : asked.copies ≡ []
   pub enough : count ≤ length change.replaced.items
-  pub said : (wants : List Wanted) → as_said change.options wants ≡ renewing wants number
+  pub said : (wants : List Wanted) → as_said change.options wants [] ≡ renewing wants number
 
 abbrev pub AsksAnew : List Source → World → Outcome (List Wanted) → ℕ → ℕ → Result Change Fail → Type 0
 AsksAnew sources w all count number (Ok change) = AreAskedAnew sources w all count number change

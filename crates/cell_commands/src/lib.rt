@@ -2,11 +2,13 @@
 //! by what that has made.
 #![tactic(auto)]
 
+mod cloning;
 mod loading;
 mod recovering;
 mod swapping;
 mod wants;
 
+pub use cloning::clone;
 pub use loading::load;
 pub use recovering::{rebuild, recover};
 pub use swapping::{SwapWords, swap};

@@ -73,6 +73,7 @@ fn adding<'a>(alloc: Global, ns: u16, file: &File) -> Result<Change<'a>, AllocEr
     Ok(Change {
         wants,
         replaced: Vec::new(alloc),
+        copies: Vec::new(alloc),
         options: Options {
             reexport: false,
             routines: &[],

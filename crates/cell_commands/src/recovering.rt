@@ -103,6 +103,7 @@ fn renewing<'a>(
     let mut change = Change {
         wants: Vec::new(alloc),
         replaced: Vec::new(alloc),
+        copies: Vec::new(alloc),
         options: Options {
             reexport: true,
             routines: &[],

@@ -112,6 +112,7 @@ fn change_for<'a>(
     let mut change = Change {
         wants: Vec::new(alloc),
         replaced: Vec::new(alloc),
+        copies: Vec::new(alloc),
         options: words.options(),
     };
     for item in items {

@@ -39,6 +39,7 @@ pub fn want(alloc: Global, old: &NewCell, file: &Name) -> Result<Want, AllocErro
 pub fn push(change: &mut Change, want: Want, old: CellId) -> Result<(), AllocError>
     ensures wants { OnOk result (change.new.wants.items ≡ change.old.wants.items ++ want ∷ []) }
     ensures replaced { OnOk result (change.new.replaced.items ≡ change.old.replaced.items ++ old ∷ []) }
+    ensures copies { OnOk result (change.new.copies.items ≡ change.old.copies.items) }
     ensures options { OnOk result (change.new.options ≡ change.old.options) }
 {
     change.wants.push(want)?;

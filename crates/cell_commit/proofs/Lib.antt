@@ -8,5 +8,4 @@ pub mod Sealing
 pub mod SectionsLeft
 pub mod NewcomersLeft
 pub mod Rewired
-pub mod RewiringLeft
 pub mod Turned

@@ -1,6 +1,6 @@
 -- Links that go, come and move, one after another: each entry has then the link that its step says.
-use Rattle.std.proofs.Common.{◌≡◌, refl, sym, ◌∙◌, ap, ap₂, subst, arith, ℕ, zero, suc, ◌+◌, ◌<◌, ◌⊎◌, inl, inr, Bool, true, false, true≢false, not, ◌&&◌, ◌||◌, ◌==◌, cond, List, [], ◌∷◌, length, map, Option, Some, None}
-use Rattle.std.specs.Prelude.{All, Contains, IsTrue, filter_map, find, nat_lt}
+use Rattle.std.proofs.Common.{◌≡◌, refl, sym, ◌∙◌, ap, ap₂, subst, arith, ℕ, zero, suc, ◌⊎◌, inl, inr, Bool, true, false, true≢false, not, ◌&&◌, ◌||◌, ◌==◌, cond, List, [], ◌∷◌, map, Option, Some, None}
+use Rattle.std.specs.Prelude.{All, Contains, IsTrue, filter_map, nat_lt}
 use Rattle.std.specs.List.{AllByRecursion, cons_option, list_all}
 use Rattle.std.specs.Option.{option_map_or}
 use Rattle.std.proofs.lemmas.Bool.{and_from, and_parts, eq-eqb, eqb-true, or_from, or_parts}
@@ -10,13 +10,13 @@ use Rattle.cell_num.specs.Lists.{each_pair, where_true, In}
 use Rattle.cell_num.proofs.Elements.{In-All, In-all, In-filtered, In-map, In-none, all-In, any-In, filter-In, filter-Passes, find_there, found-In, map-In, none-In, pairs-In}
 use Rattle.cell_world.specs.declared.state.LinkRow.{LinkRow}
 use Rattle.cell_world.specs.Changed.{is_same_key}
-use Rattle.cell_lemmas.specs.LinkSteps.{LinkStep, IsOneEntry, afters, befores, binds, bound_row, moved_row as step_moved, moves, unbinds, unbound_row}
+use Rattle.cell_lemmas.specs.LinkSteps.{LinkStep, afters, bound_row, moved_row as step_moved, moves, unbinds, unbound_row}
 use Rattle.cell_lemmas.proofs.Naming.Lookups.{filter_map-In}
 use Rattle.cell_lemmas.proofs.Targeting.Present.{In-filter_map, some_same}
 use Rattle.cell_graph.specs.Links.{is_bound, is_same}
 use Rattle.cell_graph.specs.Moves.{AreApart, is_link_of, moved, moved_row}
 use Rattle.cell_graph.specs.Order.{Rises, below_link, with_link}
-use Rattle.cell_graph.proofs.Apart.{link_entry, link_swapped, link_user}
+use Rattle.cell_graph.proofs.Apart.{link_swapped}
 use Rattle.cell_graph.proofs.Moving.{none_found}
 use Rattle.cell_graph.specs.Several.{AreNew, AreThere, all_linked, all_unlinked, unlinked}
 use Rattle.cell_commit.specs.Rewiring.{IsRewiring, is_below_step, rows_of}
@@ -312,10 +312,13 @@ module _ (rows gone new led : List LinkRow) (steps : List LinkStep) (x : IsRewir
       subst AreApart (sym x.gone_are)
       (apart_of (unbinds steps) (picked_rise (λ (s : LinkStep). unbound_row s.before s.after) (λ s l e. before_in s l (unbound_parts s.before s.after l e).0) steps x.rise))
 
+  pub new_rises : Rises below_link new
+  new_rises =
+      subst (Rises below_link) (sym x.new_are)
+      (picked_rise (λ (s : LinkStep). bound_row s.before s.after) (λ s l e. after_in s l (bound_parts s.before s.after l e).1) steps x.rise)
+
   new_apart : AreApart new
-  new_apart =
-      subst AreApart (sym x.new_are)
-      (apart_of (binds steps) (picked_rise (λ (s : LinkStep). bound_row s.before s.after) (λ s l e. after_in s l (bound_parts s.before s.after l e).1) steps x.rise))
+  new_apart = apart_of new new_rises
 
   pub led_apart : AreApart led
   led_apart =

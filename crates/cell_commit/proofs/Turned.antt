@@ -1,20 +1,19 @@
 -- Steps turned round lead back, also where rows of others follow on all of these.
-use Rattle.std.proofs.Common.{◌≡◌, refl, sym, ◌∙◌, ap, ap₂, subst, ℕ, ◌⊎◌, inl, inr, Bool, true, false, not, ◌&&◌, ◌==◌, List, [], ◌∷◌, ◌++◌, map, Option, Some, None}
+use Rattle.std.proofs.Common.{◌≡◌, refl, sym, ◌∙◌, ap, ap₂, subst, ℕ, ◌⊎◌, inl, inr, Bool, true, not, ◌==◌, List, [], ◌∷◌, ◌++◌, map, Option, Some, None}
 use Rattle.std.specs.Prelude.{filter_map}
 use Rattle.std.specs.List.{cons_option, list_all}
-use Rattle.std.proofs.lemmas.Bool.{and_from, and_parts, eq-eqb}
+use Rattle.std.proofs.lemmas.Bool.{and_from, eq-eqb}
 use Rattle.std.proofs.lemmas.List.{append-nil}
 use Rattle.std.proofs.lemmas.List.Elements.{filter_map-append}
-use Rattle.cell_num.specs.declared.ids.SecKey.{SecKey}
 use Rattle.cell_num.specs.Lists.{each_pair, where_true, In}
-use Rattle.cell_num.proofs.Elements.{In-all, In-append, In-map, filter_map_same, map-In, pairs-map, pairs_same}
+use Rattle.cell_num.proofs.Elements.{In-all, In-append, In-map, filter_map_same, pairs-map, pairs_same}
 use Rattle.cell_num.proofs.Sublists.{pairs-append}
 use Rattle.cell_world.specs.declared.state.LinkRow.{LinkRow}
 use Rattle.cell_world.specs.Changed.{is_same_key}
-use Rattle.cell_lemmas.specs.LinkSteps.{LinkStep, IsOneEntry, afters, befores, binds, bound_row, moved_row, moves, unbinds, unbound_row}
+use Rattle.cell_lemmas.specs.LinkSteps.{LinkStep, IsOneEntry, afters, befores, bound_row, moved_row, unbound_row}
 use Rattle.cell_lemmas.proofs.Targeting.Present.{some_same}
 use Rattle.cell_graph.specs.Order.{Rises, below_link}
-use Rattle.cell_commit.specs.Rewiring.{AreSteps, IsRewiring, backs, is_below_step, rows_of}
+use Rattle.cell_commit.specs.Rewiring.{IsRewiring, backs, is_below_step, rows_of}
 use Rattle.cell_commit.proofs.Rewired.{all_below, after_in, before_in, below_rows, is_below, row_cases}
 
 abbrev pub turned : LinkStep → LinkStep

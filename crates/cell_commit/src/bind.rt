@@ -4,7 +4,7 @@ ghost use Rattle.std.specs.Prelude.{◌≡◌, ◌<◌, ◌≤◌, ◌+◌, ◌+
 ghost use Rattle.cell_graph.specs.Links.{is_bound};
 ghost use Rattle.cell_graph.specs.Moves.{AreApart, moved};
 ghost use Rattle.cell_graph.specs.Order.{below_link, Rises};
-ghost use Rattle.cell_graph.specs.Several.{AreThere, all_unlinked};
+ghost use Rattle.cell_graph.specs.Several.{AreNew, AreThere, all_linked, all_unlinked};
 
 use cell_graph::{Graph, LinkRow, Steps};
 use std::marker::Brand;
@@ -48,6 +48,38 @@ pub fn unbind_rows(graph: &mut Graph, gone: &[LinkRow])
     ensures room_for_sections { graph.old.spare_sections ≤ graph.new.spare_sections }
 {
     unbind_with::<Brand>(graph, gone, Blank::new(1));
+}
+
+/// Adds links that aren't there, with a counter that nobody reads.
+fn insert_with<L: Ledger>(graph: &mut Graph, new: &[LinkRow], blank: Blank)
+    requires name { blank.name ≡ L.name }
+    requires parts { blank.parts ≡ L.parts }
+    requires countable { 0 < blank.parts }
+    requires rising { Rises below_link new.now }
+    requires new { AreNew graph.old.rows new.now }
+    requires present { All (λ r. Contains graph.old.sections r.target) new.now }
+    requires room { length new.now ≤ graph.old.spare_rows }
+    ensures rows { graph.new.rows ≡ all_linked graph.old.rows new.now }
+    ensures sections { graph.new.sections ≡ graph.old.sections }
+    ensures room_for_rows { graph.old.spare_rows ≤ graph.new.spare_rows + length new.now }
+    ensures room_for_sections { graph.old.spare_sections ≤ graph.new.spare_sections }
+{
+    let mut steps = Steps::<L>::new(blank);
+    graph.bind_all(new, &mut steps);
+}
+
+/// Adds links that aren't there, each in its place.
+pub fn insert_rows(graph: &mut Graph, new: &[LinkRow])
+    requires rising { Rises below_link new.now }
+    requires new { AreNew graph.old.rows new.now }
+    requires present { All (λ r. Contains graph.old.sections r.target) new.now }
+    requires room { length new.now ≤ graph.old.spare_rows }
+    ensures rows { graph.new.rows ≡ all_linked graph.old.rows new.now }
+    ensures sections { graph.new.sections ≡ graph.old.sections }
+    ensures room_for_rows { graph.old.spare_rows ≤ graph.new.spare_rows + length new.now }
+    ensures room_for_sections { graph.old.spare_sections ≤ graph.new.spare_sections }
+{
+    insert_with::<Brand>(graph, new, Blank::new(1));
 }
 
 /// Gives links their new targets, with a counter that nobody reads.

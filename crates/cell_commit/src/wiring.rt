@@ -1,11 +1,10 @@
 //! What becomes of links of cells that stay.
 
-ghost use Rattle.std.specs.Prelude.{◌≡◌, ◌≤◌, ◌+◌, All, Contains, IfOk, length};
+ghost use Rattle.std.specs.Prelude.{◌≡◌, ◌≤◌, ◌+◌, IfOk, length};
 ghost use Rattle.cell_lemmas.specs.LinkSteps.{afters};
-ghost use Rattle.cell_graph.specs.Several.{AreNew, all_linked};
 ghost use Rattle.cell_commit.specs.Rewiring.{CanRewire, IsTurned};
 
-use crate::bind::{move_rows, unbind_rows};
+use crate::bind::{insert_rows, move_rows, unbind_rows};
 use cell_graph::{Graph, LinkRow};
 use std::alloc::{AllocError, Global};
 
@@ -43,21 +42,6 @@ fn copied(alloc: Global, rows: &[LinkRow]) -> Result<Vec<LinkRow>, AllocError>
     let mut copy = Vec::new(alloc);
     copy.extend_from_slice(rows)?;
     Ok(copy)
-}
-
-/// Adds links, each in its place.
-fn insert_rows(graph: &mut Graph, new: &[LinkRow])
-    requires new { AreNew graph.old.rows new.now }
-    requires present { All (λ r. Contains graph.old.sections r.user × Contains graph.old.sections r.target) new.now }
-    requires room { length new.now ≤ graph.old.spare_rows }
-    ensures rows { graph.new.rows ≡ all_linked graph.old.rows new.now }
-    ensures sections { graph.new.sections ≡ graph.old.sections }
-    ensures room_for_rows { graph.old.spare_rows ≤ graph.new.spare_rows + length new.now }
-    ensures room_for_sections { graph.old.spare_sections ≤ graph.new.spare_sections }
-{
-    for row in new {
-        graph.bind(*row);
-    }
 }
 
 /// Takes links away, adds links, and gives others new targets, so that each entry has the link that it has

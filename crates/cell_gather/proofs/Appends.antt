@@ -108,50 +108,50 @@ module _ (spaces : SpacesState) (next : ℕ) where
         ends_same (λ w. append_cell (grown w cells) (source_of f) space) (brings c) r new
         (λ w is. brings_is c at numbered w is ∙ ap (λ (o : Outcome (ℕ × Source)). o >>= goes_on w) e) ends
 
-  -- the wanted cells, one after another
-  module _ (files : List File) where
-    abbrev all_from : World → List Cell → List Want → Outcome World
-    all_from w cells wants = each (append_wanted (map source_of files)) (grown w cells) wants
+  -- cells that are appended one after another, each by the same step
+  module _ {A : Type 0} (one : World → A → Outcome World) where
+    abbrev pub all_from : World → List Cell → List A → Outcome World
+    all_from w cells wants = each one (grown w cells) wants
 
     -- those that are left lead to what all lead to
-    abbrev pub AreLeft : List Cell → List Want → List Cell → List Want → Type 0
+    abbrev pub AreLeft : List Cell → List A → List Cell → List A → Type 0
     AreLeft old wants cells left = (w : World) → IsOf spaces next w → all_from w cells left ≡ all_from w old wants
 
-    pub one_appended : (old cells new : List Cell) (wants : List Want) (i : ℕ) (want : Want) → i < length wants → want ≡ get_or wants i want
-        → AreLeft old wants cells (drop i wants) → ((w : World) → IsOf spaces next w → append_wanted (map source_of files) (grown w cells) want ≡ Ok (grown w new))
+    pub one_appended : (old cells new : List Cell) (wants : List A) (i : ℕ) (want : A) → i < length wants → want ≡ get_or wants i want
+        → AreLeft old wants cells (drop i wants) → ((w : World) → IsOf spaces next w → one (grown w cells) want ≡ Ok (grown w new))
         → AreLeft old wants new (drop (i + 1) wants)
     one_appended old cells new wants i want lt item far done w is =
-        sym (ap (λ o. o >>= (λ u. each (append_wanted (map source_of files)) u (drop (i + 1) wants))) (done w is))
+        sym (ap (λ o. o >>= (λ u. each one u (drop (i + 1) wants))) (done w is))
         ∙ ap (all_from w cells) (sym (drop_more wants i want lt ∙ ap (λ x. x ∷ drop (i + 1) wants) (sym item)))
         ∙ far w is
 
-    pub one_refused : (old cells new : List Cell) (wants : List Want) (i : ℕ) (want : Want) (fail : Fail) → i < length wants → want ≡ get_or wants i want
-        → AreLeft old wants cells (drop i wants) → Ends spaces next (λ w. append_wanted (map source_of files) (grown w cells) want) (Err fail) new
+    pub one_refused : (old cells new : List Cell) (wants : List A) (i : ℕ) (want : A) (fail : Fail) → i < length wants → want ≡ get_or wants i want
+        → AreLeft old wants cells (drop i wants) → Ends spaces next (λ w. one (grown w cells) want) (Err fail) new
         → Ends spaces next (λ w. all_from w old wants) (Err fail) new
     one_refused old cells new wants i want OutOfMemory lt item far ends = tt
     one_refused old cells new wants i want (Refused refusal) lt item far ends = λ w is.
         sym (far w is)
         ∙ ap (all_from w cells) (drop_more wants i want lt ∙ ap (λ x. x ∷ drop (i + 1) wants) (sym item))
-        ∙ ap (λ o. o >>= (λ u. each (append_wanted (map source_of files)) u (drop (i + 1) wants))) (ends w is)
+        ∙ ap (λ o. o >>= (λ u. each one u (drop (i + 1) wants))) (ends w is)
 
-    pub all_appended : (old cells : List Cell) (wants : List Want) (i : ℕ) → length wants ≤ i → AreLeft old wants cells (drop i wants)
+    pub all_appended : (old cells : List Cell) (wants : List A) (i : ℕ) → length wants ≤ i → AreLeft old wants cells (drop i wants)
         → (w : World) → IsOf spaces next w → all_from w old wants ≡ Ok (grown w cells)
     all_appended old cells wants i le far w is = sym (far w is) ∙ ap (all_from w cells) (drop_all i wants le)
 
-    -- the whole gathering
-    module _ (wants : List Want) (reexport : Bool) (w : World) (is : IsOf spaces next w) where
-      abbrev then_brings : Outcome World → ℕ → Outcome World
-      then_brings o from = o >>= (λ appended. bring (map source_of files) from (renamed w wants reexport appended))
+  -- the whole gathering
+  module _ (files : List File) (wants : List Want) (reexport : Bool) (w : World) (is : IsOf spaces next w) where
+    abbrev then_brings : Outcome World → ℕ → Outcome World
+    then_brings o from = o >>= (λ appended. bring (map source_of files) from (renamed w wants reexport appended))
 
-      begins : (said : Outcome World) → all_from w [] wants ≡ said → gather (map source_of files) w wants reexport ≡ then_brings said next
-      begins said e =
-          ap (λ (u : World). then_brings (each (append_wanted (map source_of files)) u wants) w.next_cell) (sym (grown_none spaces next w is))
-          ∙ ap (λ (o : Outcome World). then_brings o w.next_cell) e
-          ∙ ap (then_brings said) is.number
+    begins : (said : Outcome World) → all_from (append_wanted (map source_of files)) w [] wants ≡ said → gather (map source_of files) w wants reexport ≡ then_brings said next
+    begins said e =
+        ap (λ (u : World). then_brings (each (append_wanted (map source_of files)) u wants) w.next_cell) (sym (grown_none spaces next w is))
+        ∙ ap (λ (o : Outcome World). then_brings o w.next_cell) e
+        ∙ ap (then_brings said) is.number
 
-      pub gather_refused : (refusal : Refusal) → all_from w [] wants ≡ Err refusal → gather (map source_of files) w wants reexport ≡ Err refusal
-      gather_refused refusal e = begins (Err refusal) e
+    pub gather_refused : (refusal : Refusal) → all_from (append_wanted (map source_of files)) w [] wants ≡ Err refusal → gather (map source_of files) w wants reexport ≡ Err refusal
+    gather_refused refusal e = begins (Err refusal) e
 
-      pub gather_brings : (mid named : List Cell) (said : Outcome World) → all_from w [] wants ≡ Ok (grown w mid) → renamed w wants reexport (grown w mid) ≡ grown w named
-          → bring (map source_of files) next (grown w named) ≡ said → gather (map source_of files) w wants reexport ≡ said
-      gather_brings mid named said e names brought = begins (Ok (grown w mid)) e ∙ ap (bring (map source_of files) next) names ∙ brought
+    pub gather_brings : (mid named : List Cell) (said : Outcome World) → all_from (append_wanted (map source_of files)) w [] wants ≡ Ok (grown w mid) → renamed w wants reexport (grown w mid) ≡ grown w named
+        → bring (map source_of files) next (grown w named) ≡ said → gather (map source_of files) w wants reexport ≡ said
+    gather_brings mid named said e names brought = begins (Ok (grown w mid)) e ∙ ap (bring (map source_of files) next) names ∙ brought

@@ -8,6 +8,7 @@ pub mod Brings
 pub mod Lacks
 pub mod Turns
 pub mod Appends
+pub mod Copied
 pub mod Supplies
 pub mod Supplying
 pub mod Loadables

@@ -4,3 +4,4 @@ pub mod Choosing
 pub mod Growing
 pub mod Reading
 pub mod Renaming
+pub mod Copying

@@ -1,10 +1,11 @@
 //! The cells of a load.
 
-ghost use Rattle.std.specs.Prelude.{◌≡◌, ◌<◌, ◌≤◌, All, length};
+ghost use Rattle.std.specs.Prelude.{◌≡◌, ◌<◌, ◌≤◌, All, IfOk, length};
 ghost use Rattle.std.specs.Option.{ForSome};
 ghost use Rattle.cell_num.specs.Limits.{max_file_bytes};
 ghost use Rattle.cell_space.specs.Spaces.{HasDetached};
 ghost use Rattle.cell_gather.specs.Gathering.{Gathers};
+ghost use Rattle.cell_gather.specs.Growing.{IsGrowing};
 
 use crate::Want;
 use crate::load::Load;
@@ -41,7 +42,8 @@ pub fn gather<'a>(
     requires there { All (λ want. want.ns < length spaces.now.namespaces) wants.now }
     requires old { All (λ want. ForSome want.replaces (λ id. HasDetached spaces.now id.0)) wants.now }
     requires small { All (λ f. length f.bytes ≤ max_file_bytes) depot.now }
-    ensures { Gathers depot.now spaces.now next wants.now reexport result }
+    ensures gathered { Gathers depot.now spaces.now next wants.now reexport result }
+    ensures growing { IfOk result (λ g. IsGrowing spaces.now next g) }
 {
     let load = Load {
         depot,

@@ -5,7 +5,9 @@
 mod append;
 mod bring;
 mod clashes;
+mod copies;
 mod definitions;
+mod equal;
 mod fresh;
 mod gathering;
 mod heirs;
@@ -13,11 +15,14 @@ mod load;
 mod nearest;
 mod read;
 mod reexport;
+mod room;
 mod supply;
 mod used;
 mod want;
 
+pub use copies::{Original, append_copies};
 pub use definitions::weak_definitions;
 pub use gathering::{Gathered, gather};
+pub use room::Room;
 pub use used::needs;
 pub use want::Want;

@@ -7,10 +7,10 @@ ghost use Rattle.cell_world.specs.Following.{Follows};
 ghost use Rattle.cell_gather.specs.Growing.{new_of, IsGrowing};
 
 use crate::Gathered;
+use crate::room::Room;
 use cell_depot::Depot;
-use cell_num::{MAX_CELL_NUMBER, MAX_CELLS};
 use cell_space::{Ahead, Spaces};
-use cell_world::{Fail, Many, Refusal};
+use cell_world::Fail;
 use std::alloc::Global;
 
 /// The files, the present cells, how many they are, and the number of the next cell.
@@ -42,19 +42,11 @@ impl<'a> Load<'a> {
         requires { fresh ≤ max_cells }
         ensures { Follows (λ _. tt) result (room_now (length self.now.spaces.now.cells + fresh) (self.now.next + fresh)) }
     {
-        let (present, next) = (self.present, self.next);
-        if present as usize + fresh >= MAX_CELLS as usize {
-            return Err(Fail::Refused(Refusal::TooMany {
-                kind: Many::Cells,
-                limit: MAX_CELLS,
-            }));
-        }
-        if next as usize + fresh > MAX_CELL_NUMBER as usize {
-            return Err(Fail::Refused(Refusal::TooMany {
-                kind: Many::CellNumbers,
-                limit: MAX_CELL_NUMBER,
-            }));
-        }
-        Ok(())
+        let room = Room {
+            spaces: self.spaces,
+            present: self.present,
+            next: self.next,
+        };
+        room.check(fresh)
     }
 }

@@ -15,6 +15,8 @@ pub mod Ranges
 pub mod Adding
 pub mod Outside
 pub mod Dropping
+pub mod Gapped
+pub mod Joining
 pub mod Calling
 pub mod Nearby
 pub mod Marking

@@ -107,7 +107,7 @@ unseen_yet rows mid sections place row empty put chained = subst (λ at. AreChai
           | inr other ↦ sym (without_miss mid place p other ∙ put p ∙ placed_miss rows place row p other)
         ]
 
-fresh_from : (rows mid new : ℕ → Option ChainRow) (place : ℕ) (row : ChainRow) (link : LinkRow) → ((p : ℕ) → mid p ≡ placed rows place row p)
+pub fresh_from : (rows mid new : ℕ → Option ChainRow) (place : ℕ) (row : ChainRow) (link : LinkRow) → ((p : ℕ) → mid p ≡ placed rows place row p)
     → HasNew mid new place link → HasNew rows new place link
 fresh_from rows mid new place row link put fresh =
     record {
@@ -115,23 +115,23 @@ fresh_from rows mid new place row link put fresh =
       others = λ p other. fresh.others p other ∙ ap (option_map (λ c. c.row)) (put p ∙ placed_miss rows place row p other);
     }
 
-module _ (rows mid new : ℕ → Option ChainRow) (sections sections' : ℕ → Option Section) (section_list : List SectionPlace) (row_list after : List RowPlace)
-    (n place : ℕ) (chain : ChainRow) (row : LinkRow) (whole : IsWhole rows sections section_list row_list) (empty : rows place ≡ None)
-    (put : (p : ℕ) → mid p ≡ placed rows place chain p) (fresh : HasNew mid new place row) (unbound : has_row row_list row.user row.entry ≡ false)
+module _ (rows new : ℕ → Option ChainRow) (sections sections' : ℕ → Option Section) (section_list : List SectionPlace) (row_list after : List RowPlace)
+    (n place : ℕ) (row : LinkRow) (whole : IsWhole rows sections section_list row_list) (empty : rows place ≡ None)
+    (fresh : HasNew rows new place row) (unbound : has_row row_list row.user row.entry ≡ false)
     (cut : IsCut (λ r. below_row r.user r.entry row.user row.entry) row_list n)
     (is : after ≡ insert row_list n (record { user = row.user; entry = row.entry; place = place })) where
   pub whole_bound : SameKeys sections sections' → AreChained new sections' → IsWhole new sections' section_list after
   whole_bound keys chained =
       record {
         sections_listed = sections_same sections sections' section_list keys whole.sections_listed;
-        rows_listed = subst (λ l. RowsListed new l) (sym is) (bound_listed_more rows new row_list n place row whole.rows_listed cut unbound empty (fresh_from rows mid new place chain row put fresh));
+        rows_listed = subst (λ l. RowsListed new l) (sym is) (bound_listed_more rows new row_list n place row whole.rows_listed cut unbound empty fresh);
         chained = chained;
       }
 
   pub seen_bound : map (link_at new) after ≡ with_link row (map (link_at rows) row_list)
   seen_bound =
       ap (map (link_at new)) is
-      ∙ bound_seen rows new row_list n place row whole.rows_listed cut unbound empty (fresh_from rows mid new place chain row put fresh)
+      ∙ bound_seen rows new row_list n place row whole.rows_listed cut unbound empty fresh
 
 module _ (rows new : ℕ → Option ChainRow) (sections sections' : ℕ → Option Section) (section_list : List SectionPlace) (row_list after : List RowPlace)
     (n : ℕ) (r : RowPlace) (whole : IsWhole rows sections section_list row_list) (inside : n < length row_list) (found : (d : RowPlace) → get_or row_list n d ≡ r)

@@ -1,6 +1,7 @@
 pub mod Chains
 pub mod Dropped
 pub mod Edits
+pub mod Gaps
 pub mod Heads
 pub mod Inside
 pub mod Links

@@ -10,13 +10,14 @@ ghost use Rattle.cell_graph.specs.Moves.{AreApart, moved};
 ghost use Rattle.cell_world.specs.declared.state.LinkRow.{LinkRow as Row};
 ghost use Rattle.cell_graph.specs.Removal.{is_listed, is_used_outside, links_without, sections_without, uses_from_outside, IsCellUsedBy, IsUsedBy};
 ghost use Rattle.cell_graph.specs.Order.{below_link, below_section, with_link, Rises};
-ghost use Rattle.cell_graph.specs.Several.{AreThere, all_unlinked};
+ghost use Rattle.cell_graph.specs.Several.{AreNew, AreThere, all_linked, all_unlinked};
 ghost use Rattle.cell_graph.specs.Users.{is_marked, is_user_of, leads_to};
 ghost use Rattle.cell_graph.specs.Weaks.{made_for};
 
 use crate::chains::Sections;
 use crate::links::{
-    add_section, bind_row, link_named, move_row, remove_rows, remove_sections, unbind_rows,
+    add_section, bind_row, bind_rows, link_named, move_row, remove_rows, remove_sections,
+    unbind_rows,
 };
 use crate::marks::mark;
 use crate::near::Near;
@@ -154,6 +155,30 @@ impl Graph {
         }
     }
 
+    /// Adds a link, with a counter of its own.
+    fn bind_counted<L: Ledger>(&mut self, row: LinkRow, blank: Blank)
+        requires name { blank.name ≡ L.name }
+        requires parts { blank.parts ≡ L.parts }
+        requires countable { 0 < blank.parts }
+        requires room { 0 < self.old.spare_rows }
+        requires target { Contains self.old.sections row.target }
+        requires unbound { is_bound self.old.rows row.user row.entry ≡ false }
+        ensures added { self.new.rows ≡ with_link row self.old.rows }
+        ensures room { self.old.spare_rows ≤ self.new.spare_rows + 1 }
+        ensures same_sections { self.new.sections ≡ self.old.sections }
+        ensures same_room_for_sections { self.old.spare_sections ≤ self.new.spare_sections }
+    {
+        let mut steps = Steps::<L>::new(blank);
+        bind_row(
+            &mut self.sections,
+            &mut self.rows,
+            &self.section_list,
+            &mut self.row_list,
+            row,
+            &mut steps,
+        );
+    }
+
     /// Adds a link.
     pub fn bind(&mut self, row: LinkRow)
         requires room { 0 < self.old.spare_rows }
@@ -165,13 +190,7 @@ impl Graph {
         ensures same_sections { self.new.sections ≡ self.old.sections }
         ensures same_room_for_sections { self.old.spare_sections ≤ self.new.spare_sections }
     {
-        bind_row(
-            &mut self.sections,
-            &mut self.rows,
-            &self.section_list,
-            &mut self.row_list,
-            row,
-        );
+        self.bind_counted::<Brand>(row, Blank::new(1));
     }
 
     /// The links of a section that is there to others, in no stated order.
@@ -385,6 +404,30 @@ impl Graph {
             &self.section_list,
             &mut self.row_list,
             gone,
+            steps,
+        );
+    }
+
+    /// Adds links that aren't there, in the order of the list. Takes no memory. The list of links grows by as many
+    /// places, each of which is filled then, and those behind the first of these links move once.
+    pub fn bind_all<L: Ledger>(&mut self, new: &[LinkRow], steps: &mut Steps<L>)
+        requires rising { Rises below_link new.now }
+        requires unbound { AreNew self.old.rows new.now }
+        requires target { All (λ r. Contains self.old.sections r.target) new.now }
+        requires room { length new.now ≤ self.old.spare_rows }
+        ensures added { self.new.rows ≡ all_linked self.old.rows new.now }
+        ensures steps { steps.new ≤ steps.old + 2 * length new.now + length self.old.rows }
+        ensures room { self.old.spare_rows ≤ self.new.spare_rows + length new.now }
+        ensures same_sections { self.new.sections ≡ self.old.sections }
+        ensures same_room_for_sections { self.old.spare_sections ≤ self.new.spare_sections }
+    {
+        let _ = self.rows.capacity();
+        bind_rows(
+            &mut self.sections,
+            &mut self.rows,
+            &self.section_list,
+            &mut self.row_list,
+            new,
             steps,
         );
     }

@@ -6,6 +6,7 @@
 #![tactic(auto)]
 
 mod chains;
+mod gap;
 mod graph;
 mod links;
 mod marks;

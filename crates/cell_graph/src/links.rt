@@ -1,10 +1,12 @@
 //! The links by both their arenas and both their lists.
 
-ghost use Rattle.std.specs.Prelude.{◌≡◌, ℕ, ◌+◌, ◌*◌, ◌<◌, ◌≤◌, ◌∷◌, ◌++◌, [], List, Option, Some, true, false, Contains, IsTrue, length, map, slice_index_or};
+ghost use Rattle.std.specs.Prelude.{◌≡◌, ℕ, ◌+◌, ◌*◌, ◌<◌, ◌≤◌, ◌∷◌, ◌++◌, [], List, Option, None, Some, true, false, All, Contains, IsTrue, drop, length, map, slice_index_or};
 ghost use Rattle.std.specs.List.{AllByRecursion};
 ghost use Rattle.slab.specs.Slab.{ContainsKey, HasRoomFor, get, slab_len};
 ghost use Rattle.cell_graph.specs.Chains.{AreChained, SameKeys};
 ghost use Rattle.cell_graph.specs.Dropped.{AreDropped, DropsIf, HasNone, links_at};
+ghost use Rattle.cell_graph.specs.Gaps.{AreAbove, IsGap, around};
+ghost use Rattle.cell_graph.specs.Heads.{HasNew};
 ghost use Rattle.cell_graph.specs.Removal.{is_listed, links_without, sections_without};
 ghost use Rattle.cell_graph.specs.declared.rows.ChainRow.{ChainRow};
 ghost use Rattle.cell_graph.specs.declared.order.SectionPlace.{SectionPlace};
@@ -12,12 +14,13 @@ ghost use Rattle.cell_graph.specs.declared.order.RowPlace.{RowPlace};
 ghost use Rattle.cell_graph.specs.Listed.{IsListed, IsWhole, SectionsListed};
 ghost use Rattle.cell_graph.specs.Lists.{IsSectionAt, RowsRise, has_row};
 ghost use Rattle.cell_graph.specs.Moves.{moved};
-ghost use Rattle.cell_graph.specs.Order.{below_section, with_link};
+ghost use Rattle.cell_graph.specs.Order.{Rises, below_link, below_section, with_link};
 ghost use Rattle.cell_graph.specs.Places.{link_at};
-ghost use Rattle.cell_graph.specs.Several.{AreThere, all_unlinked, unlinked};
+ghost use Rattle.cell_graph.specs.Several.{AreNew, AreThere, all_linked, all_unlinked, unlinked};
 ghost use Rattle.cell_graph.specs.Standing.{standing};
 
 use crate::chains::{Sections, link, unlink};
+use crate::gap::Gap;
 use crate::near::Near;
 use crate::order::{RowPlace, SectionPlace};
 use crate::removal::is_listed;
@@ -115,13 +118,46 @@ pub fn move_row<L: Ledger>(
     }
 }
 
-/// Adds a link.
-pub fn bind_row(
+/// Puts a link into its arena and its chain. The list doesn't name it yet. Its target is looked for at an
+/// index first, and the answer is the link's place and the index where the target is named.
+fn place_row(
+    sections: &mut Sections,
+    rows: &mut Rows,
+    section_list: &SectionList,
+    row: LinkRow,
+    near: usize,
+) -> (usize, usize)
+    requires chained { AreChained (get rows.old) (get sections.old) }
+    requires listed { SectionsListed (get sections.old) section_list.now.items }
+    requires present { Contains (map (λ s. s.key) section_list.now.items) row.target }
+    requires room { HasRoomFor rows.old 1 }
+    ensures was_empty { get rows.old result.0 ≡ None }
+    ensures links { HasNew (get rows.old) (get rows.new) result.0 row }
+    ensures chained { AreChained (get rows.new) (get sections.new) }
+    ensures keys { SameKeys (get sections.old) (get sections.new) }
+    ensures row_count { slab_len rows.new ≡ slab_len rows.old + 1 }
+    ensures section_count { slab_len sections.new ≡ slab_len sections.old }
+    ensures row_capacity { rows.new.capacity ≡ rows.old.capacity }
+    ensures section_capacity { sections.new.capacity ≡ sections.old.capacity }
+{
+    let target = section_list.place_near(near, row.target);
+    let place = rows.insert(ChainRow {
+        row,
+        before: None,
+        after: None,
+    });
+    link(sections, rows, target.0, place, row);
+    (place, target.1)
+}
+
+/// Adds a link. Each link behind it in the list is one step.
+pub fn bind_row<L: Ledger>(
     sections: &mut Sections,
     rows: &mut Rows,
     section_list: &SectionList,
     row_list: &mut RowList,
     row: LinkRow,
+    steps: &mut Steps<L>,
 )
     requires whole { IsWhole (get rows.old) (get sections.old) section_list.now.items row_list.old.items }
     requires unbound { has_row row_list.old.items row.user row.entry ≡ false }
@@ -136,20 +172,88 @@ pub fn bind_row(
     ensures section_capacity { sections.new.capacity ≡ sections.old.capacity }
     ensures list_room { row_list.old.spare ≤ row_list.new.spare + 1 }
 {
-    let target = section_list.place(row.target);
-    let place = rows.insert(ChainRow {
-        row,
-        before: None,
-        after: None,
-    });
-    link(sections, rows, target, place, row);
+    let at = place_row(sections, rows, section_list, row, 0);
     let index = row_list.cut(row.user, row.entry);
-    let at = RowPlace {
-        user: row.user,
-        entry: row.entry,
-        place,
-    };
-    row_list.insert(index, at);
+    row_list.insert(index, RowPlace::of(row, at.0), steps);
+}
+
+/// Adds a link that comes before those behind the gap of the list, and answers the gap behind which it is
+/// then, and where to look for the next target first.
+fn bind_at_gap<L: Ledger>(
+    sections: &mut Sections,
+    rows: &mut Rows,
+    section_list: &SectionList,
+    row_list: &mut RowList,
+    row: LinkRow,
+    gap: Gap,
+    near: usize,
+    steps: &mut Steps<L>,
+) -> (Gap, usize)
+    requires whole { IsWhole (get rows.old) (get sections.old) section_list.now.items (around gap row_list.old.items) }
+    requires gap { IsGap gap row_list.old.items }
+    requires left { gap.front < gap.back }
+    requires before { AreAbove row.user row.entry (drop gap.back row_list.old.items) }
+    requires unbound { has_row (around gap row_list.old.items) row.user row.entry ≡ false }
+    requires present { Contains (map (λ s. s.key) section_list.now.items) row.target }
+    requires room { HasRoomFor rows.old 1 }
+    ensures whole { IsWhole (get rows.new) (get sections.new) section_list.now.items (around result.0 row_list.new.items) }
+    ensures added { map (link_at (get rows.new)) (around result.0 row_list.new.items) ≡ with_link row (map (link_at (get rows.old)) (around gap row_list.old.items)) }
+    ensures gap { IsGap result.0 row_list.new.items }
+    ensures behind { (r : LinkRow) → below_link r row ≡ true → AreAbove r.user r.entry (drop result.0.back row_list.new.items) }
+    ensures size { result.0.back + gap.front + 1 ≡ gap.back + result.0.front }
+    ensures steps { steps.new + result.0.front ≡ steps.old + gap.front + 1 }
+    ensures row_count { slab_len rows.new ≡ slab_len rows.old + 1 }
+    ensures section_count { slab_len sections.new ≡ slab_len sections.old }
+    ensures row_capacity { rows.new.capacity ≡ rows.old.capacity }
+    ensures section_capacity { sections.new.capacity ≡ sections.old.capacity }
+    ensures list_room { row_list.new.spare ≡ row_list.old.spare }
+{
+    let there = row_list.move_gap(gap, row.user, row.entry, steps);
+    let at = place_row(sections, rows, section_list, row, near);
+    let rest = row_list.fill_gap(there, RowPlace::of(row, at.0), steps);
+    (rest, at.1)
+}
+
+/// Adds links that aren't there and rise. From the last one on, each is put behind a gap of the list, which
+/// moves to the front.
+pub fn bind_rows<L: Ledger>(
+    sections: &mut Sections,
+    rows: &mut Rows,
+    section_list: &SectionList,
+    row_list: &mut RowList,
+    new: &[LinkRow],
+    steps: &mut Steps<L>,
+)
+    requires whole { IsWhole (get rows.old) (get sections.old) section_list.now.items row_list.old.items }
+    requires rising { Rises below_link new.now }
+    requires unbound { AreNew (map (link_at (get rows.old)) row_list.old.items) new.now }
+    requires present { All (λ r. Contains (map (λ s. s.key) section_list.now.items) r.target) new.now }
+    requires room { HasRoomFor rows.old (length new.now) }
+    requires room_in_list { length new.now ≤ row_list.old.spare }
+    ensures whole { IsWhole (get rows.new) (get sections.new) section_list.now.items row_list.new.items }
+    ensures added { map (link_at (get rows.new)) row_list.new.items ≡ all_linked (map (link_at (get rows.old)) row_list.old.items) new.now }
+    ensures steps { steps.new ≤ steps.old + 2 * length new.now + length row_list.old.items }
+    ensures row_count { slab_len rows.new ≡ slab_len rows.old + length new.now }
+    ensures section_count { slab_len sections.new ≡ slab_len sections.old }
+    ensures row_capacity { rows.new.capacity ≡ rows.old.capacity }
+    ensures section_capacity { sections.new.capacity ≡ sections.old.capacity }
+    ensures list_room { row_list.old.spare ≤ row_list.new.spare + length new.now }
+{
+    let mut gap = row_list.open_gap(new.len(), steps);
+    let mut near = 0;
+    for index in (0..new.len()).rev() {
+        let row = new[index];
+        (gap, near) = bind_at_gap(
+            sections,
+            rows,
+            section_list,
+            row_list,
+            row,
+            gap,
+            near,
+            steps,
+        );
+    }
 }
 
 /// Takes the link at a place out of its chain and its arena. The list still names it. Its target is looked

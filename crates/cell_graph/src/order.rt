@@ -6,6 +6,7 @@ ghost use Rattle.cell_graph.specs.Links.{is_same};
 ghost use Rattle.cell_graph.specs.Lists.{RowsRise, SectionsRise};
 
 use cell_num::{CellId, SecKey};
+use cell_world::LinkRow;
 
 /// Where a section stands in its arena.
 #[derive(Clone, Copy, Debug, PartialEq, Eq)]
@@ -20,6 +21,31 @@ pub struct RowPlace {
     pub user: SecKey,
     pub entry: u32,
     pub place: usize,
+}
+
+impl RowPlace {
+    /// Where a link stands that is at that place.
+    pub fn of(row: LinkRow, place: usize) -> RowPlace
+        ensures { result ≡ record { user = row.user; entry = row.entry; place = place } }
+    {
+        RowPlace {
+            user: row.user,
+            entry: row.entry,
+            place,
+        }
+    }
+
+    /// What stands in a place of the list that no link has yet.
+    pub fn nowhere() -> RowPlace {
+        RowPlace {
+            user: SecKey {
+                cell: CellId(0),
+                section: 0,
+            },
+            entry: 0,
+            place: 0,
+        }
+    }
 }
 
 /// Whether the two are one section.

@@ -1,14 +1,16 @@
 //! The list of the links.
 
-ghost use Rattle.std.specs.Prelude.{◌≡◌, ◌+◌, ◌<◌, ◌≤◌, [], IsTrue, OnOk, filter, length, not, slice_index_or};
+ghost use Rattle.std.specs.Prelude.{◌≡◌, ◌+◌, ◌<◌, ◌≤◌, ◌∷◌, [], IsTrue, OnOk, drop, filter, length, not, slice_index_or};
 ghost use Rattle.std.specs.List.{insert};
 ghost use Rattle.slab.specs.Slab.{get};
+ghost use Rattle.cell_graph.specs.Gaps.{AreAbove, IsGap, around};
 ghost use Rattle.cell_graph.specs.Lists.{IsCellRange, IsRowAt, RowsRise, has_row};
 ghost use Rattle.cell_graph.specs.Order.{IsCut, below_row};
 ghost use Rattle.cell_graph.specs.Removal.{is_listed};
 ghost use Rattle.cell_graph.specs.Standing.{standing};
 ghost use Rattle.cell_graph.specs.declared.order.RowPlace.{RowPlace};
 
+use crate::gap::Gap;
 use crate::near::cell_rows_near;
 use crate::order::{RowPlace, row_cell_end, row_cell_start, row_cut};
 use crate::removal::is_listed;
@@ -114,14 +116,84 @@ impl RowList {
         (CellRows::of(list), next)
     }
 
-    /// Adds one at an index. Takes no memory.
-    pub fn insert(&mut self, index: usize, at: RowPlace)
+    /// Adds one at an index. Takes no memory. Each link that moves on by one is one step.
+    pub fn insert<L: Ledger>(&mut self, index: usize, at: RowPlace, steps: &mut Steps<L>)
         requires room { 0 < self.old.spare }
         requires within { index ≤ length self.old.items }
         ensures items { self.new.items ≡ insert self.old.items index at }
         ensures spare { self.old.spare ≤ self.new.spare + 1 }
+        ensures steps { steps.new + index ≡ steps.old + length self.old.items }
     {
+        steps.ticks(self.list.len() - index);
         let _ = self.list.insert(index, at);
+    }
+
+    /// Opens a gap behind all links, which is in the list from then on. Takes no memory. Each place of it is
+    /// one step.
+    pub fn open_gap<L: Ledger>(&mut self, size: usize, steps: &mut Steps<L>) -> Gap
+        requires { size ≤ self.old.spare }
+        ensures gap { IsGap result self.new.items }
+        ensures items { around result self.new.items ≡ self.old.items }
+        ensures front { result.front ≡ length self.old.items }
+        ensures size { result.back ≡ result.front + size }
+        ensures end { result.back ≡ length self.new.items }
+        ensures spare { self.old.spare ≤ self.new.spare + size }
+        ensures steps { steps.new ≡ steps.old + size }
+    {
+        let _ = self.list.capacity();
+        let front = self.list.len();
+        let back = front + size;
+        steps.ticks(size);
+        let _ = self.list.resize(back, RowPlace::nowhere());
+        Gap { front, back }
+    }
+
+    /// Moves the gap to where a link belongs that comes before those behind it. Each link that it passes is
+    /// one step.
+    pub fn move_gap<L: Ledger>(
+        &mut self,
+        gap: Gap,
+        user: SecKey,
+        entry: u32,
+        steps: &mut Steps<L>,
+    ) -> Gap
+        requires gap { IsGap gap self.old.items }
+        requires rise { RowsRise (around gap self.old.items) }
+        requires before { AreAbove user entry (drop gap.back self.old.items) }
+        ensures gap { IsGap result self.new.items }
+        ensures items { around result self.new.items ≡ around gap self.old.items }
+        ensures cut { IsCut (λ r. below_row r.user r.entry user entry) (around result self.new.items) result.front }
+        ensures size { result.back + gap.front ≡ gap.back + result.front }
+        ensures spare { self.new.spare ≡ self.old.spare }
+        ensures steps { steps.new + result.front ≡ steps.old + gap.front }
+    {
+        let front = row_cut(&self.list[..gap.front], user, entry);
+        let passed = gap.front - front;
+        let back = gap.back - passed;
+        steps.ticks(passed);
+        self.list.copy_within(front..gap.front, back);
+        Gap { front, back }
+    }
+
+    /// Puts a link into the last place of the gap. It is one step.
+    pub fn fill_gap<L: Ledger>(&mut self, gap: Gap, at: RowPlace, steps: &mut Steps<L>) -> Gap
+        requires gap { IsGap gap self.old.items }
+        requires left { gap.front < gap.back }
+        ensures gap { IsGap result self.new.items }
+        ensures items { around result self.new.items ≡ insert (around gap self.old.items) gap.front at }
+        ensures behind { drop result.back self.new.items ≡ at ∷ drop gap.back self.old.items }
+        ensures front { result.front ≡ gap.front }
+        ensures size { result.back + 1 ≡ gap.back }
+        ensures spare { self.new.spare ≡ self.old.spare }
+        ensures step { steps.new ≡ steps.old + 1 }
+    {
+        steps.tick();
+        let back = gap.back - 1;
+        self.list[back] = at;
+        Gap {
+            front: gap.front,
+            back,
+        }
     }
 
     /// Takes those away at whose places no link stands any more. Each that is there is one step.

@@ -100,6 +100,7 @@ impl Hart {
     }
 
     /// A store.
+    #[inline(always)]
     pub(crate) fn by_store(&mut self, memory: &mut Memory, op: Op, word: u32, width: u8) -> Stop
         requires form { access_of op ≡ Stores width }
         requires width { is_width width ≡ true }

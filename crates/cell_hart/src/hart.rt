@@ -144,6 +144,7 @@ impl Hart {
     }
 
     /// The low bytes of a number, so many, go to the address.
+    #[inline(always)]
     pub(crate) fn store(&mut self, memory: &mut Memory, addr: u64, width: u8, value: u64) -> Stop
         requires width { is_width width ≡ true }
         requires undo { HasWrites memory.old 1 }

@@ -2,7 +2,7 @@
 use Rattle.std.proofs.Common.{◌≡◌, refl, ◌∙◌, ap, subst, arith, ℕ, List, [], length, Ok}
 use Rattle.std.specs.Prelude.{is_none, nat_le, nat_lt, decimal}
 use Rattle.cell_world.specs.declared.command.Command.{Command}
-use Rattle.cell_world.specs.declared.command.Command.TheVariants.{Ns, Load, Spawn, Step, Run, Kill, Swap, Unload, Purge, Tasks, Find, Deps, Users, Map, Dump, DumpAll, Recover, Rebuild}
+use Rattle.cell_world.specs.declared.command.Command.TheVariants.{Ns, Load, Spawn, Step, Run, Kill, Swap, Unload, Purge, Tasks, Find, Deps, Users, Map, Dump, DumpAll, Recover, Rebuild, Clone}
 use Rattle.cell_num.specs.declared.ids.CellId.{CellId}
 use Rattle.cell_world.specs.declared.refusal.Many.TheVariants.{Namespaces, Tasks as ManyTasks, TaskNumbers}
 use Rattle.cell_world.specs.declared.refusal.Refusal.TheVariants.{NameTaken, NoEntry, TooMany, Unknown}
@@ -25,7 +25,7 @@ use Rattle.cell_lemmas.proofs.Outcomes.{bind_ok, then_ok}
 use Rattle.cell_lemmas.proofs.Tasks.Commands.{run_cells, step_cells}
 use Rattle.cell_laws.specs.Counts.{removed_by}
 use Rattle.cell_laws.proofs.Counted.{CountsCells}
-use Rattle.cell_laws.proofs.CountsChange.{load_counts, rebuild_counts, recover_counts, swap_counts}
+use Rattle.cell_laws.proofs.CountsChange.{clone_counts, load_counts, rebuild_counts, recover_counts, swap_counts}
 use Rattle.cell_laws.proofs.CountsRemoval.{purge_counts, unload_counts}
 
 module _ (sources : List Source) (w : World) (h : IsCoherent w) (d : Done) where
@@ -87,3 +87,4 @@ module _ (sources : List Source) (w : World) (h : IsCoherent w) (d : Done) where
   outcome_counts DumpAll e = leaves _ (ok_same _ d e) refl refl refl
   outcome_counts (Recover task) e = recover_counts sources w h task d e
   outcome_counts (Rebuild task) e = rebuild_counts sources w h task d e
+  outcome_counts (Clone name sibling) e = clone_counts sources w h name sibling d e

@@ -9,11 +9,11 @@ use Rattle.cell_world.specs.declared.reply.Reply.TheVariants.{Recover, Rebuild}
 use Rattle.cell_world.specs.declared.refusal.Refusal.TheVariants.{NoCrate, NoObject}
 use Rattle.cell_world.specs.World.{World, Cell, Alias, Task, cell_of}
 use Rattle.cell_world.specs.Answer.{Done, fresh_by, ids, numbers_of, space_of}
-use Rattle.cell_world.specs.Commands.Asked.{next_load, next_swap, next_recover, next_rebuild, next_renewed, exchange_reply, renewals, renewing, wants_of}
+use Rattle.cell_world.specs.Commands.Asked.{next_clone, next_load, next_swap, next_recover, next_rebuild, next_renewed, exchange_reply, renewals, renewing, wants_of}
 use Rattle.cell_world.specs.Commands.Recovery.{faulted_task, rebuild_of, recovery_of}
-use Rattle.cell_world.specs.Change.{Change, Made, Plan, Want, adding, append_want, exchanges_from, garbage_after, gather, make_change, old_of, set_aside, swapped_out, with_names}
+use Rattle.cell_world.specs.Change.{Change, Made, Plan, Want, adding, append_copy, append_want, exchanges_from, garbage_after, gather, make_change, old_of, set_aside, swapped_out, with_names}
 use Rattle.cell_world.specs.Coherent.{IsCoherent}
-use Rattle.cell_world.specs.Gather.{Source, depot_files, fresh_cells, one_file}
+use Rattle.cell_world.specs.Gather.{Source, bring, depot_files, fresh_cells, one_file}
 use Rattle.cell_num.specs.Limits.{max_cells}
 use Rattle.cell_world.specs.Names.{names_of}
 use Rattle.cell_world.specs.Outcome.{each, need}
@@ -24,11 +24,12 @@ use Rattle.cell_lemmas.proofs.Outcomes.{bind_ok, then_ok}
 use Rattle.cell_lemmas.proofs.Placement.PlacedAll.{each_keeps}
 use Rattle.cell_lemmas.proofs.Naming.PutAside.{put_number}
 use Rattle.cell_lemmas.proofs.Naming.Reexported.{renamed_same}
+use Rattle.cell_change_law.proofs.Asking.{base_coherent, clone_base, clone_change, cloned}
 use Rattle.cell_change_law.proofs.Ending.{last_parts, without_none}
 use Rattle.cell_change_law.proofs.Steps.{Changed, Planned, changed, planned}
 use Rattle.cell_laws.specs.Counts.{removed_by}
 use Rattle.cell_laws.proofs.Counted.{Counted, CountedIn, CountsCells, all_counted, begins, cells_rise, few_counted, numbers_mapped}
-use Rattle.cell_laws.proofs.CountsLoad.{append_counted, bring_counted, placed_counted}
+use Rattle.cell_laws.proofs.CountsLoad.{append_counted, bring_counted, copy_counted, placed_counted}
 use Rattle.cell_laws.proofs.CountsRemoval.{purged_counted}
 
 fold_keeps : {X A : Type 0} (P : X → Type 0) (f : X → A → X) → ((x : X) (a : A) → P x → P (f x a)) → (items : List A) (x : X) → P x → P (fold f x items)
@@ -68,7 +69,8 @@ module _ (sources : List Source) (w : World) (h : IsCoherent w) where
     gathered_counted v e =
         let a = bind_ok (each append_want (set_aside w asked) asked.wants) _ v e in
         let appended = each_keeps IsCounted append_want (λ u want x k c. append_counted u want.file want.ns x k c) asked.wants (set_aside w asked) a.0 a.1 (aside_counted (old_of asked)) in
-        bring_counted sources (with_names w.next_cell asked a.0) v a.2 (names_counted w.next_cell asked a.0 appended)
+        let b = bind_ok (bring sources w.next_cell (with_names w.next_cell asked a.0)) _ v a.2 in
+        each_keeps IsCounted append_copy copy_counted asked.copies b.0 v b.2 (bring_counted sources (with_names w.next_cell asked a.0) b.0 b.1 (names_counted w.next_cell asked a.0 appended))
 
     module _ (made : Made) (e : make_change sources w asked ≡ Ok made) where
       c : Changed sources w asked made
@@ -119,7 +121,7 @@ module _ (sources : List Source) (w : World) (h : IsCoherent w) where
   pub swap_counts : (items : List SwapItem) (reexport strict : Bool) (words : List (List ℕ)) (budget : ℕ) (d : Done) → next_swap sources w items reexport strict words budget ≡ Ok d → CountsCells w d
   swap_counts items reexport strict words budget d e =
       let a = bind_ok (wants_of sources w items) _ d e in
-      let asked : Change = record { wants = a.0; reexport = reexport; strict = strict; routines = words; budget = budget; restarts = None } in
+      let asked : Change = record { wants = a.0; reexport = reexport; strict = strict; routines = words; budget = budget; restarts = None; copies = [] } in
       let m = bind_ok (make_change sources w asked) _ d a.2 in
       let n = made_counted asked m.0 m.1 in
       subst (CountsCells w) (ok_same _ d m.2) (record { counted = n.0; room = n.1 })
@@ -143,3 +145,16 @@ module _ (sources : List Source) (w : World) (h : IsCoherent w) where
 
   pub rebuild_counts : (task : ℕ) (d : Done) → next_rebuild sources w task ≡ Ok d → CountsCells w d
   rebuild_counts task d e = let t = bind_ok (faulted_task w task) _ d e in renewed_counts t.0 (rebuild_of w t.0) d (Rebuild task) t.2 (λ made. refl) (λ made. refl)
+
+-- of the machine that has the namespace already, which has the same cells
+pub clone_counts : (sources : List Source) (w : World) → IsCoherent w → (name sibling : List ℕ) (d : Done) → next_clone sources w name sibling ≡ Ok d → CountsCells w d
+clone_counts sources w h name sibling d e =
+    let k = cloned sources w name sibling d e in
+    let base = clone_base sources w h sibling k.may in
+    let asked = clone_change sources w h sibling k.may in
+    let n = made_counted sources base (base_coherent sources w h sibling k.may) asked k.made k.making in
+    let none : length (ids k.made.removed) ≡ 0 = ap (λ (x : Made). length (ids x.removed)) (sym (changed sources base asked k.made k.making).is) in
+    let now : length k.made.world.cells ≡ length d.world.cells = ap (λ (x : World). length x.cells) k.world in
+    let fresh : length (ids (numbers_of k.made.fresh)) ≡ length (fresh_by d.reply) = ap (λ (x : Reply). length (fresh_by x)) k.reply in
+    let gone : 0 ≡ length (removed_by d.reply) = ap (λ (x : Reply). length (removed_by x)) k.reply in
+    record { counted = omega (arith, n.0, none, now, fresh, gone); room = omega (arith, n.1, fresh) }

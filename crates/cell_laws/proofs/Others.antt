@@ -4,7 +4,7 @@ use Rattle.std.specs.Prelude.{All, IsTrue, length, nat_le, nat_lt}
 use Rattle.cell_num.specs.Lists.{holds, In}
 use Rattle.cell_object.specs.declared.object.Entry.{Entry}
 use Rattle.cell_world.specs.declared.command.Command.{Command}
-use Rattle.cell_world.specs.declared.command.Command.TheVariants.{Ns, Load, Spawn, Step, Run, Kill, Swap, Unload, Purge, Tasks, Find, Deps, Users, Map, Dump, DumpAll, Recover, Rebuild}
+use Rattle.cell_world.specs.declared.command.Command.TheVariants.{Ns, Load, Spawn, Step, Run, Kill, Swap, Unload, Purge, Tasks, Find, Deps, Users, Map, Dump, DumpAll, Recover, Rebuild, Clone}
 use Rattle.cell_world.specs.declared.refusal.Many.TheVariants.{Tasks as ManyTasks, TaskNumbers}
 use Rattle.cell_world.specs.declared.refusal.Refusal.TheVariants.{NoEntry, TooMany}
 use Rattle.cell_world.specs.declared.state.Namespace.{Namespace}
@@ -108,3 +108,4 @@ others_keep sources w command d other sound h e = go command other e
     go DumpAll o e = unchanged sources w h d k (ap (λ (x : Done). x.world) (ok_same _ d e))
     go (Recover task) o e = absurd o
     go (Rebuild task) o e = absurd o
+    go (Clone name sibling) o e = absurd o

@@ -121,7 +121,7 @@ module _ (sources : List Source) (sound : AreSound sources) (w : World) (h : IsC
       asked = renewing b.wants t.number
 
       abbrev swap : Change
-      swap = record { wants = b.wants; reexport = true; strict = false; routines = []; budget = budget; restarts = None }
+      swap = record { wants = b.wants; reexport = true; strict = false; routines = []; budget = budget; restarts = None; copies = [] }
 
       x : Planned sources w asked b.plan
       x = planned sources w asked b.plan b.planned
@@ -166,7 +166,7 @@ module _ (sources : List Source) (sound : AreSound sources) (w : World) (h : IsC
           (no_restart sources w swap (record b.plan { restarted = None }) b.plan.linked refl planned_swap (no_routines sources w swap (record b.plan { restarted = None }) refl planned_swap))
 
       abbrev after_wants : List Want → Outcome Done
-      after_wants wants = make_change sources w (record { wants = wants; reexport = true; strict = false; routines = []; budget = budget; restarts = None }) >>= (λ made. done (swap_reply made) made.world)
+      after_wants wants = make_change sources w (record { wants = wants; reexport = true; strict = false; routines = []; budget = budget; restarts = None; copies = [] }) >>= (λ made. done (swap_reply made) made.world)
 
       pub swap_accepted : next_swap sources w (map (own_item w) cells) true false [] budget ≡ done (swap_reply (made_by asked b.plan b.plan.linked)) (made_by asked b.plan b.plan.linked).world
       swap_accepted =

@@ -2,7 +2,7 @@
 
 ghost use Rattle.std.specs.Prelude.{ℕ, ◌≡◌, ◌≤◌, List, All, Some, Ok, Err, length, map, Bool};
 ghost use Rattle.cell_world.specs.Answer.{Done};
-ghost use Rattle.cell_world.specs.Commands.Asked.{next_load, next_rebuild, next_recover, next_swap};
+ghost use Rattle.cell_world.specs.Commands.Asked.{next_clone, next_load, next_rebuild, next_recover, next_swap};
 ghost use Rattle.cell_world.specs.Coherent.{AreSound, IsCoherent};
 ghost use Rattle.cell_world.specs.Gather.{Source, source_of};
 ghost use Rattle.cell_num.specs.Limits.{max_file_bytes};
@@ -51,6 +51,7 @@ pub fn commands_keep_coherent()
         next_swap sources w items reexport strict words budget ≡ Ok d → IsCoherent d.world }
     ensures recover { (sources : List Source) (w : World) (task : ℕ) (d : Done) → AreSound sources → IsCoherent w → next_recover sources w task ≡ Ok d → IsCoherent d.world }
     ensures rebuild { (sources : List Source) (w : World) (task : ℕ) (d : Done) → AreSound sources → IsCoherent w → next_rebuild sources w task ≡ Ok d → IsCoherent d.world }
+    ensures clone { (sources : List Source) (w : World) (name sibling : List ℕ) (d : Done) → AreSound sources → IsCoherent w → next_clone sources w name sibling ≡ Ok d → IsCoherent d.world }
 {}
 
 /// A turn of a live task keeps the machine coherent.

@@ -1,5 +1,6 @@
 pub mod Sources
 pub mod Low
+pub mod Empty
 pub mod RowLemmas
 pub mod Linked
 pub mod Plain

@@ -3,6 +3,7 @@
 ghost use Rattle.std.specs.Prelude.{◌≡◌, ◌+◌, ◌≤◌, ◌++◌, length, map, vec_capacity, vec_len};
 ghost use Rattle.cell_commit.specs.Cells.{arrived};
 ghost use Rattle.cell_commit.specs.Commit.{IsLaidOut, all_mapped};
+ghost use Rattle.cell_commit.specs.Rewiring.{CanRewire};
 ghost use Rattle.cell_world.specs.Running.Undo.{AreBytes};
 ghost use Rattle.cell_load.specs.Adding.{IsCommittable, memory_with};
 ghost use Rattle.cell_lemmas.specs.LinkSteps.{afters};
@@ -13,6 +14,7 @@ use cell_commit::{
     Rewiring, add_sections, attach_cells, bind_rows, map_regions, patch_fields, rewire,
     write_fields,
 };
+use cell_graph::{Graph, LinkRow};
 use cell_link::FieldValue;
 use cell_machine::{Machine, Staged};
 use cell_num::CellId;
@@ -56,7 +58,7 @@ pub fn commit(
     patch_fields(&mut machine.memory, patches);
     write_fields(&mut machine.memory, &fields);
     add_sections(&mut machine.graph, &sections);
-    rewire(
+    rewire_if_any(
         &mut machine.graph,
         &links.unbinds,
         &links.binds,
@@ -68,6 +70,21 @@ pub fn commit(
     machine.next += cells.len() as u32;
     append(&mut machine.cells, cells);
     append_numbers(&mut machine.soft, soft);
+}
+
+/// Has links of others lead as they lead then. Where none of them changes, no link is looked at.
+fn rewire_if_any(graph: &mut Graph, gone: &[LinkRow], new: &[LinkRow], moves: &[LinkRow])
+    requires { CanRewire graph.old gone.now new.now moves.now }
+    ensures rows { (c : CanRewire graph.old gone.now new.now moves.now) → graph.new.rows ≡ afters c.steps }
+    ensures sections { graph.new.sections ≡ graph.old.sections }
+    ensures room_for_rows { graph.old.spare_rows + length gone.now ≤ graph.new.spare_rows + length new.now }
+    ensures room_for_sections { graph.old.spare_sections ≤ graph.new.spare_sections }
+{
+    if gone.is_empty() && new.is_empty() && moves.is_empty() {
+        graph.in_order();
+        return;
+    }
+    rewire(graph, gone, new, moves);
 }
 
 /// Appends to a list of numbers that has room.

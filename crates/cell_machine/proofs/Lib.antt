@@ -18,3 +18,4 @@ pub mod Low
 pub mod Looked
 pub mod Counts
 pub mod States
+pub mod MoreNamespaces

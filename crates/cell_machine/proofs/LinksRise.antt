@@ -1,5 +1,5 @@
 -- The links of a coherent machine rise by user cell and entry.
-use Rattle.std.proofs.Common.{◌≡◌, refl, sym, ap, subst, arith, ℕ, suc, ◌≤◌, ◌<◌, ◌⊎◌, inl, inr, Bool, true, ◌&&◌, ◌||◌, ◌==◌, List, [], ◌∷◌, ◌++◌}
+use Rattle.std.proofs.Common.{◌≡◌, refl, sym, ap, subst, arith, ℕ, suc, ◌≤◌, ◌<◌, inl, inr, Bool, true, ◌&&◌, ◌||◌, ◌==◌, List, [], ◌∷◌}
 use Rattle.std.specs.Prelude.{Option, Some, None, filter_map, flat_map, nat_lt}
 use Rattle.std.specs.List.{AllByRecursion, list_all, cons_option}
 use Rattle.std.proofs.lemmas.Bool.{and_parts, and_from, ltb-true}
@@ -13,7 +13,7 @@ use Rattle.cell_world.specs.World.{World, Cell, key_of}
 use Rattle.cell_world.specs.Coherent.{IsCoherent}
 use Rattle.cell_world.specs.Linked.Relink.{link_of, link_to}
 use Rattle.cell_world.specs.Linked.Target.{target_of}
-use Rattle.cell_num.proofs.Elements.{all-In, In-all, In-append, In-flat_map}
+use Rattle.cell_num.proofs.Elements.{all-In, In-all, In-flat_map}
 use Rattle.cell_num.proofs.Sublists.{pairs-append}
 use Rattle.cell_graph.specs.Order.{Rises, below_link}
 use Rattle.cell_machine.specs.LinkOrder.{is_before}

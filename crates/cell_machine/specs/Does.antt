@@ -16,7 +16,7 @@ use Rattle.cell_world.specs.declared.layout.Class.TheVariants.{Text, ReadOnly, W
 use Rattle.cell_world.specs.declared.refusal.Refusal.{Refusal}
 use Rattle.cell_world.specs.declared.refusal.Refusal.TheVariants.{Held, Transfer}
 use Rattle.cell_world.specs.declared.reply.Reply.{Reply}
-use Rattle.cell_world.specs.declared.reply.Reply.TheVariants.{Load, Swap, Recover, Rebuild}
+use Rattle.cell_world.specs.declared.reply.Reply.TheVariants.{Load, Swap, Recover, Rebuild, Clone}
 use Rattle.cell_world.specs.Answer.{Done, done, fresh_by}
 use Rattle.cell_world.specs.Coherent.{Shape, class_shape}
 use Rattle.cell_world.specs.Outcome.{Outcome}
@@ -38,6 +38,7 @@ patched_by (Load fresh patched) = patched
 patched_by (Swap number fresh patched removed kept) = patched
 patched_by (Recover task number fresh patched removed kept) = patched
 patched_by (Rebuild task number fresh patched removed kept) = patched
+patched_by (Clone name fresh patched) = patched
 patched_by _ = 0
 
 -- a region for each class that has a section

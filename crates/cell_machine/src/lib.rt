@@ -8,5 +8,5 @@ mod names;
 mod staged;
 
 pub use machine::Machine;
-pub use names::{namespace, unknown, unknown_number};
+pub use names::{check_new_namespace, namespace, unknown, unknown_number};
 pub use staged::Staged;

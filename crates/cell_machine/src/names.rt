@@ -1,17 +1,18 @@
-//! Words that name namespaces, and words that name nothing.
+//! Words that name namespaces, there or new, and words that name nothing.
 
-ghost use Rattle.std.specs.Prelude.{◌<◌, IfOk, decimal, length};
+ghost use Rattle.std.specs.Prelude.{◌≡◌, ◌<◌, IfOk, decimal, length};
 ghost use Rattle.cell_world.specs.Outcome.{found};
-ghost use Rattle.cell_world.specs.declared.refusal.Refusal.TheVariants.{Unknown};
+ghost use Rattle.cell_world.specs.declared.refusal.Refusal.TheVariants.{NameTaken, Unknown};
 ghost use Rattle.cell_world.specs.Following.{Follows};
 ghost use Rattle.cell_space.specs.Spaces.{namespace_named};
+ghost use Rattle.cell_machine.specs.Namespaces.{may_add};
 ghost use Rattle.cell_machine.specs.Unknown.{IsUnknown};
 
-use cell_num::Name;
+use cell_num::{MAX_NAMESPACES, Name};
 use cell_space::Spaces;
 use cell_text::put_dec;
-use cell_world::{Fail, Refusal};
-use std::alloc::Global;
+use cell_world::{Fail, Many, Refusal};
+use std::alloc::{AllocError, Global};
 
 /// E1: the word names nothing.
 pub fn unknown(alloc: Global, word: &[u8]) -> Fail
@@ -43,4 +44,30 @@ pub fn namespace(alloc: Global, spaces: &Spaces, name: &[u8]) -> Result<u16, Fai
         Some(ns) => Ok(ns),
         None => Err(unknown(alloc, name)),
     }
+}
+
+/// E2: the name is taken.
+fn taken(alloc: Global, name: &[u8]) -> Result<Refusal, AllocError>
+    ensures { IfOk result (λ refusal. refusal ≡ NameTaken name.now) }
+{
+    Ok(Refusal::NameTaken {
+        word: Name::of(alloc, name)?,
+    })
+}
+
+/// Sees that the name is free and that one more namespace may come.
+pub fn check_new_namespace(alloc: Global, spaces: &Spaces, name: &[u8]) -> Result<(), Fail>
+    ensures { Follows (λ _. tt) result (may_add spaces.now.namespaces name.now) }
+{
+    if spaces.find_ns(name).is_some() {
+        return Err(Fail::Refused(taken(alloc, name)?));
+    }
+    // E4
+    if spaces.namespace_count() >= MAX_NAMESPACES as usize {
+        return Err(Fail::Refused(Refusal::TooMany {
+            kind: Many::Namespaces,
+            limit: MAX_NAMESPACES,
+        }));
+    }
+    Ok(())
 }

@@ -12,5 +12,6 @@ pub mod Noting
 pub mod Writes
 pub mod Back
 pub mod Small
+pub mod Seals
 pub mod LaidApart
 pub mod Undoing

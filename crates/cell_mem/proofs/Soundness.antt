@@ -14,7 +14,7 @@ use Rattle.cell_world.specs.Placed.Place.{with_region}
 use Rattle.cell_world.specs.Running.Turn.{without_region}
 use Rattle.cell_world.specs.Running.Undo.{AreBytes, put_in}
 use Rattle.cell_mem.specs.declared.memory.Memory.TheInside.{Inside}
-use Rattle.cell_mem.specs.Inside.{IsSound, state_of, undo_over}
+use Rattle.cell_mem.specs.Inside.{IsSound, is_mark, state_of, undo_over}
 use Rattle.cell_mem.specs.Index.{IsLaid, IsWhole, IsIndex, AreInPlace, held, first_page, covers_page}
 use Rattle.cell_mem.specs.State.{MemoryState, IsRoom, region_of, region_with, region_from, size_of, one_more, write_at, mapped, unmapped}
 use Rattle.cell_mem.specs.Undo.{UndoState, with_mapped, with_unmapped}
@@ -26,6 +26,7 @@ use Rattle.cell_mem.proofs.Marking.{marked, run_inside}
 use Rattle.cell_mem.proofs.Reading.{mapped_is}
 use Rattle.cell_mem.proofs.Small.{small_written}
 use Rattle.cell_mem.proofs.Undoing.{no_undo, over_mapped, over_unmapped}
+use Rattle.cell_mem.proofs.Seals.{marks_filled}
 use Rattle.cell_mem.proofs.Removing.{starts_at, laid_less, find_left, find_gone}
 use Rattle.cell_mem.proofs.Writes.{laid_written, index_written, length-bytes_of}
 
@@ -333,16 +334,16 @@ module _ (i : Inside) (m : MemoryState) (start : ℕ) (s : IsSound i) (e : state
       let P : ℕ → Type 0 = λ k. (b : Begins i start k) → k + length b.region.bytes / 4096 ≤ length i.firsts.items in
       subst P first (pages_inside i start s) b
 
-  pub state_unmapped : (page size : ℕ) (pages : List (Option Region)) (firsts : List (Option ℕ)) (sealed : List Bool) → Unmapped i start pages firsts → (b : Begins i start page) → size ≡ length b.region.bytes
-      → sealed ≡ filled i.sealed.items (start - i.base) size false
+  pub state_unmapped : (page size : ℕ) (pages : List (Option Region)) (firsts : List (Option ℕ)) (sealed : List ℕ) → Unmapped i start pages firsts → (b : Begins i start page) → size ≡ length b.region.bytes
+      → sealed ≡ filled i.sealed.items (start - i.base) size 0
       → (let old : MemoryState = state_of i in
-      let new : MemoryState = record old { regions = held pages; sealed = sealed; spare = old.spare + 1; undo = option_map (undo_over (held pages)) i.undo } in
+      let new : MemoryState = record old { regions = held pages; sealed = map is_mark sealed; spare = old.spare + 1; undo = option_map (undo_over (held pages)) i.undo } in
       new ≡ unmapped m start)
   state_unmapped page size pages firsts sealed f b n marks =
       let old : MemoryState = state_of i in
       let wanted : size ≡ size_of (region_from old start) = n ∙ sym (ap size_of b.found) in
-      ap (λ (rs : List Region). let new : MemoryState = record old { regions = rs; sealed = sealed; spare = old.spare + 1; undo = option_map (undo_over rs) i.undo } in new) f.regions
-      ∙ ap (λ (o : Option UndoState). let new : MemoryState = record old { regions = without_region start (held i.regions.items); sealed = sealed; spare = old.spare + 1; undo = o } in new) (over_unmapped start (held i.regions.items) i.undo)
+      ap (λ (rs : List Region). let new : MemoryState = record old { regions = rs; sealed = map is_mark sealed; spare = old.spare + 1; undo = option_map (undo_over rs) i.undo } in new) f.regions
+      ∙ ap (λ (o : Option UndoState). let new : MemoryState = record old { regions = without_region start (held i.regions.items); sealed = map is_mark sealed; spare = old.spare + 1; undo = o } in new) (over_unmapped start (held i.regions.items) i.undo)
       ∙ ap (λ (bs : List Bool). let new : MemoryState = record old { regions = without_region start (held i.regions.items); sealed = bs; spare = old.spare + 1; undo = with_unmapped start old.undo } in new)
-      (marks ∙ ap (λ k. filled i.sealed.items (start - i.base) k false) wanted)
+      (ap (map is_mark) marks ∙ marks_filled i.sealed.items (start - i.base) size 0 ∙ ap (λ k. filled (map is_mark i.sealed.items) (start - i.base) k false) wanted)
       ∙ ap (λ k. unmapped k start) e

@@ -1,5 +1,5 @@
 -- What the fields of a memory mean, and what always holds of them.
-use Rattle.std.specs.Prelude.{◌≡◌, ◌≤◌, ◌+◌, ◌*◌, ◌^◌, List, length, option_map}
+use Rattle.std.specs.Prelude.{◌≡◌, ◌≤◌, ℕ, ◌+◌, ◌*◌, ◌^◌, ◌==◌, Bool, not, List, length, map, option_map}
 use Rattle.cell_num.specs.Limits.{page_size}
 use Rattle.cell_world.specs.Placed.Pages.{IsSpace}
 use Rattle.cell_world.specs.Running.Undo.{AreBytes, undone}
@@ -13,13 +13,17 @@ use Rattle.cell_mem.specs.Undo.{Noted, UndoState}
 abbrev pub undo_over : List Region → Noted → UndoState
 undo_over regions u = record { left = u.left; journal = u.journal; before = undone regions u.journal }
 
+-- a byte with this mark is sealed
+abbrev pub is_mark : ℕ → Bool
+is_mark mark = not (mark == 0)
+
 abbrev pub state_of : Inside → MemoryState
 state_of m =
     record {
       base = m.base;
       pages = m.pages;
       regions = held m.regions.items;
-      sealed = m.sealed.items;
+      sealed = map is_mark m.sealed.items;
       spare = m.spare;
       undo = option_map (undo_over (held m.regions.items)) m.undo;
       patches = m.patches;

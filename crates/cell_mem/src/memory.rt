@@ -17,6 +17,7 @@ ghost use Rattle.cell_mem.specs.Writing.{HasBytes, put};
 
 use crate::fault::MemFault;
 use crate::fill::{fill, nothing, repeated};
+use crate::number::read_number;
 use crate::perm::Perm;
 use crate::region::Region;
 use crate::undo::Undo;
@@ -26,7 +27,7 @@ use std::alloc::{AllocError, Global};
 use std::marker::Model;
 
 /// The regions of the space, each at the page that it begins at; `firsts` has the number of that
-/// page at each page of the region. `sealed` has a mark for each byte of the space. `spare` is how
+/// page at each page of the region. `sealed` has a mark for each byte of the space: 1 where it is sealed. `spare` is how
 /// many regions more a caller may map. `undo` is None while no undo is begun.
 #[derive(Drop)]
 pub struct Memory {
@@ -34,7 +35,7 @@ pub struct Memory {
     pages: u32,
     regions: Vec<Option<Region>>,
     firsts: Vec<Option<usize>>,
-    sealed: Vec<bool>,
+    sealed: Vec<u8>,
     spare: usize,
     undo: Option<Undo>,
     patches: u64,
@@ -54,6 +55,7 @@ impl Model for Memory {
 }
 
 /// Writes a number into the region that begins at a page.
+#[inline(always)]
 fn write_in(regions: &mut [Option<Region>], first: usize, addr: u64, width: u8, value: u64)
     requires there { first < length regions.old }
     requires inside { IsSomeAnd (slice_index_or regions.old first None) (λ r. HasBytes r addr width) }
@@ -76,7 +78,7 @@ impl Memory {
             pages,
             regions: nothing(alloc, pages as usize)?,
             firsts: repeated(alloc, None, pages as usize)?,
-            sealed: repeated(alloc, false, PAGE_SIZE as usize * pages as usize)?,
+            sealed: repeated(alloc, 0, PAGE_SIZE as usize * pages as usize)?,
             spare: 0,
             undo: None,
             patches: 0,
@@ -219,15 +221,14 @@ impl Memory {
         (addr - self.base) as usize
     }
 
-    /// Whether one of the bytes is sealed.
+    /// Whether one of the bytes is sealed. Their marks are read as one number.
     fn is_sealed(&self, addr: u64, width: u8) -> bool
-        requires { is_some (region_with self.now addr width) ≡ true }
+        requires width { is_width width ≡ true }
+        requires mapped { is_some (region_with self.now addr width) ≡ true }
         ensures { result ≡ is_sealed self.now addr width }
     {
         let at = self.offset(addr, width);
-        self.sealed[at..at + usize::from(width)]
-            .iter()
-            .any(|sealed| *sealed)
+        read_number(&self.sealed, at, width) != 0
     }
 
     /// The tests of a store.
@@ -262,6 +263,7 @@ impl Memory {
     }
 
     /// Puts the number's low bytes in their place, whatever the permission and the seals. No undo notes it.
+    #[inline(always)]
     fn put(&mut self, addr: u64, width: u8, value: u64)
         requires mapped { is_some (region_with self.old addr width) ≡ true }
         requires none { self.old.undo ≡ None }
@@ -281,8 +283,8 @@ impl Memory {
         self.undo = Some(undo);
     }
 
-    /// Writes the number's low bytes, whatever the permission and the seals. A begun undo notes what they displace.
-    fn write(&mut self, addr: u64, width: u8, value: u64)
+    /// Writes the number's low bytes, and notes in the begun undo what they displace.
+    fn write_noted(&mut self, addr: u64, width: u8, value: u64)
         requires width { is_width width ≡ true }
         requires mapped { is_some (region_with self.old addr width) ≡ true }
         requires undo { HasWrites self.old 1 }
@@ -297,8 +299,23 @@ impl Memory {
         self.resume(undo);
     }
 
+    /// Writes the number's low bytes, whatever the permission and the seals. A begun undo notes what they displace.
+    #[inline(always)]
+    fn write(&mut self, addr: u64, width: u8, value: u64)
+        requires width { is_width width ≡ true }
+        requires mapped { is_some (region_with self.old addr width) ≡ true }
+        requires undo { HasWrites self.old 1 }
+        ensures { self.new ≡ written_at self.old addr width value }
+    {
+        match &self.undo {
+            None => self.put(addr, width, value),
+            Some(_) => self.write_noted(addr, width, value),
+        }
+    }
+
     /// Writes so many of the number's low bytes, the lowest first, where the region may be written
     /// and none of the bytes is sealed.
+    #[inline(always)]
     pub fn store(&mut self, addr: u64, width: u8, value: u64) -> Result<(), MemFault>
         requires width { is_width width ≡ true }
         requires undo { HasWrites self.old 1 }
@@ -330,7 +347,7 @@ impl Memory {
         ensures { self.new ≡ sealed_at self.old addr width }
     {
         let at = self.offset(addr, width);
-        fill(&mut self.sealed, at, usize::from(width), true);
+        fill(&mut self.sealed, at, usize::from(width), 1);
     }
 
     /// The page that an address of the space lies in.
@@ -377,7 +394,7 @@ impl Memory {
         let size = region.bytes().len();
         let at = (start - self.base) as usize;
         fill(&mut self.firsts, first, size / PAGE_SIZE as usize, None);
-        fill(&mut self.sealed, at, size, false);
+        fill(&mut self.sealed, at, size, 0);
         self.spare += 1;
     }
 

@@ -25,6 +25,19 @@ pub fn read_word(bytes: &[u8], at: usize) -> u32
     LittleEndian::read_u32(&bytes[at..])
 }
 
+/// Writes so many of the number's low bytes into a slice.
+#[inline(always)]
+pub fn put_number(bytes: &mut [u8], at: usize, width: u8, value: u64)
+    requires { at + width ≤ length bytes.old }
+    ensures { bytes.new ≡ pasted bytes.old at (bytes_of width value) }
+{
+    let mut left = value;
+    for k in 0..width {
+        bytes[at + usize::from(k)] = (left % 256) as u8;
+        left /= 256;
+    }
+}
+
 /// Writes so many of the number's low bytes.
 pub fn write_number(bytes: &mut Listed<u8>, at: usize, width: u8, value: u64)
     requires { at + width ≤ length bytes.old }

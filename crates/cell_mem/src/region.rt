@@ -8,10 +8,9 @@ ghost use Rattle.cell_mem.specs.Perm.{permission_of};
 ghost use Rattle.cell_mem.specs.State.{part_of};
 ghost use Rattle.cell_mem.specs.Writing.{HasBytes, put};
 
-use crate::number::{read_number, read_word, write_number};
+use crate::number::{put_number, read_number, read_word};
 use crate::perm::Perm;
 use bitflags::Flags;
-use cell_num::Listed;
 use std::marker::Model;
 
 /// A region of the memory. Contracts see the machine's region, which has three flags where this
@@ -20,7 +19,7 @@ use std::marker::Model;
 pub struct Region {
     start: u64,
     perm: Perm,
-    bytes: Listed<u8>,
+    bytes: Vec<u8>,
 }
 
 impl Model for Region {
@@ -38,11 +37,7 @@ impl Region {
         ensures all { result ≡ record { start = start; permission = permission_of perm; bytes = bytes.items } }
         ensures bytes { All (λ b. b < 256) bytes.items }
     {
-        Region {
-            start,
-            perm,
-            bytes: Listed::from_vec(bytes),
-        }
+        Region { start, perm, bytes }
     }
 
     pub fn bytes(&self) -> &[u8]
@@ -101,11 +96,12 @@ impl Region {
     }
 
     /// Writes so many of the number's low bytes, the lowest first.
+    #[inline(always)]
     pub fn write(&mut self, addr: u64, width: u8, value: u64)
         requires { HasBytes self.old addr width }
         ensures { self.new ≡ put addr (bytes_of width value) self.old }
     {
         let at = (addr - self.start) as usize;
-        write_number(&mut self.bytes, at, width, value);
+        put_number(&mut self.bytes, at, width, value);
     }
 }

@@ -1,6 +1,6 @@
 -- A change of cells brings cells of files alone, so each cell goes on to be what its file is read as, and all names to be spelled as such.
 use Rattle.std.proofs.Common.{◌≡◌, refl, sym, ◌∙◌, ap, subst, arith, ℕ, ◌≤◌, inl, inr, ◌⊎◌, Bool, true, false, cond, not, List, [], ◌∷◌, ◌++◌, length, length-append, suc, Ok, Option, Some, None}
-use Rattle.std.specs.Prelude.{All, ◌==◌, ◌/◌, filter, filter_map, fold, map, option_and_then, option_map}
+use Rattle.std.specs.Prelude.{All, ◌==◌, ◌/◌, filter, filter_map, fold, map, nat_le, nat_lt, option_and_then, option_map}
 use Rattle.std.specs.List.{cons_option}
 use Rattle.std.proofs.lemmas.Bool.{and_parts, ltb-true, not-true}
 use Rattle.std.proofs.lemmas.List.{length-map}
@@ -19,19 +19,22 @@ use Rattle.cell_world.specs.declared.state.SecPlace.{SecPlace}
 use Rattle.cell_world.specs.declared.state.Standing.{Standing}
 use Rattle.cell_world.specs.declared.state.Standing.TheVariants.{Detached}
 use Rattle.cell_world.specs.Answer.{Done}
-use Rattle.cell_world.specs.Change.{Change, Made, Plan, Want, append_want, exchange_at, exchanges_from, gather, garbage_after, make_change, old_of, replaced, set_aside, swapped_out, with_names}
+use Rattle.cell_world.specs.Change.{Change, Copy, Made, Plan, Want, append_copy, append_want, copy_of, exchange_at, exchanges_from, gather, garbage_after, make_change, old_of, replaced, set_aside, swapped_out, with_names}
 use Rattle.cell_world.specs.Coherent.{IsCoherent}
-use Rattle.cell_world.specs.Gather.{Source, append_cell, file_named, fresh_cells, new_cell}
+use Rattle.cell_world.specs.Gather.{Source, append_cell, bring, file_named, fresh_cells, new_cell}
 use Rattle.cell_world.specs.Placed.Layout.{image_of, places_in}
 use Rattle.cell_world.specs.Names.{names_of}
-use Rattle.cell_world.specs.Outcome.{each}
+use Rattle.cell_world.specs.Outcome.{each, need}
+use Rattle.cell_num.specs.Limits.{max_cell_number, max_cells}
+use Rattle.cell_world.specs.declared.refusal.Many.TheVariants.{Cells, CellNumbers}
+use Rattle.cell_world.specs.declared.refusal.Refusal.TheVariants.{TooMany}
 use Rattle.cell_world.specs.Placed.Place.{Placing, place_cell, place_sections, start_of_run, with_places, with_run}
 use Rattle.cell_world.specs.Reexport.{Exchange, heir_of, take_on, with_alias, with_reexports}
 use Rattle.cell_world.specs.Commands.UnloadCommand.{put_aside, without_cells}
 use Rattle.cell_world.specs.World.{Alias, Cell, World, cell_of}
 use Rattle.cell_lemmas.proofs.Naming.Appended.{Appended, append_ok, ok_same}
 use Rattle.cell_lemmas.proofs.Naming.Brought.{brought}
-use Rattle.cell_lemmas.proofs.Outcomes.{bind_ok}
+use Rattle.cell_lemmas.proofs.Outcomes.{bind_ok, need_ok, then_ok}
 use Rattle.cell_lemmas.proofs.Placement.PlacedAll.{CellRuns, cell_runs, each_keeps}
 use Rattle.cell_change_law.specs.Sound.{HasMade, IsSound}
 use Rattle.cell_change_law.proofs.Ending.{last_parts}
@@ -174,6 +177,38 @@ module _ (sources : List Source) (apart : AreApart sources) (named : AreNamed so
       let a = bind_ok (append_want w want) (λ y. each append_want y all) u e in
       wants_kept all (λ x i. files x (inr i)) a.0 u a.2 (append_kept w want.file want.ns a.0 (files want (inl refl)) a.1 k)
 
+  -- a copy is what its original is
+  copy_good : (w : World) (copy : Copy) → IsKept sources w → Good copy.original → Good (copy_of w copy)
+  copy_good w copy kept g = (g.0, record { stem = g.1.stem; file = g.1.file; aliases = g.1.aliases; number = kept.spelled.next; sections = g.1.sections })
+
+  copy_kept : (w : World) (copy : Copy) (w' : World) → Good copy.original → append_copy w copy ≡ Ok w' → IsKept sources w → IsKept sources w'
+  copy_kept w copy w' g e kept =
+      let a = then_ok (need (nat_lt (length w.cells) max_cells) (TooMany Cells max_cells)) _ w' e in
+      let b = then_ok (need (nat_le w.next_cell max_cell_number) (TooMany CellNumbers max_cell_number)) _ w' a.2 in
+      subst (IsKept sources) (ok_same _ w' b.2) (record {
+        cells = In-All Good (w.cells ++ copy_of w copy ∷ []) good;
+        spelled = record {
+          spaces = kept.spelled.spaces;
+          cells = In-All IsSpelledCell (w.cells ++ copy_of w copy ∷ []) (λ c i. (good c i).1);
+          next = omega arith;
+        };
+        few = omega (arith, length-append w.cells (copy_of w copy ∷ []), ltb-true (length w.cells) max_cells (need_ok _ _ a.0 a.1));
+      })
+    where
+      good : (c : Cell) → In c (w.cells ++ copy_of w copy ∷ []) → Good c
+      good c i = go (In-append w.cells (copy_of w copy ∷ []) c i)
+        where
+          go : In c w.cells ⊎ In c (copy_of w copy ∷ []) → Good c
+          go (inl j) = good_in w kept c j
+          go (inr (inl same)) = subst Good (sym same) (copy_good w copy kept g)
+          go (inr (inr j)) = absurd j
+
+  copies_kept : (copies : List Copy) → ((copy : Copy) → In copy copies → Good copy.original) → (w u : World) → each append_copy w copies ≡ Ok u → IsKept sources w → IsKept sources u
+  copies_kept [] good w u e k = subst (IsKept sources) (ok_same w u e) k
+  copies_kept (copy ∷ copies) good w u e k =
+      let a = bind_ok (append_copy w copy) (λ y. each append_copy y copies) u e in
+      copies_kept copies (λ x i. good x (inr i)) a.0 u a.2 (copy_kept w copy a.0 (good copy (inl refl)) a.1 k)
+
   -- names are handed on
   alias_good : (number : ℕ) (a : Alias) → is_global_name a.name ≡ true → (c : Cell) → Good c → Good (with_alias number a c)
   alias_good number a well c g = go (c.id.0 == number)
@@ -255,7 +290,9 @@ module _ (sources : List Source) (apart : AreApart sources) (named : AreNamed so
         let a = bind_ok (each append_want (set_aside w c) c.wants) _ g e in
         let appended : IsKept sources a.0 = wants_kept c.wants (All-In (λ (want : Want). In want.file sources) c.wants s.files) (set_aside w c) a.0 a.1 (aside_kept w (old_of c) k) in
         let called : IsKept sources (with_names w.next_cell c a.0) = names_kept c s w.next_cell a.0 appended in
-        (brought sources w.next_cell (IsKept sources) (λ v f n u i t e r. append_kept v f n u i e r) 1025 (with_names w.next_cell c a.0) g called.few (omega arith) a.2 called).0
+        let b = bind_ok (bring sources w.next_cell (with_names w.next_cell c a.0)) _ g a.2 in
+        copies_kept c.copies (λ copy i. good_in w k copy.original (All-In (λ (copy : Copy). In copy.original w.cells) c.copies s.originals copy i)) b.0 g b.2
+        (brought sources w.next_cell (IsKept sources) (λ v f n u i t e r. append_kept v f n u i e r) 1025 (with_names w.next_cell c a.0) b.0 called.few (omega arith) b.1 called).0
 
     made_kept : (c : Change) → IsSound sources w c → (made : Made) → make_change sources w c ≡ Ok made → IsKept sources made.world
     made_kept c s made e =

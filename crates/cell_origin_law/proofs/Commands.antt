@@ -8,7 +8,7 @@ use Rattle.cell_depot.specs.ObjectName.{is_object_name}
 use Rattle.cell_script.specs.Grammar.{is_name}
 use Rattle.cell_script.specs.Script.{is_said}
 use Rattle.cell_world.specs.declared.command.Command.{Command}
-use Rattle.cell_world.specs.declared.command.Command.TheVariants.{Deps, Dump, DumpAll, Find, Kill, Load, Map, Ns, Purge, Rebuild, Recover, Run, Spawn, Step, Swap, Tasks, Unload, Users}
+use Rattle.cell_world.specs.declared.command.Command.TheVariants.{Clone, Deps, Dump, DumpAll, Find, Kill, Load, Map, Ns, Purge, Rebuild, Recover, Run, Spawn, Step, Swap, Tasks, Unload, Users}
 use Rattle.cell_world.specs.declared.file.File.{File}
 use Rattle.cell_world.specs.declared.refusal.Many.TheVariants.{Tasks as ManyTasks, TaskNumbers}
 use Rattle.cell_world.specs.declared.refusal.Refusal.TheVariants.{NoEntry, TooMany}
@@ -16,9 +16,10 @@ use Rattle.cell_world.specs.declared.state.Namespace.{Namespace}
 use Rattle.cell_world.specs.Answer.{Done, present_cell, space_of}
 use Rattle.cell_world.specs.Coherent.{AreSound, IsCoherent}
 use Rattle.cell_world.specs.Gather.{Source, source_of}
+use Rattle.cell_world.specs.Commands.Asked.{next_clone}
 use Rattle.cell_world.specs.Commands.LinkCommands.{next_deps, next_users}
 use Rattle.cell_world.specs.Next.{outcome_of}
-use Rattle.cell_world.specs.Commands.NsCommand.{next_ns}
+use Rattle.cell_world.specs.Commands.NsCommand.{next_ns, with_namespace}
 use Rattle.cell_world.specs.Outcome.{found, need}
 use Rattle.cell_world.specs.Placed.Place.{start_of_run}
 use Rattle.cell_world.specs.Commands.SpawnCommand.{entry_named, next_spawn}
@@ -30,7 +31,8 @@ use Rattle.cell_lemmas.proofs.Naming.NamespaceAdded.{Added, ns_ok}
 use Rattle.cell_lemmas.proofs.NextCoherent.{dump_same, find_same, map_same}
 use Rattle.cell_lemmas.proofs.Outcomes.{bind_ok, then_ok}
 use Rattle.cell_lemmas.proofs.Holding.Removals.{Removed, purge_removed, unload_removed}
-use Rattle.cell_change_law.proofs.Asking.{load_made, rebuild_made, recover_made, swap_made}
+use Rattle.cell_change_law.specs.Cloned.{HasCloned}
+use Rattle.cell_change_law.proofs.Asking.{base_coherent, clone_base, clone_made, cloned, load_made, rebuild_made, recover_made, swap_made}
 use Rattle.cell_origin_law.specs.Readings.{AreApart, AreRead, IsRead}
 use Rattle.cell_origin_law.specs.Spelled.{AreNamed, IsNamedSource, IsSpelled, IsSpelledCell}
 use Rattle.cell_origin_law.proofs.Changes.{IsKept, as_before, change_kept, without_kept}
@@ -66,23 +68,30 @@ module _ (sources : List Source) (sound : AreSound sources) (apart : AreApart so
   unchanged : (u : World) → w ≡ u → IsKept sources u
   unchanged u e = subst (IsKept sources) e k
 
-  by_ns : (name parent : List ℕ) → is_name name ≡ true → (d : Done) → next_ns w name parent ≡ Ok d → IsKept sources d.world
-  by_ns name parent good d e =
-      let a : Added w name d.world = ns_ok w name parent d e in
-      subst (IsKept sources) a.is (record {
-        cells = k.cells;
-        spelled = record {
-          spaces = In-All (λ (s : Namespace). is_name s.name ≡ true) (w.namespaces ++ added name a.parent ∷ []) (λ s i. spelled a.parent s (In-append w.namespaces (added name a.parent ∷ []) s i));
-          cells = k.spelled.cells;
-          next = k.spelled.next;
-        };
-        few = k.few;
-      })
+  -- one namespace more
+  with_kept : (name : List ℕ) (above : ℕ) → is_name name ≡ true → IsKept sources (with_namespace w name above)
+  with_kept name above good = record {
+    cells = k.cells;
+    spelled = record {
+      spaces = In-All (λ (s : Namespace). is_name s.name ≡ true) (w.namespaces ++ added name above ∷ []) (λ s i. spelled s (In-append w.namespaces (added name above ∷ []) s i));
+      cells = k.spelled.cells;
+      next = k.spelled.next;
+    };
+    few = k.few;
+  }
     where
-      spelled : (above : ℕ) (s : Namespace) → In s w.namespaces ⊎ In s (added name above ∷ []) → is_name s.name ≡ true
-      spelled above s (inl i) = All-In (λ (s : Namespace). is_name s.name ≡ true) w.namespaces k.spelled.spaces s i
-      spelled above s (inr (inl same)) = subst (λ (x : Namespace). is_name x.name ≡ true) (sym same) good
-      spelled above s (inr (inr i)) = absurd i
+      spelled : (s : Namespace) → In s w.namespaces ⊎ In s (added name above ∷ []) → is_name s.name ≡ true
+      spelled s (inl i) = All-In (λ (s : Namespace). is_name s.name ≡ true) w.namespaces k.spelled.spaces s i
+      spelled s (inr (inl same)) = subst (λ (x : Namespace). is_name x.name ≡ true) (sym same) good
+      spelled s (inr (inr i)) = absurd i
+
+  by_ns : (name parent : List ℕ) → is_name name ≡ true → (d : Done) → next_ns w name parent ≡ Ok d → IsKept sources d.world
+  by_ns name parent good d e = let a : Added w name d.world = ns_ok w name parent d e in subst (IsKept sources) a.is (with_kept name a.parent good)
+
+  by_clone : (name sibling : List ℕ) → is_name sibling ≡ true → (d : Done) → next_clone sources w name sibling ≡ Ok d → IsKept sources d.world
+  by_clone name sibling good d e =
+      let c : HasCloned sources w name sibling d = cloned sources w name sibling d e in
+      change_kept sources apart named (clone_base sources w h sibling c.may) (base_coherent sources w h sibling c.may) (with_kept sibling c.parent good) d (clone_made sources w h name sibling d c)
 
   by_tasks : (u : World) → KeepsCells w u → IsKept sources u
   by_tasks u e = as_before sources apart named w k u (ap (λ (v : World). v.cells) e) (ap (λ (v : World). v.namespaces) e) (ap (λ (v : World). v.next_cell) e)
@@ -125,6 +134,7 @@ module _ (sources : List Source) (sound : AreSound sources) (apart : AreApart so
   outcome_kept DumpAll said d e = unchanged d.world (ap (λ (x : Done). x.world) (ok_same _ d e))
   outcome_kept (Recover task) said d e = change_kept sources apart named w h k d (recover_made sources w h task d e)
   outcome_kept (Rebuild task) said d e = change_kept sources apart named w h k d (rebuild_made sources w h task d e)
+  outcome_kept (Clone name sibling) said d e = by_clone name sibling said d e
 
 -- read and spelled
 pub outcome_keeps : (sources : List Source) → AreSound sources → AreApart sources → AreNamed sources → (w : World) → IsCoherent w → AreRead sources w → IsSpelled w

@@ -1,7 +1,8 @@
-//! Links that go, and keys of sections that went.
+//! Links that come and go, and keys of sections that went.
 
-ghost use Rattle.std.specs.Prelude.{◌≡◌, ◌<◌, ◌≤◌, ◌∷◌, [], IfOk};
-ghost use Rattle.cell_graph.specs.Several.{AreThere};
+ghost use Rattle.std.specs.Prelude.{◌≡◌, ◌<◌, ◌≤◌, ◌∷◌, [], All, Contains, IfOk, length};
+ghost use Rattle.cell_graph.specs.Order.{Rises, below_link};
+ghost use Rattle.cell_graph.specs.Several.{AreNew, AreThere};
 ghost use Rattle.cell_world.specs.World.{key_of};
 
 use cell_graph::*;
@@ -30,6 +31,13 @@ fn link(user: SecKey, entry: u32, target: SecKey) -> LinkRow
     }
 }
 
+/// A link to the first section of a cell.
+fn row(cell: u32, section: u16, entry: u32, target: u32) -> LinkRow
+    ensures { result ≡ record { user = key_of cell section; entry = entry; target = key_of target 1 } }
+{
+    link(key(cell, section), entry, key(target, 1))
+}
+
 /// Cell 1 with sections 1 and 3, cell 2 with 1 and 2, cell 3 with 1, and no links.
 fn sections(alloc: Global) -> Result<Graph, AllocError>
     ensures sections { IfOk result (λ g. g.sections ≡ key_of 1 1 ∷ key_of 1 3 ∷ key_of 2 1 ∷ key_of 2 2 ∷ key_of 3 1 ∷ []) }
@@ -53,6 +61,39 @@ fn unbind_with<L: Ledger>(graph: &mut Graph, gone: &[LinkRow], blank: Blank)
 {
     let mut steps = Steps::<L>::new(blank);
     graph.unbind_all(gone, &mut steps);
+}
+
+/// Adds links, with a counter that nobody reads.
+fn bind_with<L: Ledger>(graph: &mut Graph, new: &[LinkRow], blank: Blank)
+    requires name { blank.name ≡ L.name }
+    requires parts { blank.parts ≡ L.parts }
+    requires countable { 0 < blank.parts }
+    requires rising { Rises below_link new.now }
+    requires unbound { AreNew graph.old.rows new.now }
+    requires target { All (λ r. Contains graph.old.sections r.target) new.now }
+    requires room { length new.now ≤ graph.old.spare_rows }
+{
+    let mut steps = Steps::<L>::new(blank);
+    graph.bind_all(new, &mut steps);
+}
+
+/// Two links come, one in front of the link that is there and one behind it.
+#[test]
+fn links_come_on_both_sides(rt: HostRuntime) -> Result<(), Fail> {
+    let alloc = rt.alloc();
+    let first = row(1, 1, 7, 3);
+    let second = row(2, 2, 4, 3);
+    let third = row(2, 1, 5, 3);
+    let mut graph = sections(alloc)?;
+    graph.bind(second);
+    bind_with::<Brand>(&mut graph, &[first, third], Blank::new(1));
+    let of_one: Vec<LinkRow> = graph.deps_of_cell(CellId(1)).collect(alloc)?;
+    let of_two: Vec<LinkRow> = graph.deps_of_cell(CellId(2)).collect(alloc)?;
+    let users: Vec<LinkRow> = graph.users_of(key(3, 1)).collect(alloc)?;
+    assert_eq!(rt; &of_one[..], &[first][..]);
+    assert_eq!(rt; &of_two[..], &[second, third][..]);
+    assert_eq!(rt; users.len(), 3);
+    Ok(())
 }
 
 /// A link goes again.

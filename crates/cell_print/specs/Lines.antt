@@ -20,13 +20,13 @@ use Rattle.cell_world.specs.declared.reply.LinkLine.{LinkLine}
 use Rattle.cell_world.specs.declared.reply.MapCell.{MapCell}
 use Rattle.cell_world.specs.declared.reply.MapSection.{MapSection}
 use Rattle.cell_world.specs.declared.reply.Reply.{Reply}
-use Rattle.cell_world.specs.declared.reply.Reply.TheVariants.{Ns, Load, Spawn, Step, Run, Kill, Swap, Unload, Purge, Tasks, Find, Deps, Users, Map, Dump, DumpAll, Recover, Rebuild}
+use Rattle.cell_world.specs.declared.reply.Reply.TheVariants.{Ns, Load, Spawn, Step, Run, Kill, Swap, Unload, Purge, Tasks, Find, Deps, Users, Map, Dump, DumpAll, Recover, Rebuild, Clone}
 use Rattle.cell_world.specs.declared.reply.TaskLine.{TaskLine}
 use Rattle.cell_world.specs.declared.reply.TaskRun.{TaskRun}
 use Rattle.cell_world.specs.declared.reply.TaskState.{TaskState}
 use Rattle.cell_world.specs.declared.reply.TaskState.TheVariants.{Ready, Done, Fault}
 use Rattle.cell_world.specs.declared.refusal.Refusal.{Refusal}
-use Rattle.cell_world.specs.declared.refusal.Refusal.TheVariants.{Unknown, NameTaken, NotRunnable, TooMany, NoObject, Ambiguous, BadObject, Duplicate, Missing, NoEntry, Exhausted, Overflow, Torn, Transfer, Held, NotFaulted, NoCrate}
+use Rattle.cell_world.specs.declared.refusal.Refusal.TheVariants.{Unknown, NameTaken, NotRunnable, TooMany, NoObject, Ambiguous, BadObject, Duplicate, Missing, NoEntry, Exhausted, Overflow, Torn, Transfer, Held, NotFaulted, NoCrate, NoParent}
 use Rattle.cell_dumped.specs.Texts.{line_text}
 use Rattle.cell_print.specs.Words.{many_word, kind_word, cause_word}
 
@@ -185,6 +185,7 @@ reply_lines n (Dump key start bytes) = answer_line n (codes "ok dump") (key_word
 reply_lines n (DumpAll lines) = answer_line n (codes "ok dumpall") [] ++ flat_map dump_line lines
 reply_lines n (Recover task number fresh patched removed kept) = answer_line n (codes "ok recover") (again_words task number fresh patched removed kept)
 reply_lines n (Rebuild task number fresh patched removed kept) = answer_line n (codes "ok rebuild") (again_words task number fresh patched removed kept)
+reply_lines n (Clone name fresh patched) = answer_line n (codes "ok clone") (name ∷ cells_word fresh ∷ codes "patched" ∷ decimal patched ∷ [])
 
 abbrev pub place_in : CellId → ℕ → ℕ → List ℕ
 place_in cell section offset = place_word (record { cell = cell; section = section }) offset
@@ -207,6 +208,7 @@ refusal_line n (Transfer name why) = answer_line n (codes "E14 transfer") (name 
 refusal_line n (Held cell holder) = answer_line n (codes "E15 held") (cell_word cell ∷ holder_word holder ∷ [])
 refusal_line n (NotFaulted task) = answer_line n (codes "E16 not-faulted") (task_word task ∷ [])
 refusal_line n (NoCrate task pc) = answer_line n (codes "E17 no-crate") (task_word task ∷ hex pc ∷ [])
+refusal_line n (NoParent word) = answer_line n (codes "E18 no-parent") (word ∷ [])
 
 abbrev pub lines_of : ℕ → Result Reply Refusal → List ℕ
 lines_of n (Ok reply) = reply_lines n reply

@@ -93,5 +93,6 @@ pub fn put_refusal(line: u32, refusal: &Refusal, into: &mut Vec<u8>) -> Result<(
         Refusal::NoCrate { task, pc } => {
             put_answer(line, b"E17 no-crate", &[Task(*task), Hex(*pc)], into)
         }
+        Refusal::NoParent { word } => put_answer(line, b"E18 no-parent", &[Name(word)], into),
     }
 }

@@ -157,6 +157,23 @@ pub fn put_reply(line: u32, reply: &Reply, into: &mut Vec<u8>) -> Result<(), All
                 into,
             )
         }
+        Reply::Clone {
+            name,
+            fresh,
+            patched,
+        } => {
+            put_answer(
+                line,
+                b"ok clone",
+                &[
+                    Name(name),
+                    Cells(fresh.as_slice()),
+                    Text(b"patched"),
+                    Dec(*patched),
+                ],
+                into,
+            )
+        }
     }
 }
 

@@ -19,3 +19,4 @@ pub mod Latecomers
 pub mod Yielding
 pub mod Recovers
 pub mod Rebuilds
+pub mod Clones

@@ -24,6 +24,7 @@ ghost use Rattle.cell_rows.specs.Latecomers as latecomers;
 ghost use Rattle.cell_rows.specs.Yielding as yielding;
 ghost use Rattle.cell_rows.specs.Recovers as recovers;
 ghost use Rattle.cell_rows.specs.Rebuilds as rebuilds;
+ghost use Rattle.cell_rows.specs.Clones as clones;
 
 /// A load links a field to a cell that was loaded before it, and a dump shows the address.
 pub fn loads_and_dumps()
@@ -119,4 +120,14 @@ pub fn recovers()
 /// A task that faulted outside all crates can't be recovered, but rebuilt. A task that is ready can't be recovered.
 pub fn rebuilds()
     ensures { answers rebuilds.files (empty_world 0x1000_0000 1024) rebuilds.script ≡ rebuilds.answered }
+{}
+
+/// A clone has a crate of its own: once that of its original is swapped, a task in the one ends by the old crate, and a task in the other by the new one.
+pub fn clones()
+    ensures { answers clones.files (empty_world 0x1000_0000 1024) clones.script ≡ clones.answered }
+{}
+
+/// `k` has no sibling, a name isn't taken twice, and a namespace without a cell has a sibling without one.
+pub fn refused_clones()
+    ensures { answers clones.files (empty_world 0x1000_0000 1024) clones.refused ≡ clones.refused_so }
 {}

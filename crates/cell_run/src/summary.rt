@@ -32,7 +32,8 @@ fn fresh_count(reply: &Reply) -> u64
         Reply::Load { fresh, .. }
         | Reply::Swap { fresh, .. }
         | Reply::Recover { fresh, .. }
-        | Reply::Rebuild { fresh, .. } => fresh.as_slice().len() as u64,
+        | Reply::Rebuild { fresh, .. }
+        | Reply::Clone { fresh, .. } => fresh.as_slice().len() as u64,
         _ => 0,
     }
 }
@@ -59,7 +60,8 @@ fn patched_count(reply: &Reply) -> u64
         Reply::Load { patched, .. }
         | Reply::Swap { patched, .. }
         | Reply::Recover { patched, .. }
-        | Reply::Rebuild { patched, .. } => u64::from(*patched),
+        | Reply::Rebuild { patched, .. }
+        | Reply::Clone { patched, .. } => u64::from(*patched),
         _ => 0,
     }
 }

@@ -5,7 +5,7 @@ use Rattle.std.specs.Prelude.{Option, Some, None, Result, Ok, Err, bytes_eq, cod
 use Rattle.cell_num.specs.Lists.{where_true}
 use Rattle.cell_world.specs.declared.command.SwapItem.{SwapItem}
 use Rattle.cell_world.specs.declared.command.Command.{Command}
-use Rattle.cell_world.specs.declared.command.Command.TheVariants.{Ns, Load, Spawn, Step, Run, Kill, Unload, Purge, Find, Map, Tasks, Deps, Users, Dump, DumpAll, Recover, Rebuild}
+use Rattle.cell_world.specs.declared.command.Command.TheVariants.{Ns, Load, Spawn, Step, Run, Kill, Unload, Purge, Find, Map, Tasks, Deps, Users, Dump, DumpAll, Recover, Rebuild, Clone}
 use Rattle.cell_script.specs.declared.command.Reading.{Reading}
 use Rattle.cell_script.specs.declared.command.Reading.TheVariants.{Nothing, Does, Bad}
 use Rattle.cell_script.specs.declared.line.Line.{Line}
@@ -55,6 +55,20 @@ ns_said (a ∷ m ∷ b ∷ []) = go (bytes_eq m (codes "under")) (is_name a) ref
     go true true e None = tt
     go true true e (Some y) = e
 ns_said (a ∷ m ∷ b ∷ c ∷ words) = tt
+
+-- of a sibling too
+clone_said : (words : List (List ℕ)) → IsSaid (both_around (codes "as") name name (λ ns fresh. Clone ns fresh) words)
+clone_said [] = tt
+clone_said (a ∷ []) = tt
+clone_said (a ∷ m ∷ []) = tt
+clone_said (a ∷ m ∷ b ∷ []) = go (bytes_eq m (codes "as")) (name a) (is_name b) refl
+  where
+    go : (t : Bool) (o : Option (List ℕ)) (n : Bool) → is_name b ≡ n → IsSaid (cond t (option_and_then (λ (x : List ℕ). option_map (λ (y : List ℕ). Clone x y) (where_true n b)) o) None)
+    go false o n e = tt
+    go true None n e = tt
+    go true (Some x) false e = tt
+    go true (Some x) true e = e
+clone_said (a ∷ m ∷ b ∷ c ∷ words) = tt
 
 three_said : {A B C : Type 0} (one : List ℕ → Option A) (other : List ℕ → Option B) (last : List ℕ → Option C) (made : A → B → C → Command) → ((a : A) (b : B) (c : C) → is_said (made a b c) ≡ true)
     → (words : List (List ℕ)) → IsSaid (all_three one other last made words)
@@ -158,7 +172,7 @@ all_forms = (
                                   single_said (λ task. Recover task) (λ a. refl) number,
                                   (
                                     single_said (λ task. Rebuild task) (λ a. refl) number,
-                                    tt,
+                                    (clone_said, tt),
                                   ),
                                 ),
                               ),

@@ -10,7 +10,7 @@ use Rattle.cell_text.specs.Number.{number_in, hex_number_in}
 use Rattle.cell_world.specs.declared.command.CellName.{CellName}
 use Rattle.cell_world.specs.declared.command.SwapItem.{SwapItem}
 use Rattle.cell_world.specs.declared.command.Command.{Command}
-use Rattle.cell_world.specs.declared.command.Command.TheVariants.{Ns, Load, Spawn, Step, Run, Kill, Swap, Unload, Purge, Find, Map, Tasks, Deps, Users, Dump, DumpAll, Recover, Rebuild}
+use Rattle.cell_world.specs.declared.command.Command.TheVariants.{Ns, Load, Spawn, Step, Run, Kill, Swap, Unload, Purge, Find, Map, Tasks, Deps, Users, Dump, DumpAll, Recover, Rebuild, Clone}
 use Rattle.cell_script.specs.declared.transfer.Transfer.{Transfer}
 
 abbrev pub is_name_byte : ℕ → Bool
@@ -211,6 +211,7 @@ forms =
     ∷ record { word = codes "dumpall"; arguments = alone DumpAll }
     ∷ record { word = codes "recover"; arguments = single number (λ task. Recover task) }
     ∷ record { word = codes "rebuild"; arguments = single number (λ task. Rebuild task) }
+    ∷ record { word = codes "clone"; arguments = both_around (codes "as") name name (λ ns fresh. Clone ns fresh) }
     ∷ []
 
 abbrev pub command_in : List Form → List ℕ → List (List ℕ) → Option Command

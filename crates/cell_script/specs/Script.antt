@@ -7,7 +7,7 @@ use Rattle.std.specs.declared.result.Result.{Result}
 use Rattle.std.specs.List.{list_all}
 use Rattle.cell_text.specs.Text.{lines_in, words_of}
 use Rattle.cell_world.specs.declared.command.Command.{Command}
-use Rattle.cell_world.specs.declared.command.Command.TheVariants.{Ns, Swap}
+use Rattle.cell_world.specs.declared.command.Command.TheVariants.{Clone, Ns, Swap}
 use Rattle.cell_script.specs.Grammar.{forms, command_in, is_name}
 use Rattle.cell_script.specs.declared.line.Line.{Line}
 use Rattle.cell_script.specs.declared.command.Reading.{Reading}
@@ -54,6 +54,7 @@ Reads (Err OutOfMemory) script = Unit {0}
 
 abbrev pub is_said : Command → Bool
 is_said (Ns fresh parent) = is_name fresh
+is_said (Clone ns fresh) = is_name fresh
 is_said (Swap items reexport strict routines budget) = nat_lt 0 (length items)
 is_said _ = true
 

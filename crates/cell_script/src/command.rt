@@ -1,7 +1,7 @@
 //! The words of one line.
 
 ghost use Rattle.std.specs.Prelude.{◌≡◌, List, [], ◌∷◌, map, codes, IfOk};
-ghost use Rattle.cell_world.specs.declared.command.Command.TheVariants.{Ns, Load, Spawn, Step, Run, Kill, Unload, Purge, Find, Map, Tasks, Deps, Users, Dump, DumpAll, Recover, Rebuild};
+ghost use Rattle.cell_world.specs.declared.command.Command.TheVariants.{Ns, Load, Spawn, Step, Run, Kill, Unload, Purge, Find, Map, Tasks, Deps, Users, Dump, DumpAll, Recover, Rebuild, Clone};
 ghost use Rattle.cell_script.specs.Grammar.{name, symbol, number, turns_of_one, turns_of_run, argument, alone, single, both, all_three, both_around, several, cell_names, swap_words, forms, command_in};
 ghost use Rattle.cell_script.specs.Script.{is_comment, reading_in};
 
@@ -88,6 +88,8 @@ fn read_command(
         Ok(read_recover(arguments))
     } else if word == b"rebuild".as_slice() {
         Ok(read_rebuild(arguments))
+    } else if word == b"clone".as_slice() {
+        read_clone(alloc, arguments)
     } else {
         Ok(None)
     }
@@ -297,4 +299,19 @@ fn read_rebuild(arguments: &[&[u8]]) -> Option<Command>
     };
     let task = read_number(task)?;
     Some(Command::Rebuild { task })
+}
+
+/// `clone NS as NAME`
+fn read_clone(alloc: Global, arguments: &[&[u8]]) -> Result<Option<Command>, AllocError>
+    ensures { IfOk result (λ command. command ≡ both_around (codes "as") name name (λ ns fresh. Clone ns fresh) (map (λ word. word.now) arguments.now)) }
+{
+    let [ns, between, name] = arguments else {
+        return Ok(None);
+    };
+    if *between != b"as".as_slice() || !is_name(ns) || !is_name(name) {
+        return Ok(None);
+    }
+    let ns = Name::of(alloc, ns)?;
+    let name = Name::of(alloc, name)?;
+    Ok(Some(Command::Clone { ns, name }))
 }

@@ -1,6 +1,6 @@
 //! The spaces.
 
-ghost use Rattle.std.specs.Prelude.{◌≡◌, ◌<◌, ◌≤◌, ◌+◌, ◌++◌, ◌∷◌, [], None, Some, All, IfOk, OnOk, OnErr, length, option_map, slice_get};
+ghost use Rattle.std.specs.Prelude.{take, ◌≡◌, ◌<◌, ◌≤◌, ◌+◌, ◌-◌, ◌++◌, ◌∷◌, [], None, Some, All, IfOk, OnOk, OnErr, length, option_map, slice_get};
 ghost use Rattle.cell_world.specs.Names.{chain as chain_in};
 ghost use Rattle.cell_world.specs.declared.state.Standing.TheVariants.{Attached, Detached};
 ghost use Rattle.cell_space.specs.Path.{IsPath};
@@ -108,6 +108,18 @@ impl Spaces {
             parent: Some(parent),
         })?;
         Ok(number)
+    }
+
+    /// Takes the last namespace away, in which no cell stands. `k` stays.
+    pub fn drop_ns(&mut self)
+        requires more { 1 < length self.old.namespaces }
+        requires empty { All (λ c. c.ns + 1 < length self.old.namespaces) self.old.cells }
+        ensures namespaces { self.new.namespaces ≡ take (length self.old.namespaces - 1) self.old.namespaces }
+        ensures same_cells { self.new.cells ≡ self.old.cells }
+        ensures same_room { self.new.spare_cells ≡ self.old.spare_cells }
+        ensures same_names_room { self.new.spare_names ≡ self.old.spare_names }
+    {
+        let _ = self.namespaces.pop();
     }
 
     /// The name of a namespace that is there.

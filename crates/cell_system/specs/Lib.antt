@@ -1,3 +1,2 @@
-pub mod Namespaces
 pub mod State
 pub mod Step

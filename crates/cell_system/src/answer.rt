@@ -12,7 +12,7 @@ ghost use Rattle.cell_system.specs.Step.{counts_of};
 
 use crate::Fail;
 use crate::namespaces::add_namespace;
-use cell_commands::{SwapWords, load, rebuild, recover, swap};
+use cell_commands::{SwapWords, clone, load, rebuild, recover, swap};
 use cell_depot::Depot;
 use cell_machine::Machine;
 use cell_schedule::{kill, run, spawn, step, tasks};
@@ -69,5 +69,6 @@ pub fn answer(
         }
         Command::Recover { task } => recover(alloc, depot, machine, *task),
         Command::Rebuild { task } => rebuild(alloc, depot, machine, *task),
+        Command::Clone { ns, name } => clone(alloc, depot, machine, ns.bytes(), name.bytes()),
     }
 }

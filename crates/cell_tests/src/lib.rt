@@ -8,6 +8,10 @@ mod broken;
 #[cfg(test)]
 mod cases;
 #[cfg(test)]
+mod clone_limits;
+#[cfg(test)]
+mod clones;
+#[cfg(test)]
 mod command_line;
 #[cfg(test)]
 mod crowded;

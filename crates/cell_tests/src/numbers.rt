@@ -6,7 +6,7 @@ use std::alloc::{AllocError, Global};
 use std::test::Fail;
 
 /// Nine crates are loaded and taken away again.
-const NINE: &str =
+pub const NINE: &str =
     "load k c1\nload k c2\nload k c3\nload k c4\nload k c5\nload k c6\nload k c7\nload k c8\nload k c9\n\
     unload k/c1 k/c2 k/c3 k/c4 k/c5 k/c6 k/c7 k/c8 k/c9\n";
 

@@ -1,9 +1,10 @@
 -- What becomes of the machine when cells come, beside the others or in the place of some of them. A load is such a change, and a
--- swap is one: a command says what it wants, and answers by what was made.
---     Want, Change                   what is asked for
+-- swap and a clone are such changes: a command says what it wants, and answers by what was made.
+--     Want, Copy, Change             what is asked for
+--     adding wants, copying copies   new cells beside the others, and no more; copies of cells, and no more
 --     replaced c                     the cells that others come in the place of
 --     set_aside w c                  w with these put aside, as a group of their own
---     gather sources w c             and with the new cells, wanted ones and those that they need; not placed yet
+--     gather sources w c             and with the new cells, wanted ones and those that they need, and then copies; not placed yet
 --     first_uncovered w c gathered   the first need of another cell that has lost its provider
 --     plan_of sources w c            all that is decided before anything changes, and the machine with the new cells linked
 --     with_routines c plan           that machine after the routines
@@ -13,9 +14,10 @@ use Rattle.std.specs.Prelude.{ℕ, suc, ◌+◌, nat_lt, Bool, false, not, ◌&&
 use Rattle.cell_num.specs.Lists.{holds}
 use Rattle.cell_world.specs.declared.refusal.Refusal.{Refusal}
 use Rattle.cell_world.specs.World.{World, Cell, Task, task_of}
+use Rattle.cell_world.specs.declared.state.Standing.TheVariants.{Attached}
 use Rattle.cell_world.specs.Linked.Relink.{field_count, relink}
 use Rattle.cell_world.specs.Placed.Place.{place_all}
-use Rattle.cell_world.specs.Gather.{Source, Need, append_cell, bring, fresh_cells, first_lack, missing}
+use Rattle.cell_world.specs.Gather.{Source, Need, append_cell, bring, fresh_cells, first_lack, if_room, missing, with_next}
 use Rattle.cell_world.specs.Commands.UnloadCommand.{detach, garbage_of, without_cells, first_held}
 use Rattle.cell_world.specs.Kept.{holding_of}
 use Rattle.cell_world.specs.Reexport.{Exchange, with_reexports}
@@ -34,6 +36,11 @@ pub record Want : Type 0 where
   pub ns : ℕ
   pub replaces : Option Cell
 
+-- a cell that a new one is to be a copy of, and the namespace of that
+pub record Copy : Type 0 where
+  pub original : Cell
+  pub ns : ℕ
+
 pub record Change : Type 0 where
   pub wants : List Want
   -- the new cells take on the names of the cells that they replace
@@ -45,10 +52,14 @@ pub record Change : Type 0 where
   pub budget : ℕ
   -- the number of the task that begins again after them, if one does
   pub restarts : Option ℕ
+  pub copies : List Copy
 
 -- new cells beside the others, and no more
 abbrev pub adding : List Want → Change
-adding wants = record { wants = wants; reexport = false; strict = false; routines = []; budget = 0; restarts = None }
+adding wants = record { wants = wants; reexport = false; strict = false; routines = []; budget = 0; restarts = None; copies = [] }
+
+abbrev pub copying : List Copy → Change
+copying copies = record { wants = []; reexport = false; strict = false; routines = []; budget = 0; restarts = None; copies = copies }
 
 abbrev pub replaced : Change → List Cell
 replaced c = filter_map (λ want. want.replaces) c.wants
@@ -79,10 +90,23 @@ exchanges_from number (want ∷ wants) = exchange_at number want.replaces ++ exc
 abbrev pub with_names : ℕ → Change → World → World
 with_names from c w = if c.reexport then with_reexports w (exchanges_from from c.wants) else w
 
+-- the next cell, with the stem, the file, the object and the names of the original. It has no places yet
+abbrev pub copy_of : World → Copy → Cell
+copy_of w copy =
+    record copy.original {
+      placed = record copy.original.placed { id = record { 0 = w.next_cell }; ns = copy.ns; places = [] };
+      standing = Attached;
+    }
+
+abbrev pub append_copy : World → Copy → Outcome World
+append_copy w copy = if_room w (Ok (with_next w (copy_of w copy)))
+
+-- nothing is brought for copies
 abbrev pub gather : List Source → World → Change → Outcome World
 gather sources w c = do
   appended ← each append_want (set_aside w c) c.wants
-  bring sources w.next_cell (with_names w.next_cell c appended)
+  brought ← bring sources w.next_cell (with_names w.next_cell c appended)
+  each append_copy brought c.copies
 
 -- the cells that are new since w
 abbrev pub new_since : World → World → List Cell

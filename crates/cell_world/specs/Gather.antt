@@ -1,6 +1,8 @@
 -- Which cells a load brings. Until they are placed they have no starts.
 --     Source, source_of file      a file of the folder: its name, and what its bytes are read as, lowered
 --     depot_files, file_named     the files of a namespace and a stem; the file of a name
+--     if_room w go                go on, where there may be one more cell
+--     with_next w c               w with the cell, which has the next number
 --     append_cell w f ns          w with a cell from the file, attached, or the first refusal
 --     grown w cells               w with these cells behind its own
 --     first_lack w c              the first need of a cell that has no provider
@@ -78,14 +80,22 @@ new_cell w ns f object =
       standing = Attached;
     }
 
-abbrev pub append_cell : World → Source → ℕ → Outcome World
-append_cell w f ns = do
+abbrev pub if_room : World → Outcome World → Outcome World
+if_room w go = do
   need (nat_lt (length w.cells) max_cells) (TooMany Cells max_cells)
   need (nat_le w.next_cell max_cell_number) (TooMany CellNumbers max_cell_number)
-  object ← object_in f
-  refused_by (option_map (duplicate (stem_of_file f.name)) (clash_stem w ns (stem_of_file f.name)))
-  refused_by (clash_among w ns (definitions_of object))
-  Ok (record w { cells = w.cells ++ new_cell w ns f object ∷ []; next_cell = suc w.next_cell })
+  go
+
+abbrev pub with_next : World → Cell → World
+with_next w c = record w { cells = w.cells ++ c ∷ []; next_cell = suc w.next_cell }
+
+abbrev pub append_cell : World → Source → ℕ → Outcome World
+append_cell w f ns =
+    if_room w (do
+      object ← object_in f
+      refused_by (option_map (duplicate (stem_of_file f.name)) (clash_stem w ns (stem_of_file f.name)))
+      refused_by (clash_among w ns (definitions_of object))
+      Ok (with_next w (new_cell w ns f object)))
 
 abbrev pub grown : World → List Cell → World
 grown w cells = record w { cells = w.cells ++ cells; next_cell = w.next_cell + length cells }

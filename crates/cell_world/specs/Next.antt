@@ -3,14 +3,14 @@
 use Rattle.std.specs.Prelude.{List, Result, Ok, Err}
 use Rattle.cell_world.specs.declared.refusal.Refusal.{Refusal}
 use Rattle.cell_world.specs.declared.command.Command.{Command}
-use Rattle.cell_world.specs.declared.command.Command.TheVariants.{Ns, Load, Spawn, Step, Run, Kill, Swap, Unload, Purge, Tasks, Find, Deps, Users, Map, Dump, DumpAll, Recover, Rebuild}
+use Rattle.cell_world.specs.declared.command.Command.TheVariants.{Ns, Load, Spawn, Step, Run, Kill, Swap, Unload, Purge, Tasks, Find, Deps, Users, Map, Dump, DumpAll, Recover, Rebuild, Clone}
 use Rattle.cell_world.specs.declared.reply.Reply.{Reply}
 use Rattle.cell_world.specs.World.{World}
 use Rattle.cell_world.specs.Gather.{Source}
 use Rattle.cell_world.specs.Outcome.{Outcome}
 use Rattle.cell_world.specs.Answer.{Done}
 use Rattle.cell_world.specs.Commands.NsCommand.{next_ns}
-use Rattle.cell_world.specs.Commands.Asked.{next_load, next_swap, next_recover, next_rebuild}
+use Rattle.cell_world.specs.Commands.Asked.{next_load, next_swap, next_recover, next_rebuild, next_clone}
 use Rattle.cell_world.specs.Commands.FindCommand.{next_find}
 use Rattle.cell_world.specs.Commands.MapCommand.{next_map}
 use Rattle.cell_world.specs.Commands.DumpCommand.{next_dump}
@@ -40,6 +40,7 @@ outcome_of sources w (Dump cell section) = next_dump w cell section
 outcome_of sources w DumpAll = next_dump_all w
 outcome_of sources w (Recover task) = next_recover sources w task
 outcome_of sources w (Rebuild task) = next_rebuild sources w task
+outcome_of sources w (Clone ns name) = next_clone sources w ns name
 
 pub record Answered : Type 0 where
   pub answer : Result Reply Refusal

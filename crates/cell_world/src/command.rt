@@ -96,4 +96,9 @@ pub enum Command {
     Rebuild {
         task: u32,
     },
+    /// Add a namespace beside another one, with a copy of each cell that is attached there.
+    Clone {
+        ns: Name,
+        name: Name,
+    },
 }

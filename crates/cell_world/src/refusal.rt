@@ -101,4 +101,8 @@ pub enum Refusal {
         task: u32,
         pc: u64,
     },
+    /// E18: the namespace of that name has no parent, so it has no sibling.
+    NoParent {
+        word: Name,
+    },
 }

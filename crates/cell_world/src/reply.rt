@@ -162,4 +162,10 @@ pub enum Reply {
         removed: Listed<CellId>,
         kept: Listed<CellId>,
     },
+    /// The new namespace, the new cells, and how many fields were patched.
+    Clone {
+        name: Name,
+        fresh: Listed<CellId>,
+        patched: u32,
+    },
 }

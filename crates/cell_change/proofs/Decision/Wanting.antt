@@ -6,7 +6,7 @@ use Rattle.std.specs.Option.{ForSome}
 use Rattle.cell_num.specs.Lists.{In, equals}
 use Rattle.cell_num.specs.declared.ids.CellId.{CellId}
 use Rattle.cell_world.specs.declared.refusal.Refusal.TheVariants.{Unknown}
-use Rattle.cell_world.specs.Change.{Change as ChangeSaid, Want as Wanted, append_want, exchange_at, exchanges_from, gather as gather_said, old_of, replaced, set_aside, with_names}
+use Rattle.cell_world.specs.Change.{Change as ChangeSaid, Copy, Want as Wanted, append_copy, append_want, exchange_at, exchanges_from, gather as gather_said, old_of, replaced, set_aside, with_names}
 use Rattle.cell_world.specs.Coherent.{AreSound, IsCoherent}
 use Rattle.cell_world.specs.Gather.{Source, append_cell, bring, file_named}
 use Rattle.cell_world.specs.Names.{names_of}
@@ -66,17 +66,19 @@ module _ (sources : List Source) (v : World) (change : Change) (a : IsAsked sour
   of_each : (wanted : Wanted) → In wanted a.wants → (want : Want) × IsWantOf sources v wanted want
   of_each = one_want sources v a.wants change.wants.items a.are
 
-  pub asked_sound : IsSound sources v (as_said change.options a.wants)
+  pub asked_sound : IsSound sources v (as_said change.options a.wants a.copies)
   asked_sound = record {
     files = In-All (λ (want : Wanted). In want.file sources) a.wants (λ want i. let x = of_each want i in file_In sources x.0.file want.file x.1.file);
     spaces = In-All (λ (want : Wanted). want.ns < length v.namespaces) a.wants (λ want i. (of_each want i).1.there);
-    present = In-All (λ (old : Cell). In old v.cells) (replaced (as_said change.options a.wants)) (λ old i. let x = old_In a.wants old i in (of_each x.0 x.1).1.present old x.2);
-    attached = In-All (λ (old : Cell). IsTrue (is_attached old.standing)) (replaced (as_said change.options a.wants)) (λ old i. let x = old_In a.wants old i in (of_each x.0 x.1).1.attached old x.2);
+    present = In-All (λ (old : Cell). In old v.cells) (replaced (as_said change.options a.wants a.copies)) (λ old i. let x = old_In a.wants old i in (of_each x.0 x.1).1.present old x.2);
+    attached = In-All (λ (old : Cell). IsTrue (is_attached old.standing)) (replaced (as_said change.options a.wants a.copies)) (λ old i. let x = old_In a.wants old i in (of_each x.0 x.1).1.attached old x.2);
+    originals = a.originals;
+    copied = a.copied;
   }
 
-module _ (sources : List Source) (sound : AreSound sources) (v : World) (h : IsCoherent v) (o : Options) (wants : List Wanted) (good : IsSound sources v (as_said o wants)) where
+module _ (sources : List Source) (sound : AreSound sources) (v : World) (h : IsCoherent v) (o : Options) (wants : List Wanted) (copies : List Copy) (good : IsSound sources v (as_said o wants copies)) where
   abbrev wish : ChangeSaid
-  wish = as_said o wants
+  wish = as_said o wants copies
 
   abbrev old : List ℕ
   old = old_of wish
@@ -134,12 +136,16 @@ module _ (sources : List Source) (sound : AreSound sources) (v : World) (h : IsC
         go true = same_names (exchanges_by u v.next_cell list) (exchanges_from v.next_cell wants) (all_exchanges wants list are v.next_cell) w
         go false = refl
 
-    pub gathered_so : gather sources u list o.reexport ≡ gather_said sources v wish
+    abbrev pub copied : World → Outcome World
+    copied brought = each append_copy brought copies
+
+    -- the copies come last
+    pub gathered_so : (gather sources u list o.reexport >>= copied) ≡ gather_said sources v wish
     gathered_so =
-        ap (λ (x : Outcome World). x >>= (λ appended. bring sources u.next_cell (renamed_by u list o.reexport appended)))
+        ap (λ (x : Outcome World). (x >>= (λ appended. bring sources u.next_cell (renamed_by u list o.reexport appended))) >>= copied)
         (all_appended wants list are u ∙ ap (λ (w : World). each append_want w wants) (at sources sound v h wish good).is)
         ∙ go (each append_want (set_aside v wish) wants)
       where
-        go : (x : Outcome World) → (x >>= (λ appended. bring sources u.next_cell (renamed_by u list o.reexport appended))) ≡ (x >>= (λ appended. bring sources v.next_cell (with_names v.next_cell wish appended)))
-        go (Ok w) = ap (bring sources v.next_cell) (renamed_so w)
+        go : (x : Outcome World) → ((x >>= (λ appended. bring sources u.next_cell (renamed_by u list o.reexport appended))) >>= copied) ≡ (x >>= (λ appended. bring sources v.next_cell (with_names v.next_cell wish appended) >>= copied))
+        go (Ok w) = ap (λ (named : World). bring sources v.next_cell named >>= copied) (renamed_so w)
         go (Err r) = refl

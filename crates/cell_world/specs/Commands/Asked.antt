@@ -3,19 +3,21 @@
 --     next_swap     `swap NS/OLD=FILE ...`: for each item a cell of the file in the place of the old one
 --     next_recover  `recover T`: for the cell that the task stands in a fresh one of its own file, and the task begins again
 --     next_rebuild  `rebuild T`: the same for all attached cells that the task holds
-use Rattle.std.specs.Prelude.{ℕ, ◌==◌, Bool, true, false, not, List, [], ◌∷◌, ◌++◌, Some, None, Ok, length}
+--     next_clone    `clone NS as NAME`: a sibling of the namespace, with a copy of each cell that is attached there
+use Rattle.std.specs.Prelude.{ℕ, ◌==◌, Bool, true, false, not, ◌&&◌, List, [], ◌∷◌, ◌++◌, Option, Some, None, Ok, filter, length, map, option_and_then, slice_get}
 use Rattle.cell_num.specs.declared.ids.CellId.{CellId}
 use Rattle.cell_world.specs.declared.command.SwapItem.{SwapItem}
-use Rattle.cell_world.specs.declared.refusal.Refusal.TheVariants.{Unknown, NoCrate, NoObject}
+use Rattle.cell_world.specs.declared.refusal.Refusal.TheVariants.{Unknown, NoCrate, NoObject, NoParent}
 use Rattle.cell_world.specs.declared.reply.Reply.{Reply}
-use Rattle.cell_world.specs.declared.reply.Reply.TheVariants.{Load as LoadDone, Swap as SwapDone, Recover as RecoverDone, Rebuild as RebuildDone}
-use Rattle.cell_world.specs.World.{World, Cell, Task}
+use Rattle.cell_world.specs.declared.reply.Reply.TheVariants.{Load as LoadDone, Swap as SwapDone, Recover as RecoverDone, Rebuild as RebuildDone, Clone as CloneDone}
+use Rattle.cell_world.specs.World.{World, Cell, Task, is_attached}
 use Rattle.cell_world.specs.Gather.{Source, depot_files, one_file, file_named}
 use Rattle.cell_world.specs.Commands.UnloadCommand.{attached_cell, detached_of}
 use Rattle.cell_world.specs.Commands.Recovery.{faulted_task, recovery_of, rebuild_of}
 use Rattle.cell_world.specs.Outcome.{Outcome, ◌>>=◌, ◌>>◌, need, found, each}
 use Rattle.cell_world.specs.Answer.{Done, done, ids, numbers_of, space_of}
-use Rattle.cell_world.specs.Change.{Change, Want, Made, adding, make_change}
+use Rattle.cell_world.specs.Commands.NsCommand.{if_new_space, with_namespace}
+use Rattle.cell_world.specs.Change.{Change, Want, Copy, Made, adding, copying, make_change}
 
 abbrev pub next_load : List Source → World → List ℕ → List ℕ → Outcome Done
 next_load sources w name stem = do
@@ -44,7 +46,7 @@ swap_reply made = exchange_reply SwapDone made
 abbrev pub next_swap : List Source → World → List SwapItem → Bool → Bool → List (List ℕ) → ℕ → Outcome Done
 next_swap sources w items reexport strict routines budget = do
   wants ← wants_of sources w items
-  made ← make_change sources w (record { wants = wants; reexport = reexport; strict = strict; routines = routines; budget = budget; restarts = None })
+  made ← make_change sources w (record { wants = wants; reexport = reexport; strict = strict; routines = routines; budget = budget; restarts = None; copies = [] })
   done (swap_reply made) made.world
 
 -- a fresh instance of the cell's own file in the place of the cell
@@ -59,7 +61,7 @@ renewals sources cells = each (λ wants c. renewal sources c >>= (λ want. Ok (w
 -- the swap of these cells with all their names, and a restart of the task
 abbrev pub renewing : List Want → ℕ → Change
 renewing wants task =
-    record { wants = wants; reexport = true; strict = false; routines = []; budget = 0; restarts = Some task }
+    record { wants = wants; reexport = true; strict = false; routines = []; budget = 0; restarts = Some task; copies = [] }
 
 abbrev pub next_renewed : List Source → World → Task → List Cell → (ℕ → List CellId → ℕ → List CellId → List CellId → Reply) → Outcome Done
 next_renewed sources w t cells said = do
@@ -77,3 +79,25 @@ abbrev pub next_rebuild : List Source → World → ℕ → Outcome Done
 next_rebuild sources w number = do
   t ← faulted_task w number
   next_renewed sources w t (rebuild_of w t) (RebuildDone number)
+
+-- attached in the namespace itself
+abbrev pub is_in_space : ℕ → Cell → Bool
+is_in_space ns c = is_attached c.standing && c.ns == ns
+
+abbrev pub cells_in : World → ℕ → List Cell
+cells_in w ns = filter (is_in_space ns) w.cells
+
+abbrev pub copies_into : ℕ → List Cell → List Copy
+copies_into ns cells = map (λ c. record { original = c; ns = ns }) cells
+
+abbrev pub parent_of : World → ℕ → Option ℕ
+parent_of w ns = option_and_then (λ space. space.parent) (slice_get w.namespaces ns)
+
+-- `k` has no parent, so it has no sibling. The new namespace has the next number
+abbrev pub next_clone : List Source → World → List ℕ → List ℕ → Outcome Done
+next_clone sources w name sibling = do
+  ns ← space_of w name
+  up ← found (parent_of w ns) (NoParent name)
+  if_new_space w sibling (do
+    made ← make_change sources (with_namespace w sibling up) (copying (copies_into (length w.namespaces) (cells_in w ns)))
+    done (CloneDone sibling (ids (numbers_of made.fresh)) made.patched) made.world)

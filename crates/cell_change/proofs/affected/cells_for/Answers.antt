@@ -1,7 +1,7 @@
 use Rattle.std.proofs.Common.{◌∙◌, ap, sym, Bor, map, ℕ}
 use Rattle.std.specs.Prelude.{◌==◌}
 use Rattle.cell_world.specs.declared.state.NewCell.{NewCell}
-use Rattle.cell_change.proofs.Empty.{empty_if}
+use Rattle.cell_load.proofs.Empty.{empty_if}
 use Rattle.cell_change.proofs.Nobody.{nobody_changes}
 use Rattle.cell_change.proofs.affected.cells_for.Goals as goal
 

@@ -3,7 +3,7 @@ use Rattle.std.proofs.lemmas.List.{take_all}
 use Rattle.cell_num.specs.declared.ids.CellId.{CellId}
 use Rattle.cell_machine.specs.declared.machine.Machine.{Machine}
 use Rattle.cell_change.specs.OldCells.{IsPut, among}
-use Rattle.cell_change.proofs.Empty.{empty_if, some_if}
+use Rattle.cell_load.proofs.Empty.{empty_if, some_if}
 use Rattle.cell_change.proofs.NoneAside.{none_aside, some_swap}
 use Rattle.cell_change.proofs.Return.Returning.{among_next, has_state, put_first, put_same, told}
 use Rattle.cell_change.proofs.old_cells.put_aside.Goals as goal

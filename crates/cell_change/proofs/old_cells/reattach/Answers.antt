@@ -3,7 +3,7 @@ use Rattle.cell_num.specs.declared.ids.CellId.{CellId}
 use Rattle.cell_machine.specs.declared.machine.Machine.{Machine}
 use Rattle.cell_machine.specs.Same.{without_counts}
 use Rattle.cell_change.proofs.Decision.OldRivals.{are_attached, no_rival}
-use Rattle.cell_change.proofs.Empty.{empty_if, some_if}
+use Rattle.cell_load.proofs.Empty.{empty_if, some_if}
 use Rattle.cell_change.proofs.NoneAside.{none_back, some_swap}
 use Rattle.cell_change.proofs.Return.Returning.{has_state, left_next, none_left, put_none, put_same, still_aside, told}
 use Rattle.cell_change.proofs.old_cells.reattach.Goals as goal

@@ -1,7 +1,7 @@
 use Rattle.std.proofs.Common.{◌∙◌, sym}
 use Rattle.std.specs.Prelude.{filter}
 use Rattle.cell_world.specs.World.{is_ready}
-use Rattle.cell_change.proofs.Empty.{empty_if}
+use Rattle.cell_load.proofs.Empty.{empty_if}
 use Rattle.cell_change.proofs.Nobody.{nothing_torn}
 use Rattle.cell_change.proofs.standing.check_torn.Goals as goal
 

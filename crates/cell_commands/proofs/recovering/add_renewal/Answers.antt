@@ -24,4 +24,4 @@ returns c w d i at =
     has_renewal sources w d i at.known at.attached (source_of c.in_ok-file_named.field-0.now)
     (subst (λ (q : NewCell). found (file_named sources q.file) (Unknown q.file) ≡ Ok (source_of c.in_ok-file_named.field-0.now)) (sym at.is) (c.in_ok-file_named.ensures {u = tt}))
     c.in_ok-want.want (subst (λ (q : NewCell). c.in_ok-want.want ≡ (let x : Want = record { ns = q.ns; file = q.file; replaces = Some q.id } in x)) (sym at.is) (c.in_ok-want.ensures {u = tt})) c.args.change.now c.push.new.change
-    (c.in_ok-push.ensures {u = tt}).wants (subst (λ (q : NewCell). c.push.new.change.replaced.items ≡ c.args.change.now.replaced.items ++ q.id ∷ []) (sym at.is) (c.in_ok-push.ensures {u = tt}).replaced) (c.in_ok-push.ensures {u = tt}).options
+    (c.in_ok-push.ensures {u = tt}).wants (subst (λ (q : NewCell). c.push.new.change.replaced.items ≡ c.args.change.now.replaced.items ++ q.id ∷ []) (sym at.is) (c.in_ok-push.ensures {u = tt}).replaced) (c.in_ok-push.ensures {u = tt}).copies (c.in_ok-push.ensures {u = tt}).options

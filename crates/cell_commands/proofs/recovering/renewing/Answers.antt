@@ -1,4 +1,4 @@
-use Rattle.std.proofs.Common.{◌<◌, arith, ap, map, refl, length}
+use Rattle.std.proofs.Common.{[], ◌<◌, arith, ap, map, refl, length}
 use Rattle.std.specs.Prelude.{IsTrue}
 use Rattle.std.proofs.lemmas.List.{length-map}
 use Rattle.std.proofs.lemmas.Result.{err_from_is_err_and}
@@ -13,7 +13,7 @@ use Rattle.cell_commands.proofs.Renewing.{at_place, nth}
 use Rattle.cell_commands.proofs.recovering.renewing.Goals as goal
 
 pub loop-place-init : goal.loop-place-init
-loop-place-init c w all at = nothing_asked (map source_of c.args.depot.now) w _ (renewal (map source_of c.args.depot.now)) all _ c.new.ensures.items c.new-2.ensures.items refl
+loop-place-init c w all at = nothing_asked (map source_of c.args.depot.now) w _ (renewal (map source_of c.args.depot.now)) all _ c.new.ensures.items c.new-2.ensures.items c.new-3.ensures.items refl
 
 pub returns-in_err-add_renewal : goal.returns-in_err-add_renewal
 returns-in_err-add_renewal c =
@@ -36,4 +36,4 @@ returns c w all at =
     let same = ap length at.are in
     let many = length-map c.args.cells.now (λ d. d.now) in
     let x = all_asked (map source_of c.args.depot.now) w _ (renewal (map source_of c.args.depot.now)) all c.loop-place.place c.loop-place.change (c.loop-place.invariant w all at) (omega (arith, c.loop-place-test.false, few, same, many)) in
-    record { asked = x.asked; all_are = x.all_are; enough = x.enough; said = λ wants. ap (λ (o : Options). as_said o wants) x.options }
+    record { asked = x.asked; all_are = x.all_are; none = x.none; enough = x.enough; said = λ wants. ap (λ (o : Options). as_said o wants []) x.options }

@@ -8,7 +8,7 @@ use Rattle.cell_commands.proofs.ItemLemmas.{all_asked, item_asked, item_failed, 
 use Rattle.cell_commands.proofs.swapping.change_for.Goals as goal
 
 pub loop-item-init : goal.loop-item-init
-loop-item-init c = nothing_asked (map source_of c.args.depot.now) (world_of c.args.machine.now) (options_of c.args.words.now) (want_of (map source_of c.args.depot.now) (world_of c.args.machine.now)) c.args.items.now _ c.new.ensures.items c.new-2.ensures.items c.options.ensures
+loop-item-init c = nothing_asked (map source_of c.args.depot.now) (world_of c.args.machine.now) (options_of c.args.words.now) (want_of (map source_of c.args.depot.now) (world_of c.args.machine.now)) c.args.items.now _ c.new.ensures.items c.new-2.ensures.items c.new-3.ensures.items c.options.ensures
 
 pub returns-in_err-add_item : goal.returns-in_err-add_item
 returns-in_err-add_item c =

@@ -3,7 +3,7 @@ use Rattle.cell_lemmas.proofs.Tasks.Spawned.{spawn_keeps}
 use Rattle.cell_lemmas.proofs.Tasks.Commands.{step_keeps, run_keeps, kill_keeps}
 use Rattle.cell_lemmas.proofs.Holding.Removals.{purge_removed, removed_coherent, unload_removed}
 use Rattle.cell_change_law.proofs.Asking.{load_made, rebuild_made, recover_made, swap_made}
-use Rattle.cell_laws.proofs.NextCoherent.{made_coherent_by}
+use Rattle.cell_laws.proofs.NextCoherent.{clone_coherent, made_coherent_by}
 use Rattle.cell_laws.proofs.coherence.commands_keep_coherent.Goals as goal
 
 pub returns-clause-ns : goal.returns-clause-ns
@@ -38,3 +38,6 @@ returns-clause-recover c sources w task d sound h e = made_coherent_by sources w
 
 pub returns-clause-rebuild : goal.returns-clause-rebuild
 returns-clause-rebuild c sources w task d sound h e = made_coherent_by sources w sound h d (rebuild_made sources w h task d e)
+
+pub returns-clause-clone : goal.returns-clause-clone
+returns-clause-clone c sources w name sibling d sound h e = clone_coherent sources w name sibling sound h d e

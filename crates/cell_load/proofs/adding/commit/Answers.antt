@@ -27,8 +27,8 @@ write_fields-requires-clause-undo c =
     subst (λ (m : MemoryState). HasWrites m (length c.deref.result.now)) (sym c.patch_fields.ensures.patched)
     (subst (λ (xs : List FieldValue). HasWrites (fields_patched c.map_regions.new.memory patches) (length xs)) (sym c.deref.ensures.value) (patched_leaves c.map_regions.new.memory patches (length fields) before))
 
-pub rewire-requires : goal.rewire-requires
-rewire-requires c =
+pub rewire_if_any-requires : goal.rewire_if_any-requires
+rewire_if_any-requires c =
     can_rewire c.args.machine.now.graph c.add_sections.new.graph (keys_of c.args.staged.cells.items) c.args.links.now c.requires.change.steps c.requires.change.rewires c.requires.change.present
     (let room = c.requires.room.rows in omega (arith, room, c.add_sections.ensures.room_for_rows))
     c.add_sections.ensures.rows
@@ -38,9 +38,9 @@ rewire-requires c =
 pub bind_rows-requires-clause-rising : goal.bind_rows-requires-clause-rising
 bind_rows-requires-clause-rising c =
     let change = c.requires.change in
-    subst (λ (rows : List LinkRow). Rises below_link (c.rewire.new.graph.rows ++ rows)) (sym c.deref-6.ensures.value)
+    subst (λ (rows : List LinkRow). Rises below_link (c.rewire_if_any.new.graph.rows ++ rows)) (sym c.deref-6.ensures.value)
     (subst (λ (rows : List LinkRow). Rises below_link (rows ++ c.args.staged.rows.items))
-    (sym (c.rewire.ensures.rows (can_rewire c.args.machine.now.graph c.add_sections.new.graph (keys_of c.args.staged.cells.items) c.args.links.now change.steps change.rewires change.present
+    (sym (c.rewire_if_any.ensures.rows (can_rewire c.args.machine.now.graph c.add_sections.new.graph (keys_of c.args.staged.cells.items) c.args.links.now change.steps change.rewires change.present
     (let room = c.requires.room.rows in omega (arith, room, c.add_sections.ensures.room_for_rows))
     c.add_sections.ensures.rows
     (sections_are c.args.machine.now.graph.sections c.args.prepared c.args.staged.cells.items _ _ c.requires.sections c.deref-2.ensures.value c.add_sections.ensures.sections)
@@ -53,13 +53,13 @@ bind_rows-requires-clause-room c =
     let gone = ap (length {A = LinkRow}) c.deref-3.ensures.value in
     let come = ap (length {A = LinkRow}) c.deref-4.ensures.value in
     let rows = ap (length {A = LinkRow}) c.deref-6.ensures.value in
-    omega (arith, room, gone, come, rows, c.add_sections.ensures.room_for_rows, c.rewire.ensures.room_for_rows)
+    omega (arith, room, gone, come, rows, c.add_sections.ensures.room_for_rows, c.rewire_if_any.ensures.room_for_rows)
 
 pub bind_rows-requires-clause-present : goal.bind_rows-requires-clause-present
 bind_rows-requires-clause-present c =
-    subst (λ (rows : List LinkRow). All (λ (r : LinkRow). Contains c.rewire.new.graph.sections r.user × Contains c.rewire.new.graph.sections r.target) rows) (sym c.deref-6.ensures.value)
+    subst (λ (rows : List LinkRow). All (λ (r : LinkRow). Contains c.rewire_if_any.new.graph.sections r.user × Contains c.rewire_if_any.new.graph.sections r.target) rows) (sym c.deref-6.ensures.value)
     (subst (λ (ks : List SecKey). All (λ (r : LinkRow). Contains ks r.user × Contains ks r.target) c.args.staged.rows.items)
-    (sym (c.rewire.ensures.sections ∙ sections_are c.args.machine.now.graph.sections c.args.prepared c.args.staged.cells.items _ _ c.requires.sections c.deref-2.ensures.value c.add_sections.ensures.sections)) c.requires.present)
+    (sym (c.rewire_if_any.ensures.sections ∙ sections_are c.args.machine.now.graph.sections c.args.prepared c.args.staged.cells.items _ _ c.requires.sections c.deref-2.ensures.value c.add_sections.ensures.sections)) c.requires.present)
 
 pub returns-clause-committed : goal.returns-clause-committed
 returns-clause-committed c x =
@@ -81,12 +81,12 @@ returns-clause-committed c x =
           ∙ ap (λ (m : MemoryState). fields_written m c.args.staged.fields.items) (c.patch_fields.ensures.patched ∙ ap (λ (m : MemoryState). fields_patched m c.args.patches.now) c.map_regions.ensures));
       sections =
           c.bind_rows.ensures.sections
-          ∙ (c.rewire.ensures.sections ∙ sections_are c.args.machine.now.graph.sections c.args.prepared c.args.staged.cells.items _ _ c.requires.sections c.deref-2.ensures.value c.add_sections.ensures.sections);
+          ∙ (c.rewire_if_any.ensures.sections ∙ sections_are c.args.machine.now.graph.sections c.args.prepared c.args.staged.cells.items _ _ c.requires.sections c.deref-2.ensures.value c.add_sections.ensures.sections);
       rows =
           c.bind_rows.ensures.rows
-          ∙ (ap (λ (rows : List LinkRow). c.rewire.new.graph.rows ++ rows) c.deref-6.ensures.value
+          ∙ (ap (λ (rows : List LinkRow). c.rewire_if_any.new.graph.rows ++ rows) c.deref-6.ensures.value
           ∙ ap (λ (rows : List LinkRow). rows ++ c.args.staged.rows.items)
-          (c.rewire.ensures.rows (can_rewire c.args.machine.now.graph c.add_sections.new.graph (keys_of c.args.staged.cells.items) c.args.links.now x.change.steps x.change.rewires x.change.present
+          (c.rewire_if_any.ensures.rows (can_rewire c.args.machine.now.graph c.add_sections.new.graph (keys_of c.args.staged.cells.items) c.args.links.now x.change.steps x.change.rewires x.change.present
           (let room = c.requires.room.rows in omega (arith, room, c.add_sections.ensures.room_for_rows))
           c.add_sections.ensures.rows
           (sections_are c.args.machine.now.graph.sections c.args.prepared c.args.staged.cells.items _ _ c.requires.sections c.deref-2.ensures.value c.add_sections.ensures.sections)
@@ -100,4 +100,4 @@ returns-clause-room c =
     let gone = ap (length {A = LinkRow}) c.deref-3.ensures.value in
     let come = ap (length {A = LinkRow}) c.deref-4.ensures.value in
     let rows = ap (length {A = LinkRow}) c.deref-6.ensures.value in
-    omega (arith, room, gone, come, rows, c.add_sections.ensures.room_for_rows, c.rewire.ensures.room_for_rows, c.bind_rows.ensures.room_for_rows)
+    omega (arith, room, gone, come, rows, c.add_sections.ensures.room_for_rows, c.rewire_if_any.ensures.room_for_rows, c.bind_rows.ensures.room_for_rows)

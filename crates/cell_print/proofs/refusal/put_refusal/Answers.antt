@@ -29,3 +29,6 @@ returns-in-Transfer-clause-ok c = rw c.in-Transfer.is c.put_answer-in-Transfer.e
 
 pub returns-in-NoCrate-clause-ok : goal.returns-in-NoCrate-clause-ok
 returns-in-NoCrate-clause-ok c = rw c.in-NoCrate.is c.put_answer-in-NoCrate.ensures.ok
+
+pub returns-in-NoParent-clause-ok : goal.returns-in-NoParent-clause-ok
+returns-in-NoParent-clause-ok c = rw c.in-NoParent.is c.put_answer-in-NoParent.ensures.ok

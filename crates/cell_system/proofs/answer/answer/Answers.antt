@@ -1,7 +1,7 @@
 use Rattle.std.proofs.Common.{◌≡◌, sym, ◌∙◌, ap₂, subst, ℕ, ◌<◌, true, List, length, map}
 use Rattle.cell_world.specs.declared.command.Command.{Command}
 use Rattle.cell_world.specs.declared.command.SwapItem.{SwapItem}
-use Rattle.cell_world.specs.declared.command.Command.TheVariants.{Find, Load, Ns, Spawn, Swap}
+use Rattle.cell_world.specs.declared.command.Command.TheVariants.{Clone, Find, Load, Ns, Spawn, Swap}
 use Rattle.cell_world.specs.Gather.{source_of}
 use Rattle.cell_world.specs.Next.{outcome_of}
 use Rattle.cell_machine.specs.Does.{Does}
@@ -84,3 +84,9 @@ pub returns-in-Rebuild : goal.returns-in-Rebuild
 returns-in-Rebuild c =
     subst (λ (k : Command). Does (outcome_of (map source_of c.args.depot.now) (world_of c.args.machine.now) k) (counts_of (map source_of c.args.depot.now) (world_of c.args.machine.now) k) c.args.machine.now c.rebuild.result c.rebuild.new.machine)
     (sym c.in-Rebuild.is) c.rebuild.ensures
+
+pub returns-in-Clone : goal.returns-in-Clone
+returns-in-Clone c =
+    subst (λ (k : Command). Does (outcome_of (map source_of c.args.depot.now) (world_of c.args.machine.now) k) (counts_of (map source_of c.args.depot.now) (world_of c.args.machine.now) k) c.args.machine.now c.clone.result c.clone.new.machine)
+    (ap₂ (λ (ns name : List ℕ). let k : Command = Clone ns name in k) c.bytes-in-Clone.ensures c.bytes-in-Clone-2.ensures ∙ sym c.in-Clone.is)
+    c.clone.ensures

@@ -14,10 +14,10 @@ returns-in_err-up c =
     let p = err_from_is_err_and c.from_residual.result c.from_residual.ensures.1 in
     rw (p.1, p.2) (parent_failed c.args.machine.now c.args.name.now c.args.parent.now c.in_err-up.field-0.0 c.in_err-up.ensures.number)
 
-pub returns-in_err-check : goal.returns-in_err-check
-returns-in_err-check c =
-    let p = err_from_is_err_and c.from_residual-in_err-check.result c.from_residual-in_err-check.ensures.1 in
-    rw (p.1, p.2) (check_failed c.args.machine.now c.args.name.now c.args.parent.now c.in_ok-up.up c.in_ok-up.ensures.number c.in_err-check.field-0.0 c.in_err-check.ensures)
+pub returns-in_err-check_new_namespace : goal.returns-in_err-check_new_namespace
+returns-in_err-check_new_namespace c =
+    let p = err_from_is_err_and c.from_residual-in_err-check_new_namespace.result c.from_residual-in_err-check_new_namespace.ensures.1 in
+    rw (p.1, p.2) (check_failed c.args.machine.now c.args.name.now c.args.parent.now c.in_ok-up.up c.in_ok-up.ensures.number c.in_err-check_new_namespace.field-0.0 c.in_err-check_new_namespace.ensures)
 
 pub returns-in_err-shown : goal.returns-in_err-shown
 returns-in_err-shown c =
@@ -56,4 +56,4 @@ returns c =
     let added = (c.in_ok-add_ns.ensures {u = tt}).added ∙ ap (λ (own : List ℕ). m.spaces.namespaces ++ (let s : Namespace = record { name = own; parent = Some c.in_ok-up.up } in s) ∷ []) c.in_ok-own.ensures in
     let new : Machine = record m { spaces = c.add_ns.new.self } in
     subst (λ (x : List ℕ). HasDone (next_ns (world_of m) name parent) 0 m (Ns x) new) (sym c.in_ok-shown.ensures)
-    (has_namespace m new c.requires name parent c.in_ok-up.up (c.in_ok-add_ns.ensures {u = tt}).same_cells refl added (comes_to m name parent c.in_ok-up.up c.in_ok-up.ensures.number c.in_ok-check.ensures))
+    (has_namespace m c.requires name parent c.in_ok-up.up c.add_ns.new.self (c.in_ok-add_ns.ensures {u = tt}).same_cells added (comes_to m name parent c.in_ok-up.up c.in_ok-up.ensures.number c.in_ok-check_new_namespace.ensures))

@@ -1,4 +1,6 @@
-use Rattle.std.proofs.Common.{◌≡◌, ◌+◌, drop, length}
+use Rattle.std.proofs.Common.{◌≡◌, ◌+◌, drop, length, map}
+use Rattle.cell_world.specs.Gather.{source_of}
+use Rattle.cell_gather.specs.Gathering.{append_wanted}
 use Rattle.cell_gather.specs.Growing.{new_of, HavePlain, IsGrowing}
 use Rattle.cell_gather.proofs.Appends.{AreLeft}
 use Rattle.cell_gather.proofs.load.Load.append_all.Given as goal
@@ -9,5 +11,5 @@ invariant-loop-want l = record {
   growing : IsGrowing l.self.spaces.now l.self.next l.gathered;
   many : length (new_of l.gathered) ≡ length (new_of l.fn.gathered) + l.want-index;
   plain : HavePlain (new_of l.fn.gathered) → HavePlain (new_of l.gathered);
-  left : AreLeft l.self.spaces.now l.self.next l.self.depot.now (new_of l.fn.gathered) l.wants (new_of l.gathered) (drop l.want-index l.wants);
+  left : AreLeft l.self.spaces.now l.self.next (append_wanted (map source_of l.self.depot.now)) (new_of l.fn.gathered) l.wants (new_of l.gathered) (drop l.want-index l.wants);
 }

@@ -1,4 +1,4 @@
-use Rattle.std.proofs.Common.{◌≡◌, ◌-◌, ◌/◌, ℕ, List, Option, Bool, None, false, length, subst, sym, ap, ◌∙◌, arith}
+use Rattle.std.proofs.Common.{◌≡◌, ◌-◌, ◌/◌, ℕ, List, Option, None, length, subst, sym, ap, ◌∙◌, arith}
 use Rattle.std.specs.Prelude.{slice_set}
 use Rattle.std.specs.Vec.{with_items}
 use Rattle.std.proofs.lemmas.List.{with_items_is, length-set, get_or_default}
@@ -86,9 +86,9 @@ returns c =
     let same : c.in-Some.region ≡ b.region = cc (read, c.in-Some.is) in
     let size : length c.bytes-size.result.now ≡ length b.region.bytes = ap length c.bytes-size.ensures ∙ ap (λ (r : Region). length r.bytes) same in
     let firsts : (with_items i.firsts c.fill.new.items).items ≡ c.fill.new.items = with_items_is i.firsts c.fill.new.items (omega (arith, c.fill.auto.items, c.deref_mut.ensures.len)) in
-    let sealed : (with_items i.sealed c.fill-2.new.items).items ≡ filled i.sealed.items (c.args.start - i.base) (length c.bytes-size.result.now) false =
+    let sealed : (with_items i.sealed c.fill-2.new.items).items ≡ filled i.sealed.items (c.args.start - i.base) (length c.bytes-size.result.now) 0 =
     with_items_is i.sealed c.fill-2.new.items (omega (arith, c.fill-2.auto.items, c.deref_mut-2.ensures.len)) ∙ c.fill-2.ensures
-    ∙ ap (λ (bs : List Bool). filled bs (c.args.start - i.base) (length c.bytes-size.result.now) false) c.deref_mut-2.ensures.value in
+    ∙ ap (λ (bs : List ℕ). filled bs (c.args.start - i.base) (length c.bytes-size.result.now) 0) c.deref_mut-2.ensures.value in
     let now : (with_items i.firsts c.fill.new.items).items ≡ filled i.firsts.items c.page_at-first.result (length c.bytes-size.result.now / 4096) None =
     firsts ∙ c.fill.ensures ∙ ap (λ (xs : List (Option ℕ)). filled xs c.page_at-first.result (length c.bytes-size.result.now / 4096) None) c.deref_mut.ensures.value in
     let f : Unmapped i c.args.start (slice_set i.regions.items c.page_at-first.result c.take.new.self) (with_items i.firsts c.fill.new.items).items =

@@ -1,0 +1,10 @@
+mod Sorted
+mod Given
+mod Copies
+mod Isolated
+mod Purged
+mod Isolates
+mod Unmoved
+mod Keeping
+mod SameLook
+mod TurnSame
