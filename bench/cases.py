@@ -109,7 +109,7 @@ def cases():
         Case("a load of 1,000 crates of three links", many, once("load k c0\n"), 1, 1),
         Case("a load of 1,000 definitions into the last of 255 namespaces", {"n255#a.o": objects.definitions(1000)},
              once(chain(255) + "load n255 a\n"), 1, 1),
-        Case("deps, users and purge among 1,000 crates of ten links", linked, questions, 100, 20),
+        Case("deps, users and purge among 1,000 crates of ten links", linked, questions, 1000, 20),
         Case("a swap that leads 1,800 fields elsewhere", dict(users, **{"k#x.o": value(), "n#x-2.o": value()}), swaps, 2000, 100),
     ]
 
