@@ -1,6 +1,6 @@
 -- What the instruction of a word does, by the row that the word is of.
-use Rattle.std.proofs.Common.{◌≡◌, refl, ap, ◌∙◌, ℕ, ◌+◌, Bool, true, false, cond, List, Option, Some, None}
-use Rattle.std.specs.Prelude.{ℤ, pos, slice_index, option_map, if◌then◌else◌}
+use Rattle.std.proofs.Common.{◌≡◌, ap, ◌∙◌, ℕ, ◌+◌, Bool, true, false, List, Option, Some, None}
+use Rattle.std.specs.Prelude.{ℤ, slice_index, option_map, if◌then◌else◌}
 use Rattle.std.proofs.lemmas.Bool.{false≢true}
 use Rattle.cell_num.specs.Bits.{bits_at, wrap, wrap_ℤ}
 use Rattle.cell_num.specs.declared.ids.Cause.TheVariants.{Illegal}
@@ -10,12 +10,12 @@ use Rattle.cell_isa.specs.declared.insn.Op.TheVariants.{Lui, Auipc, Jal, Jalr, B
 use Rattle.cell_isa.specs.declared.insn.Op.TheVariants.{Sllw, Srlw, Sraw, Mul, Mulh, Mulhsu, Mulhu, Div, Divu, Rem, Remu, Mulw, Divw, Divuw, Remw, Remuw}
 use Rattle.cell_isa.specs.declared.format.Format.TheVariants.{Branch as BranchForm, Immediate, Jump, Register, Shift, ShiftWord, Store as StoreForm, Upper}
 use Rattle.cell_isa.specs.declared.memory.Access.{Access}
-use Rattle.cell_isa.specs.declared.memory.Access.TheVariants.{Untouched, Loads, Stores}
+use Rattle.cell_isa.specs.declared.memory.Access.TheVariants.{Loads, Stores}
 use Rattle.cell_isa.specs.Instruction.{decode, fields_at, immediate, instruction}
 use Rattle.cell_isa.specs.Meaning.{access_of, aim_of, is_taken, result_of}
 use Rattle.cell_isa.specs.Table.{is_of_row, row_of}
 use Rattle.cell_isa.proofs.Rows.{first}
-use Rattle.cell_world.specs.Running.Execute.{Seen, Effect, Goes, Calls, Traps, accessed, computed, execute_word, jumped, loaded, performed, stored}
+use Rattle.cell_world.specs.Running.Execute.{Seen, Traps, accessed, computed, execute_word, jumped, loaded, performed, stored}
 use Rattle.cell_hart.specs.Forms.{is_branch, is_immediate, is_register, is_shift, is_shift_word, is_upper}
 
 decoded : (w : ℕ) (op : Op) → is_of_row w (row_of op) ≡ true → decode w ≡ Some (instruction w op (row_of op))

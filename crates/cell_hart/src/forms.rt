@@ -21,6 +21,7 @@ use cell_mem::Memory;
 
 impl Hart {
     /// What an operation makes of rs1 and an immediate goes into rd.
+    #[inline(always)]
     pub(crate) fn by_immediate(&mut self, memory: &Memory, op: Op, word: u32) -> Stop
         requires form { is_immediate op ≡ true }
         requires row { is_of_row word (row_of op) ≡ true }
@@ -33,6 +34,7 @@ impl Hart {
     }
 
     /// What an operation makes of rs1 and rs2 goes into rd.
+    #[inline(always)]
     pub(crate) fn by_registers(&mut self, memory: &Memory, op: Op, word: u32) -> Stop
         requires form { is_register op ≡ true }
         requires row { is_of_row word (row_of op) ≡ true }
@@ -45,6 +47,7 @@ impl Hart {
     }
 
     /// What a shift by a number makes of rs1 goes into rd.
+    #[inline(always)]
     pub(crate) fn by_shift(&mut self, memory: &Memory, op: Op, word: u32) -> Stop
         requires form { is_shift op ≡ true }
         requires row { is_of_row word (row_of op) ≡ true }
@@ -57,6 +60,7 @@ impl Hart {
     }
 
     /// The same of a shift of the low 32 bits.
+    #[inline(always)]
     pub(crate) fn by_shift_word(&mut self, memory: &Memory, op: Op, word: u32) -> Stop
         requires form { is_shift_word op ≡ true }
         requires row { is_of_row word (row_of op) ≡ true }
@@ -69,6 +73,7 @@ impl Hart {
     }
 
     /// What an operation makes of upper bits goes into rd.
+    #[inline(always)]
     pub(crate) fn by_upper(&mut self, memory: &Memory, op: Op, word: u32) -> Stop
         requires form { is_upper op ≡ true }
         requires row { is_of_row word (row_of op) ≡ true }
@@ -81,6 +86,7 @@ impl Hart {
     }
 
     /// A load.
+    #[inline(always)]
     pub(crate) fn by_load(
         &mut self,
         memory: &Memory,
@@ -115,6 +121,7 @@ impl Hart {
     }
 
     /// To another place, or on to the next instruction.
+    #[inline(always)]
     fn lead(&mut self, memory: &Memory, taken: bool, aim: u64) -> Stop
         ensures { Steps result (if taken then jumped (seen_of memory.now) self.old.x aim 0 0 else computed (seen_of memory.now) self.old.x self.old.pc 0 0) self.old self.new memory.now memory.now }
     {
@@ -126,6 +133,7 @@ impl Hart {
     }
 
     /// A branch.
+    #[inline(always)]
     pub(crate) fn by_branch(&mut self, memory: &Memory, op: Op, word: u32) -> Stop
         requires form { is_branch op ≡ true }
         requires row { is_of_row word (row_of op) ≡ true }
@@ -139,6 +147,7 @@ impl Hart {
     }
 
     /// A jump by a distance.
+    #[inline(always)]
     pub(crate) fn jump_near(&mut self, memory: &Memory, word: u32) -> Stop
         requires { is_of_row word (row_of Jal) ≡ true }
         ensures { Steps result (execute_word (seen_of memory.now) self.old.x self.old.pc word) self.old self.new memory.now memory.now }
@@ -150,6 +159,7 @@ impl Hart {
     }
 
     /// A jump by a register.
+    #[inline(always)]
     pub(crate) fn jump_far(&mut self, memory: &Memory, word: u32) -> Stop
         requires { is_of_row word (row_of Jalr) ≡ true }
         ensures { Steps result (execute_word (seen_of memory.now) self.old.x self.old.pc word) self.old self.new memory.now memory.now }

@@ -216,11 +216,12 @@ impl Hart {
     }
 
     /// The instruction at the pc.
+    #[inline(always)]
     pub fn step(&mut self, memory: &mut Memory) -> Stop
         requires { HasWrites memory.old 1 }
         ensures { Steps result (execute (seen_of memory.old) self.old.x self.old.pc) self.old self.new memory.old memory.new }
     {
-        match memory.fetch(self.pc) {
+        match memory.fetch_next(self.pc) {
             Ok(word) => self.perform_opcode(memory, word),
             Err(_) => self.trap(Cause::Fetch),
         }

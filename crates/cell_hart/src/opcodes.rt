@@ -16,6 +16,7 @@ use cell_num::Field;
 
 impl Hart {
     /// What computes with an immediate.
+    #[inline(always)]
     fn immediates(&mut self, memory: &mut Memory, word: u32) -> Stop
         requires opcode { bits_at 6 0 word ≡ 0x13 }
         requires undo { HasWrites memory.old 1 }
@@ -33,6 +34,7 @@ impl Hart {
     }
 
     /// Shifts by a number, whose lowest bit of funct7 belongs to the number.
+    #[inline(always)]
     fn shifts(&mut self, memory: &mut Memory, word: u32) -> Stop
         requires opcode { bits_at 6 0 word ≡ 0x13 }
         requires undo { HasWrites memory.old 1 }
@@ -47,6 +49,7 @@ impl Hart {
     }
 
     /// What computes with an immediate on the low 32 bits.
+    #[inline(always)]
     fn word_immediates(&mut self, memory: &mut Memory, word: u32) -> Stop
         requires opcode { bits_at 6 0 word ≡ 0x1b }
         requires undo { HasWrites memory.old 1 }
@@ -62,6 +65,7 @@ impl Hart {
     }
 
     /// What computes with two registers.
+    #[inline(always)]
     fn registers(&mut self, memory: &mut Memory, word: u32) -> Stop
         requires opcode { bits_at 6 0 word ≡ 0x33 }
         requires undo { HasWrites memory.old 1 }
@@ -76,6 +80,7 @@ impl Hart {
     }
 
     /// Sums, shifts, comparisons and bits.
+    #[inline(always)]
     fn sums(&mut self, memory: &mut Memory, word: u32) -> Stop
         requires opcode { bits_at 6 0 word ≡ 0x33 }
         requires funct7 { bits_at 31 25 word ≡ 0x00 }
@@ -96,6 +101,7 @@ impl Hart {
     }
 
     /// Products and quotients.
+    #[inline(always)]
     fn products(&mut self, memory: &mut Memory, word: u32) -> Stop
         requires opcode { bits_at 6 0 word ≡ 0x33 }
         requires funct7 { bits_at 31 25 word ≡ 0x01 }
@@ -116,6 +122,7 @@ impl Hart {
     }
 
     /// A difference, and a shift that repeats the sign.
+    #[inline(always)]
     fn differences(&mut self, memory: &mut Memory, word: u32) -> Stop
         requires opcode { bits_at 6 0 word ≡ 0x33 }
         requires funct7 { bits_at 31 25 word ≡ 0x20 }
@@ -130,6 +137,7 @@ impl Hart {
     }
 
     /// What computes with the low 32 bits of two registers.
+    #[inline(always)]
     fn word_registers(&mut self, memory: &mut Memory, word: u32) -> Stop
         requires opcode { bits_at 6 0 word ≡ 0x3b }
         requires undo { HasWrites memory.old 1 }
@@ -144,6 +152,7 @@ impl Hart {
     }
 
     /// Sums and shifts of the low 32 bits.
+    #[inline(always)]
     fn word_sums(&mut self, memory: &mut Memory, word: u32) -> Stop
         requires opcode { bits_at 6 0 word ≡ 0x3b }
         requires funct7 { bits_at 31 25 word ≡ 0x00 }
@@ -159,6 +168,7 @@ impl Hart {
     }
 
     /// Products and quotients of the low 32 bits.
+    #[inline(always)]
     fn word_products(&mut self, memory: &mut Memory, word: u32) -> Stop
         requires opcode { bits_at 6 0 word ≡ 0x3b }
         requires funct7 { bits_at 31 25 word ≡ 0x01 }
@@ -176,6 +186,7 @@ impl Hart {
     }
 
     /// A difference of the low 32 bits, and a shift of them that repeats the sign.
+    #[inline(always)]
     fn word_differences(&mut self, memory: &mut Memory, word: u32) -> Stop
         requires opcode { bits_at 6 0 word ≡ 0x3b }
         requires funct7 { bits_at 31 25 word ≡ 0x20 }
@@ -190,6 +201,7 @@ impl Hart {
     }
 
     /// Loads.
+    #[inline(always)]
     fn loads(&mut self, memory: &mut Memory, word: u32) -> Stop
         requires opcode { bits_at 6 0 word ≡ 0x03 }
         requires undo { HasWrites memory.old 1 }
@@ -208,6 +220,7 @@ impl Hart {
     }
 
     /// Stores.
+    #[inline(always)]
     fn stores(&mut self, memory: &mut Memory, word: u32) -> Stop
         requires opcode { bits_at 6 0 word ≡ 0x23 }
         requires undo { HasWrites memory.old 1 }
@@ -223,6 +236,7 @@ impl Hart {
     }
 
     /// Branches.
+    #[inline(always)]
     fn branches(&mut self, memory: &mut Memory, word: u32) -> Stop
         requires opcode { bits_at 6 0 word ≡ 0x63 }
         requires undo { HasWrites memory.old 1 }
@@ -240,6 +254,7 @@ impl Hart {
     }
 
     /// A jump by a register.
+    #[inline(always)]
     fn far_jumps(&mut self, memory: &mut Memory, word: u32) -> Stop
         requires opcode { bits_at 6 0 word ≡ 0x67 }
         requires undo { HasWrites memory.old 1 }
@@ -252,6 +267,7 @@ impl Hart {
     }
 
     /// The instruction that a word is.
+    #[inline(always)]
     pub(crate) fn perform_opcode(&mut self, memory: &mut Memory, word: u32) -> Stop
         requires { HasWrites memory.old 1 }
         ensures { Steps result (execute_word (seen_of memory.old) self.old.x self.old.pc word) self.old self.new memory.old memory.new }

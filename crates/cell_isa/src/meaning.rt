@@ -29,6 +29,7 @@ fn upper(imm: i32) -> u64
 
 /// The number that an instruction writes to rd: `pc` is its address, `a` is rs1, `b` is rs2. It is 0 where the operation
 /// writes none, and where it loads.
+#[inline(always)]
 pub fn result(op: Op, pc: u64, a: u64, b: u64, imm: i32) -> u64
     ensures { result ≡ result_of op pc a b imm }
 {

@@ -13,5 +13,6 @@ pub mod Writes
 pub mod Back
 pub mod Small
 pub mod Seals
+pub mod Near
 pub mod LaidApart
 pub mod Undoing

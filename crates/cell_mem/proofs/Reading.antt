@@ -1,5 +1,5 @@
 -- Which region has the bytes of an access.
-use Rattle.std.proofs.Common.{◌≡◌, ℕ, ◌+◌, ◌%◌, ◌<◌, ◌≤◌, Bool, true, false, Option, Some, None, leb, refl, sym, ap, ◌∙◌, ⊎_elim, ◌⊎◌, inl, inr, arith}
+use Rattle.std.proofs.Common.{◌≡◌, ℕ, ◌+◌, ◌%◌, ◌<◌, ◌≤◌, Bool, true, false, Option, Some, None, Ok, leb, refl, sym, ap, ◌∙◌, ⊎_elim, ◌⊎◌, inl, inr, arith}
 use Rattle.std.specs.Prelude.{option_map, option_and_then, is_some, IfSome, IfOk, OnOk, eqb, ◌||◌}
 use Rattle.std.specs.Borrow.{Bor}
 use Rattle.std.specs.Option.{ok_or}
@@ -96,6 +96,9 @@ module _ (m : MemoryState) (addr width : ℕ) (width_is : is_width width ≡ tru
   steps o e =
       ap (λ b. need b Misaligned >> found_or (region_with m addr width) Unmapped) (eq-eqb (addr % width) 0 aligned)
       ∙ ap (λ x. found_or x Unmapped) e
+
+  pub access_found : (r : Region) → Some r ≡ region_of m addr → IsWhole r → region_for m addr width ≡ Ok r
+  access_found r e w = steps (Some r) (with_of m addr width r (sym e) (aligned_has r addr width w (found_passes (λ s. covers s addr) m.regions r (sym e)) width_is aligned))
 
   pub access_answer : (o : Option (Bor Region)) → option_map (λ r. r.now) o ≡ region_of m addr → IfSome o (λ r. IsWhole r.now)
       → result_map_both (λ r. r.now) (λ fault. fault) (ok_or o Unmapped) ≡ region_for m addr width

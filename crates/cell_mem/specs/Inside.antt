@@ -1,5 +1,5 @@
 -- What the fields of a memory mean, and what always holds of them.
-use Rattle.std.specs.Prelude.{◌≡◌, ◌≤◌, ℕ, ◌+◌, ◌*◌, ◌^◌, ◌==◌, Bool, not, List, length, map, option_map}
+use Rattle.std.specs.Prelude.{◌≡◌, ◌<◌, ◌≤◌, ℕ, ◌+◌, ◌*◌, ◌^◌, ◌==◌, Bool, not, List, length, map, option_map}
 use Rattle.cell_num.specs.Limits.{page_size}
 use Rattle.cell_world.specs.Placed.Pages.{IsSpace}
 use Rattle.cell_world.specs.Running.Undo.{AreBytes, undone}
@@ -39,5 +39,6 @@ pub record IsSound (m : Inside) : Type 0 where
   pub index : IsIndex m.base (held m.regions.items) m.firsts.items
   pub bytes : AreBytes (held m.regions.items)
   pub sealed : length m.sealed.items ≡ page_size * m.pages
+  pub near : m.near < m.pages
   -- far below the numbers of 64 bits
   pub few : m.spare + length (held m.regions.items) ≤ 2 ^ 32 + m.pages

@@ -1,10 +1,9 @@
 //! The memory and its calls.
 
-ghost use Rattle.std.specs.Prelude.{ℕ, ◌≡◌, ◌≢◌, ◌<◌, ◌+◌, ◌*◌, ◌/◌, ◌-◌, ◌≤◌, Some, None, Ok, Err, true, false, length, find, map, replicate, slice_set, slice_index_or, is_some, option_map, IfSome, IsSomeAnd, IfOk, IfErr, OnOk, OnErr};
+ghost use Rattle.std.specs.Prelude.{ℕ, ◌≡◌, ◌<◌, ◌+◌, ◌*◌, ◌/◌, ◌-◌, ◌≤◌, Some, None, Ok, Err, true, length, map, slice_set, slice_index_or, is_some, option_map, IfSome, IsSomeAnd, IfOk, IfErr, OnOk, OnErr};
 ghost use Rattle.std.specs.Result.{result_map_both};
 ghost use Rattle.cell_num.specs.Limits.{page_size};
 ghost use Rattle.cell_num.specs.Bits.{bytes_of};
-ghost use Rattle.cell_world.specs.Running.Memory.{covers};
 ghost use Rattle.cell_world.specs.Placed.Pages.{IsSpace};
 ghost use Rattle.cell_world.specs.Coherent.{shape_of};
 ghost use Rattle.cell_world.specs.Running.Undo.{AreBytes, put_back, put_in, record_of};
@@ -27,8 +26,9 @@ use std::alloc::{AllocError, Global};
 use std::marker::Model;
 
 /// The regions of the space, each at the page that it begins at; `firsts` has the number of that
-/// page at each page of the region. `sealed` has a mark for each byte of the space: 1 where it is sealed. `spare` is how
-/// many regions more a caller may map. `undo` is None while no undo is begun.
+/// page at each page of the region. `sealed` has a mark for each byte of the space: 1 where it is sealed. `near` is the
+/// page at which the region begins that code was last fetched from. `spare` is how many regions more a caller may map.
+/// `undo` is None while no undo is begun.
 #[derive(Drop)]
 pub struct Memory {
     base: u64,
@@ -36,6 +36,7 @@ pub struct Memory {
     regions: Vec<Option<Region>>,
     firsts: Vec<Option<usize>>,
     sealed: Vec<u8>,
+    near: usize,
     spare: usize,
     undo: Option<Undo>,
     patches: u64,
@@ -79,6 +80,7 @@ impl Memory {
             regions: nothing(alloc, pages as usize)?,
             firsts: repeated(alloc, None, pages as usize)?,
             sealed: repeated(alloc, 0, PAGE_SIZE as usize * pages as usize)?,
+            near: 0,
             spare: 0,
             undo: None,
             patches: 0,
@@ -210,6 +212,60 @@ impl Memory {
             return Err(MemFault::Denied);
         }
         Ok(region.word(addr))
+    }
+
+    /// The region that is near, where it covers the address.
+    fn near_region(&self, addr: u64) -> Option<&Region>
+        ensures found { IfSome result (λ r. Some r.now ≡ region_of self.now addr) }
+        ensures whole { IfSome result (λ r. IsWhole r.now) }
+    {
+        let region = self.regions[self.near].as_ref()?;
+        if region.has(addr) { Some(region) } else { None }
+    }
+
+    /// The region that has the bytes of an aligned address, where it is the near one.
+    fn near_for(&self, addr: u64, width: u8) -> Option<&Region>
+        requires { is_width width ≡ true }
+        ensures answer { IfSome result (λ r. Ok r.now ≡ region_for self.now addr width) }
+        ensures inside { IfSome result (λ r. HasBytes r.now addr width) }
+    {
+        if addr % u64::from(width) != 0 {
+            return None;
+        }
+        self.near_region(addr)
+    }
+
+    /// The instruction word at an address, where it stands in the near region and may be executed.
+    fn near_word(&self, addr: u64) -> Option<u32>
+        ensures { IfSome result (λ word. Ok word ≡ fetched self.now addr) }
+    {
+        let region = self.near_for(addr, 4)?;
+        if region.may_execute() {
+            Some(region.word(addr))
+        } else {
+            None
+        }
+    }
+
+    /// The region that covers an address, where there is one, is near from here on.
+    fn come_near(&mut self, addr: u64)
+        ensures { self.new ≡ self.old }
+    {
+        if let Some(first) = self.first(addr) {
+            self.near = first;
+        }
+    }
+
+    /// What `fetch` answers, sooner where the last instruction came from the same region.
+    pub fn fetch_next(&mut self, addr: u64) -> Result<u32, MemFault>
+        ensures answer { result ≡ fetched self.old addr }
+        ensures same { self.new ≡ self.old }
+    {
+        if let Some(word) = self.near_word(addr) {
+            return Ok(word);
+        }
+        self.come_near(addr);
+        self.fetch(addr)
     }
 
     /// The place of the first of so many bytes in the space.

@@ -1,8 +1,8 @@
 //! A region: where it starts, what it may be used for, and its bytes.
 
-ghost use Rattle.std.specs.Prelude.{All, ◌<◌, ◌≡◌, ◌+◌, ◌≤◌, true, length, option_map};
+ghost use Rattle.std.specs.Prelude.{All, ◌<◌, ◌≡◌, ◌+◌, ◌≤◌, true, option_map};
 ghost use Rattle.cell_num.specs.Bits.{bytes_of};
-ghost use Rattle.cell_world.specs.Running.Memory.{covers, end_of};
+ghost use Rattle.cell_world.specs.Running.Memory.{covers};
 ghost use Rattle.cell_mem.specs.Access.{number_in};
 ghost use Rattle.cell_mem.specs.Perm.{permission_of};
 ghost use Rattle.cell_mem.specs.State.{part_of};
@@ -44,6 +44,16 @@ impl Region {
         ensures { result.now ≡ self.now.bytes }
     {
         self.bytes.as_slice()
+    }
+
+    /// Whether the address is in the region.
+    pub fn has(&self, addr: u64) -> bool
+        ensures { result ≡ covers self.now addr }
+    {
+        if addr < self.start {
+            return false;
+        }
+        addr - self.start < self.bytes().len() as u64
     }
 
     pub fn may_read(&self) -> bool

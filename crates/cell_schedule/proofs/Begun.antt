@@ -1,5 +1,5 @@
 -- A task that starts on four free pages, or for which there are none.
-use Rattle.std.proofs.Common.{◌≡◌, refl, sym, ◌∙◌, ap, subst, arith, ℕ, ◌+◌, ◌-◌, ◌*◌, ◌^◌, ◌≤◌, ◌<◌, inl, inr, Bool, true, false, ◌||◌, List, [], ◌∷◌, length, replicate, Option, Some, None, Ok, Err, min}
+use Rattle.std.proofs.Common.{◌≡◌, refl, sym, ◌∙◌, ap, subst, arith, ℕ, ◌+◌, ◌-◌, ◌*◌, ◌^◌, ◌≤◌, ◌<◌, inl, inr, Bool, true, false, ◌||◌, List, [], length, replicate, Option, Some, None, Ok, Err}
 use Rattle.std.specs.Prelude.{◌%◌, All, is_some, nat_le}
 use Rattle.std.specs.List.{list_all}
 use Rattle.std.proofs.lemmas.Bool.{le-leb, lt-ltb, or_left, or_right}
@@ -10,7 +10,7 @@ use Rattle.cell_world.specs.Answer.{done}
 use Rattle.cell_world.specs.Running.Memory.{end_of}
 use Rattle.cell_world.specs.Outcome.{Outcome, ◌>>=◌}
 use Rattle.cell_world.specs.Placed.Pages.{filled, is_free_run, is_taken_run, longest_run, lowest_run}
-use Rattle.cell_world.specs.Placed.Place.{page_table, start_of_run, with_region}
+use Rattle.cell_world.specs.Placed.Place.{page_table, start_of_run}
 use Rattle.cell_world.specs.Placed.Layout.{permission_of}
 use Rattle.cell_world.specs.declared.layout.Class.TheVariants.{Writable}
 use Rattle.cell_world.specs.Commands.SpawnCommand.{new_task}
@@ -31,7 +31,6 @@ use Rattle.cell_lemmas.proofs.Tasks.Spawned.{spawn_coherent}
 use Rattle.cell_machine.specs.declared.machine.Machine.{Machine}
 use Rattle.cell_machine.specs.Machine.{IsSound, world_of}
 use Rattle.cell_machine.proofs.Counts.{one_stack}
-use Rattle.cell_machine.proofs.NewRuns.{puts_longer}
 use Rattle.cell_machine.specs.Does.{HasDone}
 use Rattle.cell_schedule.specs.Starts.{started, with_started}
 use Rattle.cell_schedule.proofs.Stacks.{given_again, run_found, run_missed, taken_there}

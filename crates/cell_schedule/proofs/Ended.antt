@@ -1,12 +1,11 @@
 -- A machine without one of its tasks, whose stack has been given back, is sound again.
-use Rattle.std.proofs.Common.{◌≡◌, refl, sym, ◌∙◌, ap, ap₂, subst, ℕ, ◌-◌, ◌*◌, ◌^◌, ◌<◌, ◌≤◌, arith, true, false, not, Bool, List, length, map, Some}
-use Rattle.std.specs.Prelude.{◌==◌, filter, is_some}
+use Rattle.std.proofs.Common.{◌≡◌, sym, ◌∙◌, ap, ap₂, subst, ℕ, ◌-◌, ◌*◌, ◌^◌, ◌<◌, ◌≤◌, arith, true, false, Bool, List, length, Some}
+use Rattle.std.specs.Prelude.{◌==◌, is_some}
 use Rattle.std.proofs.lemmas.Bool.{eq-eqb, eqb-true}
-use Rattle.std.proofs.lemmas.List.Filters.{length-filter_both}
 use Rattle.cell_world.specs.declared.state.LinkRow.{LinkRow}
 use Rattle.cell_world.specs.declared.state.Namespace.{Namespace}
 use Rattle.cell_world.specs.declared.state.NewCell.{NewCell}
-use Rattle.cell_world.specs.World.{World, Cell, Region, Task, task_of}
+use Rattle.cell_world.specs.World.{Cell, Region, Task, task_of}
 use Rattle.cell_world.specs.Coherent.{IsCoherent}
 use Rattle.cell_world.specs.Placed.Pages.{filled, is_taken_run}
 use Rattle.cell_world.specs.Placed.Place.{page_table}

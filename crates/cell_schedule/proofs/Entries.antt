@@ -12,7 +12,7 @@ use Rattle.cell_num.specs.declared.ids.SecKey.{SecKey}
 use Rattle.cell_space.specs.Joined.{placed_of}
 use Rattle.cell_world.specs.declared.state.NewCell.{NewCell}
 use Rattle.cell_world.specs.declared.state.Target.{Target}
-use Rattle.cell_world.specs.declared.state.Target.TheVariants.{Section, Number}
+use Rattle.cell_world.specs.declared.state.Target.TheVariants.{Section}
 use Rattle.cell_world.specs.Coherent.{IsCoherent}
 use Rattle.cell_world.specs.Names.{Provider, attached_provider}
 use Rattle.cell_world.specs.Placed.Layout.{offset_in, sections_in}

@@ -1,5 +1,5 @@
 -- `kill` ends the task that it names, or answers that there is none.
-use Rattle.std.proofs.Common.{◌≡◌, refl, sym, ◌∙◌, ap, arith, ℕ, ◌-◌, ◌^◌, ◌≤◌, Some, Ok, Err, length}
+use Rattle.std.proofs.Common.{◌≡◌, refl, sym, ◌∙◌, ap, ℕ, Some, Ok, Err}
 use Rattle.cell_world.specs.declared.refusal.Refusal.TheVariants.{Unknown}
 use Rattle.cell_world.specs.declared.reply.Reply.TheVariants.{Kill as KillDone}
 use Rattle.std.specs.Prelude.{decimal, option_map}

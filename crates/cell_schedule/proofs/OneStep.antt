@@ -1,5 +1,5 @@
 -- `step` gives turns to the task that it names, or answers why not.
-use Rattle.std.proofs.Common.{◌≡◌, refl, sym, ◌∙◌, ap, subst, arith, ℕ, ◌-◌, Option, Some, None, Ok, Err, length}
+use Rattle.std.proofs.Common.{◌≡◌, refl, sym, ◌∙◌, ap, subst, ℕ, Option, Some, None, Ok, Err}
 use Rattle.std.specs.Prelude.{decimal}
 use Rattle.cell_world.specs.declared.refusal.Refusal.TheVariants.{NotRunnable, Unknown}
 use Rattle.cell_world.specs.declared.reply.Reply.TheVariants.{Step as StepDone}
@@ -18,7 +18,7 @@ use Rattle.cell_machine.specs.declared.machine.Machine.{Machine}
 use Rattle.cell_machine.specs.Machine.{IsSound, world_of}
 use Rattle.cell_machine.proofs.Unchanged.{same_itself}
 use Rattle.cell_machine.specs.Does.{Does, HasDone, no_stack}
-use Rattle.cell_schedule.specs.Turns.{HasRun, IsCounted}
+use Rattle.cell_schedule.specs.Turns.{HasRun}
 use Rattle.cell_machine.proofs.Counts.{counts_stand}
 
 -- no region is mapped, and the count of maps stands

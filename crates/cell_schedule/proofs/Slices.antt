@@ -1,19 +1,27 @@
 -- Turns of a task, one after another.
-use Rattle.std.proofs.Common.{◌≡◌, refl, sym, ◌∙◌, ap, subst, arith, ◌<◌, ℕ, suc, ◌+◌, Bool, true, false, List, [], ◌++◌, Option, Some, None}
+use Rattle.std.proofs.Common.{◌≡◌, refl, sym, ◌∙◌, ap, subst, arith, ◌<◌, ℕ, zero, suc, ◌+◌, Bool, true, false, List, [], ◌++◌, Option, Some, None}
 use Rattle.std.specs.Prelude.{◌==◌, ◌-◌, if◌then◌else◌}
 use Rattle.std.proofs.lemmas.Bool.{eqb-true}
+use Rattle.cell_world.specs.declared.reply.TaskRun.{TaskRun}
 use Rattle.cell_world.specs.declared.reply.TaskState.{TaskState}
 use Rattle.cell_world.specs.declared.reply.TaskState.TheVariants.{Ready, Done, Fault as Faulted}
 use Rattle.cell_world.specs.World.{World, Task, task_of}
 use Rattle.cell_world.specs.Running.Turn.{Ran, Turned, ran, turn, turns_from}
 use Rattle.cell_num.proofs.Elements.{found-In}
 use Rattle.cell_task.specs.declared.turned.Turned.{Turned as Answer}
-use Rattle.cell_task.specs.State.{IsReady, live_in}
-use Rattle.cell_task.specs.Turns.{answer_of}
+use Rattle.cell_mem.specs.State.{MemoryState}
+use Rattle.cell_task.specs.State.{IsReady, TasksState, live_in}
+use Rattle.cell_task.specs.Ran.{answered}
+use Rattle.cell_task.specs.declared.slice.Ran.{Ran as AnswerOf}
+use Rattle.cell_task.specs.Slices.{Going, IsRun, begun as first_of, run_from, stopped_by}
+use Rattle.cell_task.specs.Turns.{answer_of, memory_after, turned_in}
+use Rattle.cell_task.proofs.Slicing.{one_turn as first_turn, rest}
+use Rattle.cell_place.specs.Space.{SpaceState}
 use Rattle.cell_machine.specs.declared.machine.Machine.{Machine}
 use Rattle.cell_machine.specs.Machine.{IsSound, world_of}
-use Rattle.cell_schedule.specs.Turns.{HasRun, HasTurned, IsCounted, stopped_by}
+use Rattle.cell_schedule.specs.Turns.{HasRun, HasTurned, IsCounted, space_after}
 use Rattle.cell_schedule.proofs.Others.{GoesOn, goes_on}
+use Rattle.cell_schedule.proofs.TurnSound.{has_turned}
 
 -- how a slice goes on where the turn doesn't stop it
 abbrev going_on : ℕ → Bool → ℕ → ℕ → List ℕ → World → Option TaskState → Ran
@@ -135,3 +143,104 @@ begun old turns stops task stack sound ready same =
       ready = ready;
       stands = same;
     }
+
+-- a task that is stopped stands as its last turn left it
+stops_state : (stops : Bool) (state : TaskState) (yields : Bool) (stopped : TaskState) → stopped_by stops (answered state yields) ≡ Some stopped → state ≡ stopped
+stops_state true Ready true stopped e = cc
+stops_state false Ready true stopped e = absurd cc
+stops_state stops Ready false stopped e = absurd cc
+stops_state stops (Done code) yields stopped e = cc
+stops_state stops (Faulted cause pc) yields stopped e = cc
+
+-- the machine with what a run of its task makes of tasks, memory and pages
+abbrev pub run_to : Machine → Going → ℕ → Machine
+run_to m x stack = record m { tasks = x.tasks; memory = x.memory; space = space_after x.state m.space stack }
+
+module _ (old : Machine) (turns : ℕ) (stops : Bool) (task stack : ℕ) where
+  -- where its task has gone so far in the machine `now`
+  abbrev so_far : Machine → ℕ → List ℕ → Going
+  so_far now had out = record { tasks = now.tasks; memory = now.memory; turns = had; state = Ready; out = out }
+
+  abbrev IsDone : Machine → Going → Type 0
+  IsDone now x = HasRun old (turns_from turns stops task 0 [] (world_of old)) (record { task = task; turns = x.turns; state = x.state; out = x.out }) (run_to now x stack)
+
+  one_more_turn : (n had : ℕ) (now : Machine) (out : List ℕ) (so : IsUnderWay old turns stops task stack had now out) → had < turns
+      → ((new : Machine) (more : List ℕ) → IsUnderWay old turns stops task stack (had + 1) new more → IsDone new (run_from n stops task (so_far new (had + 1) more)))
+      → IsDone now (run_from (suc n) stops task (so_far now had out))
+  one_more_turn n had now out so more further =
+      subst (IsDone now) (sym (first_turn stops n now.tasks task now.memory had out t answer s' m' (out ++ y.out) so.ready.live (record { answered = refl; tasks = refl; memory = refl; put_out = refl })))
+      (go (stopped_by stops answer) refl)
+    where
+      t : Task
+      t = so.ready.task
+
+      y : Turned
+      y = turned_in now.tasks now.memory t
+
+      answer : Answer
+      answer = answer_of y
+
+      s' : TasksState
+      s' = record now.tasks { tasks = y.world.tasks }
+
+      m' : MemoryState
+      m' = memory_after now.memory t y
+
+      with_pages : SpaceState → Machine
+      with_pages space = record now { tasks = s'; memory = m'; space = space }
+
+      turned : (space : SpaceState) → space ≡ space_after y.state now.space t.stack → HasTurned now t out answer (with_pages space) (out ++ y.out)
+      turned space e = has_turned now so.sound t task so.ready.live out (out ++ y.out) answer s' m' space (record { answered = refl; tasks = refl; memory = refl; put_out = refl }) e
+
+      counts : suc had ≡ had + 1
+      counts = omega arith
+
+      go : (o : Option TaskState) → stopped_by stops answer ≡ o → IsDone now (rest n stops task s' m' (suc had) (out ++ y.out) o)
+      go None e =
+          let state : y.state ≡ Ready = goes_state stops y.world y.state y.yields y.out e in
+          let same : now.space ≡ space_after y.state now.space t.stack = sym (ap (λ (x : TaskState). space_after x now.space t.stack) state) in
+          subst (λ k. IsDone now (run_from n stops task (record { tasks = s'; memory = m'; turns = k; state = Ready; out = out ++ y.out }))) (sym counts)
+          (further (with_pages now.space) (out ++ y.out) (goes_so old turns stops task stack had now out so more answer (with_pages now.space) (out ++ y.out) (turned now.space same) e))
+      go (Some state) e =
+          let left : y.state ≡ state = stops_state stops y.state y.yields state e in
+          let same : space_after state now.space stack ≡ space_after y.state now.space t.stack =
+          ap (λ (x : TaskState). space_after x now.space stack) (sym left) ∙ ap (space_after y.state now.space) (sym (so.stands t so.ready.live)) in
+          subst (λ k. HasRun old (turns_from turns stops task 0 [] (world_of old)) (record { task = task; turns = k; state = state; out = out ++ y.out }) (with_pages (space_after state now.space stack))) (sym counts)
+          (stops_so old turns stops task stack had now out so more answer (with_pages (space_after state now.space stack)) (out ++ y.out) (turned (space_after state now.space stack) same) state e)
+
+  -- a run of its task is the slice of the machine
+  pub runs : (n had : ℕ) (now : Machine) (out : List ℕ) → had + n ≡ turns → IsUnderWay old turns stops task stack had now out → IsDone now (run_from n stops task (so_far now had out))
+  runs zero had now out e so =
+      let all : had ≡ turns = omega (arith, e) in
+      subst (λ k. HasRun old (turns_from turns stops task 0 [] (world_of old)) (record { task = task; turns = k; state = Ready; out = out }) now) (sym all)
+      (all_had old turns stops task stack now out (subst (λ k. IsUnderWay old turns stops task stack k now out) all so))
+  runs (suc n) had now out e so =
+      one_more_turn n had now out so (omega (arith, e)) (λ new more so. runs n (had + 1) new more (omega (arith, e)) so)
+
+-- so is what the tasks answer, with the pages that a task that ended gives back
+pub run_is : (old : Machine) (turns : ℕ) (stops : Bool) (task stack : ℕ) → IsSound old → IsReady old.tasks task → ((t : Task) → live_in old.tasks task ≡ Some t → t.stack ≡ stack)
+    → (none : List ℕ) → none ≡ [] → (s : TasksState) (m : MemoryState) (space : SpaceState) (answer : AnswerOf) (out : List ℕ) → IsRun (run_from turns stops task (first_of old.tasks old.memory none)) s m answer out
+    → space ≡ space_after answer.state old.space stack → (bytes : List ℕ) → bytes ≡ out
+    → HasRun old (turns_from turns stops task 0 [] (world_of old)) (record { task = task; turns = answer.turns; state = answer.state; out = bytes }) (record old { tasks = s; memory = m; space = space })
+run_is old turns stops task stack sound ready same none empty s m space answer out run gives bytes said =
+    subst (λ (y : Machine). HasRun old (turns_from turns stops task 0 [] (world_of old)) (record { task = task; turns = answer.turns; state = answer.state; out = bytes }) y) (sym machine)
+    (subst (λ (r : TaskRun). HasRun old (turns_from turns stops task 0 [] (world_of old)) r (run_to old x stack)) (sym told)
+    (runs old turns stops task stack turns 0 old [] (omega arith) (begun old turns stops task stack sound ready same)))
+  where
+    x : Going
+    x = run_from turns stops task (first_of old.tasks old.memory [])
+
+    is : IsRun x s m answer out
+    is = subst (λ (o : List ℕ). IsRun (run_from turns stops task (first_of old.tasks old.memory o)) s m answer out) empty run
+
+    machine : record old { tasks = s; memory = m; space = space } ≡ run_to old x stack
+    machine =
+        ap (λ (y : TasksState). record old { tasks = y; memory = m; space = space }) is.tasks
+        ∙ (ap (λ (y : MemoryState). record old { tasks = x.tasks; memory = y; space = space }) is.memory
+        ∙ ap (λ (y : SpaceState). record old { tasks = x.tasks; memory = x.memory; space = y }) (gives ∙ ap (λ (z : TaskState). space_after z old.space stack) is.state))
+
+    told : (let a : TaskRun = record { task = task; turns = answer.turns; state = answer.state; out = bytes } in let b : TaskRun = record { task = task; turns = x.turns; state = x.state; out = x.out } in a ≡ b)
+    told =
+        ap (λ (n : ℕ). let r : TaskRun = record { task = task; turns = n; state = answer.state; out = bytes } in r) is.turns
+        ∙ (ap (λ (z : TaskState). let r : TaskRun = record { task = task; turns = x.turns; state = z; out = bytes } in r) is.state
+        ∙ ap (λ (o : List ℕ). let r : TaskRun = record { task = task; turns = x.turns; state = x.state; out = o } in r) (said ∙ is.put_out))

@@ -1,5 +1,5 @@
 -- A turn of a live task keeps the machine sound, and is the turn of the machine.
-use Rattle.std.proofs.Common.{◌≡◌, refl, sym, ◌∙◌, ap, subst, ◌≤◌, ◌<◌, arith, ℕ, ◌*◌, Bool, true, false, List, ◌++◌, Some}
+use Rattle.std.proofs.Common.{◌≡◌, refl, sym, ◌∙◌, ap, subst, ◌≤◌, ◌<◌, ℕ, ◌*◌, Bool, true, false, List, ◌++◌, Some}
 use Rattle.std.specs.Prelude.{◌==◌, ◌-◌}
 use Rattle.std.proofs.lemmas.Bool.{eqb-true}
 use Rattle.cell_world.specs.Placed.Pages.{filled, is_taken_run}
@@ -28,7 +28,7 @@ use Rattle.cell_schedule.specs.Ends.{IsEnded, stack_run}
 use Rattle.cell_schedule.specs.Turns.{HasTurned, IsCounted, space_after}
 use Rattle.cell_schedule.proofs.Marks.{marks_are_fields}
 use Rattle.cell_schedule.proofs.Parts.{bare, parts, within}
-use Rattle.cell_schedule.proofs.Regions.{allowed_inside, length_stored, size_stored, table_stored}
+use Rattle.cell_schedule.proofs.Regions.{allowed_inside, size_stored, table_stored}
 use Rattle.cell_schedule.proofs.Ended.{ended_sound, maps_ended, patches_ended, stack_above, stack_given, stack_low, world_ended}
 use Rattle.cell_schedule.proofs.Ways.{Leaves, leaves}
 
@@ -92,7 +92,7 @@ module _ (old : Machine) (sound : IsSound old) where
     after y = record old {
       tasks = record old.tasks { tasks = y.world.tasks };
       memory = memory_after old.memory t y;
-      space = space_after (answer_of y) old.space t.stack;
+      space = space_after y.state old.space t.stack;
     }
 
     -- what the turn of a sound machine is
@@ -139,7 +139,7 @@ module _ (old : Machine) (sound : IsSound old) where
           known = refl;
           sections = refl;
           rows = refl;
-          space = ap (λ (s : TaskState). space_after (answer_of (record y { state = s })) old.space t.stack) state;
+          space = ap (λ (s : TaskState). space_after s old.space t.stack) state;
           memory = memory_is;
           tasks = ap (λ (v : World). record old.tasks { tasks = v.tasks }) is;
         } in
@@ -161,12 +161,11 @@ module _ (old : Machine) (sound : IsSound old) where
     afterwards : (v : World) (state : TaskState) (yields : Bool) (out : List ℕ) → IsSoundTurn (record { world = v; state = state; yields = yields; out = out })
         → Afterwards old (after (record { world = v; state = state; yields = yields; out = out })) v
     afterwards v (Done code) yields out s = done (record { world = v; state = Done code; yields = yields; out = out }) code refl s.regions s.stored s.leaves
-    afterwards v Ready true out s = going (record { world = v; state = Ready; yields = true; out = out }) (subst (Stored (seen_in w)) (sym s.leaves) s.stored) s.kept s.coherent
-    afterwards v Ready false out s = going (record { world = v; state = Ready; yields = false; out = out }) (subst (Stored (seen_in w)) (sym s.leaves) s.stored) s.kept s.coherent
+    afterwards v Ready yields out s = going (record { world = v; state = Ready; yields = yields; out = out }) (subst (Stored (seen_in w)) (sym s.leaves) s.stored) s.kept s.coherent
     afterwards v (Faulted cause pc) yields out s = going (record { world = v; state = Faulted cause pc; yields = yields; out = out }) (subst (Stored (seen_in w)) (sym s.leaves) s.stored) s.kept s.coherent
 
     pub has_turned : (out out' : List ℕ) (answer : Answer) (tasks : TasksState) (memory : MemoryState) (space : SpaceState)
-        → IsTurn old.tasks old.memory t out answer tasks memory out' → space ≡ space_after answer old.space t.stack
+        → IsTurn old.tasks old.memory t out answer tasks memory out' → space ≡ space_after (turned_in old.tasks old.memory t).state old.space t.stack
         → HasTurned old t out answer (record old { tasks = tasks; memory = memory; space = space }) out'
     has_turned out out' answer tasks memory space is gives =
         let x : Turned = turned_in old.tasks old.memory t in
@@ -175,7 +174,7 @@ module _ (old : Machine) (sound : IsSound old) where
         let new : record old { tasks = tasks; memory = memory; space = space } ≡ after (turn w t) =
         ap (λ (m : MemoryState). record old { tasks = tasks; memory = m; space = space }) is.memory
         ∙ (ap (λ (s : TasksState). record old { tasks = s; memory = memory_after old.memory t x; space = space }) is.tasks
-        ∙ (ap (λ (s : SpaceState). record old { tasks = record old.tasks { tasks = x.world.tasks }; memory = memory_after old.memory t x; space = s }) (gives ∙ ap (λ (z : Answer). space_after z old.space t.stack) is.answered)
+        ∙ (ap (λ (s : SpaceState). record old { tasks = record old.tasks { tasks = x.world.tasks }; memory = memory_after old.memory t x; space = s }) gives
         ∙ ap after (sym whole))) in
         record {
           sound = subst IsSound (sym new) a.sound;

@@ -15,7 +15,7 @@ use Rattle.cell_world.specs.Placed.Pages.{filled}
 use Rattle.cell_world.specs.Coherent.{IsCoherent}
 use Rattle.cell_world.specs.Running.Turn.{without_task}
 use Rattle.cell_lemmas.specs.Present.{IsInside}
-use Rattle.cell_num.proofs.Elements.{All-In, In-none, In-flat_map, In-map, found-In, map-In}
+use Rattle.cell_num.proofs.Elements.{All-In, In-none, In-flat_map, In-map, found-In}
 use Rattle.cell_lemmas.proofs.Fields.FieldsInside.{among-In}
 use Rattle.cell_lemmas.proofs.Placement.Inside.{fields_lie, ready_linkable}
 use Rattle.cell_lemmas.proofs.Placement.Places.{length-from}

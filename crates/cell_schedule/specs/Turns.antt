@@ -1,33 +1,24 @@
 -- What turns of a task make of the machine.
 --     HasTurned old t answer ..     one turn
 --     HasRun old ran ..             many
---     stopped_by stops answer       how a task stands that goes no further in its slice
---     space_after answer space ..   the pages that are taken after a turn
-use Rattle.std.specs.Prelude.{ℕ, ◌≡◌, ◌≤◌, Bool, false, Option, Some, None, if◌then◌else◌, List, ◌++◌, length}
+--     space_after state space ..    the pages that are taken after turns
+use Rattle.std.specs.Prelude.{ℕ, ◌≡◌, false, List, ◌++◌}
 use Rattle.cell_world.specs.declared.reply.TaskRun.{TaskRun}
 use Rattle.cell_world.specs.declared.reply.TaskState.{TaskState}
-use Rattle.cell_world.specs.declared.reply.TaskState.TheVariants.{Ready as IsReady, Done as IsDone, Fault as IsFault}
+use Rattle.cell_world.specs.declared.reply.TaskState.TheVariants.{Done}
 use Rattle.cell_world.specs.Running.Turn.{Ran, turn}
 use Rattle.cell_world.specs.World.{Task}
 use Rattle.cell_task.specs.declared.turned.Turned.{Turned as Answer}
 use Rattle.cell_task.specs.Turns.{answer_of}
-use Rattle.cell_task.specs.declared.turned.Turned.TheVariants.{Ready, Yield, Done, Fault}
 use Rattle.cell_place.specs.Space.{SpaceState, with_run}
 use Rattle.cell_machine.specs.declared.machine.Machine.{Machine}
 use Rattle.cell_machine.specs.Machine.{IsSound, world_of}
 use Rattle.cell_schedule.specs.Ends.{stack_run}
 
--- a task that ends gives the pages of its stack back
-abbrev pub space_after : Answer → SpaceState → ℕ → SpaceState
+-- a task that ended gives the pages of its stack back
+abbrev pub space_after : TaskState → SpaceState → ℕ → SpaceState
 space_after (Done code) space stack = with_run space (stack_run space.base stack) false
 space_after _ space stack = space
-
--- how a task stands that goes no further after the turn; None where it goes on
-abbrev pub stopped_by : Bool → Answer → Option TaskState
-stopped_by stops Ready = None
-stopped_by stops Yield = if stops then Some IsReady else None
-stopped_by stops (Done code) = Some (IsDone code)
-stopped_by stops (Fault cause pc) = Some (IsFault cause pc)
 
 -- no turn patches a field or maps a region
 pub record IsCounted (old new : Machine) : Type 0 where

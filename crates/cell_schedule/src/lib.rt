@@ -11,7 +11,6 @@ mod slice;
 mod stack;
 mod starting;
 mod stepping;
-mod turn;
 
 pub use ending::kill;
 pub use entry::{Entry, find_entry};

@@ -1,6 +1,5 @@
 //! The live task that a command names.
 
-ghost use Rattle.std.specs.Prelude.{◌≡◌, IfOk, option_map};
 ghost use Rattle.cell_world.specs.Following.{Follows};
 ghost use Rattle.cell_machine.specs.Machine.{world_of};
 ghost use Rattle.cell_task.specs.State.{seen_as};

@@ -1,8 +1,7 @@
 //! `run`
 
-ghost use Rattle.std.specs.Prelude.{◌≡◌, ◌*◌, ◌≤◌, [], IfOk, filter, map, length, vec_capacity};
+ghost use Rattle.std.specs.Prelude.{◌≡◌, ◌≤◌, [], IfOk, filter, map, length, vec_capacity};
 ghost use Rattle.cell_machine.specs.Machine.{IsSound, world_of};
-ghost use Rattle.cell_task.specs.State.{live_in};
 ghost use Rattle.cell_world.specs.Commands.TaskCommands.{next_run};
 ghost use Rattle.cell_machine.specs.Does.{Does, no_stack};
 ghost use Rattle.cell_schedule.specs.Rounds.{AreDue, HasGone, HaveRoom, can_turn};

@@ -1,33 +1,31 @@
 //! Turns of a task, one after another.
 
-ghost use Rattle.std.specs.Prelude.{◌≡◌, ◌+◌, ◌*◌, ◌≤◌, Some, [], vec_capacity};
+ghost use Rattle.std.specs.Prelude.{◌≡◌, ◌*◌, ◌<◌, ◌≤◌, Some, [], true, vec_capacity};
+ghost use Rattle.cell_num.specs.Limits.{max_pages};
 ghost use Rattle.cell_machine.specs.Machine.{IsSound, world_of};
 ghost use Rattle.cell_task.specs.State.{IsReady, live_in};
+ghost use Rattle.cell_world.specs.Placed.Pages.{is_taken_run};
 ghost use Rattle.cell_world.specs.Running.Turn.{turns_from};
 ghost use Rattle.cell_world.specs.World.{Task as WorldTask};
-ghost use Rattle.cell_schedule.specs.Turns.{HasRun, stopped_by};
+ghost use Rattle.cell_schedule.specs.Ends.{stack_run};
+ghost use Rattle.cell_schedule.specs.Turns.{HasRun, space_after};
 
-use crate::turn::turn;
+use crate::stack::give_back;
 use cell_machine::Machine;
 use cell_num::Bytes;
-use cell_task::{Tasks, Turned};
+use cell_place::Space;
+use cell_task::{Slice, Tasks};
 use cell_world::{TaskRun, TaskState};
 
-/// How a task stands that goes no further in this slice.
-fn stopped(turned: Turned, until_yield: bool) -> Option<TaskState>
-    ensures { result ≡ stopped_by until_yield turned }
+/// Where the task ended, its stack is given back.
+fn settle(space: &mut Space, stack: u64, state: TaskState)
+    requires above { space.old.base ≤ stack }
+    requires low { (stack_run space.old.base stack).page < max_pages }
+    requires taken { is_taken_run space.old.taken (stack_run space.old.base stack).page 4 ≡ true }
+    ensures { space.new ≡ space_after state space.old stack }
 {
-    match turned {
-        Turned::Ready => None,
-        Turned::Yield => {
-            if until_yield {
-                Some(TaskState::Ready)
-            } else {
-                None
-            }
-        }
-        Turned::Done(code) => Some(TaskState::Done(code)),
-        Turned::Fault(cause, pc) => Some(TaskState::Fault(cause, pc)),
+    if let TaskState::Done(_) = state {
+        give_back(space, stack);
     }
 }
 
@@ -59,21 +57,15 @@ pub fn slice(
     ensures { HasRun machine.old (turns_from turns until_yield task 0 [] (world_of machine.old)) result machine.new }
 {
     let stack = stack_of(&machine.tasks, task);
-    for had in 0..turns {
-        let turned = turn(machine, task, stack, &mut out);
-        if let Some(state) = stopped(turned, until_yield) {
-            return TaskRun {
-                task,
-                turns: had + 1,
-                state,
-                out: Bytes::from_vec(out),
-            };
-        }
-    }
+    let slice = Slice { turns, until_yield };
+    let ran = machine
+        .tasks
+        .run(task, slice, &mut machine.memory, &mut out);
+    settle(&mut machine.space, stack, ran.state);
     TaskRun {
         task,
-        turns,
-        state: TaskState::Ready,
+        turns: ran.turns,
+        state: ran.state,
         out: Bytes::from_vec(out),
     }
 }

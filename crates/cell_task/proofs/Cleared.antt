@@ -1,6 +1,6 @@
 -- Each store of a stack that is being cleared succeeds, and clears eight bytes more.
 use Rattle.std.proofs.Common.{◌≡◌, sym, ◌∙◌, ap, subst, arith, ℕ, suc, ◌+◌, ◌-◌, ◌*◌, ◌≤◌, ◌<◌, Bool, true, false, not, List, length, map, replicate, Option, Some, None, Ok, Err}
-use Rattle.std.specs.Prelude.{nat_le, ◌%◌, ◌==◌, option_and_then}
+use Rattle.std.specs.Prelude.{nat_le, ◌%◌, option_and_then}
 use Rattle.std.proofs.lemmas.Bool.{eq-eqb, le-leb}
 use Rattle.std.proofs.lemmas.List.{length-replicate}
 use Rattle.cell_num.specs.Lists.{In, where_true}
@@ -12,7 +12,7 @@ use Rattle.cell_world.specs.Running.Memory.{covers, end_of, put_in}
 use Rattle.cell_world.specs.World.{Permission, Region}
 use Rattle.cell_mem.specs.declared.fault.MemFault.{MemFault}
 use Rattle.cell_mem.specs.declared.fault.MemFault.TheVariants.{Denied, Misaligned, Sealed, Unmapped}
-use Rattle.cell_mem.specs.Access.{Checked, ◌>>=◌, ◌>>◌, found, need, region_for, storable, stored}
+use Rattle.cell_mem.specs.Access.{Checked, ◌>>=◌, ◌>>◌, found, need, storable, stored}
 use Rattle.cell_mem.specs.Index.{IsLaid}
 use Rattle.cell_mem.specs.Undo.{UndoState, noted}
 use Rattle.cell_mem.specs.State.{MemoryState, region_of, region_with, is_sealed, write_at, written_at}

@@ -13,7 +13,7 @@ use Rattle.cell_task.specs.declared.task.Task.{Task as LiveTask}
 use Rattle.cell_task.specs.declared.tasks.Tasks.TheInside.{Inside}
 use Rattle.cell_task.specs.Inside.{HasValues, IsSound, state_of, tasks_at}
 use Rattle.cell_task.specs.Numbers.{HasAt, Lacks}
-use Rattle.cell_task.specs.State.{TasksState, live_in, seen_as, with_new, without}
+use Rattle.cell_task.specs.State.{TasksState, live_in, seen_as, with_changed, with_new, without}
 use Rattle.cell_task.proofs.Arena.{rising_pushed, rising_removed, value_of, value_at, numbers_of, found_at, unfound_at, fresh, pushed_values, pushed_tasks, changed_values, changed_tasks, removed_values, removed_tasks}
 
 abbrev pub tasks_of : Slab LiveTask → Inside → List Task
@@ -34,6 +34,13 @@ module _ (i : Inside) (sound : IsSound i) where
     live_at t here =
         subst (λ (n : ℕ). live_in (state_of i) n ≡ Some (seen_as n t)) at.is
         (found_at (get i.arena) 1 i.numbers.items i.keys.items i.next place t sound.rising sound.paired sound.values at.inside here)
+
+    -- what its key has is the task
+    pub stands_at : (t : LiveTask) → get i.arena (get_or i.keys.items place 0) ≡ Some t → with_changed (state_of i) (seen_as task t) ≡ state_of i
+    stands_at t here =
+        sym (ap (λ (ts : List Task). let s : TasksState = record { tasks = ts; next = i.next } in s)
+        (changed_tasks (get i.arena) (get i.arena) (get_or i.keys.items place 0) (λ k other. refl) 1 i.numbers.items i.keys.items i.next place t sound.rising sound.paired sound.values at.inside refl here
+        ∙ ap (λ (n : ℕ). with_task (seen_as n t) (state_of i).tasks) at.is))
 
     pub key_inside : place < length i.keys.items
     key_inside = omega (arith, at.inside, sound.paired)

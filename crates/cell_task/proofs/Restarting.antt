@@ -1,9 +1,8 @@
 -- A task that begins again among the fields of the tasks.
-use Rattle.std.proofs.Common.{◌≡◌, ap, subst, ◌∙◌, ℕ, ◌+◌, ◌<◌, ◌^◌, Some, get_or}
+use Rattle.std.proofs.Common.{◌≡◌, ap, ◌∙◌, ℕ, ◌+◌, ◌<◌, ◌^◌, Some, get_or}
 use Rattle.slab.specs.Slab.{get}
 use Rattle.cell_num.specs.Limits.{stack_size}
 use Rattle.cell_world.specs.Running.Restart.{restarted}
-use Rattle.cell_world.specs.Running.Turn.{with_task}
 use Rattle.cell_world.specs.World.{Task}
 use Rattle.cell_mem.specs.State.{MemoryState}
 use Rattle.cell_task.specs.declared.task.Task.{Task as LiveTask}

@@ -3,4 +3,5 @@ pub mod Numbers
 pub mod Ran
 pub mod State
 pub mod Turns
+pub mod Slices
 pub mod Clearing

@@ -1,9 +1,10 @@
-//! The live tasks: their arena, and one turn of a task.
+//! The live tasks: their arena, and turns of a task.
 #![tactic(auto)]
 
 mod clearing;
 mod numbers;
 mod output;
+mod slice;
 mod task;
 mod tasks;
 mod turn;
@@ -11,6 +12,7 @@ mod turned;
 mod words;
 
 pub use numbers::Numbers;
+pub use slice::{Ran, Slice};
 pub use task::{Task, TaskFault};
 pub use tasks::Tasks;
 pub use turned::Turned;

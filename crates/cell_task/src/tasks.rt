@@ -1,6 +1,6 @@
 //! The live tasks.
 
-ghost use Rattle.std.specs.Prelude.{◌≡◌, ◌+◌, ◌-◌, ◌<◌, ◌≤◌, ◌^◌, None, Some, [], true, is_some, length, map, option_map, replicate, slice_set, vec_capacity, vec_len, IfNone, IfOk, IfSome, OnErr, OnOk};
+ghost use Rattle.std.specs.Prelude.{◌≡◌, ◌+◌, ◌-◌, ◌*◌, ◌<◌, ◌≤◌, ◌^◌, None, Some, [], true, is_some, length, map, option_map, vec_capacity, vec_len, IfNone, IfOk, IfSome, OnErr, OnOk};
 ghost use Rattle.cell_num.specs.Limits.{stack_size};
 ghost use Rattle.cell_mem.specs.State.{region_from};
 ghost use Rattle.cell_world.specs.Commands.SpawnCommand.{new_task};
@@ -9,16 +9,17 @@ ghost use Rattle.cell_world.specs.World.{Task as WorldTask};
 ghost use Rattle.cell_world.specs.Running.Restart.{restarted};
 ghost use Rattle.cell_task.specs.Clearing.{CanClear, with_cleared};
 ghost use Rattle.cell_task.specs.State.{IsReady, live_in, no_tasks, seen_as, with_changed, with_new, without};
+ghost use Rattle.cell_task.specs.Slices.{IsRun, begun, run_from};
 ghost use Rattle.cell_task.specs.Turns.{IsTurn};
 ghost use Rattle.cell_task.specs.Numbers.{HasAt, Lacks, RisesSomewhere};
 
 use crate::clearing::clear_stack;
 use crate::words::put_words;
-use crate::{Numbers, Task, Turned};
+use crate::{Numbers, Ran, Slice, Task, Turned};
 use cell_hart::Hart;
 use cell_mem::Memory;
 use cell_num::CellId;
-use cell_world::Origin;
+use cell_world::{Origin, TaskState};
 use slab::Slab;
 use std::alloc::{AllocError, Global};
 use std::marker::Model;
@@ -205,6 +206,29 @@ impl Tasks {
             memory.unmap(stack);
         }
         turned
+    }
+
+    /// Turns of a ready task one after another, as many as its slice has. What it puts out is appended to
+    /// `out`. A task that ends is no longer live, and its stack is unmapped. This takes no memory.
+    pub fn run(&mut self, task: u32, slice: Slice, memory: &mut Memory, out: &mut Vec<u8>) -> Ran
+        requires live { is_some (live_in self.old task) ≡ true }
+        requires stack { (t : WorldTask) → live_in self.old task ≡ Some t → is_some (region_from memory.old t.stack) ≡ true }
+        requires undo { memory.old.undo ≡ None }
+        requires room { vec_len out.old + 20 * slice.turns ≤ vec_capacity out.old }
+        ensures { IsRun (run_from slice.turns slice.until_yield task (begun self.old memory.old out.old.items)) self.new memory.new result out.new.items }
+    {
+        let Some(place) = place_in(&self.numbers, task) else {
+            unreachable!();
+        };
+        let Some(live) = self.arena.get_mut(self.keys[place]) else {
+            unreachable!();
+        };
+        let ran = live.run(slice, memory, out);
+        if let TaskState::Done(_) = ran.state {
+            let stack = self.kill(task);
+            memory.unmap(stack);
+        }
+        ran
     }
 
     /// What of a live task may point into cells: its pc, x1 to x31, and the words of its stack

@@ -67,6 +67,7 @@ impl Task {
     }
 
     /// An instruction, or a call, which puts out at most 20 bytes.
+    #[inline(always)]
     pub(crate) fn turn(&mut self, memory: &mut Memory, out: &mut Vec<u8>) -> Turned
         requires undo { memory.old.undo ≡ None }
         requires room { vec_len out.old + 20 ≤ vec_capacity out.old }

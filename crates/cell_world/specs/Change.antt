@@ -1,5 +1,5 @@
--- What becomes of the machine when cells come, beside the others or in the place of some of them. A load is such a change, and a
--- swap and a clone are such changes: a command says what it wants, and answers by what was made.
+-- What becomes of the machine when cells come, beside the others or in the place of some of them. Each load, swap, clone and
+-- recovery is such a change: the command says what it wants, and answers by what was made.
 --     Want, Copy, Change             what is asked for
 --     adding wants, copying copies   new cells beside the others, and no more; copies of cells, and no more
 --     replaced c                     the cells that others come in the place of

@@ -1,4 +1,4 @@
-use Rattle.std.proofs.Common.{◌≡◌, sym, subst, refl}
+use Rattle.std.proofs.Common.{sym, subst, refl}
 use Rattle.std.specs.Prelude.{pos}
 use Rattle.cell_world.specs.Running.Execute.{Effect}
 use Rattle.cell_hart.specs.Step.{Steps, seen_of}

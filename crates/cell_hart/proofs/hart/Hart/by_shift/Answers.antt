@@ -1,4 +1,4 @@
-use Rattle.std.proofs.Common.{◌≡◌, ◌∙◌, sym, subst, rules, w32, FitsSigned, to_z, of_z}
+use Rattle.std.proofs.Common.{◌∙◌, sym, subst, rules, w32, FitsSigned, to_z, of_z}
 use Rattle.std.proofs.lemmas.Int.{to_z-of_z}
 use Rattle.cell_world.specs.Running.Execute.{Effect}
 use Rattle.cell_hart.specs.Step.{Steps, seen_of}

@@ -29,6 +29,7 @@ invariant_of-self c =
       firsts = ap length (with_items_is i.firsts c.fill.new.items (omega (arith, c.fill.auto.items, c.deref_mut.ensures.len))) ∙ c.fill.auto.items ∙ ap length c.deref_mut.ensures.value ∙ s.firsts;
       index = f.index;
       sealed = s.sealed;
+      near = s.near;
       few = omega (arith, s.few, f.more, c.requires.spare, ap (λ m. m.spare) c.self.view_is);
     }
 

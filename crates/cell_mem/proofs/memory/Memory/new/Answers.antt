@@ -29,6 +29,7 @@ invariant_of-result c =
       index = subst (λ (rs : List Region). IsIndex c.args.base rs c.in_ok-repeated.field-0.items) (sym none)
           (subst (λ (xs : List (Option ℕ)). IsIndex c.args.base [] xs) (sym firsts) (none_indexed c.args.base n));
       sealed = ap length sealed ∙ length-replicate (4096 * n) 0;
+      near = omega (arith, c.requires.fewest);
       few = omega (arith, ap length none);
     }
 

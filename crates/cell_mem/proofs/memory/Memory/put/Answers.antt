@@ -44,6 +44,7 @@ invariant_of-self c =
       firsts = c.self.invariant.firsts;
       index = w.index;
       sealed = c.self.invariant.sealed;
+      near = c.self.invariant.near;
       few = few_written i c.args.addr new _ c.self.invariant w;
     }
 

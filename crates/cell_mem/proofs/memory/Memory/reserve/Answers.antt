@@ -14,5 +14,6 @@ invariant_of-self c =
       firsts = s.firsts;
       index = s.index;
       sealed = s.sealed;
+      near = s.near;
       few = omega (arith, s.few, s.regions, held_few c.self.inside.regions.items, c.max-self-inside.ensures, c.ranges.regions.fits);
     }

@@ -74,6 +74,7 @@ invariant_of-self c =
       firsts = ap length firsts ∙ c.fill.auto.items ∙ ap length c.deref_mut.ensures.value ∙ s.firsts;
       index = f.index;
       sealed = ap length sealed ∙ c.fill-2.auto.items ∙ ap length c.deref_mut-2.ensures.value ∙ s.sealed;
+      near = s.near;
       few = omega (arith, s.few, f.less);
     }
 
